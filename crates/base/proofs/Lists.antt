@@ -1,0 +1,233 @@
+-- Laws of lists that every crate's proofs use. Assumes nothing.
+use mathlib.Core.Path.{_≡_, refl, ap}
+use mathlib.Core.List.{List, [], _∷_, _++_, map, flatten}
+use mathlib.Core.Option.{Option, none, some, Option·some-injective, Option·none-ne-some}
+use mathlib.Core.Bool.{Bool, true, false}
+use Prim.Native.Nat.{ℕ, zero, suc, _+_, _≤_, _<_}
+use native.Mathlib.Omega.{arith}
+use native.Mathlib.Decide.{decLt}
+use lib.ListN.{length, length-append}
+use Rattle.base.proofs.Tests.{not-both, and-left, and-right}
+use Rattle.base.specs.Lists.{pick, allOf, pairwise, keep, find, holds, isEmpty, countFrom, _∈_, here, there}
+
+module _ {A : Type 0} where
+  pub append-nil : (s : List A) → s ++ [] ≡ s
+  append-nil [] = refl
+  append-nil (x ∷ s) = ap {B = List A} (λ r. x ∷ r) (append-nil s)
+
+  pub isEmpty-true : (s : List A) → isEmpty s ≡ true → s ≡ []
+  unfolding isEmpty
+  isEmpty-true [] h = refl
+  isEmpty-true (x ∷ s) h = absurd (not-both h refl)
+
+-- what holds of every element
+pub data Every {A : Type 0} (P : A → Type 0) : List A → Type 0 where
+  none-of : Every P []
+  and : {x : A} {xs : List A} → P x → Every P xs → Every P (x ∷ xs)
+
+-- what holds of every element with every later one
+pub data Pairs {A : Type 0} (R : A → A → Type 0) : List A → Type 0 where
+  no-pairs : Pairs R []
+  with-later : {x : A} {xs : List A} → Every (R x) xs → Pairs R xs → Pairs R (x ∷ xs)
+
+pub every : {A : Type 0} {P Q : A → Type 0} → ((a : A) → P a → Q a) → (xs : List A) → Every P xs → Every Q xs
+every f [] none-of = none-of
+every f (x ∷ xs) (and h hs) = and (f x h) (every f xs hs)
+
+pub every-one : {A : Type 0} {P : A → Type 0} → ((a : A) → P a) → (xs : List A) → Every P xs
+every-one f [] = none-of
+every-one f (x ∷ xs) = and (f x) (every-one f xs)
+
+module _ {A : Type 0} where
+  -- the test `all`, as Every
+  pub all-every : (p : A → Bool) (xs : List A) → allOf p xs ≡ true → Every (λ x. p x ≡ true) xs
+  unfolding allOf
+  all-every p [] h = none-of
+  all-every p (x ∷ xs) h = and (and-left (p x) (allOf p xs) h) (all-every p xs (and-right (p x) (allOf p xs) h))
+
+  pub every-all : (p : A → Bool) (xs : List A) → Every (λ x. p x ≡ true) xs → allOf p xs ≡ true
+  unfolding allOf
+  every-all p [] none-of = refl
+  every-all p (x ∷ xs) (and h hs) = rw h (every-all p xs hs)
+
+  -- the test of two lists, one after the other
+  pub all-left : (p : A → Bool) (xs ys : List A) → allOf p (xs ++ ys) ≡ true → allOf p xs ≡ true
+  unfolding allOf
+  all-left p [] ys h = refl
+  all-left p (x ∷ xs) ys h = rw (and-left (p x) (allOf p (xs ++ ys)) h) (all-left p xs ys (and-right (p x) (allOf p (xs ++ ys)) h))
+
+  pub all-right : (p : A → Bool) (xs ys : List A) → allOf p (xs ++ ys) ≡ true → allOf p ys ≡ true
+  unfolding allOf
+  all-right p [] ys h = h
+  all-right p (x ∷ xs) ys h = all-right p xs ys (and-right (p x) (allOf p (xs ++ ys)) h)
+
+  -- the test `pairwise`, as Pairs
+  pub pairwise-pairs : (p : A → A → Bool) (xs : List A) → pairwise p xs ≡ true → Pairs (λ x y. p x y ≡ true) xs
+  unfolding pairwise
+  pairwise-pairs p [] h = no-pairs
+  pairwise-pairs p (x ∷ xs) h = with-later (all-every (p x) xs (and-left (allOf (p x) xs) (pairwise p xs) h)) (pairwise-pairs p xs (and-right (allOf (p x) xs) (pairwise p xs) h))
+
+  pub pairs-pairwise : (p : A → A → Bool) (xs : List A) → Pairs (λ x y. p x y ≡ true) xs → pairwise p xs ≡ true
+  unfolding pairwise
+  pairs-pairwise p [] no-pairs = refl
+  pairs-pairwise p (x ∷ xs) (with-later h hs) = rw (every-all (p x) xs h) (pairs-pairwise p xs hs)
+
+  module _ {P : A → Type 0} where
+    pub every-append : (xs ys : List A) → Every P xs → Every P ys → Every P (xs ++ ys)
+    every-append [] ys none-of k = k
+    every-append (x ∷ xs) ys (and h hs) k = and h (every-append xs ys hs k)
+
+    pub every-filter : (p : A → Bool) (xs : List A) → Every P xs → Every P (keep p xs)
+    unfolding keep
+    every-filter p [] none-of = none-of
+    every-filter p (x ∷ xs) (and h hs) = go (p x) (every-filter p xs hs)
+      where
+        go : (t : Bool) → Every P (keep p xs) → Every P (pick t (x ∷ keep p xs) (keep p xs))
+        go true k = and h k
+        go false k = k
+
+  module _ {R : A → A → Type 0} where
+    pub pairs-append : (xs ys : List A) → Pairs R xs → Pairs R ys → Every (λ x. Every (R x) ys) xs → Pairs R (xs ++ ys)
+    pairs-append [] ys no-pairs k e = k
+    pairs-append (x ∷ xs) ys (with-later h hs) k (and e es) = with-later (every-append xs ys h e) (pairs-append xs ys hs k es)
+
+    pub pairs-filter : (p : A → Bool) (xs : List A) → Pairs R xs → Pairs R (keep p xs)
+    unfolding keep
+    pairs-filter p [] no-pairs = no-pairs
+    pairs-filter p (x ∷ xs) (with-later h hs) = go (p x) (pairs-filter p xs hs)
+      where
+        go : (t : Bool) → Pairs R (keep p xs) → Pairs R (pick t (x ∷ keep p xs) (keep p xs))
+        go true k = with-later (every-filter p xs h) k
+        go false k = k
+
+module _ {A B : Type 0} {P : A → Type 0} {Q : B → Type 0} where
+  pub every-map : (f : A → B) → ((x : A) → P x → Q (f x)) → (xs : List A) → Every P xs → Every Q (map f xs)
+  every-map f g [] none-of = none-of
+  every-map f g (x ∷ xs) (and h hs) = and (g x h) (every-map f g xs hs)
+
+  pub every-flatten : (f : A → List B) → ((x : A) → P x → Every Q (f x)) → (xs : List A) → Every P xs → Every Q (flatten (map f xs))
+  unfolding flatten
+  every-flatten f g [] none-of = none-of
+  every-flatten f g (x ∷ xs) (and h hs) = every-append (f x) (flatten (map f xs)) (g x h) (every-flatten f g xs hs)
+
+module _ {A B : Type 0} {R : A → A → Type 0} {S : B → B → Type 0} where
+  pub pairs-map : (f : A → B) → ((x y : A) → R x y → S (f x) (f y)) → (xs : List A) → Pairs R xs → Pairs S (map f xs)
+  pairs-map f g [] no-pairs = no-pairs
+  pairs-map f g (x ∷ xs) (with-later h hs) = with-later (every-map f (g x) xs h) (pairs-map f g xs hs)
+
+  -- each element gives way to several, ordered among themselves and towards those of the others
+  pub pairs-flatten : (f : A → List B) → ((x : A) → Pairs S (f x)) → ((x y : A) → R x y → Every (λ a. Every (S a) (f y)) (f x))
+      → (xs : List A) → Pairs R xs → Pairs S (flatten (map f xs))
+  unfolding flatten
+  pairs-flatten f own g [] no-pairs = no-pairs
+  pairs-flatten f own g (x ∷ xs) (with-later h hs) =
+      pairs-append (f x) (flatten (map f xs)) (own x) (pairs-flatten f own g xs hs) (swapped (f x) xs (every (g x) xs h))
+    where
+      swapped : (as′ : List B) (ys : List A) → Every (λ y. Every (λ a. Every (S a) (f y)) as′) ys → Every (λ a. Every (S a) (flatten (map f ys))) as′
+      swapped [] ys k = none-of
+      swapped (a ∷ as′) ys k = and (every-flatten f (λ y e. e) ys (every (λ y e. first e) ys k)) (swapped as′ ys (every (λ y e. others e) ys k))
+        where
+          first : {y : A} → Every (λ b. Every (S b) (f y)) (a ∷ as′) → Every (S a) (f y)
+          first (and e es) = e
+
+          others : {y : A} → Every (λ b. Every (S b) (f y)) (a ∷ as′) → Every (λ b. Every (S b) (f y)) as′
+          others (and e es) = es
+
+module _ {A : Type 0} {Q : A → Type 0} where
+  -- what holds of the elements that pass a test
+  pub filter-every : (p : A → Bool) (xs : List A) → Every Q (keep p xs) → Every (λ x. p x ≡ true → Q x) xs
+  unfolding keep
+  filter-every p [] h = none-of
+  filter-every p (x ∷ xs) h = and (first (p x) h) (filter-every p xs (others (p x) h))
+    where
+      others : (t : Bool) → Every Q (pick t (x ∷ keep p xs) (keep p xs)) → Every Q (keep p xs)
+      others true (and q qs) = qs
+      others false qs = qs
+
+      first : (t : Bool) → Every Q (pick t (x ∷ keep p xs) (keep p xs)) → t ≡ true → Q x
+      first true (and q qs) e = q
+      first false qs e = absurd (not-both e refl)
+
+  pub every-filtered : (p : A → Bool) (xs : List A) → Every (λ x. p x ≡ true → Q x) xs → Every Q (keep p xs)
+  unfolding keep
+  every-filtered p [] none-of = none-of
+  every-filtered p (x ∷ xs) (and h hs) = go (p x) refl (every-filtered p xs hs)
+    where
+      go : (t : Bool) → p x ≡ t → Every Q (keep p xs) → Every Q (pick t (x ∷ keep p xs) (keep p xs))
+      go true e k = and (h e) k
+      go false e k = k
+
+module _ {P : ℕ → Type 0} where
+  -- what holds of the numbers of a range
+  pub countFrom-every : (i n : ℕ) → Every P (countFrom i n) → (o : ℕ) → i ≤ o → o < i + n → P o
+  unfolding countFrom
+  countFrom-every i zero h o l k = absurd (omega arith)
+  countFrom-every i (suc n) (and h hs) o l k = go (decLt i o) (λ (m : i < o). countFrom-every (i + 1) n hs o (omega arith) (omega arith))
+    where
+      go : Dec (i < o) → (i < o → P o) → P o
+      go (yes m) ih = ih m
+      go (no m) ih = let e : o ≡ i = omega arith in rw e h
+
+  pub every-countFrom : (i n : ℕ) → ((o : ℕ) → i ≤ o → o < i + n → P o) → Every P (countFrom i n)
+  unfolding countFrom
+  every-countFrom i zero f = none-of
+  every-countFrom i (suc n) f = and (f i (omega arith) (omega arith)) (every-countFrom (i + 1) n (λ o (l : i + 1 ≤ o) (k : o < i + 1 + n). f o (omega arith) (omega arith)))
+
+module _ {A : Type 0} where
+  -- what is found passes the test, and is one of the elements
+  pub find-passes : (p : A → Bool) (xs : List A) (a : A) → find p xs ≡ some a → p a ≡ true
+  unfolding find
+  find-passes p [] a h = absurd (Option·none-ne-some a h)
+  find-passes p (x ∷ xs) a h = go (p x) refl h (find-passes p xs a)
+    where
+      go : (t : Bool) → p x ≡ t → pick t (some x) (find p xs) ≡ some a → (find p xs ≡ some a → p a ≡ true) → p a ≡ true
+      go true e k ih = rw (← Option·some-injective _ _ k) e
+      go false e k ih = ih k
+
+  pub find-every : {P : A → Type 0} (p : A → Bool) (xs : List A) (a : A) → find p xs ≡ some a → Every P xs → P a
+  unfolding find
+  find-every p [] a h none-of = absurd (Option·none-ne-some a h)
+  find-every {P} p (x ∷ xs) a h (and q qs) = go (p x) h (λ k. find-every p xs a k qs)
+    where
+      go : (t : Bool) → pick t (some x) (find p xs) ≡ some a → (find p xs ≡ some a → P a) → P a
+      go true k ih = rw (← Option·some-injective _ _ k) q
+      go false k ih = ih k
+
+  pub find-in : (p : A → Bool) (xs : List A) (a : A) → find p xs ≡ some a → a ∈ xs
+  unfolding find
+  find-in p [] a h = absurd (Option·none-ne-some a h)
+  find-in p (x ∷ xs) a h = go (p x) h (find-in p xs a)
+    where
+      go : (t : Bool) → pick t (some x) (find p xs) ≡ some a → (find p xs ≡ some a → a ∈ xs) → a ∈ (x ∷ xs)
+      go true k ih = rw (← Option·some-injective _ _ k) here
+      go false k ih = there (ih k)
+
+  pub every-in : {P : A → Type 0} (xs : List A) (a : A) → Every P xs → a ∈ xs → P a
+  every-in (x ∷ xs) a (and h hs) here = h
+  every-in (x ∷ xs) a (and h hs) (there m) = every-in xs a hs m
+
+  -- the test holds of what was found
+  pub holds-some : (p : A → Bool) (o : Option A) → holds p o ≡ true → (a : A) × (o ≡ some a) × (p a ≡ true)
+  unfolding holds
+  holds-some p none h = absurd (not-both h refl)
+  holds-some p (some a) h = (a, refl, h)
+
+  pub length-filter : (p : A → Bool) (xs : List A) → length (keep p xs) ≤ length xs
+  unfolding keep
+  length-filter p [] = omega arith
+  length-filter p (x ∷ xs) = go (p x) (length-filter p xs)
+    where
+      go : (t : Bool) → length (keep p xs) ≤ length xs → length (pick t (x ∷ keep p xs) (keep p xs)) ≤ suc (length xs)
+      go true h = omega arith
+      go false h = omega arith
+
+-- at most one for each element
+pub length-flatten : {A B : Type 0} (f : A → List B) → ((a : A) → length (f a) ≤ 1) → (xs : List A) → length (flatten (map f xs)) ≤ length xs
+unfolding flatten
+length-flatten f h [] = omega arith
+length-flatten f h (x ∷ xs) = omega (arith, length-append (f x) (flatten (map f xs)), h x, length-flatten f h xs)
+
+pub length-countFrom : (i n : ℕ) → length (countFrom i n) ≡ n
+unfolding countFrom
+length-countFrom i zero = refl
+length-countFrom i (suc n) = ap suc (length-countFrom (i + 1) n)
