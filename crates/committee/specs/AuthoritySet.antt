@@ -6,11 +6,11 @@ use lib.Dec.{ltb, eqb}
 use lib.Bits.{bitOr}
 use lib.ListN.{length}
 use Rattle.base.specs.Lists.{pick, keep, countFrom}
+use Rattle.committee.specs.declared.AuthoritySet as declared
 use Rattle.committee.specs.Committee.{AuthorityIndex, Stake, Committee}
 
-pub record AuthoritySet : Type 0 where
-  pub low : ℕ
-  pub high : ℕ
+abbrev pub AuthoritySet : Type 0
+AuthoritySet = declared.AuthoritySet
 
 abbrev pub nobody : AuthoritySet
 nobody = record { low = 0; high = 0 }
