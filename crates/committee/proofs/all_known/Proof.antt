@@ -9,9 +9,6 @@ use mathlib.Core.Bool.{false}
 use mathlib.Core.Path.{_≡_, refl, sym, _∙_}
 use Rattle.committee.proofs.all_known.Statement.{statement}
 use Rattle.committee.proofs.all_known.Tie as tie
-use Rattle.committee.proofs.all_known.Reads as reads
-use Rattle.committee.proofs.all_known.Lts as lts
-use Rattle.committee.proofs.AuthoritySet.contains.Reads as contains-reads
 
 abbrev Inv-loop : tie.InvT-loop
 Inv-loop stakes votes i₀ i = (length stakes ≤ i) × ((a : ℕ) → length stakes ≤ a → a < i → member votes a ≡ false)
@@ -19,30 +16,24 @@ Inv-loop stakes votes i₀ i = (length stakes ≤ i) × ((a : ℕ) → length st
 abbrev μ-loop : tie.MeasureT-loop
 μ-loop stakes votes i₀ i = 128 - i
 
--- src/lib.rt:299:5
 loop-holds : tie.Need-loop-holds Inv-loop μ-loop
 loop-holds c = (omega arith, λ a h k. absurd (omega arith))
 
--- src/lib.rt:300:12
 contains-requires : tie.Need-contains-requires Inv-loop μ-loop
 contains-requires c κs = search needs
 
--- src/lib.rt:301:13
 returns : tie.Need-returns Inv-loop μ-loop
 returns c =
     let start = c .before .before .before .before .before in
     let at = c .before .before .before .loop in
     sym (members-unknown (start .args .stakes .now) (start .args .votes) (at .i) (at .inv .0) (c .before .before .loop-test .taken) (sym (c .before .contains .ensures) ∙ c .if1 .taken))
 
--- src/lib.rt:303:9
 add-i : tie.Need-add-i Inv-loop μ-loop
 add-i c = search needs
 
--- src/lib.rt:299:5
 loop-less : tie.Need-loop-less Inv-loop μ-loop
 loop-less c = search needs
 
--- src/lib.rt:299:5
 loop-again : tie.Need-loop-again Inv-loop μ-loop
 loop-again c =
     let at = c .before .before .before .loop in
@@ -55,7 +46,6 @@ loop-again c =
         let e : a ≡ c .before .before .before .loop .i = omega arith in
         rw e (sym (c .before .contains .ensures) ∙ c .if1 .left)
 
--- src/lib.rt:295:1
 returns-2 : tie.Need-returns-2 Inv-loop μ-loop
 returns-2 c =
     let start = c .before .before .before in

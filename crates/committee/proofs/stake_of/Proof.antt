@@ -8,9 +8,6 @@ use Prim.Native.Nat.{_+_, _≤_, _-_}
 use mathlib.Core.Path.{_≡_, refl, sym, _∙_}
 use Rattle.committee.proofs.stake_of.Statement.{statement}
 use Rattle.committee.proofs.stake_of.Tie as tie
-use Rattle.committee.proofs.stake_of.Reads as reads
-use Rattle.committee.proofs.stake_of.Lts as lts
-use Rattle.committee.proofs.AuthoritySet.contains.Reads as contains-reads
 
 abbrev Inv-loop : tie.InvT-loop
 Inv-loop stakes votes stake₀ i₀ stake i = (i ≤ length stakes) × (stake + stakeFrom i (drop i stakes) votes ≡ stakeOf stakes votes)
@@ -18,24 +15,19 @@ Inv-loop stakes votes stake₀ i₀ stake i = (i ≤ length stakes) × (stake + 
 abbrev μ-loop : tie.MeasureT-loop
 μ-loop stakes votes stake₀ i₀ stake i = length stakes - i
 
--- src/lib.rt:285:5
 loop-holds : tie.Need-loop-holds Inv-loop μ-loop
 unfolding stakeOf
 loop-holds c = (omega arith, omega arith)
 
--- src/lib.rt:286:12
 contains-requires : tie.Need-contains-requires Inv-loop μ-loop
 contains-requires c κs = search needs
 
--- src/lib.rt:287:22
 mul-stake : tie.Need-mul-stake Inv-loop μ-loop
 mul-stake c = search needs
 
--- src/lib.rt:287:22
 shared-slice-read-stake : tie.Need-shared-slice-read-stake Inv-loop μ-loop
 shared-slice-read-stake c = search needs
 
--- src/lib.rt:287:13
 add-stake : tie.Need-add-stake Inv-loop μ-loop
 add-stake c =
     let start = c .before .before .before .before .before .before in
@@ -46,15 +38,12 @@ add-stake c =
     let step = rw voted at (stake-on l v (at .i) (c .before .before .before .loop-test .taken)) in
     omega (arith, step, stake-most l v, total-most l (start .pre))
 
--- src/lib.rt:289:9
 add-i : tie.Need-add-i Inv-loop μ-loop
 add-i c = search needs
 
--- src/lib.rt:285:5
 loop-less : tie.Need-loop-less Inv-loop μ-loop
 loop-less c = search needs
 
--- src/lib.rt:285:5
 loop-again : tie.Need-loop-again Inv-loop μ-loop
 loop-again c =
     let l = c .before .before .before .before .before .args .stakes .now in
@@ -67,7 +56,6 @@ loop-again c =
     (λ w. let same = rw (sym (c .before .contains .ensures) ∙ w .0 .left) at step in (omega arith, omega arith))
     (c .if1 .came)
 
--- src/lib.rt:279:1
 returns : tie.Need-returns Inv-loop μ-loop
 returns c =
     let l = c .before .before .before .args .stakes .now in

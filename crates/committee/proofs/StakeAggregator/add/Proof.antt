@@ -8,27 +8,16 @@ use mathlib.Core.Path.{sym, ap, _∙_}
 use borrow.Author.Needs.{needs}
 use Rattle.committee.proofs.StakeAggregator.add.Statement.{statement}
 use Rattle.committee.proofs.StakeAggregator.add.Tie as tie
-use Rattle.committee.proofs.StakeAggregator.add.Reads as reads
-use Rattle.committee.proofs.StakeAggregator.add.Lts as lts
-use Rattle.committee.proofs.StakeAggregator.in_order.Reads as in-order-reads
-use Rattle.committee.proofs.StakeAggregator.with_vote.Reads as with-vote-reads
-use Rattle.committee.proofs.get_stake.Reads as get-stake-reads
-use Rattle.committee.proofs.is_quorum.Reads as is-quorum-reads
-use Rattle.committee.proofs.new_committee.Reads as new-committee-reads
 
--- src/lib.rt:351:42
 new-committee-requires : tie.Need-new-committee-requires
 new-committee-requires c κs = search needs
 
--- src/lib.rt:351:33
 enum-known-total : tie.Need-enum-known-total
 enum-known-total c = search needs
 
--- src/lib.rt:353:25
 enum-told : tie.Need-enum-told
 enum-told c = search needs
 
--- src/lib.rt:352:13
 returns : tie.Need-returns
 unfolding asAdded asAddAnswer
 returns c =
@@ -37,14 +26,12 @@ returns c =
     let told = c .enum-told .given in
     sym (add-broken _ _ _ (broken-sound (start .stakes .now) (told .0 .0) (ap asNewCommittee (sym (told .1)) ∙ answer)))
 
--- src/lib.rt:357:13
 in-order-requires : tie.Need-in-order-requires
 in-order-requires c κs =
     let start = c .before .before .before .before .before .args in
     let told = c .before .total .given in
     taken-sound (start .stakes .now) (told .0 .0) (ap asNewCommittee (sym (told .1)) ∙ c .before .before .before .new-committee .ensures) .0
 
--- src/lib.rt:358:13
 returns-2 : tie.Need-returns-2
 unfolding asAdded asAddAnswer
 returns-2 c =
@@ -53,19 +40,15 @@ returns-2 c =
     let taken = taken-sound (start .stakes .now) (told .0 .0) (ap asNewCommittee (sym (told .1)) ∙ c .before .before .before .before .before .new-committee .ensures) in
     sym (add-disordered _ _ _ (taken .0) (sym (c .before .in-order .ensures) ∙ not-true _ (c .if1 .taken)))
 
--- src/lib.rt:363:40
 get-stake-requires : tie.Need-get-stake-requires
 get-stake-requires c κs = search needs
 
--- src/lib.rt:363:31
 enum-known-stake : tie.Need-enum-known-stake
 enum-known-stake c = search needs
 
--- src/lib.rt:365:25
 enum-told-2 : tie.Need-enum-told-2
 enum-told-2 c = search needs
 
--- src/lib.rt:364:13
 returns-3 : tie.Need-returns-3
 unfolding asAdded asAddAnswer
 returns-3 c =
@@ -76,7 +59,6 @@ returns-3 c =
     let unknown = unknown-sound (start .stakes .now) (start .vote .0) (sym (c .before .before .get-stake .ensures) ∙ c .enum-told2 .given .1) in
     sym (add-unknown _ _ _ (taken .0) ordered unknown)
 
--- src/lib.rt:369:13
 with-vote-requires : tie.Need-with-vote-requires
 with-vote-requires c κs =
     let start = c .before .before .before .before .before .before .before .before .before .before .before .args in
@@ -88,11 +70,9 @@ with-vote-requires c κs =
     let fits = vote-fits (start .stakes .now) (asAggregator (start .self)) (start .vote .0) (taken .0) ordered (knows .0) in
     (fits .0, rw (knows .1) (fits .1))
 
--- src/lib.rt:371:40
 is-quorum-requires : tie.Need-is-quorum-requires
 is-quorum-requires c κs = search needs
 
--- src/lib.rt:348:5
 returns-4 : tie.Need-returns-4
 unfolding counted isQuorum
 returns-4 c =

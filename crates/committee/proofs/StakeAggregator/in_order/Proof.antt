@@ -4,25 +4,17 @@ use mathlib.Core.Path.{sym, _∙_}
 use borrow.Author.Needs.{needs}
 use Rattle.committee.proofs.StakeAggregator.in_order.Statement.{statement}
 use Rattle.committee.proofs.StakeAggregator.in_order.Tie as tie
-use Rattle.committee.proofs.StakeAggregator.in_order.Reads as reads
-use Rattle.committee.proofs.StakeAggregator.in_order.Lts as lts
-use Rattle.committee.proofs.all_known.Reads as all-known-reads
-use Rattle.committee.proofs.stake_of.Reads as stake-of-reads
 
--- src/lib.rt:325:13
 all-known-requires : tie.Need-all-known-requires
 all-known-requires c κs = search needs
 
--- src/lib.rt:326:13
 returns : tie.Need-returns
 unfolding aggregatorInOrder
 returns c = rw (sym (c .before .all-known .ensures) ∙ not-true _ (c .if1 .taken))
 
--- src/lib.rt:328:13
 stake-of-requires : tie.Need-stake-of-requires
 stake-of-requires c κs = search needs
 
--- src/lib.rt:320:5
 returns-2 : tie.Need-returns-2
 unfolding aggregatorInOrder
 returns-2 c = rw (sym (c .before .before .before .before .all-known .ensures) ∙ not-false _ (c .before .before .before .if1 .left), c .before .before .stake-of .ensures)
