@@ -1,4 +1,4 @@
--- The claims about records: read and written are each other's inverse. Assumes nothing.
+-- The claims about records and their orders hold. Assumes nothing.
 use mathlib.Core.Path.{_≡_}
 use mathlib.Core.Bool.{true}
 use mathlib.Core.List.{[], _∷_}
@@ -8,12 +8,14 @@ use lib.ListN.{length}
 use borrow.Author.Tests.{ltb-true, leb-true, eqb-true}
 use Rattle.base.specs.Lists.{allOf}
 use Rattle.base.specs.Le.{Bytes}
-use Rattle.base.proofs.Tests.{and-left, and-right}
+use Rattle.base.proofs.Tests.{and-left, and-right, fails}
 use Rattle.base.proofs.Lists.{every, all-every}
 use Rattle.base.proofs.Le.{AllBytes}
 use Rattle.types.specs.Reference.{BlockReference, TransactionLocator}
 use Rattle.types.specs.Block.{Statement, share, accept, reject, voteRange, Block}
-use Rattle.types.specs.Claims.{areBytes, fitsReference, fitsLocator, fitsOther, fitsStatement, fitsBlock, ReadsWhatIsWritten, WritesWhatIsRead}
+use Rattle.types.specs.Claims.{areBytes, fitsReference, fitsLocator, fitsOther, fitsStatement, fitsBlock, ReadsWhatIsWritten, WritesWhatIsRead, Claims}
+use Rattle.types.proofs.References.{reference-irrefl, reference-trans, reference-total, locator-irrefl, locator-trans, locator-total}
+use Rattle.types.proofs.Runs.{shared-cover}
 use Rattle.types.proofs.Records.{ReferenceFits, LocatorFits, OtherFits, StatementFits, BlockFits, blockOf-blockBytes, blockBytes-blockOf}
 
 -- ---- the tests of the claims say what the laws ask
@@ -77,10 +79,20 @@ block-fits b h =
 
 -- ---- the claims
 
-pub reads-what-is-written : ReadsWhatIsWritten
+reads-what-is-written : ReadsWhatIsWritten
 unfolding ReadsWhatIsWritten
 reads-what-is-written b h = blockOf-blockBytes b (block-fits b h)
 
-pub writes-what-is-read : WritesWhatIsRead
+writes-what-is-read : WritesWhatIsRead
 unfolding WritesWhatIsRead
 writes-what-is-read r b h k = blockBytes-blockOf r b (bytes-fit r h) k
+
+pub claimed : Claims
+claimed =
+    record {
+      reads = reads-what-is-written;
+      writes = writes-what-is-read;
+      references = record { irreflexive = λ r. fails _ (reference-irrefl r); transitive = reference-trans; total = reference-total };
+      locators = record { irreflexive = λ l. fails _ (locator-irrefl l); transitive = locator-trans; total = locator-total };
+      runs = shared-cover;
+    }

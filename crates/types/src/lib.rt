@@ -11,6 +11,7 @@ ghost use Rattle.base.specs.Checks.{passes};
 ghost use Rattle.types.specs.Block.{isShare, votedRange, countedOffsets, eventRoom};
 ghost use Rattle.types.specs.Verify.{statementChecks};
 ghost use Rattle.types.specs.Record.{wellFormed, blockIn, noReference, noStatement};
+ghost use Rattle.types.specs.Claims.{Claims};
 ghost use Rattle.types.specs.Cursor.{cursorAt, payloadBetween, runsLeft, runsTold, FurtherOn};
 ghost use Rattle.types.specs.Step.{referenceAt, locatorAt, Took, statementsOnly, leading};
 ghost use Rattle.types.specs.Reference.{maxLen, newRange, oneRange};
@@ -505,3 +506,8 @@ pub fn event_words(rec: &[u8]) -> u64
     }
     3 * offsets
 }
+
+// What is read is what was written, and the other way round; the orders are total.
+pub fn claims()
+    ensures { λ _. ⌜ Claims ⌝ }
+{}
