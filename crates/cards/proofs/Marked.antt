@@ -1,7 +1,7 @@
 -- The marked cards hold: evaluated, where a card is about given values. Assumes nothing.
 use mathlib.Core.Path.{refl}
 use Rattle.committee.specs.Committee.{isQuorum, isValid}
-use Rattle.committee.proofs.Computing.{computing}
+use Rattle.types.proofs.Computing.{computing}
 use Rattle.cards.specs.Marked.{MarkedCards}
 
 pub marked : MarkedCards
@@ -17,4 +17,8 @@ marked =
       one-quorum = λ c h. rw h;
       largest-taken = refl;
       larger-refused = refl;
+      range-taken = λ r. refl;
+      range-too-far = λ r. refl;
+      range-backwards = λ r. refl;
+      runs = λ r v w x l. refl;
     }
