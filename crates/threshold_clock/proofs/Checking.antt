@@ -1,5 +1,5 @@
 -- The checks of a block, by index, as code makes them. Assumes nothing.
-use mathlib.Core.Path.{_≡_, refl, sym, ap, _∙_}
+use mathlib.Core.Path.{_≡_, refl, sym, _∙_}
 use mathlib.Core.Bool.{Bool, true, false, not, _&&_}
 use mathlib.Core.List.{List, [], _∷_, _++_, map, flatten}
 use Prim.Native.Nat.{ℕ, zero, suc, _+_, _-_, _≤_, _<_}
@@ -8,7 +8,7 @@ use native.Mathlib.Omega.{arith}
 use lib.Dec.{eqb, ltb, leb, lit<}
 use lib.ListN.{length, getD, drop, drop-of-length-le}
 use lib.Seq.{drop-cons}
-use borrow.Author.Tests.{eq-eqb, ne-eqb, le-leb, lt-leb, ltb-true, leb-false}
+use borrow.Author.Tests.{ne-eqb, le-leb, lt-leb, ltb-true, leb-false}
 use Rattle.base.specs.Lists.{pick, isEmpty, keep}
 use Rattle.base.specs.Checks.{Check, refusal, passes}
 use Rattle.base.proofs.Tests.{not-both}
@@ -16,7 +16,7 @@ use Rattle.base.proofs.Lists.{none-of, and, every-one, every-append, every-flat
 use Rattle.base.proofs.Checks.{passes-first, passes-others, passes-left, passes-right}
 use Rattle.base.proofs.Refusals.{Numbered, zero-passes, refusal-first, refusal-then}
 use Rattle.committee.specs.Committee.{AuthorityIndex, Committee, known, getStake}
-use Rattle.committee.specs.AuthoritySet.{AuthoritySet, nobody, inserted, setOf}
+use Rattle.committee.specs.AuthoritySet.{nobody, inserted, setOf}
 use Rattle.committee.specs.Answers.{foundStake}
 use Rattle.committee.specs.declared.Stake as stakes
 use Rattle.committee.specs.declared.FoundStake.the-variants.{Known, Unknown}

@@ -1,5 +1,5 @@
 -- A block in a record, in positions, as code tests it. Assumes nothing.
-use mathlib.Core.Path.{_≡_, refl, sym, ap, _∙_}
+use mathlib.Core.Path.{_≡_, refl, ap}
 use mathlib.Core.List.{List, [], _∷_}
 use mathlib.Core.Option.{Option, none, some}
 use mathlib.Core.Bool.{Bool, true, false, not, _&&_}
@@ -15,8 +15,7 @@ use Rattle.base.specs.Le.{leAt}
 use Rattle.base.specs.Read.{Part, Read, give, fail, onward, _>>=_, items, number, given, repeated, complete}
 use Rattle.base.proofs.Tests.{and-left, and-right}
 use Rattle.base.proofs.Le.{leAt-byte}
-use Rattle.base.proofs.Read.{part}
-use Rattle.base.proofs.Fixed.{Fixed, fixed-items, fixed-number, fixed-repeated, Least, least-zero, least-bind, reads-at, short-at, items-at, number-at, empty-drop}
+use Rattle.base.proofs.Fixed.{fixed-items, fixed-number, fixed-repeated, Least, least-zero, least-bind, reads-at, short-at, items-at, number-at, empty-drop}
 use Rattle.types.specs.Reference.{BlockReference}
 use Rattle.types.specs.Block.{Statement, Block}
 use Rattle.types.specs.Record.{readReference, readStatement, readBlock, blockOf, wellFormed}

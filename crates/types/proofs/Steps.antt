@@ -1,22 +1,19 @@
 -- One statement at a position of a record, as code reads it. Assumes nothing.
-use mathlib.Core.Path.{_≡_, refl, sym, ap, _∙_}
+use mathlib.Core.Path.{_≡_, refl, _∙_}
 use mathlib.Core.List.{List}
-use mathlib.Core.Option.{Option, none, some}
-use mathlib.Core.Bool.{Bool, true, false}
+use mathlib.Core.Option.{none, some}
 use Prim.Native.Nat.{ℕ, zero, suc, _+_, _-_, _≤_, _<_}
 use native.Mathlib.Omega.{arith}
-use lib.Dec.{eqb}
 use lib.ListN.{length, getD, take, drop, length-drop}
 use lib.Seq.{drop-drop}
 use borrow.Author.Tests.{ne-eqb}
-use Rattle.base.specs.Lists.{pick}
-use Rattle.base.specs.Le.{leNumber, leAt}
+use Rattle.base.specs.Le.{leAt}
 use Rattle.base.specs.Read.{Read, give, fail, onward, _>>=_, items, number}
 use Rattle.base.proofs.Le.{leAt-byte}
 use Rattle.base.proofs.Read.{part}
 use Rattle.base.proofs.Fixed.{Fixed, fixed-items, fixed-bind, fixed-map, fixed-number, Least, least-zero, least-bind, reads-at, short-at, items-at, number-at}
-use Rattle.types.specs.Reference.{BlockReference, TransactionLocator, locator, newRange}
-use Rattle.types.specs.Block.{Statement, share, accept, reject, voteRange}
+use Rattle.types.specs.Reference.{locator, newRange}
+use Rattle.types.specs.Block.{share, accept, reject, voteRange}
 use Rattle.types.specs.Record.{readReference, readLocator, readShare, readAccept, readOther, readReject, readRange, readKind, readStatement}
 use Rattle.types.specs.Step.{referenceAt, locatorAt}
 

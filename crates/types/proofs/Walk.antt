@@ -1,26 +1,26 @@
 -- Walking the statements of a block by index: runs of shares, and the offsets that votes count. Assumes nothing.
 use mathlib.Core.Path.{_≡_, refl, sym, ap, _∙_}
-use mathlib.Core.List.{List, [], _∷_, _++_, map, flatten}
+use mathlib.Core.List.{List, [], _∷_, map, flatten}
 use mathlib.Core.Bool.{Bool, true, false, not, Bool·beq}
 use Prim.Native.Nat.{ℕ, zero, suc, _+_, _-_, _≤_, _<_}
 use native.Mathlib.Numerals.{add-one}
 use native.Mathlib.Omega.{arith}
-use lib.Dec.{eqb, ltb, leb}
-use lib.ListN.{length, getD, take, drop, length-drop, drop-of-length-le}
+use lib.ListN.{length, getD, drop, length-drop, drop-of-length-le}
 use lib.Seq.{drop-cons, drop-drop}
-use borrow.Author.Tests.{eq-eqb, ne-eqb, ltb-false, leb-false}
+use lib.Dec.{eqb}
+use borrow.Author.Tests.{eq-eqb, eqb-true, ne-eqb, ltb-false, leb-false}
 use Rattle.base.specs.Lists.{pick, sumOf}
 use Rattle.base.specs.Le.{Bytes}
-use Rattle.base.specs.Checks.{Check, passes}
-use Rattle.base.proofs.Tests.{not-both}
+use Rattle.base.specs.Checks.{passes}
+use Rattle.base.proofs.Tests.{not-both, and-left, and-right}
 use Rattle.base.proofs.Lists.{Every, none-of, and}
 use Rattle.base.proofs.Checks.{passes-left, passes-right, passes-first, passes-others}
-use Rattle.types.specs.Reference.{BlockReference, TransactionLocatorRange, newRange, oneRange, maxLen}
+use Rattle.types.specs.Reference.{BlockReference, TransactionLocatorRange, newRange, oneRange}
 use Rattle.types.specs.Block.{Statement, share, accept, reject, voteRange, Block, isShare, votedRange, countedOffsets, joined, runsFrom}
 use Rattle.types.specs.Verify.{statementChecks}
 use Rattle.types.specs.Record.{noStatement}
-use Rattle.types.specs.Values.{asStatement, asLocator, asRange}
-use Rattle.types.specs.Cursor.{cursorAt, runsLeft}
+use Rattle.types.specs.Values.{asStatement}
+use Rattle.types.specs.Cursor.{cursorAt, payloadBetween, runsLeft}
 use Rattle.types.specs.Step.{isOfKind, leading}
 use Rattle.types.specs.declared.StatementCursor.{StatementCursor}
 use Rattle.types.specs.declared.BaseStatement.{BaseStatement}
@@ -36,6 +36,12 @@ module _ (b : Block) (c : StatementCursor) (i : ℕ) (e : c ≡ cursorAt b i) wh
 
   pub placed : c ≡ cursorAt b (c .index)
   placed = e ∙ ap (cursorAt b) (sym placed-index)
+
+-- where a share has its payload
+pub payload-place : (at next start len : ℕ) → payloadBetween at next (Share start len) ≡ true → (start ≡ at + 3) × (start + len ≡ next)
+unfolding payloadBetween
+payload-place at next start len h =
+    (eqb-true start (at + 3) (and-left _ _ h), eqb-true (start + len) next (and-right (eqb start (at + 3)) _ h))
 
 -- ---- statements of one kind in front
 
@@ -224,15 +230,15 @@ passes-at [] i h k = absurd (omega arith)
 passes-at (s ∷ ss) zero h k = passes-left (statementChecks s) (flatten (map statementChecks ss)) h
 passes-at (s ∷ ss) (suc i) h k = passes-at ss i (passes-right (statementChecks s) (flatten (map statementChecks ss)) h) (omega arith)
 
--- the offsets that the statements count from an index on
-unfoldable pub counted : List Statement → ℕ
-counted ss = sumOf (map (λ s. countedOffsets (votedRange s)) ss)
+-- the offsets that statements count
+unfoldable pub offsetsCounted : List Statement → ℕ
+offsetsCounted ss = sumOf (map (λ s. countedOffsets (votedRange s)) ss)
 
 module _ (ss : List Statement) (i : ℕ) where
-  pub counted-on : i < length ss → counted (drop i ss) ≡ countedOffsets (votedRange (getD ss i noStatement)) + counted (drop (i + 1) ss)
-  unfolding counted sumOf
+  pub counted-on : i < length ss → offsetsCounted (drop i ss) ≡ countedOffsets (votedRange (getD ss i noStatement)) + offsetsCounted (drop (i + 1) ss)
+  unfolding offsetsCounted sumOf
   counted-on h = rw (add-one, drop-cons ss i noStatement h)
 
-  pub counted-end : length ss ≤ i → counted (drop i ss) ≡ 0
-  unfolding counted sumOf
+  pub counted-end : length ss ≤ i → offsetsCounted (drop i ss) ≡ 0
+  unfolding offsetsCounted sumOf
   counted-end h = rw (drop-of-length-le ss h)

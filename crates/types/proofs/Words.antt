@@ -1,27 +1,26 @@
 -- The order of references is that of their words. Assumes nothing.
 use mathlib.Core.Path.{_≡_, refl, sym, ap, _∙_}
 use mathlib.Core.Bool.{Bool, true, false, _&&_, _||_}
-use mathlib.Core.List.{List, [], _∷_, _++_, reverse, reverseAux, reverseAux-eq, reverse-append}
+use mathlib.Core.List.{List, [], _∷_, _++_, reverseAux, reverseAux-eq, reverse-append}
 use Prim.Native.Nat.{ℕ, zero, suc, _+_, _*_, _/_, _%_, _^_, _<_}
 use native.Mathlib.Nat.{pow-suc, add-zero, mul-add-div-right, mul-add-mod-self-right, div-eq-of-lt, mod-eq-of-lt}
 use native.Mathlib.Omega.{arith}
 use native.Mathlib.Decide.{decLt, ℕ-discrete}
-use lib.Dec.{eqb, ltb, lit<}
+use lib.Dec.{eqb, ltb}
 use lib.ListN.{length, getD, take, drop}
 use lib.Seq.{take-add, drop-drop, drop-cons}
-use borrow.Author.Tests.{eq-eqb, ne-eqb, eqb-true, lt-ltb, le-ltb}
+use borrow.Author.Tests.{eq-eqb, ne-eqb, lt-ltb, le-ltb}
 use Rattle.base.specs.Lists.{pick, same, before}
 use Rattle.base.specs.Le.{leBytes}
 use Rattle.base.proofs.Le.{leBytes-add, leBytes-mod}
-use Rattle.types.specs.Reference.{BlockReference, TransactionLocator, locator, referenceKey, sameReference, referenceBefore, sameLocator, locatorBefore}
-use Rattle.types.specs.Values.{beBytes, digestBytes, asReference, asLocator, orderOf, wordOrder, keyOrder, referenceOrder, locatorOrder}
+use Rattle.types.specs.Reference.{BlockReference, TransactionLocator, referenceKey, sameReference, referenceBefore, sameLocator, locatorBefore}
+use Rattle.types.specs.Values.{beBytes, digestBytes, asReference, orderOf, wordOrder, keyOrder, referenceOrder, locatorOrder}
 use mir.Syntax.{w64}
 use mir.Val.{Fits}
 use Rattle.base.proofs.Tests.{fails}
-use Rattle.types.proofs.References.{reference-same, reference-irrefl}
+use Rattle.types.proofs.References.{reference-same, reference-irrefl, reference-other}
 use Rattle.types.specs.declared.BlockDigest as digest
 use Rattle.types.specs.declared.BlockReference as declared
-use Rattle.types.specs.declared.TransactionLocator as locators
 use Rattle.types.specs.declared.Ordering.{Ordering}
 use Rattle.types.specs.declared.Ordering.the-variants.{Less, Equal, Greater}
 
@@ -119,7 +118,7 @@ module _ (a b : declared.BlockReference) where
           ≡ pick (eqb (a .authority .0) (b .authority .0)) (keyOrder (digestBytes (a .digest)) (digestBytes (b .digest))) (wordOrder (a .authority .0) (b .authority .0))
       by-author = key-step (a .authority .0) (b .authority .0) (digestBytes (a .digest)) (digestBytes (b .digest))
 
--- ---- locators
+-- ---- answers, and locators
 
 order-equal : (s t : Bool) → orderOf s t ≡ Equal → s ≡ true
 unfolding orderOf
@@ -127,11 +126,39 @@ order-equal true t h = refl
 order-equal false true h = absurd (let z : _≡_ {A = ℕ} 0 1 = cc in omega arith)
 order-equal false false h = absurd (let z : _≡_ {A = ℕ} 0 1 = cc in omega arith)
 
+order-less : (s t : Bool) → orderOf s t ≡ Less → (s ≡ false) × (t ≡ true)
+unfolding orderOf
+order-less true t h = absurd (let z : _≡_ {A = ℕ} 0 1 = cc in omega arith)
+order-less false true h = (refl, refl)
+order-less false false h = absurd (let z : _≡_ {A = ℕ} 0 1 = cc in omega arith)
+
+order-greater : (s t : Bool) → orderOf s t ≡ Greater → (s ≡ false) × (t ≡ false)
+unfolding orderOf
+order-greater true t h = absurd (let z : _≡_ {A = ℕ} 0 1 = cc in omega arith)
+order-greater false true h = absurd (let z : _≡_ {A = ℕ} 0 1 = cc in omega arith)
+order-greater false false h = (refl, refl)
+
+-- what an answer of `compare` says
+module _ (r q : BlockReference) where
+  pub compared-equal : referenceOrder r q ≡ Equal → sameReference r q ≡ true
+  unfolding referenceOrder
+  compared-equal h = order-equal (sameReference r q) (referenceBefore r q) h
+
+  pub compared-less : referenceOrder r q ≡ Less → (sameReference r q ≡ false) × (referenceBefore r q ≡ true)
+  unfolding referenceOrder
+  compared-less h = order-less (sameReference r q) (referenceBefore r q) h
+
+  pub compared-greater : referenceOrder r q ≡ Greater → (sameReference r q ≡ false) × (referenceBefore q r ≡ true)
+  unfolding referenceOrder
+  compared-greater h =
+      let p = order-greater (sameReference r q) (referenceBefore r q) h in
+      (p .0, reference-other r q (p .0) (p .1))
+
 module _ (l m : TransactionLocator) where
   pub locator-equal : referenceOrder (l .block) (m .block) ≡ Equal → locatorOrder l m ≡ wordOrder (l .offset) (m .offset)
   unfolding referenceOrder locatorOrder wordOrder sameLocator locatorBefore
   locator-equal h =
-      let e : sameReference (l .block) (m .block) ≡ true = order-equal (sameReference (l .block) (m .block)) (referenceBefore (l .block) (m .block)) h in
+      let e : sameReference (l .block) (m .block) ≡ true = compared-equal (l .block) (m .block) h in
       let f : referenceBefore (l .block) (m .block) ≡ false = fails _ (λ k. reference-irrefl (m .block) (rw (reference-same (l .block) (m .block) e) at k)) in
       rw (e, f)
 
@@ -155,15 +182,11 @@ module _ (l m : TransactionLocator) where
 
 -- ---- words read from bytes
 
-powers-pos : (n : ℕ) → 0 < 256 ^ n
-powers-pos zero = lit< tt
-powers-pos (suc n) = rw (pow-suc 256 n) (omega (arith, powers-pos n))
-
 be-double : (n h l : ℕ) → l < 256 ^ n → beBytes (n + n) (h * 256 ^ n + l) ≡ beBytes n h ++ beBytes n l
 unfolding beBytes
 be-double n h l k =
     let v : ℕ = h * 256 ^ n + l in
-    let high : v / 256 ^ n ≡ h = mul-add-div-right (powers-pos n) h l ∙ ap (λ (x : ℕ). h + x) (div-eq-of-lt k) ∙ add-zero h in
+    let high : v / 256 ^ n ≡ h = mul-add-div-right (omega (arith, k)) h l ∙ ap (λ (x : ℕ). h + x) (div-eq-of-lt k) ∙ add-zero h in
     let low : v % 256 ^ n ≡ l = mul-add-mod-self-right h (256 ^ n) l ∙ mod-eq-of-lt k in
     rw (leBytes-add n n v, reverse-append (leBytes n v) (leBytes n (v / 256 ^ n)), high, ← leBytes-mod n v, low)
 

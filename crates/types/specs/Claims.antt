@@ -48,7 +48,7 @@ unfoldable pub WritesWhatIsRead : Type 0
 WritesWhatIsRead = (r : Bytes) (b : Block) → areBytes r ≡ true → blockOf r ≡ some b → blockBytes b ≡ r
 
 -- one of two that differ comes first, and only one; what comes before another comes before those after it
-pub record InOrder (A : Type 0) (before : A → A → Bool) : Type 0 where
+pub record StrictlyOrdered (A : Type 0) (before : A → A → Bool) : Type 0 where
   pub irreflexive : (a : A) → before a a ≡ false
   pub transitive : (a b c : A) → before a b ≡ true → before b c ≡ true → before a c ≡ true
   pub total : (a b : A) → before a b ≡ false → before b a ≡ false → a ≡ b
@@ -57,7 +57,7 @@ pub record Claims : Type 0 where
   pub reads : ReadsWhatIsWritten
   pub writes : WritesWhatIsRead
   -- 01: "ordered by round, author, digest bytes"; "A locator is a reference and an offset, ordered so"
-  pub references : InOrder BlockReference referenceBefore
-  pub locators : InOrder TransactionLocator locatorBefore
+  pub references : StrictlyOrdered BlockReference referenceBefore
+  pub locators : StrictlyOrdered TransactionLocator locatorBefore
   -- 01: "Runs of neighbouring shares form ranges": an offset lies in a run exactly where it is a share
   pub runs : (b : Block) (o : ℕ) → anyOf (λ x. within (x .start) (x .end) o) (sharedRanges b) ≡ isShareAt b o

@@ -14,7 +14,7 @@ ghost use Rattle.types.specs.Record.{wellFormed, blockIn, noReference, n
 ghost use Rattle.types.specs.Claims.{Claims};
 ghost use Rattle.types.specs.Cursor.{cursorAt, payloadBetween, runsLeft, runsTold, FurtherOn};
 ghost use Rattle.types.specs.Step.{referenceAt, locatorAt, Took, statementsOnly, leading};
-ghost use Rattle.types.specs.Reference.{maxLen, newRange, oneRange};
+ghost use Rattle.types.specs.Reference.{newRange, oneRange};
 ghost use Rattle.types.specs.Values.{beBytes, digestBytes, asReference, asLocator, asRange, asStatement, wordOrder, keyOrder, referenceOrder, locatorOrder};
 
 // The 32 bytes of a digest as four words, the highest byte first, so that comparing words is comparing bytes.

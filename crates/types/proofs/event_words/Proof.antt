@@ -6,7 +6,7 @@ use Rattle.types.specs.Block.{Statement, votedRange, countedOffsets, eve
 use Rattle.types.specs.Record.{blockIn, noStatement}
 use Rattle.types.specs.Cursor.{cursorAt}
 use Rattle.types.proofs.Shape.{shape-in, statement-count}
-use Rattle.types.proofs.Walk.{placed-index, placed, checks-any, passes-at, counted-most, counted, counted-on, counted-end}
+use Rattle.types.proofs.Walk.{placed-index, placed, checks-any, passes-at, counted-most, offsetsCounted, counted-on, counted-end}
 use borrow.Author.Needs.{needs}
 use Rattle.types.proofs.event_words.Statement.{statement}
 use Rattle.types.proofs.event_words.Tie as tie
@@ -15,7 +15,7 @@ abbrev Inv-loop : tie.InvT-loop
 Inv-loop rec count cursor₀ offsets₀ cursor offsets =
     (cursor ≡ cursorAt (blockIn rec) (cursor .index))
     × ((cursor .index ≤ length (blockIn rec .statements))
-    × ((offsets ≤ 1048575 * cursor .index) × (offsets + counted (drop (cursor .index) (blockIn rec .statements)) ≡ counted (blockIn rec .statements))))
+    × ((offsets ≤ 1048575 * cursor .index) × (offsets + offsetsCounted (drop (cursor .index) (blockIn rec .statements)) ≡ offsetsCounted (blockIn rec .statements))))
 
 abbrev μ-loop : tie.MeasureT-loop
 μ-loop rec count cursor₀ offsets₀ cursor offsets = length (blockIn rec .statements) - cursor .index
@@ -82,7 +82,7 @@ loop-again c =
     let next = n .next-statement .result .next in
     let index = placed-index (blockIn s) next (i + 1) (n .next-statement .ensures .1 .0) in
     let here = c .before .counted-offsets .ensures s ∙ ap (λ (x : Statement). countedOffsets (votedRange x)) (n .next-statement .ensures .0) in
-    let on : counted (drop i ss) ≡ countedOffsets (votedRange (getD ss i noStatement)) + counted (drop (next .index) ss) = rw index (counted-on ss i inside) in (
+    let on : offsetsCounted (drop i ss) ≡ countedOffsets (votedRange (getD ss i noStatement)) + offsetsCounted (drop (next .index) ss) = rw index (counted-on ss i inside) in (
       placed (blockIn s) next (i + 1) (n .next-statement .ensures .1 .0),
       (
         omega (arith, index, inside),
@@ -99,7 +99,7 @@ mul-result c =
     omega (arith, l .loop .inv .1 .0, l .loop .inv .1 .1 .0, statement-count s (blockIn s) shape, shape .head .statements)
 
 returns : tie.Need-returns Inv-loop μ-loop
-unfolding eventRoom counted
+unfolding eventRoom offsetsCounted
 returns c =
     let l = c .before .before in
     let s = l .before .before .before .before .args .rec .now in

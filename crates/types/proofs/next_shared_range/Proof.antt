@@ -1,10 +1,7 @@
-use mathlib.Core.Path.{_≡_, sym, _∙_}
-use Prim.Native.Nat.{_+_, _≤_, _<_}
+use mathlib.Core.Path.{sym, _∙_}
 use native.Mathlib.Omega.{arith}
-use lib.ListN.{length, drop}
 use Rattle.types.specs.Record.{blockIn}
 use Rattle.types.specs.Cursor.{runsTold, FurtherOn}
-use Rattle.types.specs.Step.{leading}
 use Rattle.types.proofs.Walk.{placed-index, placed, run-none, run-from, run-told}
 use borrow.Author.Needs.{needs}
 use Rattle.types.proofs.next_shared_range.Statement.{statement}

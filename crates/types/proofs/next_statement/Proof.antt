@@ -1,6 +1,5 @@
 use mathlib.Core.Path.{ap}
 use native.Mathlib.Omega.{arith}
-use Prim.Native.Nat.{_+_}
 use Rattle.base.proofs.Le.{bytes-of}
 use Rattle.types.specs.Record.{blockIn, statementStart}
 use Rattle.types.specs.Cursor.{cursorAt}
