@@ -1,0 +1,10 @@
+pub mod Computing
+pub mod Stored
+pub mod Accepted
+pub mod Store
+pub mod Walk
+pub mod Chain
+pub mod Splice
+pub mod Payload
+pub mod Check
+pub mod Claimed
