@@ -146,7 +146,7 @@ pub data Chain (es : List Entry) : ℕ → List Entry → Type 0 where
   ends : Chain es 0 []
   link : {e : Entry} {xs : List Entry} → Chain es (nextPosition es e) xs → Chain es (e .position) (e ∷ xs)
 
-next-after : (es xs ys : List Entry) (e : Entry) → Distinct es → ascending es ≡ xs ++ e ∷ ys → nextPosition es e ≡ positionOf (first ys)
+pub next-after : (es xs ys : List Entry) (e : Entry) → Distinct es → ascending es ≡ xs ++ e ∷ ys → nextPosition es e ≡ positionOf (first ys)
 unfolding nextPosition
 next-after es xs ys e d h =
     let up : Ascending (xs ++ e ∷ ys) = rw h at (ascending-ascends es d) in

@@ -3,7 +3,7 @@ use mathlib.Core.Path.{_≡_, refl, sym, ap, _∙_}
 use mathlib.Core.List.{List, [], _∷_, _++_, append-assoc, flatten}
 use mathlib.Core.Option.{Option, none, some, Option·none-ne-some}
 use mathlib.Core.Bool.{Bool, true, false, not, _&&_}
-use Prim.Native.Nat.{ℕ, _+_, _-_, _^_, _≤_, _<_}
+use Prim.Native.Nat.{ℕ, _+_, _*_, _^_, _≤_, _<_}
 use native.Mathlib.Omega.{arith}
 use lib.Dec.{leb, eqb}
 use lib.ListN.{length, take, drop, replicate, length-append, length-drop, length-take, take-append-drop}
@@ -12,10 +12,10 @@ use borrow.Author.Tests.{le-leb, leb-true, eq-eqb, eqb-true, not-false}
 use Rattle.base.specs.Lists.{pick, allOf, pairwise, _∈_, here, there}
 use Rattle.base.specs.Le.{Bytes, leBytes, leAt, leNumber}
 use Rattle.base.specs.Read.{Part}
-use Rattle.base.proofs.Tests.{and-left, and-right, and-both, same-test}
+use Rattle.base.proofs.Tests.{and-left, and-right, same-test, fails}
 use Rattle.base.proofs.Lists.{append-nil, Every, none-of, and, every, every-in, every-filter, all-every, every-all, Pairs, no-pairs, with-later, pairwise-pairs, pairs-pairwise, pairs-map}
 use Rattle.base.proofs.Members.{in-all}
-use Rattle.base.proofs.Le.{AllBytes, bytes-left, length-leBytes, leBytes-leNumber, leNumber-leBytes}
+use Rattle.base.proofs.Le.{AllBytes, bytes-left, length-leBytes, leBytes-leNumber, leNumber-leBytes, leAt-add}
 use Rattle.base.proofs.Read.{part}
 use Rattle.base.proofs.Parts.{PartOf, part-taken, part-complete, part-left, part-right, part-part, part-at, part-same}
 use Rattle.committee.specs.Committee.{Committee}
@@ -104,37 +104,52 @@ pairs-same : {A : Type 0} {R S : A → A → Type 0} → ((x y : A) → R x y �
 pairs-same f no-pairs = no-pairs
 pairs-same {S = S} f (with-later {x = x} {xs = xs} h hs) = with-later (every (λ y k. f x y k) xs h) (pairs-same f hs)
 
-in-every : {A : Type 0} {P : A → Type 0} (xs : List A) → ((x : A) → x ∈ xs → P x) → Every P xs
+pub in-every : {A : Type 0} {P : A → Type 0} (xs : List A) → ((x : A) → x ∈ xs → P x) → Every P xs
 in-every [] f = none-of
 in-every (x ∷ xs) f = and (f x here) (in-every xs (λ y m. f y (there m)))
 
 -- what the steps of the check say
 pub record HeaderRight (s : Bytes) : Type 0 where
-  pub allowed : allowedLength s ≡ true
+  pub long : 16 ≤ length s
+  pub short : length s ≤ 4294967295
   pub within : usedLength s ≤ length s
   pub few : blockCount s ≤ 1024
-  pub zeros : leAt 6 s 10 ≡ 0
+  pub zeros : leAt 4 s 10 ≡ 0
+  pub zeros₂ : leAt 2 s 14 ≡ 0
+
+six : (s : Bytes) → 16 ≤ length s → leAt 6 s 10 ≡ leAt 4 s 10 + 4294967296 * leAt 2 s 14
+six s h = leAt-add 4 2 s 10 (omega arith)
 
 pub header-right : (s : Bytes) → headerRight s ≡ true → HeaderRight s
-unfolding headerRight
+unfolding headerRight allowedLength
 header-right s h =
+    let h₀ = and-left (allowedLength s) _ h in
     let h₁ = and-right (allowedLength s) _ h in
     let h₂ = and-right (leb (usedLength s) (length s)) _ h₁ in
+    let long : 16 ≤ length s = leb-true 16 (length s) (and-left (leb 16 (length s)) _ h₀) in
+    let zero : leAt 6 s 10 ≡ 0 = eqb-true (leAt 6 s 10) 0 (and-right (leb (blockCount s) 1024) _ h₂) in
     record {
-      allowed = and-left (allowedLength s) _ h;
+      long = long;
+      short = leb-true (length s) 4294967295 (and-right (leb 16 (length s)) _ h₀);
       within = leb-true (usedLength s) (length s) (and-left _ _ h₁);
       few = leb-true (blockCount s) 1024 (and-left _ _ h₂);
-      zeros = eqb-true (leAt 6 s 10) 0 (and-right (leb (blockCount s) 1024) _ h₂);
+      zeros = omega (arith, six s long, zero);
+      zeros₂ = omega (arith, six s long, zero);
     }
 
 pub right-header : (s : Bytes) → HeaderRight s → headerRight s ≡ true
-unfolding headerRight
+unfolding headerRight allowedLength
 right-header s h =
-    rw (h .allowed, le-leb (usedLength s) (length s) (h .within), le-leb (blockCount s) 1024 (h .few), eq-eqb (leAt 6 s 10) 0 (h .zeros))
+    rw (
+      le-leb 16 (length s) (h .long),
+      le-leb (length s) 4294967295 (h .short),
+      le-leb (usedLength s) (length s) (h .within),
+      le-leb (blockCount s) 1024 (h .few),
+      eq-eqb (leAt 6 s 10) 0 (omega (arith, six s (h .long), h .zeros, h .zeros₂)),
+    )
 
-pub shortest : (s : Bytes) → allowedLength s ≡ true → 16 ≤ length s
-unfolding allowedLength
-shortest s h = leb-true 16 (length s) (and-left (leb 16 (length s)) _ h)
+pub header-wrong : (s : Bytes) → (HeaderRight s → ⊥) → headerRight s ≡ false
+header-wrong s f = fails (headerRight s) (λ h. f (header-right s h))
 
 pub record Readable (s : Bytes) : Type 0 where
   pub walked : Walked s (recordsOf s)
@@ -251,13 +266,18 @@ module _ (c : Committee) (s : Bytes) (o : InOrder c s) where
   order-count = ap blockCount order-split ∙ blockCount-laid whole (drop (usedLength s) s) (omega (arith, o .few))
 
   order-header : headerRight s ≡ true
+  unfolding allowedLength
   order-header =
+      let long : 16 ≤ length s = leb-true 16 (length s) (and-left (leb 16 (length s)) _ (o .allowed)) in
+      let zero : leAt 6 s 10 ≡ 0 = zeros-laid s whole (drop (usedLength s) s) order-split order-short in
       right-header s
       (record {
-        allowed = o .allowed;
+        long = long;
+        short = longest s (o .allowed);
         within = omega (arith, used-is c s o, used-within c s o);
         few = omega (arith, order-count, o .few);
-        zeros = zeros-laid s whole (drop (usedLength s) s) order-split order-short;
+        zeros = omega (arith, six s long, zero);
+        zeros₂ = omega (arith, six s long, zero);
       })
 
   order-reads : readEntries (length whole) (drop 16 s) ≡ some (part whole (drop (usedLength s) s))
@@ -284,7 +304,7 @@ module _ (c : Committee) (s : Bytes) (o : InOrder c s) where
 
 -- the steps of the check decide it
 pub order-checked : (c : Committee) (s : Bytes) → AllBytes s → storeInOrder c s ≡ headerRight s && (readable s && (chained s && allAccepted c (recordsOf s)))
-unfolding layout usedLength blockCount
+unfolding layout usedLength blockCount allowedLength
 order-checked c s b = same-test _ _ there back
   where
     there : storeInOrder c s ≡ true → headerRight s && (readable s && (chained s && allAccepted c (recordsOf s))) ≡ true
@@ -300,11 +320,10 @@ order-checked c s b = same-test _ _ there back
         let k : HeaderRight s = header-right s (and-left (headerRight s) _ h) in
         let r : Readable s = is-readable s (and-left (readable s) _ h₁) in
         let d : Chained s (entries rs) = is-chained s (and-left (chained s) _ h₂) in
-        let l : 16 ≤ length s = shortest s (k .allowed) in
         to-order c s
         (record {
-          allowed = k .allowed;
-          used = rw (← r .used) (walked-bytes s (entries rs) rs b (r .walked) (d .next) ∙ ap (λ (x : Bytes). x ++ bodyBytes (entries rs) (entries rs)) (header-bytes s rs b l (d .first) (sym (r .used)) (sym (r .many)) (k .zeros)));
+          allowed = rw (le-leb 16 (length s) (k .long)) (le-leb (length s) 4294967295 (k .short));
+          used = rw (← r .used) (walked-bytes s (entries rs) rs b (r .walked) (d .next) ∙ ap (λ (x : Bytes). x ++ bodyBytes (entries rs) (entries rs)) (header-bytes s rs b (k .long) (d .first) (sym (r .used)) (sym (r .many)) (omega (arith, six s (k .long), k .zeros, k .zeros₂))));
           few = omega (arith, r .many, k .few);
           accepted = and-right (chained s) _ h₂;
         })

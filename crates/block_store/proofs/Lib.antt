@@ -7,4 +7,6 @@ pub mod Chain
 pub mod Splice
 pub mod Payload
 pub mod Check
+pub mod Visit
+pub mod Sorted
 pub mod Claimed

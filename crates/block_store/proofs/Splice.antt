@@ -126,10 +126,10 @@ accept-writes rs r s d m h used fits =
 -- ---- which next position changes
 
 -- entries at different positions
-abbrev Apart : Entry → Entry → Type 0
+abbrev pub Apart : Entry → Entry → Type 0
 Apart e f = e .position ≡ f .position → ⊥
 
-entries-apart : (rs : List Record) → Pairs Apart (entries rs)
+pub entries-apart : (rs : List Record) → Pairs Apart (entries rs)
 unfolding entries
 entries-apart [] = no-pairs
 entries-apart (r ∷ rs) =
@@ -145,7 +145,7 @@ placed-apart e (d ∷ ds) (and a as′) (with-later h hs) = go (referenceBefore 
     go true q = with-later (and a as′) (with-later h hs)
     go false q = with-later (placed-every e ds (λ s. a (sym s)) h) q
 
-ascending-apart : (es : List Entry) → Pairs Apart es → Pairs Apart (ascending es)
+pub ascending-apart : (es : List Entry) → Pairs Apart es → Pairs Apart (ascending es)
 unfolding ascending
 ascending-apart [] no-pairs = no-pairs
 ascending-apart (e ∷ es) (with-later h hs) = placed-apart e (ascending es) (ascending-every es h) (ascending-apart es hs)
@@ -160,7 +160,7 @@ placed-back {P} e (d ∷ ds) q = go (referenceBefore (referenceOf e) (referenceO
     go true (and h hs) ih = (h, hs)
     go false (and h hs) ih = (ih hs .0, and h (ih hs .1))
 
-ascending-back : {P : Entry → Type 0} (es : List Entry) → Every P (ascending es) → Every P es
+pub ascending-back : {P : Entry → Type 0} (es : List Entry) → Every P (ascending es) → Every P es
 unfolding ascending
 ascending-back [] none-of = none-of
 ascending-back (e ∷ es) q = let p = placed-back e (ascending es) q in and (p .0) (ascending-back es (p .1))
