@@ -9,4 +9,6 @@ pub mod Payload
 pub mod Check
 pub mod Visit
 pub mod Sorted
+pub mod Loops
+pub mod Lookup
 pub mod Claimed

@@ -154,7 +154,7 @@ one-position rs = apart-same (entries rs) (entries-apart rs)
 
 -- the walk along the next positions of a store has passed the entries xs, the latest first, and has come to a position
 pub data Linked (s : Bytes) : List Entry → ℕ → Type 0 where
-  starts : {p : ℕ} → p ≡ leAt 4 s 0 → Linked s [] p
+  begins : {p : ℕ} → p ≡ leAt 4 s 0 → Linked s [] p
   goes : {e : Entry} {xs : List Entry} {p : ℕ} → Linked s xs (e .position) → p ≡ leAt 4 s (e .position) → Linked s (e ∷ xs) p
 
 module _ (s : Bytes) (rs : List Record) where
@@ -170,7 +170,7 @@ module _ (s : Bytes) (rs : List Record) where
   -- where the chain is right, the walk passes the entries in ascending order
   pub comes : Chained s all → (xs : List Entry) (at : ℕ) → Linked s xs at → Every (λ e. e ∈ all) xs → ToCome xs at
   unfolding back positionOf first firstPosition
-  comes c [] at (starts q) none-of = record { rest = ascending all; sorted = refl; next = q ∙ c .first ∙ ap positionOf (least-first all) }
+  comes c [] at (begins q) none-of = record { rest = ascending all; sorted = refl; next = q ∙ c .first ∙ ap positionOf (least-first all) }
   comes c (e ∷ xs) at (goes l q) (and m ms) = go (comes c xs (e .position) l ms)
     where
       in-order : (y : Entry) (ys : List Entry) → ascending all ≡ back xs (y ∷ ys) → y ∈ all
@@ -190,7 +190,7 @@ module _ (s : Bytes) (rs : List Record) where
   passed : (xs ys : List Entry) (at : ℕ) → Distinct all → ascending all ≡ back xs ys → Linked s xs at → at ≡ positionOf (first ys)
       → (leAt 4 s 0 ≡ firstPosition all) × Every (λ e. leAt 4 s (e .position) ≡ nextPosition all e) xs
   unfolding back positionOf first firstPosition
-  passed [] ys at d h (starts q) n = (sym q ∙ n ∙ ap (λ (l : List Entry). positionOf (first l)) (sym h) ∙ ap positionOf (sym (least-first all)), none-of)
+  passed [] ys at d h (begins q) n = (sym q ∙ n ∙ ap (λ (l : List Entry). positionOf (first l)) (sym h) ∙ ap positionOf (sym (least-first all)), none-of)
   passed (e ∷ xs) ys at d h (goes l q) n =
       let r = passed xs (e ∷ ys) (e .position) d h l refl in
       (r .0, and (sym q ∙ n ∙ sym (next-after all (back xs []) ys e d (h ∙ back-append xs (e ∷ ys)))) (r .1))

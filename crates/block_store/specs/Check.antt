@@ -5,13 +5,13 @@ use mathlib.Core.List.{List, [], _∷_, _++_}
 use mathlib.Core.Option.{Option, none, some}
 use lib.Dec.{ltb, leb, eqb}
 use lib.ListN.{length, drop}
-use Rattle.base.specs.Lists.{pick, anyOf, allOf, pairwise, find}
+use Rattle.base.specs.Lists.{pick, anyOf, allOf, pairwise, holds}
 use Rattle.base.specs.Le.{Bytes, leAt}
 use Rattle.base.specs.Read.{Part}
 use Rattle.base.specs.Checks.{passes}
 use Rattle.committee.specs.Committee.{Committee}
-use Rattle.types.specs.Reference.{sameReference}
-use Rattle.block_store.specs.Layout.{Record, usedBy, Entry, referenceOf, entries, firstPosition, nextPosition}
+use Rattle.types.specs.Reference.{BlockReference, sameReference}
+use Rattle.block_store.specs.Layout.{Record, usedBy, Entry, referenceOf, entries, firstPosition, nextPosition, lookup}
 use Rattle.block_store.specs.Accept.{blockChecks}
 use Rattle.block_store.specs.Store.{usedLength, blockCount, readEntries, recordsOf, allowedLength}
 
@@ -47,6 +47,10 @@ chained s =
     eqb (leAt 4 s 0) (firstPosition es)
     && (allOf (λ e. eqb (leAt 4 s (e .position)) (nextPosition es e)) es
     && pairwise (λ e d. not (sameReference (referenceOf e) (referenceOf d))) es)
+
+-- a block of that reference stands before a position
+unfoldable pub storedBefore : List Entry → ℕ → BlockReference → Bool
+storedBefore es p i = holds (λ e. ltb (e .position) p) (lookup es i)
 
 -- the record that stands at a position is accepted after those before it
 unfoldable pub acceptedAt : Committee → List Record → ℕ → Bool
