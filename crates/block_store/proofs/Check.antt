@@ -8,7 +8,7 @@ use native.Mathlib.Omega.{arith}
 use lib.Dec.{leb, eqb}
 use lib.ListN.{length, take, drop, replicate, length-append, length-drop, length-take, take-append-drop}
 use lib.Seq.{take-add, take-at, drop-at, drop-drop, length-take-le}
-use borrow.Author.Tests.{le-leb, leb-true, eq-eqb, eqb-true, not-false}
+use borrow.Author.Tests.{le-leb, leb-true, eq-eqb, eqb-true, not-true}
 use Rattle.base.specs.Lists.{pick, allOf, pairwise, _∈_, here, there}
 use Rattle.base.specs.Le.{Bytes, leBytes, leAt, leNumber}
 use Rattle.base.specs.Read.{Part}
@@ -23,7 +23,7 @@ use Rattle.types.specs.Reference.{sameReference, referenceBefore}
 use Rattle.block_store.specs.Layout.{Record, usedBy, Entry, referenceOf, entries, lesser, least, positionOf, firstPosition, nextPosition, entryBytes, bodyBytes, headerBytes, layout}
 use Rattle.block_store.specs.Accept.{allAccepted}
 use Rattle.block_store.specs.Store.{usedLength, blockCount, readEntries, recordsRead, recordsOf, allowedLength, storeInOrder}
-use Rattle.block_store.specs.Check.{headerRight, leaves, readable, chained}
+use Rattle.block_store.specs.Entry.{headerRight, endsAt, readable, chained, laidOut}
 use Rattle.block_store.proofs.Store.{InOrder, in-order, to-order, longest, used-within, used-is, usedLength-laid, blockCount-laid, laid, body-laid, entries-reads, recordsOf-right, bytes-drop, length-body, length-header, length-layout, entries-below}
 use Rattle.block_store.proofs.Walk.{Stands, Walked, begun, then, walked-reads, Reached, reads-walked}
 use Rattle.block_store.proofs.Chain.{Distinct, distinct}
@@ -96,10 +96,6 @@ walked-bytes s es (r ∷ rs) b (then w h) (and e es′) =
     take-add (usedBy rs) (8 + length (r .bytes)) s
     ∙ rw (walked-bytes s es rs b w es′, entry-bytes s es (usedBy rs) r b h e) (append-assoc (take 16 s) (bodyBytes es (entries rs)) _)
 
-not-true : (t : Bool) → not t ≡ true → t ≡ false
-not-true true h = sym h
-not-true false h = refl
-
 pairs-same : {A : Type 0} {R S : A → A → Type 0} → ((x y : A) → R x y → S x y) → {xs : List A} → Pairs R xs → Pairs S xs
 pairs-same f no-pairs = no-pairs
 pairs-same {S = S} f (with-later {x = x} {xs = xs} h hs) = with-later (every (λ y k. f x y k) xs h) (pairs-same f hs)
@@ -152,23 +148,24 @@ pub header-wrong : (s : Bytes) → (HeaderRight s → ⊥) → headerRight s ≡
 header-wrong s f = fails (headerRight s) (λ h. f (header-right s h))
 
 pub record Readable (s : Bytes) : Type 0 where
+  pub header : HeaderRight s
   pub walked : Walked s (recordsOf s)
   pub many : length (recordsOf s) ≡ blockCount s
   pub used : usedBy (recordsOf s) ≡ usedLength s
 
 pub is-readable : (s : Bytes) → readable s ≡ true → Readable s
-unfolding readable leaves recordsOf recordsRead
-is-readable s h = go (readEntries (blockCount s) (drop 16 s)) refl h
+unfolding readable endsAt recordsOf recordsRead
+is-readable s h = go (readEntries (blockCount s) (drop 16 s)) refl (and-right (headerRight s) _ h)
   where
-    go : (o : Option (Part (List Record))) → readEntries (blockCount s) (drop 16 s) ≡ o → leaves (usedLength s) o ≡ true → Readable s
+    go : (o : Option (Part (List Record))) → readEntries (blockCount s) (drop 16 s) ≡ o → endsAt (usedLength s) o ≡ true → Readable s
     go none e k = absurd (let z : false ≡ true = k in let y : _≡_ {A = ℕ} 0 1 = cc in omega arith)
     go (some q) e k =
         let r : Reached s (blockCount s) q = reads-walked s (blockCount s) q e in
-        record { walked = rw e (r .walked); many = rw e (r .many); used = rw e (eqb-true (usedBy (q .value)) (usedLength s) k) }
+        record { header = header-right s (and-left (headerRight s) _ h); walked = rw e (r .walked); many = rw e (r .many); used = rw e (eqb-true (usedBy (q .value)) (usedLength s) k) }
 
-pub readable-is : (s : Bytes) (rs : List Record) → Walked s rs → length rs ≡ blockCount s → usedBy rs ≡ usedLength s → readable s ≡ true
-unfolding readable leaves
-readable-is s rs w m u = rw (← m, walked-reads s rs w) (eq-eqb (usedBy rs) (usedLength s) u)
+pub readable-is : (s : Bytes) (rs : List Record) → headerRight s ≡ true → Walked s rs → length rs ≡ blockCount s → usedBy rs ≡ usedLength s → readable s ≡ true
+unfolding readable endsAt
+readable-is s rs h w m u = rw (h, ← m, walked-reads s rs w) (eq-eqb (usedBy rs) (usedLength s) u)
 
 pub record Chained (s : Bytes) (es : List Entry) : Type 0 where
   pub first : leAt 4 s 0 ≡ firstPosition es
@@ -290,7 +287,7 @@ module _ (c : Committee) (s : Bytes) (o : InOrder c s) where
   order-readable : readable s ≡ true
   order-readable =
       let r : Reached s (length whole) (part whole (drop (usedLength s) s)) = reads-walked s (length whole) _ order-reads in
-      readable-is s whole (r .walked) (sym order-count) (sym (used-is c s o))
+      readable-is s whole order-header (r .walked) (sym order-count) (sym (used-is c s o))
 
   order-chained : chained s ≡ true
   order-chained =
@@ -303,22 +300,21 @@ module _ (c : Committee) (s : Bytes) (o : InOrder c s) where
       })
 
 -- the steps of the check decide it
-pub order-checked : (c : Committee) (s : Bytes) → AllBytes s → storeInOrder c s ≡ headerRight s && (readable s && (chained s && allAccepted c (recordsOf s)))
+pub order-checked : (c : Committee) (s : Bytes) → AllBytes s → storeInOrder c s ≡ readable s && (chained s && allAccepted c (recordsOf s))
 unfolding layout usedLength blockCount allowedLength
 order-checked c s b = same-test _ _ there back
   where
-    there : storeInOrder c s ≡ true → headerRight s && (readable s && (chained s && allAccepted c (recordsOf s))) ≡ true
+    there : storeInOrder c s ≡ true → readable s && (chained s && allAccepted c (recordsOf s)) ≡ true
     there h =
         let o : InOrder c s = in-order c s h in
-        rw (order-header c s o, order-readable c s o, order-chained c s o) (o .accepted)
+        rw (order-readable c s o, order-chained c s o) (o .accepted)
 
-    back : headerRight s && (readable s && (chained s && allAccepted c (recordsOf s))) ≡ true → storeInOrder c s ≡ true
+    back : readable s && (chained s && allAccepted c (recordsOf s)) ≡ true → storeInOrder c s ≡ true
     back h =
         let rs : List Record = recordsOf s in
-        let h₁ = and-right (headerRight s) _ h in
-        let h₂ = and-right (readable s) _ h₁ in
-        let k : HeaderRight s = header-right s (and-left (headerRight s) _ h) in
-        let r : Readable s = is-readable s (and-left (readable s) _ h₁) in
+        let h₂ = and-right (readable s) _ h in
+        let r : Readable s = is-readable s (and-left (readable s) _ h) in
+        let k : HeaderRight s = r .header in
         let d : Chained s (entries rs) = is-chained s (and-left (chained s) _ h₂) in
         to-order c s
         (record {

@@ -22,7 +22,8 @@ use Rattle.types.specs.Verify.{headChecks, bodyChecks}
 use Rattle.types.proofs.References.{reference-same, same-reference}
 use Rattle.block_store.specs.Layout.{Record, usedBy, Entry, referenceOf, entries, lookup}
 use Rattle.block_store.specs.Accept.{isStored, blockChecks, allAccepted}
-use Rattle.block_store.specs.Check.{positions, storedBefore, acceptedAt}
+use Rattle.block_store.specs.Entry.{positions}
+use Rattle.block_store.specs.Check.{storedBefore, acceptedAt}
 use Rattle.block_store.proofs.Store.{entries-below}
 use Rattle.block_store.proofs.Chain.{Distinct}
 
@@ -97,9 +98,9 @@ stored-older newer older i d =
     same-test (isStored older i) _
     (λ h. let x = entry-stored older i h in rw (lookup-hit (entries (newer ++ older)) d (x .0) (entries-older newer older (x .0) (x .1)) i (x .2)) (lt-ltb (x .0 .position) (usedBy older) (every-in (entries older) (x .0) (entries-below older) (x .1))))
     (λ h.
-      let x = holds-some (λ e. ltb (e .position) (usedBy older)) (lookup (entries (newer ++ older)) i) h in
-      let y = lookup-in (entries (newer ++ older)) i (x .0) (x .1) in
-      stored-entry older i (x .0) (older-entries newer older (x .0) (y .0) (ltb-true (x .0 .position) (usedBy older) (x .2))) (y .1))
+    let x = holds-some (λ e. ltb (e .position) (usedBy older)) (lookup (entries (newer ++ older)) i) h in
+    let y = lookup-in (entries (newer ++ older)) i (x .0) (x .1) in
+    stored-entry older i (x .0) (older-entries newer older (x .0) (y .0) (ltb-true (x .0 .position) (usedBy older) (x .2))) (y .1))
 
 -- ---- accepted after those before
 

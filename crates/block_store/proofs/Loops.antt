@@ -7,19 +7,23 @@ use mathlib.Core.Bool.{Bool, true, false}
 use Prim.Native.Nat.{ℕ, zero, suc, _+_, _-_, _≤_, _<_}
 use native.Mathlib.Omega.{arith}
 use native.Mathlib.Numerals.{add-one}
+use native.Mathlib.Nat.{add-sub-cancel-left}
 use lib.Dec.{ltb, eqb}
-use lib.ListN.{length, take, set, getD}
-use lib.Seq.{take-suc-set}
+use lib.ListN.{length, take, drop, set, length-drop}
+use lib.Seq.{take-suc-set, length-take-le}
 use borrow.Author.Tests.{lt-ltb, eq-eqb, eqb-true}
-use Rattle.base.specs.Lists.{pairwise, _∈_, here, there}
+use Rattle.types.specs.Record.{wellFormed, blockIn}
+use Rattle.base.specs.Lists.{pairwise, isNone, _∈_, here, there}
 use Rattle.base.specs.Le.{Bytes, leAt}
-use Rattle.base.proofs.Tests.{fails, same-test}
+use Rattle.base.proofs.Tests.{fails, not-both, same-test, and-left, and-right}
 use Rattle.base.proofs.Lists.{Every, none-of, and, every, every-in, every-append, Pairs, no-pairs, with-later, pairs-append, pairs-pairwise}
 use Rattle.base.proofs.Members.{in-empty, in-cases, in-append, in-left, in-right, any-in, in-any}
+use Rattle.types.proofs.Shape.{block-of}
 use Rattle.block_store.specs.Layout.{Record, usedBy, Entry, referenceOf, entries, positionOf, ascending}
 use Rattle.block_store.specs.Store.{usedLength, blockCount, recordsOf}
-use Rattle.block_store.specs.Check.{readable, positions, isIn, chained}
-use Rattle.block_store.proofs.Walk.{Stands, Walked, begun, then, walked-same, walked-on}
+use Rattle.block_store.specs.Entry.{headerRight, positions, isIn, readable, chained, isEntry, recordAt, blockAt}
+use Rattle.block_store.proofs.Store.{entries-within}
+use Rattle.block_store.proofs.Walk.{Stands, Walked, begun, then, walked-same, walked-on, entries-stand}
 use Rattle.block_store.proofs.Chain.{lower, Ascending, first, ascending-ascends}
 use Rattle.block_store.proofs.Check.{Readable, is-readable, readable-is, Chained, is-chained, chained-is}
 use Rattle.block_store.proofs.Visit.{back, back-append, length-back, back-right, Descending, descending-more, ascending-in, length-ascending, length-entries, Linked, begins, goes, ToCome, comes, Ended, ended}
@@ -72,6 +76,61 @@ pub at-stands : (rs : List Record) (e : Entry) → e ∈ entries rs → isIn (e 
 unfolding isIn
 at-stands rs e m = in-any (λ n. eqb n (e .position)) (position-in rs e m) (eq-eqb (e .position) (e .position) refl)
 
+-- ---- an entry at a position
+
+pub record EntryAt (s : Bytes) (p : ℕ) : Type 0 where
+  pub entry : Entry
+  pub stored : entry ∈ entries (recordsOf s)
+  pub place : entry .position ≡ p
+  pub reads : Readable s
+  pub stands : Stands s p (record { bytes = entry .bytes; block = entry .block })
+
+pub entry-at : (s : Bytes) (p : ℕ) → isEntry s p ≡ true → EntryAt s p
+unfolding isEntry
+entry-at s p h =
+    let r : Readable s = is-readable s (and-left (readable s) _ h) in
+    let x = stands-at (recordsOf s) p (and-right (readable s) _ h) in
+    record { entry = x .0; stored = x .1; place = x .2; reads = r; stands = subst (λ (q : ℕ). Stands s q (record { bytes = x .0 .bytes; block = x .0 .block })) (x .2) (every-in (entries (recordsOf s)) (x .0) (entries-stand s (recordsOf s) (r .walked)) (x .1)) }
+
+pub is-entry : (s : Bytes) (e : Entry) → readable s ≡ true → e ∈ entries (recordsOf s) → isEntry s (e .position) ≡ true
+unfolding isEntry
+is-entry s e h m = rw h (at-stands (recordsOf s) e m)
+
+-- what stands at a position
+module _ (s : Bytes) (p : ℕ) (r : Record) (h : Stands s p r) where
+  pub record-at : recordAt s p ≡ r .bytes
+  unfolding recordAt
+  record-at = rw (h .size) (h .bytes)
+
+  pub formed-at : wellFormed (recordAt s p) ≡ true
+  unfolding wellFormed isNone
+  formed-at = rw (record-at, h .block)
+
+  pub block-at : blockAt s p ≡ r .block
+  unfolding blockAt blockIn
+  block-at = rw (record-at, h .block)
+
+-- what the code needs of an entry: it lies in the store, and its record is well formed
+pub record Room (s : Bytes) (p : ℕ) : Type 0 where
+  pub from : 16 ≤ p
+  pub inside : p + 8 + leAt 4 s (p + 4) ≤ length s
+  pub formed : wellFormed (recordAt s p) ≡ true
+
+pub entry-room : (s : Bytes) (p : ℕ) → isEntry s p ≡ true → Room s p
+entry-room s p h =
+    let x : EntryAt s p = entry-at s p h in
+    let st = x .stands in
+    record {
+      from = omega (arith, every-in (entries (recordsOf s)) (x .entry) (entries-within (recordsOf s)) (x .stored) .from, x .place);
+      inside = omega (arith, st .inside, st .size);
+      formed = formed-at s p _ st;
+    }
+
+-- a record lent as a part of the store
+pub record-part : (s : Bytes) (p end : ℕ) → end ≡ p + 8 + leAt 4 s (p + 4) → take (end - (p + 8)) (drop (p + 8) s) ≡ recordAt s p
+unfolding recordAt
+record-part s p end h = rw (h, add-sub-cancel-left (p + 8) (leAt 4 s (p + 4)))
+
 -- ---- the walk over the entries
 
 -- i entries were read, and their positions were kept
@@ -98,6 +157,21 @@ walking-step s i at starts r w h k =
       kept = rw (add-one i, take-suc-set starts i at h, w .kept, w .place);
     }
 
+-- the well-formed record that ends at a position stands there
+pub stands-of : (s : Bytes) (p : ℕ) → p + 8 + leAt 4 s (p + 4) ≤ length s → wellFormed (recordAt s p) ≡ true → Stands s p (record { bytes = recordAt s p; block = blockAt s p })
+unfolding recordAt blockAt
+stands-of s p h f =
+    let n : ℕ = leAt 4 s (p + 4) in
+    let many : length (take n (drop (p + 8) s)) ≡ n = length-take-le n (drop (p + 8) s) (omega (arith, length-drop (p + 8) s)) in
+    record { inside = omega (arith, many); size = sym many; bytes = ap (λ (k : ℕ). take k (drop (p + 8) s)) many; block = block-of (recordAt s p) f }
+
+pub walking-on : (s : Bytes) (i at end : ℕ) (starts : List ℕ) → Walking s i at starts → i < length starts → end ≡ at + 8 + leAt 4 s (at + 4) → end ≤ length s
+    → wellFormed (take (end - (at + 8)) (drop (at + 8) s)) ≡ true → Walking s (i + 1) end (set starts i at)
+walking-on s i at end starts w h e l f =
+    let st = stands-of s at (omega arith) (subst (λ (x : Bytes). wellFormed x ≡ true) (record-part s at end e) f) in
+    let same : at + (8 + length (recordAt s at)) ≡ end = omega (arith, st .size, e) in
+    subst (λ (p : ℕ). Walking s (i + 1) p (set starts i at)) same (walking-step s i at starts _ w h st)
+
 -- no record stands where the next should
 pub walking-stop : (s : Bytes) (i at : ℕ) (starts : List ℕ) → Walking s i at starts → i < blockCount s → ((r : Record) → Stands s at r → ⊥) → readable s ≡ false
 walking-stop s i at starts w h f = fails (readable s) λ t.
@@ -110,14 +184,25 @@ walking-all s at starts w t =
     let r : Readable s = is-readable s t in
     walked-same s (recordsOf s) (w .rs) (r .walked) (w .walked) (r .many ∙ sym (w .many))
 
-pub walking-end : (s : Bytes) (at : ℕ) (starts : List ℕ) → Walking s (blockCount s) at starts → eqb at (usedLength s) ≡ readable s
-walking-end s at starts w =
+pub walking-end : (s : Bytes) (at : ℕ) (starts : List ℕ) → headerRight s ≡ true → Walking s (blockCount s) at starts → eqb at (usedLength s) ≡ readable s
+walking-end s at starts k w =
     same-test (eqb at (usedLength s)) (readable s)
-    (λ h. readable-is s (w .rs) (w .walked) (w .many) (w .place ∙ eqb-true at (usedLength s) h))
+    (λ h. readable-is s (w .rs) k (w .walked) (w .many) (w .place ∙ eqb-true at (usedLength s) h))
     (λ h. eq-eqb at (usedLength s) (sym (w .place) ∙ ap usedBy (sym (walking-all s at starts w h)) ∙ is-readable s h .used))
 
 pub walking-kept : (s : Bytes) (at : ℕ) (starts : List ℕ) → Walking s (blockCount s) at starts → readable s ≡ true → take (blockCount s) starts ≡ positions (recordsOf s)
 walking-kept s at starts w h = w .kept ∙ ap positions (sym (walking-all s at starts w h))
+
+-- all were walked over
+pub walking-done : (s : Bytes) (i at : ℕ) (starts : List ℕ) → headerRight s ≡ true → Walking s i at starts → i ≡ blockCount s
+    → (eqb at (usedLength s) ≡ readable s) × (eqb at (usedLength s) ≡ true → take (blockCount s) starts ≡ positions (recordsOf s))
+walking-done s i at starts k w e =
+    let v : Walking s (blockCount s) at starts = subst (λ (n : ℕ). Walking s n at starts) e w in
+    (walking-end s at starts k v, λ h. walking-kept s at starts v (sym (walking-end s at starts k v) ∙ h))
+
+-- what a refusal says
+pub refuses : {X : Type 0} {t : Bool} → t ≡ false → (false ≡ t) × (false ≡ true → X)
+refuses h = (sym h, λ z. absurd (not-both z refl))
 
 -- ---- the walk along the chain
 
@@ -156,8 +241,8 @@ module _ (s : Bytes) (rs : List Record) where
         many = omega (arith, v .many);
         latest = sym q;
         kept =
-          rw (add-one k, take-suc-set order k at h, v .kept)
-          (sym (ap (map placeOf) (back-append (v .xs) (e ∷ [])) ∙ map-append placeOf (back (v .xs) []) (e ∷ []) ∙ ap (λ (p : ℕ). map placeOf (back (v .xs) []) ++ (p ∷ [])) q));
+            rw (add-one k, take-suc-set order k at h, v .kept)
+            (sym (ap (map placeOf) (back-append (v .xs) (e ∷ [])) ∙ map-append placeOf (back (v .xs) []) (e ∷ []) ∙ ap (λ (p : ℕ). map placeOf (back (v .xs) []) ++ (p ∷ [])) q));
       }
     where
       above : (xs : List Entry) → Descending xs → Above xs e → Descending (e ∷ xs)

@@ -14,11 +14,11 @@ use Rattle.base.proofs.Parts.{PartOf, part-taken, part-complete, part-left, par
 use Rattle.committee.specs.Committee.{Committee}
 use Rattle.types.specs.Reference.{TransactionLocator, sameReference}
 use Rattle.types.specs.Block.{Statement, share, Block}
-use Rattle.types.specs.Record.{referenceBytes, statementBytes, blockBytes}
+use Rattle.types.specs.Record.{referenceBytes, statementBytes, blockBytes, statementStart}
 use Rattle.types.proofs.Records.{BlockFits, blockBytes-blockOf, blockOf-fits, length-reference, length-includes}
 use Rattle.block_store.specs.Layout.{Record, Entry, referenceOf, entries, nextPosition, entryBytes, bodyBytes, headerBytes, layout, lookup}
 use Rattle.block_store.specs.Store.{usedLength, recordsOf, storeInOrder}
-use Rattle.block_store.specs.Payload.{statementStart, payloadIn, payloadOf, payloadAt, stretchOf}
+use Rattle.block_store.specs.Payload.{payloadIn, payloadOf, payloadAt, stretchOf}
 use Rattle.block_store.proofs.Store.{Right, InOrder, in-order, recordsOf-right, recordsOf-bytes, right-block, length-body, length-header}
 
 -- ---- in a block's bytes

@@ -16,6 +16,7 @@ use Rattle.base.specs.Le.{Bytes, leAt, leNumber}
 use Rattle.base.specs.Read.{Part, give, fail, onward, _>>=_, items, number}
 use Rattle.base.proofs.Lists.{Every, none-of, and}
 use Rattle.base.proofs.Read.{part, bind-some}
+use Rattle.base.proofs.Fixed.{items-at, number-at}
 use Rattle.types.specs.Block.{Block}
 use Rattle.types.specs.Record.{blockOf}
 use Rattle.block_store.specs.Layout.{Record, readRecord, usedBy, entries}
@@ -24,10 +25,6 @@ use Rattle.block_store.proofs.Store.{Right, right-block, readRecord-som
 
 -- ---- reading at a position
 
-pub items-at : (n : ℕ) (s : List ℕ) (p : ℕ) → p + n ≤ length s → items n (drop p s) ≡ some (part (take n (drop p s)) (drop (p + n) s))
-unfolding items
-items-at n s p h = rw (le-leb n (length (drop p s)) (simp length-drop (omega arith)), drop-drop n p s)
-
 items-long : (n : ℕ) (s : List ℕ) (q : Part (List ℕ)) → items n s ≡ some q → n ≤ length s
 unfolding items
 items-long n s q h = go (leb n (length s)) refl h
@@ -35,10 +32,6 @@ items-long n s q h = go (leb n (length s)) refl h
     go : (t : Bool) → leb n (length s) ≡ t → pick t (some (part (take n s) (drop n s))) none ≡ some q → n ≤ length s
     go true e k = leb-true n (length s) e
     go false e k = absurd (Option·none-ne-some q k)
-
-pub number-at : (n : ℕ) (s : List ℕ) (p : ℕ) → p + n ≤ length s → number n (drop p s) ≡ some (part (leAt n s p) (drop (p + n) s))
-unfolding number _>>=_ onward give leAt
-number-at n s p h = rw (items-at n s p h)
 
 -- ---- one entry
 

@@ -1,6 +1,7 @@
 pub mod Layout
 pub mod Accept
 pub mod Store
+pub mod Entry
 pub mod Check
 pub mod Payload
 pub mod Claims

@@ -1,16 +1,16 @@
 -- The payload of a stored share. Assumes nothing: these are definitions.
-use Prim.Native.Nat.{ℕ, _+_, _*_}
+use Prim.Native.Nat.{ℕ, _+_}
 use mathlib.Core.Bool.{not}
-use mathlib.Core.List.{List, [], _∷_, map}
+use mathlib.Core.List.{List, [], _∷_}
 use mathlib.Core.Option.{Option, none, some}
 use lib.ListN.{length, take, drop, getElem?}
-use Rattle.base.specs.Lists.{pick, isNone, sumOf}
+use Rattle.base.specs.Lists.{pick, isNone}
 use Rattle.base.specs.Le.{Bytes}
 use Rattle.base.specs.Checks.{Check, _⇒_, passes, Answer, checked}
 use Rattle.committee.specs.Committee.{Committee, broken}
 use Rattle.types.specs.Reference.{TransactionLocator}
-use Rattle.types.specs.Block.{Statement, share, accept, reject, voteRange, Block}
-use Rattle.types.specs.Record.{statementBytes}
+use Rattle.types.specs.Block.{Statement, share, accept, reject, voteRange}
+use Rattle.types.specs.Record.{statementStart}
 use Rattle.block_store.specs.Layout.{Entry, entries, lookup}
 use Rattle.block_store.specs.Store.{recordsOf, storeInOrder}
 
@@ -18,10 +18,6 @@ use Rattle.block_store.specs.Store.{recordsOf, storeInOrder}
 pub record Stretch : Type 0 where
   pub start : ℕ
   pub count : ℕ
-
--- where a record has the statement of that index, counted from its first byte
-unfoldable pub statementStart : Block → ℕ → ℕ
-statementStart b i = 56 + 48 * length (b .includes) + sumOf (map (λ s. length (statementBytes s)) (take i (b .statements)))
 
 -- the payload stands after the entry's 8 bytes, the statements before it, its kind byte and its length
 unfoldable pub payloadIn : Entry → ℕ → Option Statement → Option Stretch
