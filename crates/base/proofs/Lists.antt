@@ -4,6 +4,7 @@ use mathlib.Core.List.{List, [], _∷_, _++_, map, flatten}
 use mathlib.Core.Option.{Option, none, some, Option·some-injective, Option·none-ne-some}
 use mathlib.Core.Bool.{Bool, true, false}
 use Prim.Native.Nat.{ℕ, zero, suc, _+_, _≤_, _<_}
+use native.Mathlib.Nat.{zero-add, suc-add}
 use native.Mathlib.Omega.{arith}
 use native.Mathlib.Decide.{decLt}
 use lib.ListN.{length, length-append}
@@ -231,3 +232,20 @@ pub length-countFrom : (i n : ℕ) → length (countFrom i n) ≡ n
 unfolding countFrom
 length-countFrom i zero = refl
 length-countFrom i (suc n) = ap suc (length-countFrom (i + 1) n)
+
+pub countFrom-add : (i m n : ℕ) → countFrom i (m + n) ≡ countFrom i m ++ countFrom (i + m) n
+unfolding countFrom
+countFrom-add i zero n = let e : i + 0 ≡ i = omega arith in rw (zero-add, e)
+countFrom-add i (suc m) n =
+    let e : i + 1 + m ≡ i + suc m = omega arith in
+    rw (suc-add) (ap {B = List ℕ} (λ l. i ∷ l) (rw e at (countFrom-add (i + 1) m n)))
+
+pub keep-append : {A : Type 0} (p : A → Bool) (xs ys : List A) → keep p (xs ++ ys) ≡ keep p xs ++ keep p ys
+unfolding keep
+keep-append p [] ys = refl
+keep-append {A} p (x ∷ xs) ys = each (p x) (keep-append p xs ys)
+  where
+    each : (t : Bool) → keep p (xs ++ ys) ≡ keep p xs ++ keep p ys
+        → pick t (x ∷ keep p (xs ++ ys)) (keep p (xs ++ ys)) ≡ pick t (x ∷ keep p xs) (keep p xs) ++ keep p ys
+    each true e = ap {B = List A} (λ l. x ∷ l) e
+    each false e = e

@@ -3,7 +3,10 @@ use mathlib.Core.Path.{_≡_, refl, sym, subst}
 use mathlib.Core.Logic.{_⊎_, inl, inr}
 use mathlib.Core.Bool.{Bool, true, false, true≢false}
 use mathlib.Core.List.{List, [], _∷_, _++_, map, flatten}
-use Rattle.base.specs.Lists.{pick, anyOf, allOf, keep, _∈_, here, there, Once, empty, also}
+use Prim.Native.Nat.{ℕ, zero, suc, _+_, _≤_, _<_}
+use native.Mathlib.Decide.{ℕ-discrete}
+use native.Mathlib.Omega.{arith}
+use Rattle.base.specs.Lists.{pick, anyOf, allOf, keep, countFrom, _∈_, here, there, Once, empty, also}
 use Rattle.base.proofs.Tests.{or-cases, or-left, or-right, and-both, and-left, and-right}
 
 module _ {A : Type 0} where
@@ -117,3 +120,22 @@ module _ {A B : Type 0} (f : A → B) where
   pub once-map : ((x y : A) → f x ≡ f y → x ≡ y) → {xs : List A} → Once xs → Once (map f xs)
   once-map inj empty = empty
   once-map inj (also {x} {xs} h o) = also (λ m. let r = map-in xs m in h (subst (λ (a : A). a ∈ xs) (inj (r .0) x (r .2)) (r .1))) (once-map inj o)
+
+-- the numbers of countFrom are those from its start on
+pub in-countFrom : (start n o : ℕ) → start ≤ o → o < start + n → o ∈ countFrom start n
+unfolding countFrom
+in-countFrom start zero o h k = absurd (omega arith)
+in-countFrom start (suc n) o h k = from (ℕ-discrete o start) (λ (l : start + 1 ≤ o). in-countFrom (start + 1) n o l (omega arith))
+  where
+    from : Dec (o ≡ start) → (start + 1 ≤ o → o ∈ countFrom (start + 1) n) → o ∈ (start ∷ countFrom (start + 1) n)
+    from (yes e) r = in-first e
+    from (no e) r = there (r (omega arith))
+
+pub countFrom-in : (start n : ℕ) {o : ℕ} → o ∈ countFrom start n → (start ≤ o) × (o < start + n)
+unfolding countFrom
+countFrom-in start zero m = absurd (in-empty m)
+countFrom-in start (suc n) {o} m = from (in-cases m) (λ k. countFrom-in (start + 1) n k)
+  where
+    from : (o ≡ start) ⊎ (o ∈ countFrom (start + 1) n) → (o ∈ countFrom (start + 1) n → (start + 1 ≤ o) × (o < start + 1 + n)) → (start ≤ o) × (o < start + suc n)
+    from (inl e) r = (omega arith, omega arith)
+    from (inr k) r = let q = r k in (omega (arith, q .0), omega (arith, q .1))

@@ -14,11 +14,11 @@ use Rattle.committee.specs.Committee.{AuthorityIndex}
 use Rattle.committee.specs.AuthoritySet.{AuthoritySet, nobody, bit, member, inserted, united}
 use Rattle.committee.proofs.Bits.{two-pos, digit, bit-or}
 
-bit-first : (w : ℕ) → bit w 0 ≡ eqb (w % 2) 1
+pub bit-first : (w : ℕ) → bit w 0 ≡ eqb (w % 2) 1
 unfolding bit
 bit-first w = rw (div-one w)
 
-bit-next : (w i : ℕ) → bit w (suc i) ≡ bit (w / 2) i
+pub bit-next : (w i : ℕ) → bit w (suc i) ≡ bit (w / 2) i
 unfolding bit
 bit-next w i =
     let e : suc i ≡ 1 + i = omega arith in

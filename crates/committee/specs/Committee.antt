@@ -5,7 +5,7 @@ use mathlib.Core.List.{List, [], _∷_}
 use lib.Dec.{ltb, eqb}
 use lib.ListN.{length, getD}
 use Rattle.base.specs.Lists.{anyOf, sumOf}
-use Rattle.base.specs.Checks.{Check, _⇒_, refusal, passes}
+use Rattle.base.specs.Checks.{Check, _⇒_, passes, Answer, checked}
 
 -- 01: "Authority numbers, rounds and stakes are three sorts of 64-bit number"; here all are numbers, and the names say which is meant
 abbrev pub AuthorityIndex : Type 0
@@ -33,21 +33,28 @@ committeeChecks c =
     ∷ (ltb 9223372036854775807 (totalStake c) ⇒ 4)
     ∷ []
 
--- 01: "Setting a committee checks 1 to 4 ascending": the number, 0 where the committee is taken
-unfoldable pub newCommittee : Committee → ℕ
-newCommittee c = refusal (committeeChecks c)
+-- 01: "Setting a committee checks 1 to 4 ascending"; a committee that is taken is answered with its total T
+unfoldable pub newCommittee : Committee → Answer Stake
+newCommittee c = checked (committeeChecks c) (totalStake c)
 
 -- 01: "5 a committee value breaking any of these"
 unfoldable pub broken : Committee → Bool
 broken c = not (passes (committeeChecks c))
 
--- 01: "Stake s is quorum when 3s > 2T"
-unfoldable pub isQuorum : Committee → Stake → Bool
-isQuorum c s = ltb (2 * totalStake c) (3 * s)
+-- 01: "Stake s is quorum when 3s > 2T", here of any T
+abbrev pub quorumOf : Stake → Stake → Bool
+quorumOf t s = ltb (2 * t) (3 * s)
 
 -- 01: "and valid when 3s > T"
+abbrev pub validOf : Stake → Stake → Bool
+validOf t s = ltb t (3 * s)
+
+-- the same of a committee's total
+unfoldable pub isQuorum : Committee → Stake → Bool
+isQuorum c s = quorumOf (totalStake c) s
+
 unfoldable pub isValid : Committee → Stake → Bool
-isValid c s = ltb (totalStake c) (3 * s)
+isValid c s = validOf (totalStake c) s
 
 -- an author whom the committee knows
 unfoldable pub known : Committee → AuthorityIndex → Bool

@@ -16,11 +16,14 @@ pub record StakeAggregator : Type 0 where
 abbrev pub noVotes : StakeAggregator
 noVotes = record { votes = nobody; stake = 0 }
 
--- 01: "stake grows only for a new voter"
-unfoldable pub counted : Committee → StakeAggregator → AuthorityIndex → StakeAggregator
-counted c g a =
+-- 01: "stake grows only for a new voter": the aggregator with the vote of an author whose stake is s
+abbrev pub withVote : Stake → StakeAggregator → AuthorityIndex → StakeAggregator
+withVote s g a =
     pick (member (g .votes) a) g
-    (record { votes = inserted (g .votes) a; stake = g .stake + getStake c a })
+    (record { votes = inserted (g .votes) a; stake = g .stake + s })
+
+unfoldable pub counted : Committee → StakeAggregator → AuthorityIndex → StakeAggregator
+counted c g a = withVote (getStake c a) g a
 
 -- the voters hold quorum
 unfoldable pub hasQuorum : Committee → StakeAggregator → Bool

@@ -1,0 +1,20 @@
+-- The marked cards hold: evaluated, where a card is about given values. Assumes nothing.
+use mathlib.Core.Path.{refl}
+use Rattle.committee.specs.Committee.{isQuorum, isValid}
+use Rattle.committee.proofs.Computing.{computing}
+use Rattle.cards.specs.Marked.{MarkedCards}
+
+pub marked : MarkedCards
+unfolding computing
+marked =
+    record {
+      four-quorum = λ c h. rw h;
+      four-no-quorum = λ c h. rw h;
+      four-valid = λ c h. rw h;
+      four-not-valid = λ c h. rw h;
+      three-quorum = λ c h. rw h;
+      three-no-quorum = λ c h. rw h;
+      one-quorum = λ c h. rw h;
+      largest-taken = refl;
+      larger-refused = refl;
+    }

@@ -1,0 +1,13 @@
+pub mod Computing
+pub mod Cards
+pub mod References
+pub mod Ranges
+pub mod Runs
+pub mod Spans
+pub mod Records
+pub mod Claimed
+pub mod Words
+pub mod Steps
+pub mod Formed
+pub mod Shape
+pub mod Statements

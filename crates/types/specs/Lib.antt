@@ -1,0 +1,7 @@
+pub mod Reference
+pub mod Block
+pub mod Record
+pub mod Verify
+pub mod Claims
+pub mod Values
+pub mod Step
