@@ -3,6 +3,7 @@ pub mod Stored
 pub mod Accepted
 pub mod Store
 pub mod Walk
+pub mod Compared
 pub mod Chain
 pub mod Splice
 pub mod Payload

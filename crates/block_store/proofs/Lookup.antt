@@ -26,6 +26,7 @@ use Rattle.block_store.specs.Entry.{positions}
 use Rattle.block_store.specs.Check.{storedBefore, acceptedAt}
 use Rattle.block_store.proofs.Store.{entries-below}
 use Rattle.block_store.proofs.Chain.{Distinct}
+use Rattle.block_store.proofs.Loops.{length-positions}
 
 -- ---- by reference
 
@@ -149,11 +150,6 @@ pub accepted-older : (c : Committee) (newer older : List Record) → allAccepted
 unfolding allAccepted
 accepted-older c [] older h = h
 accepted-older c (r ∷ newer) older h = accepted-older c newer older (and-right (passes (blockChecks c (newer ++ older) (r .block))) _ h)
-
-length-positions : (rs : List Record) → length (positions rs) ≡ length rs
-unfolding positions
-length-positions [] = refl
-length-positions (r ∷ rs) = omega (arith, length-append (positions rs) (usedBy rs ∷ []), length-positions rs)
 
 pub position-at : (newer older : List Record) (r : Record) → getD (positions (newer ++ r ∷ older)) (length older) 0 ≡ usedBy older
 unfolding positions

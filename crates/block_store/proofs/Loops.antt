@@ -9,19 +9,20 @@ use native.Mathlib.Omega.{arith}
 use native.Mathlib.Numerals.{add-one}
 use native.Mathlib.Nat.{add-sub-cancel-left}
 use lib.Dec.{ltb, eqb}
-use lib.ListN.{length, take, drop, set, length-drop}
+use lib.ListN.{length, take, drop, set, length-drop, length-append}
 use lib.Seq.{take-suc-set, length-take-le}
-use borrow.Author.Tests.{lt-ltb, eq-eqb, eqb-true}
+use borrow.Author.Tests.{lt-ltb, eq-eqb, ne-eqb, eqb-true}
 use Rattle.types.specs.Record.{wellFormed, blockIn}
 use Rattle.base.specs.Lists.{pairwise, isNone, _∈_, here, there}
 use Rattle.base.specs.Le.{Bytes, leAt}
-use Rattle.base.proofs.Tests.{fails, not-both, same-test, and-left, and-right}
+use Rattle.base.proofs.Tests.{fails, not-both, same-test, or-right, and-left, and-right}
 use Rattle.base.proofs.Lists.{Every, none-of, and, every, every-in, every-append, Pairs, no-pairs, with-later, pairs-append, pairs-pairwise}
 use Rattle.base.proofs.Members.{in-empty, in-cases, in-append, in-left, in-right, any-in, in-any}
+use Rattle.types.specs.Reference.{BlockReference, referenceBefore}
 use Rattle.types.proofs.Shape.{block-of}
 use Rattle.block_store.specs.Layout.{Record, usedBy, Entry, referenceOf, entries, positionOf, ascending}
 use Rattle.block_store.specs.Store.{usedLength, blockCount, recordsOf}
-use Rattle.block_store.specs.Entry.{headerRight, positions, isIn, readable, chained, isEntry, recordAt, blockAt}
+use Rattle.block_store.specs.Entry.{headerRight, positions, isIn, sortedPositions, readable, chained, isEntry, noneOrEntry, follows, recordAt, blockAt}
 use Rattle.block_store.proofs.Store.{entries-within}
 use Rattle.block_store.proofs.Walk.{Stands, Walked, begun, then, walked-same, walked-on, entries-stand}
 use Rattle.block_store.proofs.Chain.{lower, Ascending, first, ascending-ascends}
@@ -64,6 +65,11 @@ unfolding positions entries
 position-in (r ∷ rs) e here = in-right (positions rs) here
 position-in (r ∷ rs) e (there m) = in-left (usedBy rs ∷ []) (position-in rs e m)
 
+pub length-positions : (rs : List Record) → length (positions rs) ≡ length rs
+unfolding positions
+length-positions [] = refl
+length-positions (r ∷ rs) = omega (arith, length-append (positions rs) (usedBy rs ∷ []), length-positions rs)
+
 -- a position where an entry stands
 pub stands-at : (rs : List Record) (p : ℕ) → isIn p (positions rs) ≡ true → (e : Entry) × (e ∈ entries rs) × (e .position ≡ p)
 unfolding isIn
@@ -95,6 +101,10 @@ entry-at s p h =
 pub is-entry : (s : Bytes) (e : Entry) → readable s ≡ true → e ∈ entries (recordsOf s) → isEntry s (e .position) ≡ true
 unfolding isEntry
 is-entry s e h m = rw h (at-stands (recordsOf s) e m)
+
+pub none-entry : (s : Bytes) (p : ℕ) → (p ≡ 0 → ⊥) → noneOrEntry s p ≡ true → isEntry s p ≡ true
+unfolding noneOrEntry
+none-entry s p f h = rw (ne-eqb p 0 f) at h
 
 -- what stands at a position
 module _ (s : Bytes) (p : ℕ) (r : Record) (h : Stands s p r) where
@@ -220,9 +230,9 @@ pub record Visiting (s : Bytes) (rs : List Record) (k at last : ℕ) (order : Li
   pub kept : take k order ≡ map placeOf (back xs [])
 
 -- an entry is above the latest that was passed
-abbrev pub Above : List Entry → Entry → Type 0
-Above [] e = Unit {0}
-Above (x ∷ xs) e = lower x e ≡ true
+unfoldable pub above : List Entry → Entry → Bool
+above [] e = true
+above (x ∷ xs) e = lower x e
 
 module _ (s : Bytes) (rs : List Record) where
   pub visiting-start : (at : ℕ) (order : List ℕ) → at ≡ leAt 4 s 0 → Visiting s rs 0 at 0 order
@@ -230,14 +240,14 @@ module _ (s : Bytes) (rs : List Record) where
   visiting-start at order h = record { xs = []; linked = begins h; stored = none-of; falls = no-pairs; many = refl; latest = refl; kept = refl }
 
   pub visiting-step : (k at last : ℕ) (order : List ℕ) (e : Entry) (v : Visiting s rs k at last order) → k < length order → e ∈ entries rs → e .position ≡ at
-      → Above (v .xs) e → Visiting s rs (k + 1) (leAt 4 s at) at (set order k at)
-  unfolding positionOf first back
+      → above (v .xs) e ≡ true → Visiting s rs (k + 1) (leAt 4 s at) at (set order k at)
+  unfolding positionOf first back above
   visiting-step k at last order e v h m q a =
       record {
         xs = e ∷ v .xs;
         linked = goes {e = e} {xs = v .xs} (rw q (v .linked)) (ap (λ (p : ℕ). leAt 4 s p) (sym q));
         stored = and m (v .stored);
-        falls = above (v .xs) (v .falls) a;
+        falls = more (v .xs) (v .falls) a;
         many = omega (arith, v .many);
         latest = sym q;
         kept =
@@ -245,16 +255,16 @@ module _ (s : Bytes) (rs : List Record) where
             (sym (ap (map placeOf) (back-append (v .xs) (e ∷ [])) ∙ map-append placeOf (back (v .xs) []) (e ∷ []) ∙ ap (λ (p : ℕ). map placeOf (back (v .xs) []) ++ (p ∷ [])) q));
       }
     where
-      above : (xs : List Entry) → Descending xs → Above xs e → Descending (e ∷ xs)
-      above [] d a = with-later none-of no-pairs
-      above (x ∷ xs) d a = descending-more e x xs a d
+      more : (xs : List Entry) → Descending xs → above xs e ≡ true → Descending (e ∷ xs)
+      more [] d a = with-later none-of no-pairs
+      more (x ∷ xs) d a = descending-more e x xs a d
 
   -- what comes next where the chain is right
   pub record Next (xs : List Entry) (at : ℕ) : Type 0 where
     pub entry : Entry
     pub there-is : entry ∈ entries rs
     pub place : entry .position ≡ at
-    pub above : Above xs entry
+    pub higher : above xs entry ≡ true
 
   tail-ascends : (xs ys : List Entry) → Ascending (back xs ys) → Ascending ys
   unfolding back
@@ -265,15 +275,15 @@ module _ (s : Bytes) (rs : List Record) where
       rest (with-later k ks) = ks
 
   pub visiting-next : (k at last : ℕ) (order : List ℕ) (v : Visiting s rs k at last order) → Chained s (entries rs) → k < length rs → Next (v .xs) at
-  unfolding positionOf first back
+  unfolding positionOf first back above
   visiting-next k at last order v c h = by-rest (t .rest) (t .sorted) (t .next)
     where
       t : ToCome s rs (v .xs) at
       t = comes s rs c (v .xs) at (v .linked) (v .stored)
 
-      above : (xs ys : List Entry) (y : Entry) → ascending (entries rs) ≡ back xs (y ∷ ys) → Above xs y
-      above [] ys y q = tt
-      above (x ∷ xs) ys y q = head-lower (tail-ascends xs (x ∷ y ∷ ys) (subst Ascending q (ascending-ascends (entries rs) (c .distinct))))
+      after : (xs ys : List Entry) (y : Entry) → ascending (entries rs) ≡ back xs (y ∷ ys) → above xs y ≡ true
+      after [] ys y q = refl
+      after (x ∷ xs) ys y q = head-lower (tail-ascends xs (x ∷ y ∷ ys) (subst Ascending q (ascending-ascends (entries rs) (c .distinct))))
         where
           head-lower : Ascending (x ∷ y ∷ ys) → lower x y ≡ true
           head-lower (with-later (and l ls) more) = l
@@ -286,8 +296,32 @@ module _ (s : Bytes) (rs : List Record) where
             entry = y;
             there-is = ascending-in (entries rs) y (subst (λ (l : List Entry). y ∈ l) (sym q) (back-right (v .xs) (y ∷ ys) here));
             place = sym n;
-            above = above (v .xs) ys y q;
+            higher = after (v .xs) ys y q;
           }
+
+-- the code tests it by the blocks at the two positions
+module _ (s : Bytes) (r : Readable s) where
+  block-of-entry : (e : Entry) → e ∈ entries (recordsOf s) → blockAt s (e .position) ≡ e .block
+  block-of-entry e m = block-at s (e .position) _ (every-in (entries (recordsOf s)) e (entries-stand s (recordsOf s) (r .walked)) m)
+
+  pub follows-above : (xs : List Entry) (last at : ℕ) (e : Entry) → Every (λ x. x ∈ entries (recordsOf s)) xs → last ≡ positionOf (first xs) → e ∈ entries (recordsOf s) → e .position ≡ at
+      → follows s last at ≡ above xs e
+  unfolding follows above positionOf first
+  follows-above [] last at e none-of q m p = rw q
+  follows-above (x ∷ xs) last at e (and k ks) q m p =
+      let from : 16 ≤ x .position = every-in (entries (recordsOf s)) x (entries-within (recordsOf s)) k .from in
+      rw (ne-eqb last 0 (λ (z : last ≡ 0). omega arith), q, ← p, block-of-entry x k, block-of-entry e m)
+
+  pub latest-entry : readable s ≡ true → (xs : List Entry) (last : ℕ) → Every (λ x. x ∈ entries (recordsOf s)) xs → last ≡ positionOf (first xs) → noneOrEntry s last ≡ true
+  unfolding noneOrEntry positionOf first
+  latest-entry h [] last none-of q = rw q
+  latest-entry h (x ∷ xs) last (and k ks) q = or-right (eqb last 0) (isEntry s last) (rw q (is-entry s x h k))
+
+-- the order of two references decides
+pub follows-by : (s : Bytes) (last at : ℕ) (x y : BlockReference) (t : Bool) → (last ≡ 0 → ⊥) → x ≡ blockAt s last .reference → y ≡ blockAt s at .reference → referenceBefore x y ≡ t
+    → t ≡ follows s last at
+unfolding follows
+follows-by s last at x y t f p q h = rw (ne-eqb last 0 f, ← p, ← q) (sym h)
 
 -- all were passed: the chain is right where it is at its end
 module _ (s : Bytes) (k at last : ℕ) (order : List ℕ) (v : Visiting s (recordsOf s) k at last order) (all : k ≡ length (recordsOf s)) where
@@ -309,5 +343,40 @@ module _ (s : Bytes) (k at last : ℕ) (order : List ℕ) (v : Visiting s (recor
           by-rest (y ∷ ys) q n =
               absurd (omega (arith, ap length q, length-back (v .xs) (y ∷ ys), length-ascending (entries (recordsOf s)), length-entries (recordsOf s), v .many))
 
-  pub visiting-kept : at ≡ 0 → take k order ≡ map placeOf (ascending (entries (recordsOf s)))
+  pub visiting-kept : at ≡ 0 → take k order ≡ sortedPositions (recordsOf s)
+  unfolding sortedPositions
   visiting-kept z = v .kept ∙ ap (map placeOf) (sym (visiting-ended z .sorted))
+
+-- the same, as the code tests it: its positions are among those of the entries
+module _ (s : Bytes) (h : readable s ≡ true) (places : List ℕ) (q : places ≡ positions (recordsOf s)) where
+  pub place-entry : (at : ℕ) → isIn at places ≡ true → isEntry s at ≡ true
+  unfolding isEntry
+  place-entry at m = rw (h, ← q) m
+
+  many-places : length places ≡ length (recordsOf s)
+  many-places = ap length q ∙ length-positions (recordsOf s)
+
+  module _ (k at last : ℕ) (order : List ℕ) (v : Visiting s (recordsOf s) k at last order) where
+    pub visiting-outside : k < length places → isIn at places ≡ false → chained s ≡ false
+    visiting-outside l m = fails (chained s) λ t.
+        let n : Next s (recordsOf s) (v .xs) at = visiting-next s (recordsOf s) k at last order v (is-chained s t) (omega (arith, many-places)) in
+        not-both (subst (λ (x : List ℕ). isIn at x ≡ true) (sym q) (subst (λ (x : ℕ). isIn x (positions (recordsOf s)) ≡ true) (n .place) (at-stands (recordsOf s) (n .entry) (n .there-is)))) m
+
+    pub visiting-falls : k < length places → follows s last at ≡ false → chained s ≡ false
+    visiting-falls l f = fails (chained s) λ t.
+        let n : Next s (recordsOf s) (v .xs) at = visiting-next s (recordsOf s) k at last order v (is-chained s t) (omega (arith, many-places)) in
+        not-both (follows-above s (is-readable s h) (v .xs) last at (n .entry) (v .stored) (v .latest) (n .there-is) (n .place) ∙ n .higher) f
+
+    pub visiting-on : (next : ℕ) → k < length order → isIn at places ≡ true → follows s last at ≡ true → next ≡ leAt 4 s at → Visiting s (recordsOf s) (k + 1) next at (set order k at)
+    visiting-on next l m f e =
+        let x : EntryAt s at = entry-at s at (place-entry at m) in
+        subst (λ (n : ℕ). Visiting s (recordsOf s) (k + 1) n at (set order k at)) (sym e)
+        (visiting-step s (recordsOf s) k at last order (x .entry) v l (x .stored) (x .place)
+        (sym (follows-above s (x .reads) (v .xs) last at (x .entry) (v .stored) (v .latest) (x .stored) (x .place)) ∙ f))
+
+    pub visiting-latest : noneOrEntry s last ≡ true
+    visiting-latest = latest-entry s (is-readable s h) h (v .xs) last (v .stored) (v .latest)
+
+    pub visiting-done : k ≡ length places → (eqb at 0 ≡ chained s) × (eqb at 0 ≡ true → take (length places) order ≡ sortedPositions (recordsOf s))
+    visiting-done l =
+        (visiting-end s k at last order v (l ∙ many-places), λ z. ap (λ (n : ℕ). take n order) (sym l) ∙ visiting-kept s k at last order v (l ∙ many-places) (eqb-true at 0 z))

@@ -1,17 +1,17 @@
 -- The entries of a store by their positions, for the functions that read them. Assumes nothing: these are definitions.
 use Prim.Native.Nat.{ℕ, _+_}
-use mathlib.Core.Bool.{Bool, false, not, _&&_}
-use mathlib.Core.List.{List, [], _∷_, _++_}
+use mathlib.Core.Bool.{Bool, false, not, _&&_, _||_}
+use mathlib.Core.List.{List, [], _∷_, _++_, map}
 use mathlib.Core.Option.{Option, none, some}
 use lib.Dec.{ltb, leb, eqb}
 use lib.ListN.{length, take, drop}
 use Rattle.base.specs.Lists.{anyOf, allOf, pairwise}
 use Rattle.base.specs.Le.{Bytes, leAt}
 use Rattle.base.specs.Read.{Part}
-use Rattle.types.specs.Reference.{sameReference}
+use Rattle.types.specs.Reference.{sameReference, referenceBefore}
 use Rattle.types.specs.Block.{Block}
 use Rattle.types.specs.Record.{blockIn}
-use Rattle.block_store.specs.Layout.{Record, usedBy, Entry, referenceOf, entries, firstPosition, nextPosition}
+use Rattle.block_store.specs.Layout.{Record, usedBy, Entry, referenceOf, entries, firstPosition, nextPosition, ascending}
 use Rattle.block_store.specs.Store.{usedLength, blockCount, readEntries, recordsOf, allowedLength}
 
 -- 01: "next position 4, record length 4, record": the record of the entry at a position, and its block
@@ -25,6 +25,10 @@ blockAt s p = blockIn (recordAt s p)
 unfoldable pub positions : List Record → List ℕ
 positions [] = []
 positions (r ∷ older) = positions older ++ (usedBy older ∷ [])
+
+-- where they stand, in ascending reference order
+unfoldable pub sortedPositions : List Record → List ℕ
+sortedPositions rs = map (λ e. e .position) (ascending (entries rs))
 
 -- a number stands in a list
 unfoldable pub isIn : ℕ → List ℕ → Bool
@@ -63,3 +67,10 @@ laidOut s = readable s && chained s
 -- an entry of a readable store stands there
 unfoldable pub isEntry : Bytes → ℕ → Bool
 isEntry s p = readable s && isIn p (positions (recordsOf s))
+
+-- the block at a position comes after the one at another, or that is none (zero)
+unfoldable pub noneOrEntry : Bytes → ℕ → Bool
+noneOrEntry s p = eqb p 0 || isEntry s p
+
+unfoldable pub follows : Bytes → ℕ → ℕ → Bool
+follows s last p = eqb last 0 || referenceBefore (blockAt s last .reference) (blockAt s p .reference)
