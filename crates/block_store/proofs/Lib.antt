@@ -12,4 +12,5 @@ pub mod Visit
 pub mod Sorted
 pub mod Loops
 pub mod Lookup
+pub mod Search
 pub mod Claimed

@@ -301,7 +301,7 @@ module _ (s : Bytes) (rs : List Record) where
 
 -- the code tests it by the blocks at the two positions
 module _ (s : Bytes) (r : Readable s) where
-  block-of-entry : (e : Entry) → e ∈ entries (recordsOf s) → blockAt s (e .position) ≡ e .block
+  pub block-of-entry : (e : Entry) → e ∈ entries (recordsOf s) → blockAt s (e .position) ≡ e .block
   block-of-entry e m = block-at s (e .position) _ (every-in (entries (recordsOf s)) e (entries-stand s (recordsOf s) (r .walked)) m)
 
   pub follows-above : (xs : List Entry) (last at : ℕ) (e : Entry) → Every (λ x. x ∈ entries (recordsOf s)) xs → last ≡ positionOf (first xs) → e ∈ entries (recordsOf s) → e .position ≡ at
