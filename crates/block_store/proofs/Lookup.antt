@@ -6,10 +6,11 @@ use mathlib.Core.Option.{Option, none, some, Option·some-injective, Option·non
 use mathlib.Core.Bool.{Bool, true, false, not, _&&_, _||_}
 use Prim.Native.Nat.{ℕ, zero, suc, _+_, _≤_, _<_}
 use native.Mathlib.Omega.{arith}
+use native.Mathlib.Numerals.{add-one}
 use lib.Dec.{ltb, eqb}
-use lib.ListN.{length, getD, length-append, List·getD-append}
-use lib.Seq.{getD-at}
-use borrow.Author.Tests.{lt-ltb, ltb-true, eq-eqb, ne-eqb}
+use lib.ListN.{length, getD, drop, drop-of-length-le, length-append, List·getD-append}
+use lib.Seq.{getD-at, drop-cons}
+use borrow.Author.Tests.{lt-ltb, le-ltb, ltb-true, eq-eqb, ne-eqb}
 use Rattle.base.specs.Lists.{pick, anyOf, allOf, find, holds, isNone, _∈_, here, there}
 use Rattle.base.specs.Checks.{Check, _⇒_, passes}
 use Rattle.base.proofs.Tests.{fails, same-test, not-both, and-left, and-right, or-right}
@@ -20,11 +21,11 @@ use Rattle.types.specs.Reference.{BlockReference, sameReference}
 use Rattle.types.specs.Block.{Block}
 use Rattle.types.specs.Verify.{headChecks, bodyChecks}
 use Rattle.types.proofs.References.{reference-same, same-reference}
-use Rattle.block_store.specs.Layout.{Record, usedBy, Entry, referenceOf, entries, lookup}
+use Rattle.block_store.specs.Layout.{Record, usedBy, Entry, referenceOf, entries, positionOf, lookup}
 use Rattle.block_store.specs.Accept.{isStored, blockChecks, allAccepted}
 use Rattle.block_store.specs.Entry.{positions}
 use Rattle.block_store.specs.Check.{storedBefore, acceptedAt}
-use Rattle.block_store.proofs.Store.{entries-below}
+use Rattle.block_store.proofs.Store.{entries-below, entries-within}
 use Rattle.block_store.proofs.Chain.{Distinct}
 use Rattle.block_store.proofs.Loops.{length-positions}
 
@@ -102,6 +103,46 @@ stored-older newer older i d =
     let x = holds-some (λ e. ltb (e .position) (usedBy older)) (lookup (entries (newer ++ older)) i) h in
     let y = lookup-in (entries (newer ++ older)) i (x .0) (x .1) in
     stored-entry older i (x .0) (older-entries newer older (x .0) (y .0) (ltb-true (x .0 .position) (usedBy older) (x .2))) (y .1))
+
+-- the same by its position, zero where it is not stored
+module _ (rs : List Record) (p : ℕ) (i : BlockReference) where
+  pub before-none : positionOf (lookup (entries rs) i) ≡ 0 → storedBefore (entries rs) p i ≡ false
+  unfolding storedBefore holds positionOf
+  before-none h = go (lookup (entries rs) i) refl h
+    where
+      go : (o : Option Entry) → lookup (entries rs) i ≡ o → positionOf o ≡ 0 → holds (λ e. ltb (e .position) p) o ≡ false
+      go none q k = refl
+      go (some e) q k = absurd (omega (arith, every-in (entries rs) e (entries-within rs) (lookup-in (entries rs) i e q .0) .from))
+
+  pub before-late : p ≤ positionOf (lookup (entries rs) i) → storedBefore (entries rs) p i ≡ false
+  unfolding storedBefore holds positionOf
+  before-late h = go (lookup (entries rs) i) h
+    where
+      go : (o : Option Entry) → p ≤ positionOf o → holds (λ e. ltb (e .position) p) o ≡ false
+      go none k = refl
+      go (some e) k = le-ltb (e .position) p k
+
+  pub before-early : (positionOf (lookup (entries rs) i) ≡ 0 → ⊥) → positionOf (lookup (entries rs) i) < p → storedBefore (entries rs) p i ≡ true
+  unfolding storedBefore holds positionOf
+  before-early f h = go (lookup (entries rs) i) f h
+    where
+      go : (o : Option Entry) → (positionOf o ≡ 0 → ⊥) → positionOf o < p → holds (λ e. ltb (e .position) p) o ≡ true
+      go none g k = absurd (g refl)
+      go (some e) g k = lt-ltb (e .position) p k
+
+-- all of a list, one by one
+module _ {A : Type 0} (d : A) (f : A → Bool) (xs : List A) (k : ℕ) where
+  pub all-on : k < length xs → f (getD xs k d) ≡ true → allOf f (drop k xs) ≡ allOf f (drop (k + 1) xs)
+  unfolding allOf
+  all-on h t = rw (add-one k, drop-cons xs k d h, t)
+
+  pub all-stop : k < length xs → f (getD xs k d) ≡ false → allOf f (drop k xs) ≡ false
+  unfolding allOf
+  all-stop h t = rw (drop-cons xs k d h, t)
+
+  pub all-end : length xs ≤ k → allOf f (drop k xs) ≡ true
+  unfolding allOf
+  all-end h = rw (drop-of-length-le xs h)
 
 -- ---- accepted after those before
 
