@@ -11,6 +11,7 @@ pub mod Check
 pub mod Visit
 pub mod Sorted
 pub mod Loops
-pub mod Lookup
+pub mod Lookups
 pub mod Search
+pub mod Along
 pub mod Claimed

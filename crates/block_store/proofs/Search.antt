@@ -23,7 +23,7 @@ use Rattle.block_store.proofs.Chain.{ascending-ascends}
 use Rattle.block_store.proofs.Check.{Readable, is-readable, Chained, is-chained}
 use Rattle.block_store.proofs.Visit.{ascending-in, in-ascending}
 use Rattle.block_store.proofs.Loops.{is-entry, block-of-entry}
-use Rattle.block_store.proofs.Lookup.{lookup-hit, lookup-miss}
+use Rattle.block_store.proofs.Lookups.{lookup-hit, lookup-miss}
 
 -- what a store laid out has
 pub record LaidOut (s : Bytes) : Type 0 where

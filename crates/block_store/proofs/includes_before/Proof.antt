@@ -12,7 +12,7 @@ use Rattle.types.specs.Reference.{BlockReference}
 use Rattle.block_store.specs.Layout.{Record, entries, positionOf, lookup}
 use Rattle.block_store.specs.Store.{recordsOf}
 use Rattle.block_store.specs.Check.{storedBefore}
-use Rattle.block_store.proofs.Lookup.{before-none, before-late, before-early, all-on, all-stop, all-end}
+use Rattle.block_store.proofs.Lookups.{before-none, before-late, before-early, all-on, all-stop, all-end}
 use Rattle.block_store.proofs.includes_before.Statement.{statement}
 use Rattle.block_store.proofs.includes_before.Tie as tie
 use Rattle.block_store.proofs.includes_before.Reads as reads
