@@ -7,7 +7,7 @@ use mathlib.Core.Bool.{Bool, true, false}
 use Prim.Native.Nat.{ℕ, zero, suc, _+_, _-_, _<_, _≤_}
 use native.Mathlib.Omega.{arith}
 use lib.ListN.{length}
-use Rattle.base.specs.Lists.{_∈_, here, there}
+use Rattle.base.specs.Lists.{isNone, _∈_, here}
 use Rattle.base.specs.Le.{Bytes, leAt}
 use Rattle.base.proofs.Lists.{Every, none-of, and, every, every-in, every-append, with-later}
 use Rattle.base.proofs.Members.{in-append, in-cases, in-right}
@@ -133,6 +133,12 @@ module _ (s : Bytes) (h : laidOut s ≡ true) (r : BlockReference) where
     module _ (l : 0 < left) (x : BlockReference) (q : x ≡ blockAt s at .reference) where
       pub met-hit : referenceOrder x r ≡ Equal → at ≡ positionOf (lookup es r)
       met-hit o = along-hit l (sym q ∙ compared-equal x r o)
+
+      pub met-found : referenceOrder x r ≡ Equal → isNone (lookup es r) ≡ false
+      unfolding isNone
+      met-found o =
+          let e : Coming = coming l in
+          rw (lookup-hit es (laid-out s h .chain .distinct) (e .entry) (e .stored) r (sym (ap (λ (b : Block). b .reference) (e .block)) ∙ sym q ∙ compared-equal x r o))
 
       pub met-high : referenceOrder x r ≡ Greater → Every (λ e. referenceBefore r (referenceOf e) ≡ true) (a .rest)
       met-high o = along-high l (rw (← q) (compared-greater x r o))

@@ -15,14 +15,16 @@ use Rattle.base.specs.Lists.{pick, anyOf, allOf, find, holds, isNone, _∈_, he
 use Rattle.base.specs.Checks.{Check, _⇒_, passes}
 use Rattle.base.proofs.Tests.{fails, same-test, not-both, and-left, and-right, or-right}
 use Rattle.base.proofs.Lists.{Every, none-of, and, every-in, find-in, find-passes, holds-some, Pairs, no-pairs, with-later}
+use Rattle.base.proofs.Loops.{ltb-same}
 use Rattle.base.proofs.Passing.{passes-append, not-any}
 use Rattle.committee.specs.Committee.{Committee}
 use Rattle.types.specs.Reference.{BlockReference, sameReference}
 use Rattle.types.specs.Block.{Block}
+use Rattle.types.specs.Record.{noReference}
 use Rattle.types.specs.Verify.{headChecks, bodyChecks}
 use Rattle.types.proofs.References.{reference-same, same-reference}
 use Rattle.block_store.specs.Layout.{Record, usedBy, Entry, referenceOf, entries, positionOf, lookup}
-use Rattle.block_store.specs.Accept.{isStored, blockChecks, allAccepted}
+use Rattle.block_store.specs.Accept.{isStored, firstMissing, blockChecks, allAccepted}
 use Rattle.block_store.specs.Entry.{positions}
 use Rattle.block_store.specs.Check.{storedBefore, acceptedAt}
 use Rattle.block_store.proofs.Store.{entries-below, entries-within}
@@ -199,3 +201,33 @@ position-at (n ∷ newer) older r =
     let l : List Record = newer ++ r ∷ older in
     List·getD-append (positions l) (usedBy l ∷ []) 0 (length older) (omega (arith, length-positions l, length-append newer (r ∷ older)))
     ∙ position-at newer older r
+
+-- ---- the first include that is not stored (30)
+
+pub none-is : {A : Type 0} (o : Option A) → o ≡ none → isNone o ≡ true
+unfolding isNone
+none-is o h = rw h
+
+module _ (rs : List Record) (is : List BlockReference) (k : ℕ) where
+  pub missing-on : k < length is → isNone (lookup (entries rs) (getD is k noReference)) ≡ false → k + firstMissing rs (drop k is) ≡ k + 1 + firstMissing rs (drop (k + 1) is)
+  unfolding firstMissing
+  missing-on h t = rw (add-one k, drop-cons is k noReference h, lookup-stored rs (getD is k noReference), t) (omega arith)
+
+  pub missing-there : k < length is → isNone (lookup (entries rs) (getD is k noReference)) ≡ true → k + firstMissing rs (drop k is) ≡ k
+  unfolding firstMissing
+  missing-there h t = rw (drop-cons is k noReference h, lookup-stored rs (getD is k noReference), t) (omega arith)
+
+  pub missing-none : length is ≤ k → k + firstMissing rs (drop k is) ≡ k
+  unfolding firstMissing
+  missing-none h = rw (drop-of-length-le is h) (omega arith)
+
+-- 30 applies where one is missing
+pub missing-test : (rs : List Record) (is : List BlockReference) → anyOf (λ i. not (isStored rs i)) is ≡ ltb (firstMissing rs is) (length is)
+unfolding anyOf firstMissing
+missing-test rs [] = refl
+missing-test rs (i ∷ is) = go (isStored rs i) (missing-test rs is)
+  where
+    go : (t : Bool) → anyOf (λ j. not (isStored rs j)) is ≡ ltb (firstMissing rs is) (length is)
+        → not t || anyOf (λ j. not (isStored rs j)) is ≡ ltb (pick t (firstMissing rs is + 1) 0) (suc (length is))
+    go true h = h ∙ ltb-same (firstMissing rs is) (length is) (firstMissing rs is + 1) (suc (length is)) (λ (l : firstMissing rs is < length is). omega arith) (λ (l : firstMissing rs is + 1 < suc (length is)). omega arith)
+    go false h = sym (lt-ltb 0 (suc (length is)) (omega arith))
