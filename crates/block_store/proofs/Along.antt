@@ -19,6 +19,7 @@ use Rattle.types.proofs.References.{reference-irrefl, reference-trans}
 use Rattle.block_store.specs.Layout.{Entry, referenceOf, entries, least, positionOf, firstPosition, ascending, lookup}
 use Rattle.block_store.specs.Store.{blockCount, recordsOf}
 use Rattle.block_store.specs.Entry.{blockAt, laidOut, isEntry}
+use Rattle.block_store.specs.Step.{LastAt, none-last, last-at, firstOf, Between}
 use Rattle.block_store.proofs.Chain.{lower, Ascending, first, least-first, ascending-ascends, next-after}
 use Rattle.block_store.proofs.Visit.{ascending-in, in-ascending, length-ascending, length-entries}
 use Rattle.block_store.proofs.Compared.{compared-less, compared-equal, compared-greater}
@@ -50,6 +51,10 @@ module _ (s : Bytes) (h : laidOut s ≡ true) (r : BlockReference) where
         many = length-ascending es ∙ length-entries (recordsOf s) ∙ laid-out s h .reads .many ∙ sym q;
         low = none-of;
       }
+
+  pub along-start-last : (at left : ℕ) (p : at ≡ leAt 4 s 0) (q : left ≡ blockCount s) → LastAt (along-start at left p q .passed) 0
+  unfolding along-start
+  along-start-last at left p q = none-last
 
   module _ (at left : ℕ) (a : Along s r at left) where
     -- the entry that comes first
@@ -122,12 +127,15 @@ module _ (s : Bytes) (h : laidOut s ≡ true) (r : BlockReference) where
         after e ys [] (with-later k ks) own = every (λ y t. reference-trans r (referenceOf e) (referenceOf y) own t) ys k
         after e ys (z ∷ zs) (with-later k ks) own = after e ys zs ks own
 
-    pub along-end : left ≤ 0 → lookup es r ≡ none
-    along-end l = missed (empty (a .rest) (a .many))
+    none-left : left ≤ 0 → Every (λ e. referenceBefore r (referenceOf e) ≡ true) (a .rest)
+    none-left l = empty (a .rest) (a .many)
       where
         empty : (ys : List Entry) → length ys ≡ left → Every (λ e. referenceBefore r (referenceOf e) ≡ true) ys
         empty [] m = none-of
         empty (y ∷ ys) m = absurd (omega arith)
+
+    pub along-end : left ≤ 0 → lookup es r ≡ none
+    along-end l = missed (none-left l)
 
     -- the same by what comparing tells
     module _ (l : 0 < left) (x : BlockReference) (q : x ≡ blockAt s at .reference) where
@@ -148,3 +156,32 @@ module _ (s : Bytes) (h : laidOut s ≡ true) (r : BlockReference) where
 
       pub met-on : (next : ℕ) → referenceOrder x r ≡ Less → next ≡ leAt 4 s at → Along s r next (left - 1)
       met-on next o = along-on next l (rw (← q) (compared-less x r o))
+
+      -- where the last that was passed stands
+      pub met-last : (next below : ℕ) (o : referenceOrder x r ≡ Less) (p : next ≡ leAt 4 s at) → LastAt (a .passed) below → LastAt (met-on next o p .passed) at
+      unfolding met-on along-on
+      met-last next below o p b = subst (λ (n : ℕ). LastAt (a .passed ++ (coming l .entry ∷ [])) n) (coming l .stands) (last-at (a .passed) (coming l .entry))
+
+    first-is : (ys : List Entry) → first ys ≡ firstOf ys
+    unfolding first firstOf
+    first-is [] = refl
+    first-is (y ∷ ys) = refl
+
+    -- a new block goes here
+    between : (below : ℕ) → LastAt (a .passed) below → Every (λ e. referenceBefore r (referenceOf e) ≡ true) (a .rest) → Between s r below at
+    between below b high =
+        record {
+          lower = a .passed;
+          higher = a .rest;
+          sorted = a .sorted;
+          last = b;
+          next = a .place ∙ ap positionOf (first-is (a .rest));
+          low = λ e m. every-in (a .passed) e (a .low) m;
+          high = λ e m. every-in (a .rest) e high m;
+        }
+
+    pub between-met : (below : ℕ) (l : 0 < left) (x : BlockReference) (q : x ≡ blockAt s at .reference) → referenceOrder x r ≡ Greater → LastAt (a .passed) below → Between s r below at
+    between-met below l x q o b = between below b (met-high l x q o)
+
+    pub between-end : (below : ℕ) → left ≤ 0 → LastAt (a .passed) below → Between s r below at
+    between-end below l b = between below b (none-left l)

@@ -3,5 +3,6 @@ pub mod Accept
 pub mod Store
 pub mod Entry
 pub mod Check
+pub mod Step
 pub mod Payload
 pub mod Claims
