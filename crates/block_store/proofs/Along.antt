@@ -19,8 +19,8 @@ use Rattle.types.proofs.References.{reference-irrefl, reference-trans}
 use Rattle.block_store.specs.Layout.{Entry, referenceOf, entries, least, positionOf, firstPosition, ascending, lookup}
 use Rattle.block_store.specs.Store.{blockCount, recordsOf}
 use Rattle.block_store.specs.Entry.{blockAt, laidOut, isEntry}
-use Rattle.block_store.specs.Step.{LastAt, none-last, last-at, firstOf, Between}
-use Rattle.block_store.proofs.Chain.{lower, Ascending, first, least-first, ascending-ascends, next-after}
+use Rattle.block_store.specs.Step.{LastAt, none-last, last-at, first, Between}
+use Rattle.block_store.proofs.Chain.{lower, Ascending, least-first, ascending-ascends, next-after}
 use Rattle.block_store.proofs.Visit.{ascending-in, in-ascending, length-ascending, length-entries}
 use Rattle.block_store.proofs.Compared.{compared-less, compared-equal, compared-greater}
 use Rattle.block_store.proofs.Loops.{is-entry, block-of-entry}
@@ -162,11 +162,6 @@ module _ (s : Bytes) (h : laidOut s ≡ true) (r : BlockReference) where
       unfolding met-on along-on
       met-last next below o p b = subst (λ (n : ℕ). LastAt (a .passed ++ (coming l .entry ∷ [])) n) (coming l .stands) (last-at (a .passed) (coming l .entry))
 
-    first-is : (ys : List Entry) → first ys ≡ firstOf ys
-    unfolding first firstOf
-    first-is [] = refl
-    first-is (y ∷ ys) = refl
-
     -- a new block goes here
     between : (below : ℕ) → LastAt (a .passed) below → Every (λ e. referenceBefore r (referenceOf e) ≡ true) (a .rest) → Between s r below at
     between below b high =
@@ -175,7 +170,7 @@ module _ (s : Bytes) (h : laidOut s ≡ true) (r : BlockReference) where
           higher = a .rest;
           sorted = a .sorted;
           last = b;
-          next = a .place ∙ ap positionOf (first-is (a .rest));
+          next = a .place;
           low = λ e m. every-in (a .passed) e (a .low) m;
           high = λ e m. every-in (a .rest) e high m;
         }

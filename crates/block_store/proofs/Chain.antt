@@ -12,6 +12,7 @@ use Rattle.committee.specs.Committee.{Committee}
 use Rattle.types.specs.Reference.{BlockReference, sameReference, referenceBefore}
 use Rattle.types.proofs.References.{reference-irrefl, reference-trans, reference-asymmetric, reference-other, differ-other}
 use Rattle.block_store.specs.Layout.{Record, Entry, referenceOf, entries, lesser, least, positionOf, firstPosition, nextPosition, placed, ascending}
+use Rattle.block_store.specs.Step.{first}
 use Rattle.block_store.proofs.Accepted.{accepted-new}
 use Rattle.block_store.specs.Accept.{isStored, blockChecks, allAccepted}
 
@@ -40,11 +41,6 @@ pub lower-self : (e : Entry) → lower e e ≡ false
 lower-self e = fails _ (reference-irrefl (referenceOf e))
 
 -- ---- sorting
-
--- the first of a list
-unfoldable pub first : List Entry → Option Entry
-first [] = none
-first (e ∷ es) = some e
 
 first-placed : (e : Entry) (ds : List Entry) → lesser e (first ds) ≡ first (placed e ds)
 unfolding lesser first placed

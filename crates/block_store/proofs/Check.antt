@@ -299,9 +299,18 @@ module _ (c : Committee) (s : Bytes) (o : InOrder c s) where
         distinct = distinct c whole (o .accepted);
       })
 
+-- the used part of a store that is laid out is the layout of its records
+pub laid-used : (s : Bytes) → AllBytes s → Readable s → Chained s (entries (recordsOf s)) → take (usedBy (recordsOf s)) s ≡ layout (recordsOf s)
+unfolding layout usedLength blockCount
+laid-used s b r d =
+    let rs : List Record = recordsOf s in
+    let k : HeaderRight s = r .header in
+    walked-bytes s (entries rs) rs b (r .walked) (d .next)
+    ∙ ap (λ (x : Bytes). x ++ bodyBytes (entries rs) (entries rs)) (header-bytes s rs b (k .long) (d .first) (sym (r .used)) (sym (r .many)) (omega (arith, six s (k .long), k .zeros, k .zeros₂)))
+
 -- the steps of the check decide it
 pub order-checked : (c : Committee) (s : Bytes) → AllBytes s → storeInOrder c s ≡ readable s && (chained s && allAccepted c (recordsOf s))
-unfolding layout usedLength blockCount allowedLength
+unfolding allowedLength
 order-checked c s b = same-test _ _ there back
   where
     there : storeInOrder c s ≡ true → readable s && (chained s && allAccepted c (recordsOf s)) ≡ true
@@ -319,7 +328,7 @@ order-checked c s b = same-test _ _ there back
         to-order c s
         (record {
           allowed = rw (le-leb 16 (length s) (k .long)) (le-leb (length s) 4294967295 (k .short));
-          used = rw (← r .used) (walked-bytes s (entries rs) rs b (r .walked) (d .next) ∙ ap (λ (x : Bytes). x ++ bodyBytes (entries rs) (entries rs)) (header-bytes s rs b (k .long) (d .first) (sym (r .used)) (sym (r .many)) (omega (arith, six s (k .long), k .zeros, k .zeros₂))));
+          used = rw (← r .used) (laid-used s b r d);
           few = omega (arith, r .many, k .few);
           accepted = and-right (chained s) _ h₂;
         })

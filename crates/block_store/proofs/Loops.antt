@@ -25,7 +25,8 @@ use Rattle.block_store.specs.Store.{usedLength, blockCount, recordsOf}
 use Rattle.block_store.specs.Entry.{headerRight, positions, isIn, sortedPositions, readable, chained, isEntry, noneOrEntry, follows, recordAt, blockAt}
 use Rattle.block_store.proofs.Store.{entries-within}
 use Rattle.block_store.proofs.Walk.{Stands, Walked, begun, then, walked-same, walked-on, entries-stand}
-use Rattle.block_store.proofs.Chain.{lower, Ascending, first, ascending-ascends}
+use Rattle.block_store.specs.Step.{first}
+use Rattle.block_store.proofs.Chain.{lower, Ascending, ascending-ascends}
 use Rattle.block_store.proofs.Check.{Readable, is-readable, readable-is, Chained, is-chained, chained-is}
 use Rattle.block_store.proofs.Visit.{back, back-append, length-back, back-right, Descending, descending-more, ascending-in, length-ascending, length-entries, Linked, begins, goes, ToCome, comes, Ended, ended}
 

@@ -18,17 +18,17 @@ use Rattle.block_store.proofs.Chain.{Distinct, placed-every, ascending-
 use Rattle.block_store.proofs.Store.{length-body, length-header, length-entry, entries-below, Within, entries-within}
 
 -- stores in the front part, and at the seam
-sets-left : (vs b e : List ℕ) (i : ℕ) → i + length vs ≤ length b → sets (b ++ e) i vs ≡ sets b i vs ++ e
+pub sets-left : (vs b e : List ℕ) (i : ℕ) → i + length vs ≤ length b → sets (b ++ e) i vs ≡ sets b i vs ++ e
 sets-left [] b e i h = refl
 sets-left (v ∷ vs) b e i h = rw (set-append-left b e i v (omega arith)) (sets-left vs (set b i v) e (suc i) (simp length-set (omega arith)))
 
-sets-seam : (vs b ws t : List ℕ) → length ws ≡ length vs → sets (b ++ (ws ++ t)) (length b) vs ≡ b ++ (vs ++ t)
+pub sets-seam : (vs b ws t : List ℕ) → length ws ≡ length vs → sets (b ++ (ws ++ t)) (length b) vs ≡ b ++ (vs ++ t)
 sets-seam vs b ws t h =
     sets-eq vs (b ++ (ws ++ t)) (length b) (omega (arith, length-append b (ws ++ t), length-append ws t))
     ∙ rw (take-append-seam b (ws ++ t), drop-append-add b (ws ++ t) (length vs), drop-at ws t (length vs) h) (append-assoc b vs t)
 
 -- entries whose next positions are the same have the same bytes
-body-same : (es ds : List Entry) (rs : List Record) → Every (λ e. nextPosition ds e ≡ nextPosition es e) (entries rs) → bodyBytes ds (entries rs) ≡ bodyBytes es (entries rs)
+pub body-same : (es ds : List Entry) (rs : List Record) → Every (λ e. nextPosition ds e ≡ nextPosition es e) (entries rs) → bodyBytes ds (entries rs) ≡ bodyBytes es (entries rs)
 unfolding entries bodyBytes entryBytes
 body-same es ds [] none-of = refl
 body-same es ds (r ∷ rs) (and h hs) = rw (h, body-same es ds rs hs)
@@ -68,60 +68,9 @@ sets-next : (vs : List ℕ) (x : ℕ) (l : List ℕ) (i : ℕ) → sets (x ∷ l
 sets-next [] x l i = refl
 sets-next (v ∷ vs) x l i = sets-next vs x (set l i v) (suc i)
 
-sets-right : (a l : List ℕ) (i : ℕ) (vs : List ℕ) → sets (a ++ l) (length a + i) vs ≡ a ++ sets l i vs
+pub sets-right : (a l : List ℕ) (i : ℕ) (vs : List ℕ) → sets (a ++ l) (length a + i) vs ≡ a ++ sets l i vs
 sets-right [] l i vs = rw (zero-add i)
 sets-right (x ∷ a) l i vs = rw (suc-add (length a) i, sets-next vs x (a ++ l) (length a + i), sets-right a l i vs)
-
--- a header, then some bytes within, then what comes after
-three-writes : (h k b e t : List ℕ) (i : ℕ) (vs : List ℕ) → length h ≡ length k → i + length vs ≤ length b → length e ≤ length t
-    → sets (sets (sets (h ++ (b ++ t)) 0 k) (length k + i) vs) (length k + length b) e ≡ k ++ (sets b i vs ++ (e ++ drop (length e) t))
-three-writes h k b e t i vs same fits room =
-    rw (sets-seam k [] h (b ++ t) same, sets-right k (b ++ t) i vs, sets-left vs b t i fits, sets-right k (sets b i vs ++ t) (length b) e)
-    (ap (λ (l : List ℕ). k ++ l) last)
-  where
-    last : sets (sets b i vs ++ t) (length b) e ≡ sets b i vs ++ (e ++ drop (length e) t)
-    last =
-        let n : ℕ = length e in
-        let c : List ℕ = sets b i vs in
-        ap (λ (l : List ℕ). sets (c ++ l) (length b) e) (sym (take-append-drop n t))
-        ∙ ap (λ (j : ℕ). sets (c ++ (take n t ++ drop n t)) j e) (sym (length-sets b i vs))
-        ∙ sets-seam e c (take n t) (drop n t) (length-take-le n t room)
-
--- accepting a record after the entry d, the last of a lower reference: its header, the next position of d, and the new entry are stored
-pub accept-writes : (rs : List Record) (r : Record) (s : Bytes) (d : Entry) → d ∈ entries rs → Every (Changed (entries rs) (entries (r ∷ rs)) (d .position) (usedBy rs)) (entries rs)
-    → take (usedBy rs) s ≡ layout rs → usedBy (r ∷ rs) ≤ length s
-    → storeHolding (r ∷ rs) s
-    ≡ sets (sets (sets s 0 (headerBytes (r ∷ rs))) (d .position) (leBytes 4 (usedBy rs))) (usedBy rs) (entryBytes (entries (r ∷ rs)) (record { position = usedBy rs; bytes = r .bytes; block = r .block }))
-unfolding storeHolding layout usedBy entries bodyBytes
-accept-writes rs r s d m h used fits =
-    let u : ℕ = usedBy rs in
-    let new : Entry = record { position = u; bytes = r .bytes; block = r .block } in
-    let es : List Entry = entries rs in
-    let ds : List Entry = entries (r ∷ rs) in
-    let w : Within u d = every-in es d (entries-within rs) m in
-    let old : List ℕ = headerBytes rs in
-    let head : List ℕ = headerBytes (r ∷ rs) in
-    let body : List ℕ = bodyBytes es es in
-    let tail : List ℕ = drop u s in
-    let own : List ℕ = entryBytes ds new in
-    let v : List ℕ = leBytes 4 u in
-    let i : ℕ = d .position - 16 in
-    let patched : bodyBytes ds es ≡ sets body i v = body-patched es ds (d .position) u rs d m refl h in
-    let split : s ≡ old ++ (body ++ tail) = sym (take-append-drop u s) ∙ ap (λ (l : List ℕ). l ++ tail) used ∙ append-assoc old body tail in
-    let at : d .position ≡ length head + i = omega (arith, length-header (r ∷ rs), w .from) in
-    let end : u ≡ length head + length body = omega (arith, length-header (r ∷ rs), length-body es rs) in
-    let size : 8 + length (r .bytes) ≡ length own = sym (length-entry ds new) in
-    let written : sets (sets (sets s 0 head) (d .position) v) u own ≡ head ++ (sets body i v ++ (own ++ drop (length own) tail)) =
-    ap (λ (l : List ℕ). sets (sets (sets l 0 head) (d .position) v) u own) split
-    ∙ ap (λ (n : ℕ). sets (sets (sets (old ++ (body ++ tail)) 0 head) n v) u own) at
-    ∙ ap (λ (n : ℕ). sets (sets (sets (old ++ (body ++ tail)) 0 head) (length head + i) v) n own) end
-    ∙ three-writes old head body own tail i v (length-header rs ∙ sym (length-header (r ∷ rs)))
-    (omega (arith, length-leBytes 4 u, length-body es rs, w .from, w .upto)) (omega (arith, length-drop u s, size)) in
-    ap (λ (l : List ℕ). head ++ (l ++ own) ++ drop (u + (8 + length (r .bytes))) s) patched
-    ∙ append-assoc head (sets body i v ++ own) _
-    ∙ ap (λ (l : List ℕ). head ++ l) (append-assoc (sets body i v) own _)
-    ∙ ap (λ (l : List ℕ). head ++ (sets body i v ++ (own ++ l))) (sym (drop-drop (8 + length (r .bytes)) u s) ∙ ap (λ (n : ℕ). drop n tail) size)
-    ∙ sym written
 
 -- ---- which next position changes
 

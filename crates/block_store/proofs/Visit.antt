@@ -18,7 +18,8 @@ use Rattle.types.specs.Reference.{sameReference, referenceBefore}
 use Rattle.types.proofs.References.{reference-irrefl, reference-asymmetric, reference-trans, same-reference, reference-same}
 use Rattle.block_store.specs.Layout.{Record, usedBy, Entry, referenceOf, entries, least, positionOf, firstPosition, nextPosition, placed, ascending}
 use Rattle.block_store.proofs.Store.{Within, entries-within}
-use Rattle.block_store.proofs.Chain.{lower, Ascending, Distinct, lower-self, first, least-first, ascending-every, ascending-ascends, next-after}
+use Rattle.block_store.specs.Step.{first}
+use Rattle.block_store.proofs.Chain.{lower, Ascending, Distinct, lower-self, least-first, ascending-every, ascending-ascends, next-after}
 use Rattle.block_store.proofs.Splice.{Apart, entries-apart, ascending-back}
 use Rattle.block_store.proofs.Check.{Chained, in-every}
 

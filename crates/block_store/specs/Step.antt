@@ -15,9 +15,10 @@ pub data LastAt : List Entry → ℕ → Type 0 where
   none-last : LastAt [] 0
   last-at : (es : List Entry) (e : Entry) → LastAt (es ++ (e ∷ [])) (e .position)
 
-unfoldable pub firstOf : List Entry → Option Entry
-firstOf [] = none
-firstOf (e ∷ es) = some e
+-- the first of a list
+unfoldable pub first : List Entry → Option Entry
+first [] = none
+first (e ∷ es) = some e
 
 -- of the entries in ascending order those lower than a reference, the last of them at `below`, and those higher, the first of them at `above`
 pub record Between (s : Bytes) (r : BlockReference) (below above : ℕ) : Type 0 where
@@ -25,6 +26,6 @@ pub record Between (s : Bytes) (r : BlockReference) (below above : ℕ) : Type 0
   pub higher : List Entry
   pub sorted : ascending (entries (recordsOf s)) ≡ lower ++ higher
   pub last : LastAt lower below
-  pub next : above ≡ positionOf (firstOf higher)
+  pub next : above ≡ positionOf (first higher)
   pub low : (e : Entry) → e ∈ lower → referenceBefore (referenceOf e) r ≡ true
   pub high : (e : Entry) → e ∈ higher → referenceBefore r (referenceOf e) ≡ true
