@@ -14,5 +14,5 @@ pub mod Loops
 pub mod Lookups
 pub mod Search
 pub mod Along
-pub mod Append
+pub mod Appended
 pub mod Claimed

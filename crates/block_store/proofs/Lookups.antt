@@ -95,6 +95,14 @@ lookup-stored (r ∷ rs) i = go (sameReference (r .block .reference) i) (lookup-
     go true h = refl
     go false h = h
 
+pub not-stored-none : (rs : List Record) (i : BlockReference) → isStored rs i ≡ false → lookup (entries rs) i ≡ none
+unfolding isNone
+not-stored-none rs i h = go (lookup (entries rs) i) (sym (lookup-stored rs i) ∙ h)
+  where
+    go : (o : Option Entry) → not (isNone o) ≡ false → o ≡ none
+    go none k = refl
+    go (some e) k = absurd (not-both refl k)
+
 -- a block is stored among the older records where it stands before the end of these
 pub stored-older : (newer older : List Record) (i : BlockReference) → Distinct (entries (newer ++ older)) → isStored older i ≡ storedBefore (entries (newer ++ older)) (usedBy older) i
 unfolding storedBefore holds

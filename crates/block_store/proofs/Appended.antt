@@ -5,24 +5,29 @@ use mathlib.Core.List.{List, [], _∷_, _++_, append-assoc}
 use mathlib.Core.Bool.{Bool, true, false}
 use Prim.Native.Nat.{ℕ, suc, _+_, _-_, _≤_, _<_}
 use native.Mathlib.Omega.{arith}
-use lib.ListN.{length, take, drop, replicate, length-append, length-drop, take-append-drop}
-use lib.Seq.{sets, drop-drop, length-take-le}
+use native.Mathlib.Numerals.{add-one}
+use lib.Dec.{leb, ltb}
+use borrow.Author.Tests.{lt-ltb, le-ltb, ltb-false, leb-false}
+use lib.ListN.{length, take, drop, set, getD, replicate, length-append, length-drop, take-append-drop}
+use lib.Seq.{sets, drop-drop, take-suc, length-take-le}
 use Rattle.base.specs.Lists.{_∈_, here, there}
-use Rattle.base.specs.Le.{Bytes, leBytes}
-use Rattle.base.proofs.Tests.{fails, not-both}
+use Rattle.base.specs.Le.{Bytes, leAt, leBytes}
+use Rattle.base.proofs.Tests.{fails, neither-left, neither-right}
 use Rattle.base.proofs.Lists.{Every, none-of, and, every-in, with-later}
 use Rattle.base.proofs.Members.{in-append, in-right, in-left}
 use Rattle.base.proofs.Covered.{Around, around}
-use Rattle.base.proofs.Le.{AllBytes, length-leBytes}
+use Rattle.base.proofs.Le.{AllBytes, length-leBytes, sets-append}
 use Rattle.types.specs.Reference.{BlockReference, sameReference, referenceBefore}
+use Rattle.types.specs.Record.{blockIn}
 use Rattle.types.proofs.References.{reference-irrefl, reference-same}
 use Rattle.block_store.specs.Layout.{Record, usedBy, Entry, referenceOf, entries, positionOf, firstPosition, nextPosition, entryBytes, bodyBytes, headerBytes, layout, ascending}
-use Rattle.block_store.specs.Store.{recordsOf, storeHolding}
+use Rattle.block_store.specs.Store.{usedLength, blockCount, recordsOf, recordIn, storeFull, storeHolding}
 use Rattle.block_store.specs.Entry.{laidOut}
 use Rattle.block_store.specs.Step.{LastAt, none-last, last-at, first, Between}
 use Rattle.block_store.proofs.Store.{laid, length-body, length-layout, length-header, Within, entries-within}
 use Rattle.block_store.proofs.Chain.{Distinct, next-new, next-higher, first-new, first-same}
 use Rattle.block_store.proofs.Splice.{sets-left, sets-seam, sets-right, body-same, Changed, body-patched, entries-apart, ascending-apart, ascending-back, one-changed}
+use Rattle.block_store.proofs.Walk.{walked-inside}
 use Rattle.block_store.proofs.Check.{in-every, laid-used}
 use Rattle.block_store.proofs.Visit.{ascending-in, in-ascending}
 use Rattle.block_store.proofs.Search.{laid-out}
@@ -45,6 +50,82 @@ two-parts f u n u′ n′ t a b b′ c c′ =
     ∙ ap (λ (k : ℕ). sets ((f ++ u′) ++ (n ++ t)) k n′) (sym eight)
     ∙ sets-seam n′ (f ++ u′) n t (c ∙ sym c′)
     ∙ append-assoc f u′ (n′ ++ t)
+
+-- one byte more of a record
+pub copied : (l rec : List ℕ) (at i : ℕ) → i < length rec → sets l at (take (i + 1) rec) ≡ set (sets l at (take i rec)) (at + i) (getD rec i 0)
+copied l rec at i h =
+    rw (add-one i, take-suc rec i 0 h, sets-append (take i rec) (getD rec i 0 ∷ []) l at, length-take-le i rec (omega arith))
+
+-- an entry is written in three parts
+pub entry-written : (l rec : List ℕ) (at next size : ℕ) → sets (sets (sets l at (leBytes 4 next)) (at + 4) (leBytes 4 size)) (at + 8) rec ≡ sets l at (leBytes 4 next ++ (leBytes 4 size ++ rec))
+entry-written l rec at next size =
+    let last : at + 4 + 4 ≡ at + 8 = omega arith in
+    sym (sets-append (leBytes 4 next) (leBytes 4 size ++ rec) l at
+    ∙ sets-append (leBytes 4 size) rec (sets l at (leBytes 4 next)) (at + length (leBytes 4 next))
+    ∙ rw (length-leBytes 4 next, length-leBytes 4 size, last))
+
+-- ---- room (13)
+
+module _ (s : Bytes) (h : laidOut s ≡ true) (rec : Bytes) where
+  used-after : usedBy (recordIn rec ∷ recordsOf s) ≡ leAt 4 s 4 + (8 + length rec)
+  unfolding usedBy recordIn usedLength
+  used-after = ap (λ (n : ℕ). n + (8 + length rec)) (laid-out s h .reads .used)
+
+  pub full-bytes : length s < leAt 4 s 4 + (8 + length rec) → storeFull s (recordIn rec) ≡ true
+  unfolding storeFull
+  full-bytes l = rw (lt-ltb (length s) (usedBy (recordIn rec ∷ recordsOf s)) (omega (arith, used-after)))
+
+  pub full-blocks : leAt 4 s 4 + (8 + length rec) ≤ length s → storeFull s (recordIn rec) ≡ leb 1024 (leAt 2 s 8)
+  unfolding storeFull blockCount
+  full-blocks l = rw (le-ltb (length s) (usedBy (recordIn rec ∷ recordsOf s)) (omega (arith, used-after)), laid-out s h .reads .many)
+
+  -- where it is not full
+  pub record Roomy : Type 0 where
+    pub bytes : usedBy (recordIn rec ∷ recordsOf s) ≤ length s
+    pub used : leAt 4 s 4 ≡ usedBy (recordsOf s)
+    pub after : leAt 4 s 4 + (8 + length rec) ≡ usedBy (recordIn rec ∷ recordsOf s)
+    pub blocks : leAt 2 s 8 < 1024
+    pub count : leAt 2 s 8 + 1 ≡ length (recordIn rec ∷ recordsOf s)
+    pub short : length s ≤ 4294967295
+
+  pub roomy : storeFull s (recordIn rec) ≡ false → Roomy
+  unfolding storeFull blockCount usedLength
+  roomy f =
+      let many = laid-out s h .reads .many in
+      record {
+        bytes = ltb-false (length s) (usedBy (recordIn rec ∷ recordsOf s)) (neither-left _ _ f);
+        used = sym (laid-out s h .reads .used);
+        after = sym used-after;
+        blocks = omega (arith, many, leb-false 1024 (length (recordsOf s)) (neither-right (ltb (length s) (usedBy (recordIn rec ∷ recordsOf s))) _ f));
+        count = omega (arith, many);
+        short = laid-out s h .reads .header .short;
+      }
+
+-- the places that change lie in the store
+pub record Reach (s : Bytes) (below above : ℕ) : Type 0 where
+  pub below-in : below + 4 ≤ length s
+  pub above-in : above ≤ length s
+
+pub reach : (s : Bytes) → laidOut s ≡ true → (i : BlockReference) (below above : ℕ) → Between s i below above → Reach s below above
+unfolding positionOf first
+reach s h i below above p =
+    record { below-in = by-last (p .last) (λ e m. inside e (in-left (p .higher) m)); above-in = by-next (p .higher) (p .next) (λ e m. inside e (in-right (p .lower) m)) }
+  where
+    whole : usedBy (recordsOf s) ≤ length s
+    whole = walked-inside s (recordsOf s) (laid-out s h .reads .header .long) (laid-out s h .reads .walked)
+
+    inside : (e : Entry) → e ∈ (p .lower ++ p .higher) → Within (usedBy (recordsOf s)) e
+    inside e m = every-in (entries (recordsOf s)) e (entries-within (recordsOf s)) (ascending-in (entries (recordsOf s)) e (subst (λ (l : List Entry). e ∈ l) (sym (p .sorted)) m))
+
+    by-last : {xs : List Entry} {n : ℕ} → LastAt xs n → ((e : Entry) → e ∈ xs → Within (usedBy (recordsOf s)) e) → n + 4 ≤ length s
+    by-last none-last f = omega (arith, laid-out s h .reads .header .long)
+    by-last (last-at zs d) f = omega (arith, f d (in-right zs here) .upto, whole)
+
+    by-next : (ys : List Entry) → above ≡ positionOf (first ys) → ((e : Entry) → e ∈ ys → Within (usedBy (recordsOf s)) e) → above ≤ length s
+    by-next [] q f = omega arith
+    by-next (y ∷ ys) q f = omega (arith, f y here .upto, whole)
+
+-- ---- the new store
 
 module _ (s : Bytes) (b : AllBytes s) (h : laidOut s ≡ true) (r : Record) (below above : ℕ) (p : Between s (r .block .reference) below above) (room : usedBy (r ∷ recordsOf s) ≤ length s) where
   abbrev rs : List Record
@@ -171,3 +252,13 @@ module _ (s : Bytes) (b : AllBytes s) (h : laidOut s ≡ true) (r : Record) (bel
       by-last : {xs : List Entry} {n : ℕ} → LastAt xs n → ascending es ≡ xs ++ p .higher → Every (λ x. referenceBefore (referenceOf x) (referenceOf new) ≡ true) xs → Written n
       by-last none-last q m = as-first q
       by-last (last-at zs d) q m = as-next zs d q m
+
+-- the same from the numbers that the code reads and writes
+pub appended-so : (s : Bytes) → AllBytes s → (h : laidOut s ≡ true) (rec : Bytes) (below above used end count : ℕ) → Between s (blockIn rec .reference) below above → storeFull s (recordIn rec) ≡ false
+    → used ≡ leAt 4 s 4 → end ≡ leAt 4 s 4 + (8 + length rec) → count ≡ leAt 2 s 8 + 1
+    → sets (sets (sets (sets s used (leBytes 4 above ++ (leBytes 4 (length rec) ++ rec))) 4 (leBytes 4 end)) 8 (leBytes 2 count)) below (leBytes 4 used)
+    ≡ storeHolding (recordIn rec ∷ recordsOf s) s
+unfolding recordIn
+appended-so s b h rec below above used end count p f u e n =
+    let m : Roomy s h rec = roomy s h rec f in
+    rw (u ∙ m .used, e ∙ m .after, n ∙ m .count) (sym (appended s b h (recordIn rec) below above p (m .bytes)))
