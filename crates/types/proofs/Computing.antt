@@ -4,9 +4,9 @@ use Rattle.committee.proofs.Computing.{computing as computing-committee}
 use Rattle.types.specs.Reference.{referenceKey, sameReference, referenceBefore, locator, sameLocator, locatorBefore, newRange, oneRange, within, offsets, locators, covers}
 use Rattle.types.specs.Block.{isShare, isShareAt, votedRange, spansFrom, spans, joined, runsFrom, sharedRanges}
 use Rattle.types.specs.Record.{readReference, readLocator, readShare, readAccept, readOther, readReject, readRange, readKind, readStatement, readBlock, blockOf, referenceBytes, locatorBytes, otherBytes, statementBytes, blockBytes}
-use Rattle.types.specs.Verify.{headChecks, includeChecks, statementChecks, clockValid, bodyChecks}
+use Rattle.types.specs.Verify.{headChecks, includeChecks, statementChecks, previousAuthors, clockValid, bodyChecks}
 use Rattle.types.specs.Claims.{areBytes, fitsReference, fitsLocator, fitsOther, fitsStatement, fitsBlock, ReadsWhatIsWritten, WritesWhatIsRead}
 
 unfoldable pub computing : Unit {0}
-unfolding computing-base computing-committee referenceKey sameReference referenceBefore locator sameLocator locatorBefore newRange oneRange within offsets locators covers isShare isShareAt votedRange spansFrom spans joined runsFrom sharedRanges readReference readLocator readShare readAccept readOther readReject readRange readKind readStatement readBlock blockOf referenceBytes locatorBytes otherBytes statementBytes blockBytes headChecks includeChecks statementChecks clockValid bodyChecks areBytes fitsReference fitsLocator fitsOther fitsStatement fitsBlock ReadsWhatIsWritten WritesWhatIsRead
+unfolding computing-base computing-committee referenceKey sameReference referenceBefore locator sameLocator locatorBefore newRange oneRange within offsets locators covers isShare isShareAt votedRange spansFrom spans joined runsFrom sharedRanges readReference readLocator readShare readAccept readOther readReject readRange readKind readStatement readBlock blockOf referenceBytes locatorBytes otherBytes statementBytes blockBytes headChecks includeChecks statementChecks previousAuthors clockValid bodyChecks areBytes fitsReference fitsLocator fitsOther fitsStatement fitsBlock ReadsWhatIsWritten WritesWhatIsRead
 computing = tt

@@ -1,5 +1,5 @@
 pub mod Computing
-pub mod Cards
+pub mod Examples
 pub mod References
 pub mod Ranges
 pub mod Runs
@@ -11,3 +11,4 @@ pub mod Steps
 pub mod Formed
 pub mod Shape
 pub mod Statements
+pub mod Walk

@@ -70,7 +70,7 @@ module _ (r : BlockReference) (o : ℕ) (s : Statement) (ss : List Statement) (h
 
 -- ---- all runs
 
-runs-from : (r : BlockReference) (o : ℕ) (ss : List Statement) → Every (Run o ss) (runsFrom r o ss)
+pub runs-from : (r : BlockReference) (o : ℕ) (ss : List Statement) → Every (Run o ss) (runsFrom r o ss)
 unfolding runsFrom
 runs-from r o [] = none-of
 runs-from r o (s ∷ ss) = go (isShare s) refl (runs-from r (o + 1) ss)

@@ -17,7 +17,8 @@ use Rattle.base.proofs.Read.{part}
 use Rattle.types.specs.Block.{Statement, Block}
 use Rattle.types.specs.Record.{readStatement, wellFormed, blockIn, noStatement, referenceBytes, statementBytes, statementStart, blockBytes}
 use Rattle.types.proofs.Records.{BlockFits, StatementFits, statement-reads, blockBytes-blockOf, blockOf-fits, length-reference, length-includes}
-use Rattle.types.specs.Values.{asStatement, payloadBetween}
+use Rattle.types.specs.Values.{asStatement}
+use Rattle.types.specs.Cursor.{payloadBetween}
 use Rattle.types.specs.Step.{Took}
 use Rattle.types.specs.declared.BaseStatement.{BaseStatement}
 use Rattle.types.specs.declared.Taken as taken

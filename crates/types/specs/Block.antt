@@ -1,11 +1,11 @@
 -- Blocks, their statements and their runs of shares (types.rs). Assumes nothing: these are definitions.
-use Prim.Native.Nat.{ℕ, _+_}
+use Prim.Native.Nat.{ℕ, _+_, _-_, _*_}
 use mathlib.Core.Bool.{Bool, true, false}
-use mathlib.Core.List.{List, [], _∷_, _++_, Option·toList}
+use mathlib.Core.List.{List, [], _∷_, _++_, map, Option·toList}
 use mathlib.Core.Option.{Option, none, some}
 use lib.Dec.{eqb}
 use lib.ListN.{getElem?}
-use Rattle.base.specs.Lists.{pick, holds}
+use Rattle.base.specs.Lists.{pick, holds, sumOf}
 use Rattle.base.specs.Le.{Bytes}
 use Rattle.committee.specs.Committee.{AuthorityIndex, RoundNumber}
 use Rattle.types.specs.Reference.{BlockReference, TransactionLocator, TransactionLocatorRange, locator, newRange, oneRange}
@@ -54,6 +54,15 @@ spansFrom r o (s ∷ ss) = pick (isShare s) (oneRange (locator r o) ∷ []) (Opt
 -- the ranges of locators for which a block votes
 unfoldable pub spans : Block → List TransactionLocatorRange
 spans b = spansFrom (b .reference) 0 (b .statements)
+
+-- how many offsets a vote counts
+unfoldable pub countedOffsets : Option TransactionLocatorRange → ℕ
+countedOffsets none = 0
+countedOffsets (some r) = r .end - r .start
+
+-- 01: "3 words for each accept and each offset of each range"
+unfoldable pub eventRoom : Block → ℕ
+eventRoom b = 3 * sumOf (map (λ s. countedOffsets (votedRange s)) (b .statements))
 
 -- a share at offset o joins the run of shares that begins just after it, or is a run of its own
 unfoldable pub joined : BlockReference → ℕ → List TransactionLocatorRange → List TransactionLocatorRange

@@ -4,4 +4,5 @@ pub mod Record
 pub mod Verify
 pub mod Claims
 pub mod Values
+pub mod Cursor
 pub mod Step

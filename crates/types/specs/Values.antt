@@ -1,6 +1,6 @@
 -- What the code's values mean: for each declared type its one conversion. Assumes nothing: these are definitions.
-use Prim.Native.Nat.{ℕ, _+_}
-use mathlib.Core.Bool.{Bool, true, _&&_}
+use Prim.Native.Nat.{ℕ}
+use mathlib.Core.Bool.{Bool}
 use mathlib.Core.List.{List, _++_, reverse}
 use mathlib.Core.Option.{none, some}
 use lib.Dec.{eqb, ltb}
@@ -8,15 +8,13 @@ use lib.ListN.{take, drop}
 use Rattle.base.specs.Lists.{pick, same, before}
 use Rattle.base.specs.Le.{Bytes, leBytes}
 use Rattle.types.specs.Reference.{BlockReference, TransactionLocator, TransactionLocatorRange, locator, newRange, sameReference, referenceBefore, sameLocator, locatorBefore}
-use Rattle.types.specs.Block.{Statement, share, accept, reject, voteRange, Block}
-use Rattle.types.specs.Record.{statementStart}
+use Rattle.types.specs.Block.{Statement, share, accept, reject, voteRange}
 use Rattle.types.specs.declared.BlockDigest as digest
 use Rattle.types.specs.declared.BlockReference as reference
 use Rattle.types.specs.declared.TransactionLocator as locators
 use Rattle.types.specs.declared.TransactionLocatorRange as ranges
 use Rattle.types.specs.declared.BaseStatement as statements
 use Rattle.types.specs.declared.BaseStatement.the-variants.{Share, Accept, Reject, RejectFor, VoteRange}
-use Rattle.types.specs.declared.StatementCursor as cursors
 use Rattle.types.specs.declared.Ordering.{Ordering}
 use Rattle.types.specs.declared.Ordering.the-variants.{Less, Equal, Greater}
 
@@ -44,18 +42,6 @@ asStatement rec (Accept l) = accept (asLocator l)
 asStatement rec (Reject l) = reject (asLocator l) none
 asStatement rec (RejectFor l other) = reject (asLocator l) (some (asLocator other))
 asStatement rec (VoteRange r) = voteRange (asRange r)
-
--- 01: "0 share, length 2 and payload": the payload of a share stands from 3 bytes after its start to the start of the next statement
-unfoldable pub payloadBetween : ℕ → ℕ → statements.BaseStatement → Bool
-payloadBetween at next (Share start len) = eqb start (at + 3) && eqb (start + len) next
-payloadBetween at next (Accept l) = true
-payloadBetween at next (Reject l) = true
-payloadBetween at next (RejectFor l other) = true
-payloadBetween at next (VoteRange r) = true
-
--- the place of the statement of that index
-unfoldable pub cursorAt : Block → ℕ → cursors.StatementCursor
-cursorAt b i = record { at = statementStart b i; index = i }
 
 -- the order of two things, from the tests that they are the same and that the first comes before the other
 unfoldable pub orderOf : Bool → Bool → Ordering

@@ -6,7 +6,7 @@ use lib.Dec.{ltb, leb, eqb}
 use Rattle.base.specs.Lists.{isEmpty, keep}
 use Rattle.base.specs.Checks.{Check, _⇒_}
 use Rattle.committee.specs.Committee.{Committee, isQuorum, known}
-use Rattle.committee.specs.AuthoritySet.{setOf, stakeOf}
+use Rattle.committee.specs.AuthoritySet.{AuthoritySet, setOf, stakeOf}
 use Rattle.types.specs.Reference.{BlockReference, maxLen}
 use Rattle.types.specs.Block.{Statement, share, accept, reject, voteRange, Block, author, round}
 
@@ -31,10 +31,13 @@ statementChecks (accept l) = (eqb (l .offset) 18446744073709551615 ⇒ 28) ∷ [
 statementChecks (reject l other) = []
 statementChecks (voteRange r) = (ltb (r .end) (r .start) ⇒ 26) ∷ (leb maxLen (r .end) ⇒ 27) ∷ []
 
+-- 01: "Authors of includes at round - 1", each once
+unfoldable pub previousAuthors : Block → List BlockReference → AuthoritySet
+previousAuthors b is = setOf (map (λ i. i .authority) (keep (λ i. eqb (i .round + 1) (round b)) is))
+
 -- 01: "Authors of includes at round - 1 hold quorum"
 unfoldable pub clockValid : Committee → Block → Bool
-clockValid c b =
-    isQuorum c (stakeOf c (setOf (map (λ i. i .authority) (keep (λ i. eqb (i .round + 1) (round b)) (b .includes)))))
+clockValid c b = isQuorum c (stakeOf c (previousAuthors b (b .includes)))
 
 -- 01: "24 and 25 go include by include, 26 to 28 statement by statement"; "29 clock"; "Round 0 skips 29"
 unfoldable pub bodyChecks : Committee → Block → List Check

@@ -5,10 +5,16 @@ ghost use mathlib.Core.Path.{_≡_};
 ghost use Prim.Native.Nat.{_+_, _≤_, _<_};
 ghost use lib.ListN.{length, getD, take, drop};
 ghost use mathlib.Core.Bool.{true};
-ghost use Rattle.types.specs.Record.{wellFormed, blockIn, noReference, noStatement, statementStart};
-ghost use Rattle.types.specs.Step.{referenceAt, locatorAt, Took, statementsOnly};
+ghost use mathlib.Core.List.{[], map, flatten};
+ghost use Rattle.base.specs.Le.{Bytes};
+ghost use Rattle.base.specs.Checks.{passes};
+ghost use Rattle.types.specs.Block.{isShare, votedRange, countedOffsets, eventRoom};
+ghost use Rattle.types.specs.Verify.{statementChecks};
+ghost use Rattle.types.specs.Record.{wellFormed, blockIn, noReference, noStatement};
+ghost use Rattle.types.specs.Cursor.{cursorAt, payloadBetween, runsLeft, runsTold, FurtherOn};
+ghost use Rattle.types.specs.Step.{referenceAt, locatorAt, Took, statementsOnly, leading};
 ghost use Rattle.types.specs.Reference.{maxLen, newRange, oneRange};
-ghost use Rattle.types.specs.Values.{beBytes, digestBytes, asReference, asLocator, asRange, asStatement, cursorAt, payloadBetween, wordOrder, keyOrder, referenceOrder, locatorOrder};
+ghost use Rattle.types.specs.Values.{beBytes, digestBytes, asReference, asLocator, asRange, asStatement, wordOrder, keyOrder, referenceOrder, locatorOrder};
 
 // The 32 bytes of a digest as four words, the highest byte first, so that comparing words is comparing bytes.
 pub struct BlockDigest(pub u64, pub u64, pub u64, pub u64);
@@ -55,6 +61,12 @@ pub struct StatementCursor {
 pub struct NextStatement {
     pub statement: BaseStatement,
     pub next: StatementCursor,
+}
+
+// A run of neighbouring shares, its start and its end, and the place after it; or there is none any more.
+pub enum SharedRange {
+    Run(u64, u64, StatementCursor),
+    End,
 }
 
 // A statement that was read, with the position after it.
@@ -395,7 +407,7 @@ pub fn first_statement(rec: &[u8]) -> StatementCursor
 
 // The statement at a place, and the next place.
 pub fn next_statement(rec: &[u8], cursor: StatementCursor) -> NextStatement
-    requires { ⌜ (wellFormed (now rec) ≡ true) × ((cursor .at ≡ statementStart (blockIn (now rec)) (cursor .index)) × (cursor .index < length (blockIn (now rec) .statements))) ⌝ }
+    requires { ⌜ (wellFormed (now rec) ≡ true) × ((cursor ≡ cursorAt (blockIn (now rec)) (cursor .index)) × (cursor .index < length (blockIn (now rec) .statements))) ⌝ }
     ensures { λ r. ⌜ (asStatement (now (rec .entry)) (r .statement) ≡ getD (blockIn (now (rec .entry)) .statements) (cursor .index) noStatement) × ((r .next ≡ cursorAt (blockIn (now (rec .entry))) (cursor .index + 1)) × (payloadBetween (cursor .at) (r .next .at) (r .statement) ≡ true)) ⌝ }
 {
     let at = cursor.at;
@@ -413,4 +425,83 @@ pub fn next_statement(rec: &[u8], cursor: StatementCursor) -> NextStatement
             index: cursor.index + 1,
         },
     }
+}
+
+// ---- runs of shares
+
+fn is_share(statement: BaseStatement) -> bool
+    ensures { λ r. ⌜ ((rec : Bytes) → r ≡ isShare (asStatement rec statement)) ⌝ }
+{
+    match statement {
+        BaseStatement::Share(_, _) => true,
+        BaseStatement::Accept(_) => false,
+        BaseStatement::Reject(_) => false,
+        BaseStatement::RejectFor(_, _) => false,
+        BaseStatement::VoteRange(_) => false,
+    }
+}
+
+// The place after the statements that are shares, or that are none, from a place on.
+fn skip_statements(rec: &[u8], from: StatementCursor, shares: bool) -> StatementCursor
+    requires { ⌜ (wellFormed (now rec) ≡ true) × ((from ≡ cursorAt (blockIn (now rec)) (from .index)) × (from .index ≤ length (blockIn (now rec) .statements))) ⌝ }
+    ensures { λ r. ⌜ r ≡ cursorAt (blockIn (now (rec .entry))) (from .index + leading shares (drop (from .index) (blockIn (now (rec .entry)) .statements))) ⌝ }
+{
+    let count = statement_count(rec);
+    let mut cursor = from;
+    while cursor.index < count {
+        let found = next_statement(rec, cursor);
+        let statement = found.statement;
+        if is_share(statement) != shares {
+            return cursor;
+        }
+        cursor = found.next;
+    }
+    cursor
+}
+
+// The next run of neighbouring shares from a place on, as `shared_ranges` has it.
+pub fn next_shared_range(rec: &[u8], cursor: StatementCursor) -> SharedRange
+    requires { ⌜ (wellFormed (now rec) ≡ true) × ((cursor ≡ cursorAt (blockIn (now rec)) (cursor .index)) × (cursor .index ≤ length (blockIn (now rec) .statements))) ⌝ }
+    ensures { λ r. ⌜ (runsLeft (blockIn (now (rec .entry))) (cursor .index) ≡ runsTold (blockIn (now (rec .entry))) r) × FurtherOn (blockIn (now (rec .entry))) (cursor .index) r ⌝ }
+{
+    let count = statement_count(rec);
+    let start = skip_statements(rec, cursor, false);
+    if start.index == count {
+        return SharedRange::End;
+    }
+    let end = skip_statements(rec, start, true);
+    SharedRange::Run(start.index as u64, end.index as u64, end)
+}
+
+// ---- events
+
+// The offsets for which a statement votes, which passes its checks (26 to 28).
+fn counted_offsets(statement: BaseStatement) -> u64
+    requires { ⌜ passes (statementChecks (asStatement [] statement)) ≡ true ⌝ }
+    ensures { λ r. ⌜ ((rec : Bytes) → r ≡ countedOffsets (votedRange (asStatement rec statement))) ⌝ }
+{
+    match statement {
+        BaseStatement::Share(_, _) => 0,
+        BaseStatement::Accept(_) => 1,
+        BaseStatement::Reject(_) => 0,
+        BaseStatement::RejectFor(_, _) => 0,
+        BaseStatement::VoteRange(range) => range.offset_end_excl - range.offset_start_incl,
+    }
+}
+
+// The event words that a record asks for, whose statements pass their checks.
+pub fn event_words(rec: &[u8]) -> u64
+    requires { ⌜ (wellFormed (now rec) ≡ true) × (passes (flatten (map statementChecks (blockIn (now rec) .statements))) ≡ true) ⌝ }
+    ensures { λ r. ⌜ r ≡ eventRoom (blockIn (now (rec .entry))) ⌝ }
+{
+    let count = statement_count(rec);
+    let mut cursor = first_statement(rec);
+    let mut offsets: u64 = 0;
+    while cursor.index < count {
+        let found = next_statement(rec, cursor);
+        let statement = found.statement;
+        offsets = offsets + counted_offsets(statement);
+        cursor = found.next;
+    }
+    3 * offsets
 }

@@ -4,7 +4,7 @@ use native.Mathlib.Omega.{arith}
 use lib.ListN.{length}
 use Rattle.base.specs.Lists.{sumOf}
 use Rattle.types.specs.Record.{blockIn, statementStart}
-use Rattle.types.specs.Values.{cursorAt}
+use Rattle.types.specs.Cursor.{cursorAt}
 use Rattle.types.proofs.Shape.{shape-in, include-count}
 use borrow.Author.Needs.{needs}
 use Rattle.types.proofs.first_statement.Statement.{statement}

@@ -1,7 +1,8 @@
 use mathlib.Core.Path.{refl, sym, _∙_}
 use Prim.Native.Nat.{_+_}
 use native.Mathlib.Omega.{arith}
-use Rattle.types.specs.Values.{asStatement, payloadBetween}
+use Rattle.types.specs.Values.{asStatement}
+use Rattle.types.specs.Cursor.{payloadBetween}
 use Rattle.types.specs.Step.{Took}
 use Rattle.types.proofs.Steps.{accept-cut, accept-reads}
 use borrow.Author.Needs.{needs}

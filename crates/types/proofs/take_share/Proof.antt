@@ -1,7 +1,8 @@
 use mathlib.Core.Path.{refl, sym, _∙_}
 use Prim.Native.Nat.{_+_}
 use native.Mathlib.Omega.{arith}
-use Rattle.types.specs.Values.{asStatement, payloadBetween}
+use Rattle.types.specs.Values.{asStatement}
+use Rattle.types.specs.Cursor.{payloadBetween}
 use Rattle.types.specs.Step.{Took}
 use lib.Dec.{eqb}
 use borrow.Author.Tests.{eq-eqb}

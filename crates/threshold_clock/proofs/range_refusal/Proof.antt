@@ -1,0 +1,19 @@
+use borrow.Author.Tests.{lt-ltb, le-ltb, le-leb, lt-leb}
+use Rattle.threshold_clock.proofs.range_refusal.Statement.{statement}
+use Rattle.threshold_clock.proofs.range_refusal.Tie as tie
+
+returns : tie.Need-returns
+returns c = rw (lt-ltb (c .before .args .end) (c .before .args .start) (c .if1 .taken))
+
+returns-2 : tie.Need-returns-2
+returns-2 c =
+    let o = c .before .before in
+    rw (le-ltb (o .args .end) (o .args .start) (c .before .if1 .left), le-leb 1048576 (o .args .end) (c .if2 .taken))
+
+returns-3 : tie.Need-returns-3
+returns-3 c =
+    let o = c .before .before in
+    rw (le-ltb (o .args .end) (o .args .start) (c .before .if1 .left), lt-leb 1048576 (o .args .end) (c .if2 .left))
+
+pub range-refusal-spec : {M : Type 1} → statement M
+range-refusal-spec = tie.close (tie.spec returns returns-2 returns-3)
