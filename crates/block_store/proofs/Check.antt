@@ -332,3 +332,23 @@ order-checked c s b = same-test _ _ there back
           few = omega (arith, r .many, k .few);
           accepted = and-right (chained s) _ h₂;
         })
+
+-- one after the other
+module _ (c : Committee) (s : Bytes) (b : AllBytes s) where
+  pub order-no-header : headerRight s ≡ false → storeInOrder c s ≡ false
+  unfolding readable
+  order-no-header h = order-checked c s b ∙ rw h
+
+  pub order-no-entries : readable s ≡ false → storeInOrder c s ≡ false
+  order-no-entries h = order-checked c s b ∙ rw h
+
+  pub order-no-chain : readable s ≡ true → chained s ≡ false → storeInOrder c s ≡ false
+  order-no-chain h k = order-checked c s b ∙ rw (h, k)
+
+  pub order-accepted : readable s ≡ true → chained s ≡ true → storeInOrder c s ≡ allAccepted c (recordsOf s)
+  order-accepted h k = order-checked c s b ∙ rw (h, k)
+
+-- a store in order is laid out
+pub order-laid : (c : Committee) (s : Bytes) → storeInOrder c s ≡ true → laidOut s ≡ true
+unfolding laidOut
+order-laid c s h = let o : InOrder c s = in-order c s h in rw (order-readable c s o) (order-chained c s o)

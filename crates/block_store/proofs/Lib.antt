@@ -15,4 +15,5 @@ pub mod Lookups
 pub mod Search
 pub mod Along
 pub mod Appended
+pub mod Accepting
 pub mod Claimed

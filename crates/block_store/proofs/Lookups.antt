@@ -69,7 +69,7 @@ older-entries [] older e m h = m
 older-entries (r ∷ newer) older e here h = absurd (omega (arith, used-more newer older))
 older-entries (r ∷ newer) older e (there m) h = older-entries newer older e m h
 
-entry-stored : (rs : List Record) (i : BlockReference) → isStored rs i ≡ true → (e : Entry) × (e ∈ entries rs) × (referenceOf e ≡ i)
+pub entry-stored : (rs : List Record) (i : BlockReference) → isStored rs i ≡ true → (e : Entry) × (e ∈ entries rs) × (referenceOf e ≡ i)
 unfolding isStored anyOf entries
 entry-stored [] i h = absurd (not-both h refl)
 entry-stored (r ∷ rs) i h = go (sameReference (r .block .reference) i) refl h (entry-stored rs i)
