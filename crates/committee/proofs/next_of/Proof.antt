@@ -2,8 +2,8 @@ use Rattle.committee.specs.Answers.{asAdded}
 use Rattle.committee.specs.StakeAggregator.{Added}
 use mathlib.Core.Path.{ap}
 use borrow.Author.Needs.{needs}
-use Rattle.committee.proofs.StakeAggregator.after_add.Statement.{statement}
-use Rattle.committee.proofs.StakeAggregator.after_add.Tie as tie
+use Rattle.committee.proofs.next_of.Statement.{statement}
+use Rattle.committee.proofs.next_of.Tie as tie
 
 add-requires : tie.Need-add-requires
 add-requires c κs = search needs
@@ -12,5 +12,5 @@ returns : tie.Need-returns
 unfolding asAdded
 returns c = ap (λ (r : Added). r .aggregator) (c .before .add .ensures)
 
-pub after-add-spec : {M : Type 1} → statement M
-after-add-spec = tie.close (tie.spec add-requires returns)
+pub next-of-spec : {M : Type 1} → statement M
+next-of-spec = tie.close (tie.spec add-requires returns)

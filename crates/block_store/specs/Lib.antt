@@ -1,0 +1,8 @@
+pub mod Layout
+pub mod Accept
+pub mod Store
+pub mod Entry
+pub mod Check
+pub mod Step
+pub mod Payload
+pub mod Claims
