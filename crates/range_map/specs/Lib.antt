@@ -1,0 +1,4 @@
+pub mod Items
+pub mod Table
+pub mod Answers
+pub mod Step
