@@ -6,6 +6,7 @@ pub mod Slots
 pub mod Moves
 pub mod Halves
 pub mod Finds
+pub mod Stretches
 pub mod Cuts
 pub mod Voting
 pub mod Forming
