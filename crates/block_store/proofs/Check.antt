@@ -27,7 +27,7 @@ use Rattle.block_store.specs.Entry.{headerRight, endsAt, readable, chain
 use Rattle.block_store.proofs.Store.{InOrder, in-order, to-order, longest, used-within, used-is, usedLength-laid, blockCount-laid, laid, body-laid, entries-reads, recordsOf-right, bytes-drop, length-body, length-header, length-layout, entries-below}
 use Rattle.block_store.proofs.Walk.{Stands, Walked, begun, then, walked-reads, Reached, reads-walked}
 use Rattle.block_store.proofs.Chain.{Distinct, distinct}
-use Rattle.block_store.proofs.Payload.{body-part}
+use Rattle.block_store.proofs.Payloads.{body-part}
 
 -- ---- bytes by their numbers
 
