@@ -1,23 +1,21 @@
 -- What the crates above need to know of a store in order. Assumes nothing.
-use mathlib.Core.Path.{_≡_, refl, sym, ap, subst, _∙_}
-use mathlib.Core.List.{List, [], _∷_}
-use mathlib.Core.Option.{some, Option·map}
+use mathlib.Core.Path.{_≡_, subst}
+use mathlib.Core.List.{List, _∷_}
 use mathlib.Core.Bool.{true, false}
 use Rattle.base.specs.Lists.{_∈_}
 use Rattle.base.specs.Le.{Bytes}
 use Rattle.base.specs.Checks.{passes}
 use Rattle.base.proofs.Members.{map-in, in-map}
 use Rattle.committee.specs.Committee.{Committee}
-use Rattle.types.specs.Reference.{BlockReference}
 use Rattle.types.specs.Block.{Block}
 use Rattle.types.specs.Record.{wellFormed, blockIn}
 use Rattle.types.proofs.Shape.{block-of}
 use Rattle.block_store.specs.Layout.{Record, readRecord}
 use Rattle.block_store.specs.Accept.{blockChecks}
-use Rattle.block_store.specs.Store.{recordsOf, recordIn, storeInOrder, storeFull, storeHolding}
-use Rattle.block_store.proofs.Stored.{WellStored, include-stored, one-reference}
+use Rattle.block_store.specs.Store.{recordsOf, recordIn, storeInOrder, storeFull}
+use Rattle.block_store.proofs.Stored.{WellStored}
 use Rattle.block_store.proofs.Accepted.{blocks, accepted-stored}
-use Rattle.block_store.proofs.Store.{Right, InOrder, in-order, Holding, accepting}
+use Rattle.block_store.proofs.Store.{Right, in-order, Holding, accepting}
 
 -- a well-formed record is read as its block
 pub record-right : (rec : Bytes) → wellFormed rec ≡ true → Right (recordIn rec)

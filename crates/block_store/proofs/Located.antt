@@ -11,7 +11,7 @@ use lib.Seq.{length-take-le}
 use borrow.Author.Tests.{le-leb, eqb-true}
 use Rattle.base.specs.Lists.{pick, allOf, isNone, _∈_, here, there}
 use Rattle.base.specs.Le.{Bytes}
-use Rattle.base.specs.Checks.{_⇒_, passes, refusal, Answer, refused, answered, checked}
+use Rattle.base.specs.Checks.{_⇒_, passes, refusal, refused, answered, checked}
 use Rattle.base.proofs.Tests.{and-left, and-right, not-both}
 use Rattle.base.proofs.Lists.{every-in}
 use Rattle.base.proofs.Checks.{passes-none}

@@ -1,8 +1,8 @@
-use Prim.Native.Nat.{ℕ, _+_, _-_}
-use mathlib.Core.Path.{_≡_, refl, sym, ap, _∙_}
+use Prim.Native.Nat.{_+_, _-_}
+use mathlib.Core.Path.{refl, sym, ap, _∙_}
 use mathlib.Core.Option.{none, some}
 use native.Mathlib.Omega.{arith}
-use lib.ListN.{length, take, drop, getElem?, length-take, length-drop}
+use lib.ListN.{length, drop, getElem?, length-take, length-drop}
 use borrow.Author.Tests.{not-true, not-false, le-leb, leb-true}
 use Rattle.base.specs.Le.{Bytes}
 use Rattle.committee.specs.Answers.{asNewCommittee}

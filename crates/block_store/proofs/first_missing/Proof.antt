@@ -1,12 +1,12 @@
 use borrow.Author.Needs.{needs}
-use Prim.Native.Nat.{ℕ, _≤_, _<_, _-_, _+_}
-use mathlib.Core.Path.{_≡_, refl, sym, ap, _∙_}
+use Prim.Native.Nat.{ℕ, _≤_, _-_, _+_}
+use mathlib.Core.Path.{_≡_, refl, sym, _∙_}
 use mathlib.Core.List.{List}
 use native.Mathlib.Omega.{arith}
 use native.Mathlib.Nat.{zero-add}
-use lib.ListN.{length, drop, getD}
+use lib.ListN.{drop}
 use Rattle.types.specs.Reference.{BlockReference}
-use Rattle.types.specs.Record.{blockIn, noReference}
+use Rattle.types.specs.Record.{blockIn}
 use Rattle.types.specs.Values.{asReference}
 use Rattle.block_store.specs.Layout.{Record, entries, lookup}
 use Rattle.block_store.specs.Store.{blockCount, recordsOf}

@@ -1,13 +1,12 @@
 use borrow.Author.Needs.{needs}
-use Prim.Native.Nat.{ℕ, _≤_, _<_, _-_, _+_}
-use mathlib.Core.Path.{_≡_, refl, sym, ap, _∙_}
+use Prim.Native.Nat.{_≤_, _-_}
+use mathlib.Core.Path.{_≡_, sym, ap, _∙_}
 use mathlib.Core.List.{List}
 use mathlib.Core.Bool.{Bool}
 use native.Mathlib.Omega.{arith}
-use lib.ListN.{length, drop, getD}
+use lib.ListN.{drop, getD}
 use Rattle.base.specs.Lists.{allOf}
 use Rattle.types.specs.Record.{blockIn, noReference}
-use Rattle.types.specs.Values.{asReference}
 use Rattle.types.specs.Reference.{BlockReference}
 use Rattle.block_store.specs.Layout.{Record, entries, positionOf, lookup}
 use Rattle.block_store.specs.Store.{recordsOf}

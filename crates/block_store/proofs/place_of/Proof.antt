@@ -5,7 +5,7 @@ use Rattle.base.proofs.Tests.{not-both}
 use Rattle.types.specs.Values.{asReference}
 use Rattle.block_store.specs.Layout.{entries, lookup}
 use Rattle.block_store.specs.Store.{blockCount, recordsOf}
-use Rattle.block_store.specs.Step.{LastAt, none-last}
+use Rattle.block_store.specs.Step.{LastAt}
 use Rattle.block_store.proofs.Loops.{entry-room}
 use Rattle.block_store.proofs.Lookups.{none-is}
 use Rattle.block_store.proofs.Search.{laid-out}
