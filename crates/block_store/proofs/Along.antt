@@ -2,21 +2,21 @@
 use mathlib.Core.Path.{_≡_, refl, sym, ap, subst, _∙_}
 use mathlib.Core.Logic.{_⊎_, inl, inr}
 use mathlib.Core.List.{List, [], _∷_, _++_, append-assoc}
-use mathlib.Core.Option.{none, some}
-use mathlib.Core.Bool.{Bool, true, false}
-use Prim.Native.Nat.{ℕ, zero, suc, _+_, _-_, _<_, _≤_}
+use mathlib.Core.Option.{none}
+use mathlib.Core.Bool.{true, false}
+use Prim.Native.Nat.{ℕ, _+_, _-_, _<_, _≤_}
 use native.Mathlib.Omega.{arith}
 use lib.ListN.{length}
 use Rattle.base.specs.Lists.{isNone, _∈_, here}
 use Rattle.base.specs.Le.{Bytes, leAt}
 use Rattle.base.proofs.Lists.{Every, none-of, and, every, every-in, every-append, with-later}
-use Rattle.base.proofs.Members.{in-append, in-cases, in-right}
+use Rattle.base.proofs.Members.{in-append, in-right}
 use Rattle.types.specs.Reference.{BlockReference, referenceBefore}
 use Rattle.types.specs.Block.{Block}
 use Rattle.types.specs.Values.{referenceOrder}
 use Rattle.types.specs.declared.Ordering.the-variants.{Less, Equal, Greater}
 use Rattle.types.proofs.References.{reference-irrefl, reference-trans}
-use Rattle.block_store.specs.Layout.{Entry, referenceOf, entries, least, positionOf, firstPosition, ascending, lookup}
+use Rattle.block_store.specs.Layout.{Entry, referenceOf, entries, positionOf, firstPosition, ascending, lookup}
 use Rattle.block_store.specs.Store.{blockCount, recordsOf}
 use Rattle.block_store.specs.Entry.{blockAt, laidOut, isEntry}
 use Rattle.block_store.specs.Step.{LastAt, none-last, last-at, first, Between}
@@ -25,7 +25,7 @@ use Rattle.block_store.proofs.Visit.{ascending-in, in-ascending, length
 use Rattle.block_store.proofs.Compared.{compared-less, compared-equal, compared-greater}
 use Rattle.block_store.proofs.Loops.{is-entry, block-of-entry}
 use Rattle.block_store.proofs.Lookups.{lookup-hit, lookup-miss}
-use Rattle.block_store.proofs.Search.{LaidOut, laid-out}
+use Rattle.block_store.proofs.Search.{laid-out}
 
 -- the entries passed are lower than the reference; `left` more are to come, the first at a position
 pub record Along (s : Bytes) (r : BlockReference) (at left : ℕ) : Type 0 where

@@ -2,31 +2,31 @@
 use mathlib.Core.Path.{_≡_, refl, sym, ap, subst, _∙_}
 use mathlib.Core.Logic.{_⊎_, inl, inr}
 use mathlib.Core.List.{List, [], _∷_, _++_, append-assoc}
-use mathlib.Core.Bool.{Bool, true, false}
-use Prim.Native.Nat.{ℕ, suc, _+_, _-_, _≤_, _<_}
+use mathlib.Core.Bool.{true, false}
+use Prim.Native.Nat.{ℕ, _+_, _-_, _≤_, _<_}
 use native.Mathlib.Omega.{arith}
 use native.Mathlib.Numerals.{add-one}
 use lib.Dec.{leb, ltb}
 use borrow.Author.Tests.{lt-ltb, le-ltb, ltb-false, leb-false}
 use lib.ListN.{length, take, drop, set, getD, replicate, length-append, length-drop, take-append-drop}
 use lib.Seq.{sets, drop-drop, take-suc, length-take-le}
-use Rattle.base.specs.Lists.{_∈_, here, there}
+use Rattle.base.specs.Lists.{_∈_, here}
 use Rattle.base.specs.Le.{Bytes, leAt, leBytes}
 use Rattle.base.proofs.Tests.{fails, neither-left, neither-right}
-use Rattle.base.proofs.Lists.{Every, none-of, and, every-in, with-later}
+use Rattle.base.proofs.Lists.{Every, none-of, every-in, with-later}
 use Rattle.base.proofs.Members.{in-append, in-right, in-left}
 use Rattle.base.proofs.Covered.{Around, around}
 use Rattle.base.proofs.Le.{AllBytes, length-leBytes, sets-append}
 use Rattle.types.specs.Reference.{BlockReference, sameReference, referenceBefore}
 use Rattle.types.specs.Record.{blockIn}
 use Rattle.types.proofs.References.{reference-irrefl, reference-same}
-use Rattle.block_store.specs.Layout.{Record, usedBy, Entry, referenceOf, entries, positionOf, firstPosition, nextPosition, entryBytes, bodyBytes, headerBytes, layout, ascending}
+use Rattle.block_store.specs.Layout.{Record, usedBy, Entry, referenceOf, entries, positionOf, firstPosition, nextPosition, entryBytes, bodyBytes, layout, ascending}
 use Rattle.block_store.specs.Store.{usedLength, blockCount, recordsOf, recordIn, storeFull, storeHolding}
 use Rattle.block_store.specs.Entry.{laidOut}
 use Rattle.block_store.specs.Step.{LastAt, none-last, last-at, first, Between}
-use Rattle.block_store.proofs.Store.{laid, length-body, length-layout, length-header, Within, entries-within}
+use Rattle.block_store.proofs.Store.{laid, length-body, length-layout, Within, entries-within}
 use Rattle.block_store.proofs.Chain.{Distinct, next-new, next-higher, first-new, first-same}
-use Rattle.block_store.proofs.Splice.{sets-left, sets-seam, sets-right, body-same, Changed, body-patched, entries-apart, ascending-apart, ascending-back, one-changed}
+use Rattle.block_store.proofs.Splice.{sets-left, sets-seam, sets-right, body-same, body-patched, entries-apart, ascending-apart, one-changed}
 use Rattle.block_store.proofs.Walk.{walked-inside}
 use Rattle.block_store.proofs.Check.{in-every, laid-used}
 use Rattle.block_store.proofs.Visit.{ascending-in, in-ascending}

@@ -1,20 +1,19 @@
 -- "In order" by the steps of the check: the header, the entries, the chain, and every record accepted after those before it. Assumes nothing.
 use mathlib.Core.Path.{_≡_, refl, sym, ap, _∙_}
 use mathlib.Core.List.{List, [], _∷_, _++_, append-assoc, flatten}
-use mathlib.Core.Option.{Option, none, some, Option·none-ne-some}
+use mathlib.Core.Option.{Option, none, some}
 use mathlib.Core.Bool.{Bool, true, false, not, _&&_}
 use Prim.Native.Nat.{ℕ, _+_, _*_, _^_, _≤_, _<_}
 use native.Mathlib.Omega.{arith}
 use lib.Dec.{leb, eqb}
-use lib.ListN.{length, take, drop, replicate, length-append, length-drop, length-take, take-append-drop}
-use lib.Seq.{take-add, take-at, drop-at, drop-drop, length-take-le}
+use lib.ListN.{length, take, drop, replicate, length-drop, take-append-drop}
+use lib.Seq.{take-add, drop-drop, length-take-le}
 use borrow.Author.Tests.{le-leb, leb-true, eq-eqb, eqb-true, not-true}
-use Rattle.base.specs.Lists.{pick, allOf, pairwise, _∈_, here, there}
+use Rattle.base.specs.Lists.{pick, allOf, _∈_, here, there}
 use Rattle.base.specs.Le.{Bytes, leBytes, leAt, leNumber}
 use Rattle.base.specs.Read.{Part}
 use Rattle.base.proofs.Tests.{and-left, and-right, same-test, fails}
-use Rattle.base.proofs.Lists.{append-nil, Every, none-of, and, every, every-in, every-filter, all-every, every-all, Pairs, no-pairs, with-later, pairwise-pairs, pairs-pairwise, pairs-map}
-use Rattle.base.proofs.Members.{in-all}
+use Rattle.base.proofs.Lists.{append-nil, Every, none-of, and, every, every-filter, all-every, every-all, Pairs, no-pairs, with-later, pairwise-pairs, pairs-pairwise}
 use Rattle.base.proofs.Le.{AllBytes, bytes-left, length-leBytes, leBytes-leNumber, leNumber-leBytes, leAt-add}
 use Rattle.base.proofs.Read.{part}
 use Rattle.base.proofs.Parts.{PartOf, part-taken, part-complete, part-left, part-right, part-part, part-at, part-same}
@@ -24,10 +23,10 @@ use Rattle.block_store.specs.Layout.{Record, usedBy, Entry, referenceOf,
 use Rattle.block_store.specs.Accept.{allAccepted}
 use Rattle.block_store.specs.Store.{usedLength, blockCount, readEntries, recordsRead, recordsOf, allowedLength, storeInOrder}
 use Rattle.block_store.specs.Entry.{headerRight, endsAt, readable, chained, laidOut}
-use Rattle.block_store.proofs.Store.{InOrder, in-order, to-order, longest, used-within, used-is, usedLength-laid, blockCount-laid, laid, body-laid, entries-reads, recordsOf-right, bytes-drop, length-body, length-header, length-layout, entries-below}
+use Rattle.block_store.proofs.Store.{InOrder, in-order, to-order, longest, used-within, used-is, blockCount-laid, laid, body-laid, entries-reads, recordsOf-right, bytes-drop, length-body, length-header, entries-below}
 use Rattle.block_store.proofs.Walk.{Stands, Walked, begun, then, walked-reads, Reached, reads-walked}
 use Rattle.block_store.proofs.Chain.{Distinct, distinct}
-use Rattle.block_store.proofs.Payload.{body-part}
+use Rattle.block_store.proofs.Payloads.{body-part}
 
 -- ---- bytes by their numbers
 

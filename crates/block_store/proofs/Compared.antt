@@ -1,14 +1,13 @@
 -- What comparing two references tells. Assumes nothing.
-use mathlib.Core.Path.{_≡_, refl, sym, _∙_}
+use mathlib.Core.Path.{_≡_, refl, sym}
 use mathlib.Core.Bool.{Bool, true, false}
 use Prim.Native.Nat.{ℕ}
 use native.Mathlib.Omega.{arith}
 use Rattle.base.specs.Lists.{pick}
 use Rattle.types.specs.Reference.{BlockReference, sameReference, referenceBefore}
 use Rattle.types.specs.Values.{orderOf, referenceOrder}
-use Rattle.types.specs.declared.Ordering.{Ordering}
 use Rattle.types.specs.declared.Ordering.the-variants.{Less, Equal, Greater}
-use Rattle.types.proofs.References.{reference-same, reference-irrefl, reference-other, reference-asymmetric}
+use Rattle.types.proofs.References.{reference-same, reference-other}
 
 less-not-equal : Less ≡ Equal → ⊥
 less-not-equal h = let z : _≡_ {A = ℕ} 0 1 = cc in omega arith

@@ -6,7 +6,7 @@ pub mod Walk
 pub mod Compared
 pub mod Chain
 pub mod Splice
-pub mod Payload
+pub mod Payloads
 pub mod Check
 pub mod Visit
 pub mod Sorted
@@ -16,4 +16,6 @@ pub mod Search
 pub mod Along
 pub mod Appended
 pub mod Accepting
+pub mod Located
+pub mod Holding
 pub mod Claimed

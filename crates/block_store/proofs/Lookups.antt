@@ -1,20 +1,19 @@
 -- Finding a stored block by its reference, and what was stored before an entry. Assumes nothing.
-use mathlib.Core.Path.{_≡_, refl, sym, ap, subst, _∙_}
-use mathlib.Core.Logic.{_⊎_, inl, inr}
-use mathlib.Core.List.{List, [], _∷_, _++_, append-assoc}
-use mathlib.Core.Option.{Option, none, some, Option·some-injective, Option·none-ne-some}
+use mathlib.Core.Path.{_≡_, refl, sym, ap, _∙_}
+use mathlib.Core.List.{List, [], _∷_, _++_}
+use mathlib.Core.Option.{Option, none, some}
 use mathlib.Core.Bool.{Bool, true, false, not, _&&_, _||_}
-use Prim.Native.Nat.{ℕ, zero, suc, _+_, _≤_, _<_}
+use Prim.Native.Nat.{ℕ, suc, _+_, _≤_, _<_}
 use native.Mathlib.Omega.{arith}
 use native.Mathlib.Numerals.{add-one}
-use lib.Dec.{ltb, eqb}
+use lib.Dec.{ltb}
 use lib.ListN.{length, getD, drop, drop-of-length-le, length-append, List·getD-append}
 use lib.Seq.{getD-at, drop-cons}
 use borrow.Author.Tests.{lt-ltb, le-ltb, ltb-true, eq-eqb, ne-eqb}
 use Rattle.base.specs.Lists.{pick, anyOf, allOf, find, holds, isNone, _∈_, here, there}
 use Rattle.base.specs.Checks.{Check, _⇒_, passes}
-use Rattle.base.proofs.Tests.{fails, same-test, not-both, and-left, and-right, or-right}
-use Rattle.base.proofs.Lists.{Every, none-of, and, every-in, find-in, find-passes, holds-some, Pairs, no-pairs, with-later}
+use Rattle.base.proofs.Tests.{fails, same-test, not-both, and-right, or-right}
+use Rattle.base.proofs.Lists.{every-in, find-in, find-passes, holds-some, with-later}
 use Rattle.base.proofs.Loops.{ltb-same}
 use Rattle.base.proofs.Passing.{passes-append, not-any}
 use Rattle.committee.specs.Committee.{Committee}

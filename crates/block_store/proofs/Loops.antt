@@ -2,9 +2,8 @@
 use mathlib.Core.Path.{_≡_, refl, sym, ap, subst, _∙_}
 use mathlib.Core.Logic.{_⊎_, inl, inr}
 use mathlib.Core.List.{List, [], _∷_, _++_, map, map-append}
-use mathlib.Core.Option.{Option, none, some}
 use mathlib.Core.Bool.{Bool, true, false}
-use Prim.Native.Nat.{ℕ, zero, suc, _+_, _-_, _≤_, _<_}
+use Prim.Native.Nat.{ℕ, _+_, _-_, _≤_, _<_}
 use native.Mathlib.Omega.{arith}
 use native.Mathlib.Numerals.{add-one}
 use native.Mathlib.Nat.{add-sub-cancel-left}
@@ -20,7 +19,7 @@ use Rattle.base.proofs.Lists.{Every, none-of, and, every, every-in, every-appen
 use Rattle.base.proofs.Members.{in-empty, in-cases, in-append, in-left, in-right, any-in, in-any}
 use Rattle.types.specs.Reference.{BlockReference, referenceBefore}
 use Rattle.types.proofs.Shape.{block-of}
-use Rattle.block_store.specs.Layout.{Record, usedBy, Entry, referenceOf, entries, positionOf, ascending}
+use Rattle.block_store.specs.Layout.{Record, usedBy, Entry, entries, positionOf, ascending}
 use Rattle.block_store.specs.Store.{usedLength, blockCount, recordsOf}
 use Rattle.block_store.specs.Entry.{headerRight, positions, isIn, sortedPositions, readable, chained, isEntry, noneOrEntry, follows, recordAt, blockAt}
 use Rattle.block_store.proofs.Store.{entries-within}

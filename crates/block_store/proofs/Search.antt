@@ -1,9 +1,8 @@
 -- Binary search by reference among the positions in ascending reference order. Assumes nothing.
-use mathlib.Core.Path.{_≡_, refl, sym, ap, subst, _∙_}
+use mathlib.Core.Path.{_≡_, sym, ap, subst, _∙_}
 use mathlib.Core.Logic.{_⊎_, inl, inr}
-use mathlib.Core.List.{List, [], _∷_, map}
-use mathlib.Core.Option.{none, some}
-use mathlib.Core.Bool.{Bool, true, false}
+use mathlib.Core.List.{List, []}
+use mathlib.Core.Bool.{true}
 use Prim.Native.Nat.{ℕ, _<_, _≤_}
 use native.Mathlib.Omega.{arith}
 use lib.ListN.{length, getD, length-map, List·getD-map}
@@ -18,7 +17,7 @@ use Rattle.types.specs.Record.{noBlock}
 use Rattle.types.proofs.References.{reference-irrefl}
 use Rattle.block_store.specs.Layout.{Entry, referenceOf, entries, positionOf, ascending, lookup}
 use Rattle.block_store.specs.Store.{recordsOf}
-use Rattle.block_store.specs.Entry.{blockAt, sortedPositions, readable, chained, laidOut, isEntry}
+use Rattle.block_store.specs.Entry.{blockAt, sortedPositions, readable, laidOut, isEntry}
 use Rattle.block_store.proofs.Chain.{ascending-ascends}
 use Rattle.block_store.proofs.Check.{Readable, is-readable, Chained, is-chained}
 use Rattle.block_store.proofs.Visit.{ascending-in, in-ascending}

@@ -1,21 +1,20 @@
 -- What accepting a record writes: four bytes of the entry below it, and its own entry after all others. Assumes nothing.
-use mathlib.Core.Path.{_≡_, refl, sym, ap, _∙_}
+use mathlib.Core.Path.{_≡_, refl, sym, _∙_}
 use mathlib.Core.List.{List, [], _∷_, _++_, append-assoc}
 use Prim.Native.Nat.{ℕ, suc, _+_, _-_, _≤_, _<_}
 use native.Mathlib.Omega.{arith}
 use native.Mathlib.Nat.{zero-add, suc-add}
-use lib.ListN.{length, set, take, drop, length-append, length-set, length-drop, take-append-drop}
-use lib.Seq.{sets, sets-eq, length-sets, set-append-left, take-append-seam, drop-append-add, drop-at, drop-drop, length-take-le}
+use lib.ListN.{length, set, length-append, length-set}
+use lib.Seq.{sets, sets-eq, set-append-left, take-append-seam, drop-append-add, drop-at}
 use mathlib.Core.Bool.{Bool, true, false}
 use Rattle.base.specs.Lists.{pick, _∈_, here, there}
-use Rattle.base.specs.Le.{Bytes, leBytes}
+use Rattle.base.specs.Le.{leBytes}
 use Rattle.base.proofs.Lists.{Every, none-of, and, every, every-in, every-append, Pairs, no-pairs, with-later}
 use Rattle.base.proofs.Le.{length-leBytes}
-use Rattle.block_store.specs.Layout.{Record, usedBy, Entry, referenceOf, placed, ascending, entries, nextPosition, entryBytes, bodyBytes, headerBytes, layout}
-use Rattle.block_store.specs.Store.{storeHolding}
+use Rattle.block_store.specs.Layout.{Record, usedBy, Entry, referenceOf, placed, ascending, entries, nextPosition, entryBytes, bodyBytes}
 use Rattle.types.specs.Reference.{referenceBefore}
 use Rattle.block_store.proofs.Chain.{Distinct, placed-every, ascending-every, next-last, next-lower, next-higher}
-use Rattle.block_store.proofs.Store.{length-body, length-header, length-entry, entries-below, Within, entries-within}
+use Rattle.block_store.proofs.Store.{length-body, entries-below, Within, entries-within}
 
 -- stores in the front part, and at the seam
 pub sets-left : (vs b e : List ℕ) (i : ℕ) → i + length vs ≤ length b → sets (b ++ e) i vs ≡ sets b i vs ++ e

@@ -2,22 +2,21 @@
 -- chain is right, the walk goes on until then. Assumes nothing.
 use mathlib.Core.Path.{_≡_, refl, sym, ap, subst, _∙_}
 use mathlib.Core.Logic.{_⊎_, inl, inr}
-use mathlib.Core.List.{List, [], _∷_, _++_, append-assoc, map}
-use mathlib.Core.Option.{Option, none, some}
+use mathlib.Core.List.{List, [], _∷_, _++_, append-assoc}
 use mathlib.Core.Bool.{Bool, true, false}
-use Prim.Native.Nat.{ℕ, zero, suc, _+_, _-_, _≤_, _<_}
+use Prim.Native.Nat.{ℕ, suc, _+_, _-_}
 use native.Mathlib.Omega.{arith}
-use lib.ListN.{length, length-append}
+use lib.ListN.{length}
 use Rattle.base.specs.Lists.{pick, _∈_, here, there, Once, empty, also}
 use Rattle.base.specs.Le.{Bytes, leAt}
 use Rattle.base.proofs.Tests.{fails, not-both}
 use Rattle.base.proofs.Lists.{Every, none-of, and, every, every-in, Pairs, no-pairs, with-later}
 use Rattle.base.proofs.Members.{in-empty, in-cases, in-first}
 use Rattle.base.proofs.Covered.{covered}
-use Rattle.types.specs.Reference.{sameReference, referenceBefore}
-use Rattle.types.proofs.References.{reference-irrefl, reference-asymmetric, reference-trans, same-reference, reference-same}
-use Rattle.block_store.specs.Layout.{Record, usedBy, Entry, referenceOf, entries, least, positionOf, firstPosition, nextPosition, placed, ascending}
-use Rattle.block_store.proofs.Store.{Within, entries-within}
+use Rattle.types.specs.Reference.{sameReference}
+use Rattle.types.proofs.References.{reference-irrefl, reference-asymmetric, reference-trans, reference-same}
+use Rattle.block_store.specs.Layout.{Record, Entry, referenceOf, entries, positionOf, firstPosition, nextPosition, placed, ascending}
+use Rattle.block_store.proofs.Store.{entries-within}
 use Rattle.block_store.specs.Step.{first}
 use Rattle.block_store.proofs.Chain.{lower, Ascending, Distinct, lower-self, least-first, ascending-every, ascending-ascends, next-after}
 use Rattle.block_store.proofs.Splice.{Apart, entries-apart, ascending-back}

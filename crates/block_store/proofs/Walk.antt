@@ -1,27 +1,26 @@
 -- Walking the entries of a store by positions: what the reader reads, where it stands. Assumes nothing.
 use mathlib.Core.Path.{_≡_, refl, sym, ap, subst, _∙_}
-use mathlib.Core.List.{List, [], _∷_, _++_}
-use mathlib.Core.Option.{Option, none, some, Option·map, Option·some-injective, Option·none-ne-some}
+use mathlib.Core.List.{List, [], _∷_}
+use mathlib.Core.Option.{Option, none, some, Option·some-injective, Option·none-ne-some}
 use mathlib.Core.Bool.{Bool, true, false}
 use Prim.Native.Nat.{ℕ, zero, suc, _+_, _-_, _≤_, _<_}
 use native.Mathlib.Omega.{arith}
 use native.Mathlib.Decide.{decLt}
 use native.Mathlib.Nat.{add-assoc}
 use lib.Dec.{leb}
-use lib.ListN.{length, take, drop, length-drop, length-take}
-use lib.Seq.{drop-drop, length-take-le}
-use borrow.Author.Tests.{le-leb, leb-true}
+use lib.ListN.{length, take, drop, length-drop}
+use lib.Seq.{length-take-le}
+use borrow.Author.Tests.{leb-true}
 use Rattle.base.specs.Lists.{pick}
-use Rattle.base.specs.Le.{Bytes, leAt, leNumber}
+use Rattle.base.specs.Le.{Bytes, leAt}
 use Rattle.base.specs.Read.{Part, give, fail, onward, _>>=_, items, number}
 use Rattle.base.proofs.Lists.{Every, none-of, and}
 use Rattle.base.proofs.Read.{part, bind-some}
 use Rattle.base.proofs.Fixed.{items-at, number-at}
-use Rattle.types.specs.Block.{Block}
 use Rattle.types.specs.Record.{blockOf}
 use Rattle.block_store.specs.Layout.{Record, readRecord, usedBy, entries}
 use Rattle.block_store.specs.Store.{giveRecord, readEntry, readEntries}
-use Rattle.block_store.proofs.Store.{Right, right-block, readRecord-some, readRecord-bytes, giveRecord-some}
+use Rattle.block_store.proofs.Store.{right-block, readRecord-some, readRecord-bytes, giveRecord-some}
 
 -- ---- reading at a position
 

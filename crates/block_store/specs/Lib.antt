@@ -5,4 +5,5 @@ pub mod Entry
 pub mod Check
 pub mod Step
 pub mod Payload
+pub mod Answers
 pub mod Claims

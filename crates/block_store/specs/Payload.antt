@@ -19,17 +19,18 @@ pub record Stretch : Type 0 where
   pub start : ℕ
   pub count : ℕ
 
--- the payload stands after the entry's 8 bytes, the statements before it, its kind byte and its length
-unfoldable pub payloadIn : Entry → ℕ → Option Statement → Option Stretch
-payloadIn e o none = none
-payloadIn e o (some (share payload)) = some (record { start = e .position + 8 + statementStart (e .block) o + 3; count = length payload })
-payloadIn e o (some (accept l)) = none
-payloadIn e o (some (reject l other)) = none
-payloadIn e o (some (voteRange r)) = none
+-- the payload of the share whose statement starts at p: it stands after the kind byte and the length
+unfoldable pub shareStretch : ℕ → Option Statement → Option Stretch
+shareStretch p none = none
+shareStretch p (some (share payload)) = some (record { start = p + 3; count = length payload })
+shareStretch p (some (accept l)) = none
+shareStretch p (some (reject l other)) = none
+shareStretch p (some (voteRange r)) = none
 
+-- the record stands after the entry's 8 bytes
 unfoldable pub payloadOf : Option Entry → ℕ → Option Stretch
 payloadOf none o = none
-payloadOf (some e) o = payloadIn e o (getElem? (e .block .statements) o)
+payloadOf (some e) o = shareStretch (e .position + 8 + statementStart (e .block) o) (getElem? (e .block .statements) o)
 
 -- where the store has a share's payload; none where the locator names no stored share
 unfoldable pub payloadAt : Bytes → TransactionLocator → Option Stretch

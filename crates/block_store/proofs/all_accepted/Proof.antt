@@ -15,9 +15,6 @@ use Rattle.block_store.proofs.Search.{laid-out}
 use Rattle.block_store.proofs.Accepting.{Accepting, accepting-start, accepting-on, accepting-stop, accepting-end}
 use Rattle.block_store.proofs.all_accepted.Statement.{statement}
 use Rattle.block_store.proofs.all_accepted.Tie as tie
-use Rattle.block_store.proofs.all_accepted.Reads as reads
-use Rattle.block_store.proofs.all_accepted.Lts as lts
-use Rattle.block_store.proofs.entry_accepted.Reads as entry-accepted-reads
 
 abbrev Inv-loop : tie.InvT-loop
 Inv-loop stakes store starts order i₀ i = (i ≤ length starts) × Accepting stakes (recordsOf store) i
@@ -25,19 +22,15 @@ Inv-loop stakes store starts order i₀ i = (i ≤ length starts) × Accepting s
 abbrev μ-loop : tie.MeasureT-loop
 μ-loop stakes store starts order i₀ i = length starts - i
 
--- src/lib.rt:228:5
 loop-holds : tie.Need-loop-holds Inv-loop μ-loop
 loop-holds c = (omega arith, accepting-start (c .before .before .before .before .args .stakes .now) (recordsOf (c .before .before .before .before .args .store .now)))
 
--- src/lib.rt:229:18
 mul-at : tie.Need-mul-at Inv-loop μ-loop
 mul-at c = search needs
 
--- src/lib.rt:229:18
 shared-slice-read-at : tie.Need-shared-slice-read-at Inv-loop μ-loop
 shared-slice-read-at c = search needs
 
--- src/lib.rt:230:13
 entry-accepted-requires : tie.Need-entry-accepted-requires Inv-loop μ-loop
 entry-accepted-requires c κs =
     let a = c .before .before .before .before .before .before .before .args in
@@ -54,7 +47,6 @@ entry-accepted-requires c κs =
       ),
     )
 
--- src/lib.rt:231:13
 returns : tie.Need-returns Inv-loop μ-loop
 returns c =
     let a = c .before .before .before .before .before .before .before .before .before .args in
@@ -66,15 +58,12 @@ returns c =
     let decided : c .before .entry-accepted .result ≡ acceptedAt c₀ rs (getD (positions rs) (l .i) 0) = c .before .entry-accepted .ensures ∙ ap (λ (x : List ℕ). acceptedAt c₀ rs (getD x (l .i) 0)) q in
     sym (accepting-stop c₀ rs (l .i) (l .inv .1) inside (sym decided ∙ not-true (c .before .entry-accepted .result) (c .if1 .taken)))
 
--- src/lib.rt:233:13
 add-i : tie.Need-add-i Inv-loop μ-loop
 add-i c = search needs
 
--- src/lib.rt:228:5
 loop-less : tie.Need-loop-less Inv-loop μ-loop
 loop-less c = search needs
 
--- src/lib.rt:228:5
 loop-again : tie.Need-loop-again Inv-loop μ-loop
 loop-again c =
     let a = c .before .before .before .before .before .before .before .before .before .args in
@@ -86,7 +75,6 @@ loop-again c =
     let decided : c .before .entry-accepted .result ≡ acceptedAt c₀ rs (getD (positions rs) (l .i) 0) = c .before .entry-accepted .ensures ∙ ap (λ (x : List ℕ). acceptedAt c₀ rs (getD x (l .i) 0)) q in
     (omega arith, accepting-on c₀ rs (l .i) (l .inv .1) inside (sym decided ∙ not-false (c .before .entry-accepted .result) (c .if1 .left)))
 
--- src/lib.rt:223:1
 returns-2 : tie.Need-returns-2 Inv-loop μ-loop
 returns-2 c =
     let a = c .before .before .before .before .before .before .args in

@@ -1,6 +1,6 @@
 use borrow.Author.Needs.{needs}
 use Prim.Native.Nat.{ℕ, _+_}
-use mathlib.Core.Path.{_≡_, sym, ap, _∙_}
+use mathlib.Core.Path.{_∙_}
 use native.Mathlib.Omega.{arith}
 use lib.ListN.{length}
 use Rattle.base.specs.Le.{Bytes}
@@ -14,94 +14,69 @@ use Rattle.block_store.proofs.Search.{laid-out}
 use Rattle.block_store.proofs.Appended.{roomy, reach, appended-so}
 use Rattle.block_store.proofs.append.Statement.{statement}
 use Rattle.block_store.proofs.append.Tie as tie
-use Rattle.block_store.proofs.append.Reads as reads
-use Rattle.block_store.proofs.append.Lts as lts
-use Rattle.base.proofs.read_u16.Reads as read-u16-reads
-use Rattle.base.proofs.read_u32.Reads as read-u32-reads
-use Rattle.base.proofs.write_u16.Reads as write-u16-reads
-use Rattle.base.proofs.write_u32.Reads as write-u32-reads
-use Rattle.block_store.proofs.place_of.Reads as place-of-reads
-use Rattle.block_store.proofs.write_entry.Reads as write-entry-reads
-use Rattle.types.proofs.reference.Reads as reference-reads
 
--- src/lib.rt:345:9
 read-u32-requires : tie.Need-read-u32-requires
 read-u32-requires c κs = omega (arith, laid-out (c .before .before .before .args .store .now) (c .before .before .before .pre .0) .reads .header .long)
 
--- src/lib.rt:346:9
 read-u16-requires : tie.Need-read-u16-requires
 read-u16-requires c κs = omega (arith, laid-out (c .before .before .before .before .before .args .store .now) (c .before .before .before .before .before .pre .0) .reads .header .long)
 
--- src/lib.rt:347:33
 reference-requires : tie.Need-reference-requires
 reference-requires c κs = search needs
 
--- src/lib.rt:347:9
 place-of-requires : tie.Need-place-of-requires
 place-of-requires c κs =
     let a = c .before .before .before .before .before .before .before .before .args in
     (c .before .before .before .before .before .before .before .before .pre .0, rw (c .reference .ensures) (not-stored-none (recordsOf (a .store .now)) (blockIn (a .rec .now) .reference) (c .before .before .before .before .before .before .before .before .pre .1 .1 .0)))
 
--- src/lib.rt:349:15
 add-end : tie.Need-add-end
 add-end c =
     let m = roomy (c .before .before .before .before .before .before .before .before .before .args .store .now) (c .before .before .before .before .before .before .before .before .before .pre .0) (c .before .before .before .before .before .before .before .before .before .args .rec .now) (c .before .before .before .before .before .before .before .before .before .pre .1 .1 .1) in
     omega (arith, m .bytes, m .after, m .short, c .before .before .before .before .before .read-u32 .ensures)
 
--- src/lib.rt:349:26
 cast-end : tie.Need-cast-end
 cast-end c =
     let m = roomy (c .before .before .before .before .before .before .before .before .before .args .store .now) (c .before .before .before .before .before .before .before .before .before .pre .0) (c .before .before .before .before .before .before .before .before .before .args .rec .now) (c .before .before .before .before .before .before .before .before .before .pre .1 .1 .1) in
     omega (arith, m .bytes, m .after, m .short, c .before .before .before .before .before .read-u32 .ensures)
 
--- src/lib.rt:349:15
 add-end-2 : tie.Need-add-end-2
 add-end-2 c =
     let m = roomy (c .before .before .before .before .before .before .before .before .before .args .store .now) (c .before .before .before .before .before .before .before .before .before .pre .0) (c .before .before .before .before .before .before .before .before .before .args .rec .now) (c .before .before .before .before .before .before .before .before .before .pre .1 .1 .1) in
     omega (arith, m .bytes, m .after, m .short, c .before .before .before .before .before .read-u32 .ensures)
 
--- src/lib.rt:350:24
 cast-write-entry : tie.Need-cast-write-entry
 cast-write-entry c = search needs
 
--- src/lib.rt:350:39
 cast-write-entry-2 : tie.Need-cast-write-entry-2
 cast-write-entry-2 c =
     let m = roomy (c .before .before .before .before .before .before .before .before .before .before .before .args .store .now) (c .before .before .before .before .before .before .before .before .before .before .before .pre .0) (c .before .before .before .before .before .before .before .before .before .before .before .args .rec .now) (c .before .before .before .before .before .before .before .before .before .before .before .pre .1 .1 .1) in
     let k = reach (c .before .before .before .before .before .before .before .before .before .before .before .args .store .now) (c .before .before .before .before .before .before .before .before .before .before .before .pre .0) (asReference (c .before .before .before .reference .result)) (c .before .before .place-of .result .below) (c .before .before .place-of .result .above) (c .before .before .place-of .ensures) in
     omega (arith, m .short, k .above-in)
 
--- src/lib.rt:350:5
 write-entry-requires : tie.Need-write-entry-requires
 write-entry-requires c κs =
     let m = roomy (c .before .before .before .before .before .before .before .before .before .before .before .args .store .now) (c .before .before .before .before .before .before .before .before .before .before .before .pre .0) (c .before .before .before .before .before .before .before .before .before .before .before .args .rec .now) (c .before .before .before .before .before .before .before .before .before .before .before .pre .1 .1 .1) in
     (omega (arith, m .bytes, m .after, c .before .before .before .before .before .before .before .read-u32 .ensures), omega (arith, m .bytes, m .after, m .short))
 
--- src/lib.rt:351:5
 write-u32-requires : tie.Need-write-u32-requires
 write-u32-requires c κs = omega (arith, laid-out (c .before .before .before .before .before .before .before .before .before .before .before .before .before .before .before .args .store .now) (c .before .before .before .before .before .before .before .before .before .before .before .before .before .before .before .pre .0) .reads .header .long, c .before .before .before .write-entry .kept .0)
 
--- src/lib.rt:352:31
 add-write-u16 : tie.Need-add-write-u16
 add-write-u16 c =
     let m = roomy (c .before .before .before .before .before .before .before .before .before .before .before .before .before .before .before .before .before .before .before .args .store .now) (c .before .before .before .before .before .before .before .before .before .before .before .before .before .before .before .before .before .before .before .pre .0) (c .before .before .before .before .before .before .before .before .before .before .before .before .before .before .before .before .before .before .before .args .rec .now) (c .before .before .before .before .before .before .before .before .before .before .before .before .before .before .before .before .before .before .before .pre .1 .1 .1) in
     omega (arith, m .blocks, c .before .before .before .before .before .before .before .before .before .before .before .before .before .read-u16 .ensures)
 
--- src/lib.rt:352:5
 write-u16-requires : tie.Need-write-u16-requires
 write-u16-requires c κs = omega (arith, laid-out (c .before .before .before .before .before .before .before .before .before .before .before .before .before .before .before .before .before .before .before .args .store .now) (c .before .before .before .before .before .before .before .before .before .before .before .before .before .before .before .before .before .before .before .pre .0) .reads .header .long, c .before .before .before .before .before .before .before .write-entry .kept .0, c .before .before .before .write-u32 .kept .0)
 
--- src/lib.rt:353:5
 write-u32-requires-2 : tie.Need-write-u32-requires-2
 write-u32-requires-2 c κs =
     let k = reach (c .before .before .before .before .before .before .before .before .before .before .before .before .before .before .before .before .before .before .before .before .before .before .before .args .store .now) (c .before .before .before .before .before .before .before .before .before .before .before .before .before .before .before .before .before .before .before .before .before .before .before .pre .0) (asReference (c .before .before .before .before .before .before .before .before .before .before .before .before .before .before .before .reference .result)) (c .before .before .before .before .before .before .before .before .before .before .before .before .before .before .place-of .result .below) (c .before .before .before .before .before .before .before .before .before .before .before .before .before .before .place-of .result .above) (c .before .before .before .before .before .before .before .before .before .before .before .before .before .before .place-of .ensures) in
     omega (arith, k .below-in, c .before .before .before .before .before .before .before .before .before .before .before .write-entry .kept .0, c .before .before .before .before .before .before .before .write-u32 .kept .0, c .before .before .before .write-u16 .kept .0)
 
--- src/lib.rt:341:1
 same-length : tie.Need-same-length
 same-length c = search needs
 
--- src/lib.rt:341:1
 returns : tie.Need-returns
 returns c =
     let a = c .before .before .before .before .before .before .before .before .before .before .before .before .before .before .before .before .before .before .before .before .before .before .before .before .before .before .args in

@@ -1,5 +1,5 @@
 use borrow.Author.Needs.{needs}
-use mathlib.Core.Path.{_≡_, sym, ap, _∙_}
+use mathlib.Core.Path.{sym, _∙_}
 use mathlib.Core.Bool.{true, false}
 use borrow.Author.Tests.{eq-eqb}
 use Rattle.types.specs.Reference.{BlockReference, referenceBefore}
@@ -11,41 +11,29 @@ use Rattle.block_store.proofs.Compared.{compared-less, compared-equal, 
 use Rattle.block_store.proofs.Loops.{none-entry, follows-by}
 use Rattle.block_store.proofs.comes_after.Statement.{statement}
 use Rattle.block_store.proofs.comes_after.Tie as tie
-use Rattle.block_store.proofs.comes_after.Reads as reads
-use Rattle.block_store.proofs.comes_after.Lts as lts
-use Rattle.block_store.proofs.reference_at.Reads as reference-at-reads
-use Rattle.types.proofs.compare.Reads as compare-reads
 
--- src/lib.rt:118:9
 returns : tie.Need-returns
 unfolding follows
 returns c = rw (eq-eqb (c .before .before .args .last) 0 (c .if1 .taken))
 
--- src/lib.rt:120:32
 reference-at-requires : tie.Need-reference-at-requires
 reference-at-requires c κs = none-entry (c .before .before .args .store .now) (c .before .before .args .last) (c .if1 .left) (c .before .before .pre .0)
 
--- src/lib.rt:120:59
 reference-at-requires-2 : tie.Need-reference-at-requires-2
 reference-at-requires-2 c κs = search needs
 
--- src/lib.rt:120:9
 compare-requires : tie.Need-compare-requires
 compare-requires c κs = search needs
 
--- src/lib.rt:122:27
 enum-told : tie.Need-enum-told
 enum-told c = search needs
 
--- src/lib.rt:123:28
 enum-told-2 : tie.Need-enum-told-2
 enum-told-2 c = search needs
 
--- src/lib.rt:124:30
 enum-told-3 : tie.Need-enum-told-3
 enum-told-3 c = search needs
 
--- src/lib.rt:113:1
 returns-2 : tie.Need-returns-2
 returns-2 c =
     let a = c .before .before .before .before .before .before .before .args in
@@ -53,7 +41,6 @@ returns-2 c =
     let y : BlockReference = asReference (c .before .before .before .reference-at2 .result) in
     follows-by (a .store .now) (a .last) (a .at) x y true (c .before .before .before .before .before .if1 .left) (c .before .before .before .before .reference-at .ensures) (c .before .before .before .reference-at2 .ensures) (compared-less x y (sym (c .before .before .compare .ensures) ∙ c .enum-told .given .1))
 
--- src/lib.rt:113:1
 returns-3 : tie.Need-returns-3
 returns-3 c =
     let a = c .before .before .before .before .before .before .before .args in
@@ -61,7 +48,6 @@ returns-3 c =
     let y : BlockReference = asReference (c .before .before .before .reference-at2 .result) in
     follows-by (a .store .now) (a .last) (a .at) x y false (c .before .before .before .before .before .if1 .left) (c .before .before .before .before .reference-at .ensures) (c .before .before .before .reference-at2 .ensures) (fails (referenceBefore x y) (λ t. reference-irrefl y (rw (compared-equal x y (sym (c .before .before .compare .ensures) ∙ c .enum-told2 .given .1)) at t)))
 
--- src/lib.rt:113:1
 returns-4 : tie.Need-returns-4
 returns-4 c =
     let a = c .before .before .before .before .before .before .before .args in

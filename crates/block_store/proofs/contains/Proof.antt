@@ -9,8 +9,6 @@ use Rattle.base.proofs.Narrowed.{Narrowed, narrowed-start, narrowed-up, narrowe
 use Rattle.block_store.proofs.Sorted.{sorted-at, is-in, not-in}
 use Rattle.block_store.proofs.contains.Statement.{statement}
 use Rattle.block_store.proofs.contains.Tie as tie
-use Rattle.block_store.proofs.contains.Reads as reads
-use Rattle.block_store.proofs.contains.Lts as lts
 
 abbrev Inv-loop : tie.InvT-loop
 Inv-loop sorted x low₀ high₀ low high = Narrowed (length sorted) (λ j. getD sorted j 0 < x) (λ j. x < getD sorted j 0) low high
@@ -18,42 +16,33 @@ Inv-loop sorted x low₀ high₀ low high = Narrowed (length sorted) (λ j. getD
 abbrev μ-loop : tie.MeasureT-loop
 μ-loop sorted x low₀ high₀ low high = high - low
 
--- src/lib.rt:42:5
 loop-holds : tie.Need-loop-holds Inv-loop μ-loop
 loop-holds c = narrowed-start _ _ _
 
--- src/lib.rt:43:29
 sub-middle : tie.Need-sub-middle Inv-loop μ-loop
 sub-middle c = search needs
 
--- src/lib.rt:43:22
 add-middle : tie.Need-add-middle Inv-loop μ-loop
 add-middle c = search needs
 
--- src/lib.rt:44:17
 mul-y : tie.Need-mul-y Inv-loop μ-loop
 mul-y c = search needs
 
--- src/lib.rt:44:17
 shared-slice-read-y : tie.Need-shared-slice-read-y Inv-loop μ-loop
 shared-slice-read-y c = search needs
 
--- src/lib.rt:46:13
 returns : tie.Need-returns Inv-loop μ-loop
 returns c =
     let a = c .before .before .before .before .args in
     let l = c .before .before .before .loop in
     sym (is-in (a .x) (a .sorted .now) (l .low + (l .high - l .low) / 2) (omega (arith, l .inv .inside)) (c .if1 .taken))
 
--- src/lib.rt:49:19
 add-low : tie.Need-add-low Inv-loop μ-loop
 add-low c = search needs
 
--- src/lib.rt:42:5
 loop-less : tie.Need-loop-less Inv-loop μ-loop
 loop-less c = search needs
 
--- src/lib.rt:42:5
 loop-again : tie.Need-loop-again Inv-loop μ-loop
 loop-again c =
     let a = c .before .before .before .before .before .args in
@@ -64,11 +53,9 @@ loop-again c =
     (λ i (h : i < m). omega (arith, sorted-at s i m (c .before .before .before .before .before .pre) h (omega (arith, l .inv .inside)), c .if2 .taken))
     (c .if2 .taken) (omega arith) (l .inv)
 
--- src/lib.rt:42:5
 loop-less-2 : tie.Need-loop-less-2 Inv-loop μ-loop
 loop-less-2 c = search needs
 
--- src/lib.rt:42:5
 loop-again-2 : tie.Need-loop-again-2 Inv-loop μ-loop
 loop-again-2 c =
     let a = c .before .before .before .before .before .args in
@@ -80,7 +67,6 @@ loop-again-2 c =
     (λ i (h : m < i) (k : i < length s). omega (arith, sorted-at s m i (c .before .before .before .before .before .pre) h k, over))
     over (omega arith) (omega arith) (l .inv)
 
--- src/lib.rt:36:1
 returns-2 : tie.Need-returns-2 Inv-loop μ-loop
 returns-2 c =
     let a = c .before .before .args in

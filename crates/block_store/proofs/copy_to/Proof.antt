@@ -8,8 +8,6 @@ use lib.Seq.{sets, length-sets, take-all}
 use Rattle.block_store.proofs.Appended.{copied}
 use Rattle.block_store.proofs.copy_to.Statement.{statement}
 use Rattle.block_store.proofs.copy_to.Tie as tie
-use Rattle.block_store.proofs.copy_to.Reads as reads
-use Rattle.block_store.proofs.copy_to.Lts as lts
 
 abbrev Inv-loop : tie.InvT-loop
 Inv-loop store₀ at rec i₀ store i = (i ≤ length rec) × (store ≡ sets store₀ at (take i rec))
@@ -17,42 +15,33 @@ Inv-loop store₀ at rec i₀ store i = (i ≤ length rec) × (store ≡ sets st
 abbrev μ-loop : tie.MeasureT-loop
 μ-loop store₀ at rec i₀ store i = length rec - i
 
--- src/lib.rt:308:5
 loop-holds : tie.Need-loop-holds Inv-loop μ-loop
 loop-holds c = (omega arith, refl)
 
--- src/lib.rt:309:25
 shared-slice-read-store : tie.Need-shared-slice-read-store Inv-loop μ-loop
 shared-slice-read-store c = search needs
 
--- src/lib.rt:309:15
 add-store : tie.Need-add-store Inv-loop μ-loop
 add-store c = search needs
 
--- src/lib.rt:309:9
 slice-write-store : tie.Need-slice-write-store Inv-loop μ-loop
 slice-write-store c = omega (arith, ap length (c .before .before .loop .inv .1), length-sets (c .before .before .before .args .store .now) (c .before .before .before .args .at) (take (c .before .before .loop .i) (c .before .before .before .args .rec .now)), c .before .before .before .pre)
 
--- src/lib.rt:310:13
 add-i : tie.Need-add-i Inv-loop μ-loop
 add-i c = search needs
 
--- src/lib.rt:308:5
 loop-less : tie.Need-loop-less Inv-loop μ-loop
 loop-less c = search needs
 
--- src/lib.rt:308:5
 loop-again : tie.Need-loop-again Inv-loop μ-loop
 loop-again c =
     let a = c .before .before .before .args in
     let l = c .before .before .loop in
     (omega arith, ap (λ (x : List ℕ). set x (a .at + l .i) (getD (a .rec .now) (l .i) 0)) (l .inv .1) ∙ sym (copied (a .store .now) (a .rec .now) (a .at) (l .i) (c .before .loop-test .taken)))
 
--- src/lib.rt:303:1
 same-length : tie.Need-same-length Inv-loop μ-loop
 same-length c = ap length (c .before .loop .inv .1) ∙ length-sets (c .before .before .args .store .now) (c .before .before .args .at) (take (c .before .loop .i) (c .before .before .args .rec .now))
 
--- src/lib.rt:303:1
 returns : tie.Need-returns Inv-loop μ-loop
 returns c =
     let a = c .before .before .args in

@@ -14,61 +14,43 @@ use Rattle.block_store.proofs.Loops.{entry-room, record-part}
 use Rattle.block_store.proofs.Accepting.{head-refused, body-refused, includes-decide}
 use Rattle.block_store.proofs.entry_accepted.Statement.{statement}
 use Rattle.block_store.proofs.entry_accepted.Tie as tie
-use Rattle.block_store.proofs.entry_accepted.Reads as reads
-use Rattle.block_store.proofs.entry_accepted.Lts as lts
-use Rattle.block_store.proofs.includes_before.Reads as includes-before-reads
-use Rattle.block_store.proofs.record_end.Reads as record-end-reads
-use Rattle.threshold_clock.proofs.body_refusal.Reads as body-refusal-reads
-use Rattle.threshold_clock.proofs.head_refusal.Reads as head-refusal-reads
 
--- src/lib.rt:211:16
 add-from : tie.Need-add-from
 add-from c = omega (arith, entry-room (c .before .before .before .args .store .now) (c .before .before .before .args .at) (c .before .before .before .pre .1 .1 .1) .inside)
 
--- src/lib.rt:212:9
 record-end-requires : tie.Need-record-end-requires
 record-end-requires c κs = search needs
 
--- src/lib.rt:213:46
 sub-head-refusal : tie.Need-sub-head-refusal
 sub-head-refusal c = search needs
 
--- src/lib.rt:213:46
 part-head-refusal-start : tie.Need-part-head-refusal-start
 part-head-refusal-start c = search needs
 
--- src/lib.rt:213:46
 part-head-refusal-end : tie.Need-part-head-refusal-end
 part-head-refusal-end c = omega (arith, entry-room (c .before .before .before .before .args .store .now) (c .before .before .before .before .args .at) (c .before .before .before .before .pre .1 .1 .1) .inside, c .record-end .ensures)
 
--- src/lib.rt:213:8
 head-refusal-requires : tie.Need-head-refusal-requires
 head-refusal-requires c κs = rw (record-part (c .before .before .before .before .before .args .store .now) (c .before .before .before .before .before .args .at) (c .before .record-end .result) (c .before .record-end .ensures)) (entry-room (c .before .before .before .before .before .args .store .now) (c .before .before .before .before .before .args .at) (c .before .before .before .before .before .pre .1 .1 .1) .formed)
 
--- src/lib.rt:214:9
 returns : tie.Need-returns
 unfolding blockAt
 returns c =
     let head = c .before .head-refusal .ensures ∙ ap (λ (x : Bytes). refusal (headChecks (c .before .before .before .before .before .before .before .args .stakes .now) (blockIn x))) (record-part (c .before .before .before .before .before .before .before .args .store .now) (c .before .before .before .before .before .before .before .args .at) (c .before .before .before .record-end .result) (c .before .before .before .record-end .ensures)) in
     sym (head-refused (c .before .before .before .before .before .before .before .args .stakes .now) (c .before .before .before .before .before .before .before .args .store .now) (c .before .before .before .before .before .before .before .args .at) (c .before .before .before .before .before .before .before .pre .1 .0) (c .before .before .before .before .before .before .before .pre .1 .1 .1) (λ z. c .if1 .taken (head ∙ z)))
 
--- src/lib.rt:216:46
 sub-body-refusal : tie.Need-sub-body-refusal
 sub-body-refusal c = search needs
 
--- src/lib.rt:216:46
 part-body-refusal-start : tie.Need-part-body-refusal-start
 part-body-refusal-start c = search needs
 
--- src/lib.rt:216:46
 part-body-refusal-end : tie.Need-part-body-refusal-end
 part-body-refusal-end c = omega (arith, entry-room (c .before .before .before .before .before .before .before .args .store .now) (c .before .before .before .before .before .before .before .args .at) (c .before .before .before .before .before .before .before .pre .1 .1 .1) .inside, c .before .before .before .record-end .ensures)
 
--- src/lib.rt:216:8
 body-refusal-requires : tie.Need-body-refusal-requires
 body-refusal-requires c κs = (rw (record-part (c .before .before .before .before .before .before .before .before .args .store .now) (c .before .before .before .before .before .before .before .before .args .at) (c .before .before .before .before .record-end .result) (c .before .before .before .before .record-end .ensures)) (entry-room (c .before .before .before .before .before .before .before .before .args .store .now) (c .before .before .before .before .before .before .before .before .args .at) (c .before .before .before .before .before .before .before .before .pre .1 .1 .1) .formed), c .before .before .before .before .before .before .before .before .pre .0)
 
--- src/lib.rt:217:9
 returns-2 : tie.Need-returns-2
 unfolding blockAt
 returns-2 c =
@@ -76,23 +58,18 @@ returns-2 c =
     let body = c .before .body-refusal .ensures ∙ ap (λ (x : Bytes). refusal (bodyChecks (c .before .before .before .before .before .before .before .before .before .before .args .stakes .now) (blockIn x))) (record-part (c .before .before .before .before .before .before .before .before .before .before .args .store .now) (c .before .before .before .before .before .before .before .before .before .before .args .at) (c .before .before .before .before .before .before .record-end .result) (c .before .before .before .before .before .before .record-end .ensures)) in
     sym (body-refused (c .before .before .before .before .before .before .before .before .before .before .args .stakes .now) (c .before .before .before .before .before .before .before .before .before .before .args .store .now) (c .before .before .before .before .before .before .before .before .before .before .args .at) (c .before .before .before .before .before .before .before .before .before .before .pre .1 .0) (c .before .before .before .before .before .before .before .before .before .before .pre .1 .1 .1) (sym head ∙ c .before .before .before .if1 .left) (λ z. c .if2 .taken (body ∙ z)))
 
--- src/lib.rt:219:35
 sub-includes-before : tie.Need-sub-includes-before
 sub-includes-before c = search needs
 
--- src/lib.rt:219:35
 part-includes-before-start : tie.Need-part-includes-before-start
 part-includes-before-start c = search needs
 
--- src/lib.rt:219:35
 part-includes-before-end : tie.Need-part-includes-before-end
 part-includes-before-end c = omega (arith, entry-room (c .before .before .before .before .before .before .before .before .before .before .args .store .now) (c .before .before .before .before .before .before .before .before .before .before .args .at) (c .before .before .before .before .before .before .before .before .before .before .pre .1 .1 .1) .inside, c .before .before .before .before .before .before .record-end .ensures)
 
--- src/lib.rt:219:5
 includes-before-requires : tie.Need-includes-before-requires
 includes-before-requires c κs = (c .before .before .before .before .before .before .before .before .before .before .before .pre .1 .0, (c .before .before .before .before .before .before .before .before .before .before .before .pre .1 .1 .0, rw (record-part (c .before .before .before .before .before .before .before .before .before .before .before .args .store .now) (c .before .before .before .before .before .before .before .before .before .before .before .args .at) (c .before .before .before .before .before .before .before .record-end .result) (c .before .before .before .before .before .before .before .record-end .ensures)) (entry-room (c .before .before .before .before .before .before .before .before .before .before .before .args .store .now) (c .before .before .before .before .before .before .before .before .before .before .before .args .at) (c .before .before .before .before .before .before .before .before .before .before .before .pre .1 .1 .1) .formed)))
 
--- src/lib.rt:207:1
 returns-3 : tie.Need-returns-3
 unfolding blockAt
 returns-3 c =

@@ -1,9 +1,9 @@
 use borrow.Author.Needs.{needs}
-use Prim.Native.Nat.{ℕ, _≤_, _<_, _-_, _+_, _/_}
-use mathlib.Core.Path.{_≡_, sym, ap, _∙_}
+use Prim.Native.Nat.{_<_, _-_, _+_, _/_}
+use mathlib.Core.Path.{_≡_, sym, _∙_}
 use mathlib.Core.Bool.{true}
 use native.Mathlib.Omega.{arith}
-use lib.ListN.{length, getD}
+use lib.ListN.{length}
 use Rattle.base.proofs.Narrowed.{Narrowed, narrowed-start, narrowed-up, narrowed-down}
 use Rattle.types.specs.Reference.{BlockReference, referenceBefore}
 use Rattle.types.specs.Values.{asReference}
@@ -12,10 +12,6 @@ use Rattle.block_store.proofs.Compared.{compared-less, compared-equal, 
 use Rattle.block_store.proofs.Search.{referenceIn, order-entry, order-rises, found-there, found-nowhere}
 use Rattle.block_store.proofs.find_ordered.Statement.{statement}
 use Rattle.block_store.proofs.find_ordered.Tie as tie
-use Rattle.block_store.proofs.find_ordered.Reads as reads
-use Rattle.block_store.proofs.find_ordered.Lts as lts
-use Rattle.block_store.proofs.reference_at.Reads as reference-at-reads
-use Rattle.types.proofs.compare.Reads as compare-reads
 
 abbrev Inv-loop : tie.InvT-loop
 Inv-loop store order block low₀ high₀ low high = Narrowed (length order) (λ j. referenceBefore (referenceIn store order j) (asReference block) ≡ true) (λ j. referenceBefore (asReference block) (referenceIn store order j) ≡ true) low high
@@ -23,42 +19,33 @@ Inv-loop store order block low₀ high₀ low high = Narrowed (length order) (λ
 abbrev μ-loop : tie.MeasureT-loop
 μ-loop store order block low₀ high₀ low high = high - low
 
--- src/lib.rt:160:5
 loop-holds : tie.Need-loop-holds Inv-loop μ-loop
 loop-holds c = narrowed-start _ _ _
 
--- src/lib.rt:161:29
 sub-middle : tie.Need-sub-middle Inv-loop μ-loop
 sub-middle c = search needs
 
--- src/lib.rt:161:22
 add-middle : tie.Need-add-middle Inv-loop μ-loop
 add-middle c = search needs
 
--- src/lib.rt:162:18
 mul-at : tie.Need-mul-at Inv-loop μ-loop
 mul-at c = search needs
 
--- src/lib.rt:162:18
 shared-slice-read-at : tie.Need-shared-slice-read-at Inv-loop μ-loop
 shared-slice-read-at c = search needs
 
--- src/lib.rt:163:39
 reference-at-requires : tie.Need-reference-at-requires Inv-loop μ-loop
 reference-at-requires c κs =
     let a = c .before .before .before .before .before .args in
     let l = c .before .before .loop in
     order-entry (a .store .now) (c .before .before .before .before .before .pre .0) (a .order .now) (c .before .before .before .before .before .pre .1) (l .low + (l .high - l .low) / 2) (omega (arith, l .inv .inside))
 
--- src/lib.rt:163:13
 compare-requires : tie.Need-compare-requires Inv-loop μ-loop
 compare-requires c κs = search needs
 
--- src/lib.rt:166:17
 enum-told : tie.Need-enum-told Inv-loop μ-loop
 enum-told c = search needs
 
--- src/lib.rt:166:17
 returns : tie.Need-returns Inv-loop μ-loop
 unfolding referenceIn
 returns c =
@@ -72,19 +59,15 @@ returns c =
     let inside : m < length o = omega (arith, l .inv .inside) in
     found-there s (c .before .before .before .before .before .before .before .before .before .pre .0) o (c .before .before .before .before .before .before .before .before .before .pre .1) m r inside (sym (c .before .before .before .reference-at .ensures) ∙ compared-equal x r (sym (c .before .before .compare .ensures) ∙ c .enum-told .given .1))
 
--- src/lib.rt:169:23
 enum-told-2 : tie.Need-enum-told-2 Inv-loop μ-loop
 enum-told-2 c = search needs
 
--- src/lib.rt:169:23
 add-low : tie.Need-add-low Inv-loop μ-loop
 add-low c = search needs
 
--- src/lib.rt:160:5
 loop-less : tie.Need-loop-less Inv-loop μ-loop
 loop-less c = search needs
 
--- src/lib.rt:160:5
 loop-again : tie.Need-loop-again Inv-loop μ-loop
 unfolding referenceIn
 loop-again c =
@@ -99,15 +82,12 @@ loop-again c =
     let low : referenceBefore (referenceIn s o m) r ≡ true = rw (c .before .before .before .reference-at .ensures) at (compared-less x r (sym (c .before .before .compare .ensures) ∙ c .enum-told2 .given .1)) in
     narrowed-up (length o) _ _ (l .low) (l .high) m (λ i (h : i < m). reference-trans (referenceIn s o i) (referenceIn s o m) r (order-rises s (c .before .before .before .before .before .before .before .before .before .pre .0) o (c .before .before .before .before .before .before .before .before .before .pre .1) i m h inside) low) low (omega arith) (l .inv)
 
--- src/lib.rt:172:17
 enum-told-3 : tie.Need-enum-told-3 Inv-loop μ-loop
 enum-told-3 c = search needs
 
--- src/lib.rt:160:5
 loop-less-2 : tie.Need-loop-less-2 Inv-loop μ-loop
 loop-less-2 c = search needs
 
--- src/lib.rt:160:5
 loop-again-2 : tie.Need-loop-again-2 Inv-loop μ-loop
 unfolding referenceIn
 loop-again-2 c =
@@ -122,7 +102,6 @@ loop-again-2 c =
     let high : referenceBefore r (referenceIn s o m) ≡ true = rw (c .before .before .before .reference-at .ensures) at (compared-greater x r (sym (c .before .before .compare .ensures) ∙ c .enum-told3 .given .1)) in
     narrowed-down (length o) _ _ (l .low) (l .high) m (λ i (h : m < i) (k : i < length o). reference-trans r (referenceIn s o m) (referenceIn s o i) high (order-rises s (c .before .before .before .before .before .before .before .before .before .pre .0) o (c .before .before .before .before .before .before .before .before .before .pre .1) m i h k)) high (omega arith) (omega arith) (l .inv)
 
--- src/lib.rt:154:1
 returns-2 : tie.Need-returns-2 Inv-loop μ-loop
 returns-2 c =
     let a = c .before .before .before .before .args in

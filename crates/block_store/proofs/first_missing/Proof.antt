@@ -1,12 +1,12 @@
 use borrow.Author.Needs.{needs}
-use Prim.Native.Nat.{ℕ, _≤_, _<_, _-_, _+_}
-use mathlib.Core.Path.{_≡_, refl, sym, ap, _∙_}
+use Prim.Native.Nat.{ℕ, _≤_, _-_, _+_}
+use mathlib.Core.Path.{_≡_, refl, sym, _∙_}
 use mathlib.Core.List.{List}
 use native.Mathlib.Omega.{arith}
 use native.Mathlib.Nat.{zero-add}
-use lib.ListN.{length, drop, getD}
+use lib.ListN.{drop}
 use Rattle.types.specs.Reference.{BlockReference}
-use Rattle.types.specs.Record.{blockIn, noReference}
+use Rattle.types.specs.Record.{blockIn}
 use Rattle.types.specs.Values.{asReference}
 use Rattle.block_store.specs.Layout.{Record, entries, lookup}
 use Rattle.block_store.specs.Store.{blockCount, recordsOf}
@@ -17,14 +17,6 @@ use Rattle.block_store.proofs.Search.{laid-out}
 use Rattle.block_store.proofs.Along.{Along, along-start, along-entry, along-end, met-found, met-past, met-on}
 use Rattle.block_store.proofs.first_missing.Statement.{statement}
 use Rattle.block_store.proofs.first_missing.Tie as tie
-use Rattle.block_store.proofs.first_missing.Reads as reads
-use Rattle.block_store.proofs.first_missing.Lts as lts
-use Rattle.base.proofs.read_u16.Reads as read-u16-reads
-use Rattle.base.proofs.read_u32.Reads as read-u32-reads
-use Rattle.block_store.proofs.reference_at.Reads as reference-at-reads
-use Rattle.types.proofs.compare.Reads as compare-reads
-use Rattle.types.proofs.include.Reads as include-reads
-use Rattle.types.proofs.include_count.Reads as include-count-reads
 
 abbrev Inv-chain : tie.InvT-chain
 Inv-chain store rec first stored count k₀ block at₀ left₀ k at left = (k ≡ k₀) × Along store (asReference block) at left
@@ -38,60 +30,46 @@ Inv-includes store rec first stored count k₀ k = (k ≤ count) × (firstMissin
 abbrev μ-includes : tie.MeasureT-includes
 μ-includes store rec first stored count k₀ k = count - k
 
--- src/lib.rt:234:17
 read-u32-requires : tie.Need-read-u32-requires Inv-chain μ-chain Inv-includes μ-includes
 read-u32-requires c κs = omega (arith, laid-out (c .before .before .args .store .now) (c .before .before .pre .0) .reads .header .long)
 
--- src/lib.rt:234:17
 cast-first : tie.Need-cast-first Inv-chain μ-chain Inv-includes μ-includes
 cast-first c = search needs
 
--- src/lib.rt:235:18
 read-u16-requires : tie.Need-read-u16-requires Inv-chain μ-chain Inv-includes μ-includes
 read-u16-requires c κs = omega (arith, laid-out (c .before .before .before .args .store .now) (c .before .before .before .pre .0) .reads .header .long)
 
--- src/lib.rt:235:18
 cast-stored : tie.Need-cast-stored Inv-chain μ-chain Inv-includes μ-includes
 cast-stored c = search needs
 
--- src/lib.rt:236:9
 include-count-requires : tie.Need-include-count-requires Inv-chain μ-chain Inv-includes μ-includes
 include-count-requires c κs = search needs
 
--- src/lib.rt:238:5
 includes-holds : tie.Need-includes-holds Inv-chain μ-chain Inv-includes μ-includes
 includes-holds c = (omega arith, sym (zero-add _))
 
--- src/lib.rt:239:13
 include-requires : tie.Need-include-requires Inv-chain μ-chain Inv-includes μ-includes
 include-requires c κs = (c .before .before .before .before .before .before .before .pre .1, omega arith)
 
--- src/lib.rt:242:9
 chain-holds : tie.Need-chain-holds Inv-chain μ-chain Inv-includes μ-includes
 unfolding blockCount
 chain-holds c = (refl, along-start (c .before .before .before .before .before .before .before .before .args .store .now) (c .before .before .before .before .before .before .before .before .pre .0) (asReference (c .include .result)) (c .before .before .before .before .before .read-u32 .result) (c .before .before .before .before .read-u16 .result) (c .before .before .before .before .before .read-u32 .ensures) (c .before .before .before .before .read-u16 .ensures))
 
--- src/lib.rt:243:43
 reference-at-requires : tie.Need-reference-at-requires Inv-chain μ-chain Inv-includes μ-includes
 reference-at-requires c κs = along-entry (c .before .before .before .before .before .before .before .before .before .before .args .store .now) (c .before .before .before .before .before .before .before .before .before .before .pre .0) (asReference (c .before .before .include .result)) (c .before .chain .at) (c .before .chain .left) (c .before .chain .inv .1) (c .chain-test .taken)
 
--- src/lib.rt:243:17
 compare-requires : tie.Need-compare-requires Inv-chain μ-chain Inv-includes μ-includes
 compare-requires c κs = search needs
 
--- src/lib.rt:246:25
 enum-told : tie.Need-enum-told Inv-chain μ-chain Inv-includes μ-includes
 enum-told c = search needs
 
--- src/lib.rt:246:25
 add-k : tie.Need-add-k Inv-chain μ-chain Inv-includes μ-includes
 add-k c = search needs
 
--- src/lib.rt:238:5
 includes-less : tie.Need-includes-less Inv-chain μ-chain Inv-includes μ-includes
 includes-less c = search needs
 
--- src/lib.rt:238:5
 includes-again : tie.Need-includes-again Inv-chain μ-chain Inv-includes μ-includes
 includes-again c =
     let k : ℕ = c .before .before .before .before .before .before .before .before .includes .k in
@@ -101,39 +79,30 @@ includes-again c =
     rw (c .before .before .before .before .before .chain .inv .0)
     (omega arith, c .before .before .before .before .before .before .before .before .includes .inv .1 ∙ missing-on rs is k (omega arith) (rw (c .before .before .before .before .before .before .include .ensures) at found))
 
--- src/lib.rt:250:21
 enum-told-2 : tie.Need-enum-told-2 Inv-chain μ-chain Inv-includes μ-includes
 enum-told-2 c = search needs
 
--- src/lib.rt:253:26
 enum-told-3 : tie.Need-enum-told-3 Inv-chain μ-chain Inv-includes μ-includes
 enum-told-3 c = search needs
 
--- src/lib.rt:253:26
 read-u32-requires-2 : tie.Need-read-u32-requires-2 Inv-chain μ-chain Inv-includes μ-includes
 read-u32-requires-2 c κs = omega (arith, entry-room (c .before .before .before .before .before .before .before .before .before .before .before .before .before .before .args .store .now) (c .before .before .before .before .before .chain .at) (along-entry (c .before .before .before .before .before .before .before .before .before .before .before .before .before .before .args .store .now) (c .before .before .before .before .before .before .before .before .before .before .before .before .before .before .pre .0) (asReference (c .before .before .before .before .before .before .include .result)) (c .before .before .before .before .before .chain .at) (c .before .before .before .before .before .chain .left) (c .before .before .before .before .before .chain .inv .1) (c .before .before .before .before .chain-test .taken)) .inside)
 
--- src/lib.rt:253:26
 cast-at : tie.Need-cast-at Inv-chain μ-chain Inv-includes μ-includes
 cast-at c = search needs
 
--- src/lib.rt:254:28
 sub-left : tie.Need-sub-left Inv-chain μ-chain Inv-includes μ-includes
 sub-left c = search needs
 
--- src/lib.rt:242:9
 chain-less : tie.Need-chain-less Inv-chain μ-chain Inv-includes μ-includes
 chain-less c = search needs
 
--- src/lib.rt:242:9
 chain-again : tie.Need-chain-again Inv-chain μ-chain Inv-includes μ-includes
 chain-again c = (c .before .before .before .before .before .before .chain .inv .0, met-on (c .before .before .before .before .before .before .before .before .before .before .before .before .before .before .before .args .store .now) (c .before .before .before .before .before .before .before .before .before .before .before .before .before .before .before .pre .0) (asReference (c .before .before .before .before .before .before .before .include .result)) (c .before .before .before .before .before .before .chain .at) (c .before .before .before .before .before .before .chain .left) (c .before .before .before .before .before .before .chain .inv .1) (c .before .before .before .before .before .chain-test .taken) (asReference (c .before .before .before .before .reference-at .result)) (c .before .before .before .before .reference-at .ensures) (c .read-u322 .result) (sym (c .before .before .before .compare .ensures) ∙ c .before .enum-told3 .given .1) (c .read-u322 .ensures))
 
--- src/lib.rt:230:1
 returns : tie.Need-returns Inv-chain μ-chain Inv-includes μ-includes
 returns c = sym (c .before .includes .inv .1 ∙ missing-none (recordsOf (c .before .before .before .before .before .before .before .args .store .now)) (blockIn (c .before .before .before .before .before .before .before .args .rec .now) .includes) (c .before .includes .k) (omega arith))
 
--- src/lib.rt:230:1
 returns-2 : tie.Need-returns-2 Inv-chain μ-chain Inv-includes μ-includes
 returns-2 c =
     let rs : List Record = recordsOf (c .before .before .before .before .before .before .before .before .before .before .before .before .before .before .args .store .now) in
@@ -141,7 +110,6 @@ returns-2 c =
     c .before .before .before .before .before .chain .inv .0
     ∙ sym (c .before .before .before .before .before .before .before .before .includes .inv .1 ∙ missing-there rs (blockIn (c .before .before .before .before .before .before .before .before .before .before .before .before .before .before .args .rec .now) .includes) (c .before .before .before .before .before .before .before .before .includes .k) (omega arith) (none-is (lookup (entries rs) _) (rw (c .before .before .before .before .before .before .include .ensures) at none-there)))
 
--- src/lib.rt:230:1
 returns-3 : tie.Need-returns-3 Inv-chain μ-chain Inv-includes μ-includes
 returns-3 c =
     let rs : List Record = recordsOf (c .before .before .before .before .before .before .before .before .before .before .args .store .now) in

@@ -1,66 +1,49 @@
 use borrow.Author.Needs.{needs}
-use mathlib.Core.Path.{sym, ap, _∙_}
+use mathlib.Core.Path.{sym, _∙_}
 use native.Mathlib.Omega.{arith}
-use Prim.Native.Nat.{_≤_}
 use lib.Dec.{eqb}
-use lib.ListN.{length}
 use borrow.Author.Tests.{eqb-true, eq-eqb}
 use Rattle.base.proofs.Tests.{same-test}
 use Rattle.block_store.specs.Store.{usedLength, blockCount}
 use Rattle.block_store.proofs.Check.{HeaderRight, header-right, right-header, header-wrong}
 use Rattle.block_store.proofs.header_right.Statement.{statement}
 use Rattle.block_store.proofs.header_right.Tie as tie
-use Rattle.block_store.proofs.header_right.Reads as reads
-use Rattle.block_store.proofs.header_right.Lts as lts
-use Rattle.base.proofs.read_u16.Reads as read-u16-reads
-use Rattle.base.proofs.read_u32.Reads as read-u32-reads
 
--- src/lib.rt:18:9
 returns : tie.Need-returns
 unfolding usedLength blockCount
 returns c = sym (header-wrong (c .before .before .args .store .now) (λ (h : HeaderRight (c .before .before .args .store .now)). omega arith))
 
--- src/lib.rt:21:9
 returns-2 : tie.Need-returns-2
 unfolding usedLength blockCount
 returns-2 c = sym (header-wrong (c .before .before .before .args .store .now) (λ (h : HeaderRight (c .before .before .before .args .store .now)). omega arith))
 
--- src/lib.rt:23:22
 read-u32-requires : tie.Need-read-u32-requires
 read-u32-requires c κs = search needs
 
--- src/lib.rt:23:22
 cast-if3 : tie.Need-cast-if3
 cast-if3 c = search needs
 
--- src/lib.rt:24:9
 returns-3 : tie.Need-returns-3
 unfolding usedLength blockCount
 returns-3 c = sym (header-wrong (c .before .before .before .before .before .args .store .now) (λ (h : HeaderRight (c .before .before .before .before .before .args .store .now)). omega arith))
 
--- src/lib.rt:26:15
 read-u16-requires : tie.Need-read-u16-requires
 read-u16-requires c κs = search needs
 
--- src/lib.rt:27:9
 returns-4 : tie.Need-returns-4
 unfolding usedLength blockCount
 returns-4 c = sym (header-wrong (c .before .before .before .before .before .before .before .args .store .now) (λ (h : HeaderRight (c .before .before .before .before .before .before .before .args .store .now)). omega arith))
 
--- src/lib.rt:29:8
 read-u32-requires-2 : tie.Need-read-u32-requires-2
 read-u32-requires-2 c κs = search needs
 
--- src/lib.rt:30:9
 returns-5 : tie.Need-returns-5
 unfolding usedLength blockCount
 returns-5 c = sym (header-wrong (c .before .before .before .before .before .before .before .before .before .args .store .now) (λ (h : HeaderRight (c .before .before .before .before .before .before .before .before .before .args .store .now)). omega arith))
 
--- src/lib.rt:32:5
 read-u16-requires-2 : tie.Need-read-u16-requires-2
 read-u16-requires-2 c κs = search needs
 
--- src/lib.rt:14:1
 returns-6 : tie.Need-returns-6
 unfolding usedLength blockCount
 returns-6 c =

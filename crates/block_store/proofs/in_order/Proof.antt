@@ -11,57 +11,39 @@ use Rattle.block_store.specs.Entry.{laidOut}
 use Rattle.block_store.proofs.Check.{header-right, order-no-header, order-no-entries, order-no-chain, order-accepted}
 use Rattle.block_store.proofs.in_order.Statement.{statement}
 use Rattle.block_store.proofs.in_order.Tie as tie
-use Rattle.block_store.proofs.in_order.Reads as reads
-use Rattle.block_store.proofs.in_order.Lts as lts
-use Rattle.base.proofs.read_u16.Reads as read-u16-reads
-use Rattle.block_store.proofs.all_accepted.Reads as all-accepted-reads
-use Rattle.block_store.proofs.chain_right.Reads as chain-right-reads
-use Rattle.block_store.proofs.entries_readable.Reads as entries-readable-reads
-use Rattle.block_store.proofs.header_right.Reads as header-right-reads
 
--- src/rt:243:9
 header-right-requires : tie.Need-header-right-requires
 header-right-requires c κs = search needs
 
--- src/rt:244:9
 returns : tie.Need-returns
 returns c = sym (order-no-header (c .before .before .before .before .args .stakes .now) (c .before .before .before .before .args .store .now) (bytes-of (c .before .before .before .before .args .store .now) (λ i h. omega (arith, c .before .before .shared-slice-known2 .given i))) (sym (c .before .header-right .ensures) ∙ not-true (c .before .header-right .result) (c .if1 .taken)))
 
--- src/rt:247:33
 slice-aggregate-entries-readable : tie.Need-slice-aggregate-entries-readable
 slice-aggregate-entries-readable c = search needs
 
--- src/rt:247:9
 entries-readable-requires : tie.Need-entries-readable-requires
 entries-readable-requires c κs = ((sym (c .before .before .header-right .ensures) ∙ not-false (c .before .before .header-right .result) (c .before .if1 .left)), omega arith)
 
--- src/rt:248:9
 returns-2 : tie.Need-returns-2
 returns-2 c = sym (order-no-entries (c .before .before .before .before .before .before .before .before .args .stakes .now) (c .before .before .before .before .before .before .before .before .args .store .now) (bytes-of (c .before .before .before .before .before .before .before .before .args .store .now) (λ i h. omega (arith, c .before .before .before .before .before .before .shared-slice-known2 .given i))) (sym (c .before .before .entries-readable .ensures .0) ∙ not-true (c .before .before .entries-readable .result) (c .if2 .taken)))
 
--- src/rt:250:17
 read-u16-requires : tie.Need-read-u16-requires
 read-u16-requires c κs = omega (arith, header-right (c .before .before .before .before .before .before .before .before .args .store .now) (sym (c .before .before .before .before .before .header-right .ensures) ∙ not-false (c .before .before .before .before .before .header-right .result) (c .before .before .before .before .if1 .left)) .long)
 
--- src/rt:250:17
 cast-count : tie.Need-cast-count
 cast-count c = search needs
 
--- src/rt:252:28
 array-share-prefix-starts : tie.Need-array-share-prefix-starts
 unfolding blockCount
 array-share-prefix-starts c = omega (arith, header-right (c .before .before .before .before .before .before .before .before .before .args .store .now) (sym (c .before .before .before .before .before .before .header-right .ensures) ∙ not-false (c .before .before .before .before .before .before .header-right .result) (c .before .before .before .before .before .if1 .left)) .few, c .read-u16 .ensures, c .before .before .before .entries-readable .kept .1 .0)
 
--- src/rt:252:28
 slice-aggregate-chain-right : tie.Need-slice-aggregate-chain-right
 unfolding blockCount
 slice-aggregate-chain-right c = sym (length-take-le _ _ (omega (arith, header-right (c .before .before .before .before .before .before .before .before .before .before .args .store .now) (sym (c .before .before .before .before .before .before .before .header-right .ensures) ∙ not-false (c .before .before .before .before .before .before .before .header-right .result) (c .before .before .before .before .before .before .if1 .left)) .few, c .before .read-u16 .ensures, c .before .before .before .before .entries-readable .kept .1 .0)))
 
--- src/rt:252:46
 slice-aggregate-chain-right-2 : tie.Need-slice-aggregate-chain-right-2
 slice-aggregate-chain-right-2 c = search needs
 
--- src/rt:252:9
 chain-right-requires : tie.Need-chain-right-requires
 unfolding blockCount
 chain-right-requires c κs = (
@@ -72,31 +54,25 @@ chain-right-requires c κs = (
   ),
 )
 
--- src/rt:253:9
 returns-3 : tie.Need-returns-3
 returns-3 c = sym (order-no-chain (c .before .before .before .before .before .before .before .before .before .before .before .before .before .before .args .stakes .now) (c .before .before .before .before .before .before .before .before .before .before .before .before .before .before .args .store .now) (bytes-of (c .before .before .before .before .before .before .before .before .before .before .before .before .before .before .args .store .now) (λ i h. omega (arith, c .before .before .before .before .before .before .before .before .before .before .before .before .shared-slice-known2 .given i))) (sym (c .before .before .before .before .before .before .before .before .entries-readable .ensures .0) ∙ not-false (c .before .before .before .before .before .before .before .before .entries-readable .result) (c .before .before .before .before .before .before .if2 .left)) (sym (c .before .before .chain-right .ensures .0) ∙ not-true (c .before .before .chain-right .result) (c .if3 .taken)))
 
--- src/rt:255:33
 array-share-prefix-starts-2 : tie.Need-array-share-prefix-starts-2
 unfolding blockCount
 array-share-prefix-starts-2 c = omega (arith, header-right (c .before .before .before .before .before .before .before .before .before .before .before .before .before .before .args .store .now) (sym (c .before .before .before .before .before .before .before .before .before .before .before .header-right .ensures) ∙ not-false (c .before .before .before .before .before .before .before .before .before .before .before .header-right .result) (c .before .before .before .before .before .before .before .before .before .before .if1 .left)) .few, c .before .before .before .before .before .read-u16 .ensures, c .before .before .before .before .before .before .before .before .entries-readable .kept .1 .0)
 
--- src/rt:255:33
 slice-aggregate-all-accepted : tie.Need-slice-aggregate-all-accepted
 unfolding blockCount
 slice-aggregate-all-accepted c = sym (length-take-le _ _ (omega (arith, header-right (c .before .before .before .before .before .before .before .before .before .before .before .before .before .before .before .args .store .now) (sym (c .before .before .before .before .before .before .before .before .before .before .before .before .header-right .ensures) ∙ not-false (c .before .before .before .before .before .before .before .before .before .before .before .before .header-right .result) (c .before .before .before .before .before .before .before .before .before .before .before .if1 .left)) .few, c .before .before .before .before .before .before .read-u16 .ensures, c .before .before .before .before .before .before .before .before .before .entries-readable .kept .1 .0)))
 
--- src/rt:255:51
 array-share-prefix-order : tie.Need-array-share-prefix-order
 unfolding blockCount
 array-share-prefix-order c = omega (arith, header-right (c .before .before .before .before .before .before .before .before .before .before .before .before .before .before .before .args .store .now) (sym (c .before .before .before .before .before .before .before .before .before .before .before .before .header-right .ensures) ∙ not-false (c .before .before .before .before .before .before .before .before .before .before .before .before .header-right .result) (c .before .before .before .before .before .before .before .before .before .before .before .if1 .left)) .few, c .before .before .before .before .before .before .read-u16 .ensures, c .before .before .before .chain-right .kept .1 .1 .0)
 
--- src/rt:255:51
 slice-aggregate-all-accepted-2 : tie.Need-slice-aggregate-all-accepted-2
 unfolding blockCount
 slice-aggregate-all-accepted-2 c = sym (length-take-le _ _ (omega (arith, header-right (c .before .before .before .before .before .before .before .before .before .before .before .before .before .before .before .before .args .store .now) (sym (c .before .before .before .before .before .before .before .before .before .before .before .before .before .header-right .ensures) ∙ not-false (c .before .before .before .before .before .before .before .before .before .before .before .before .before .header-right .result) (c .before .before .before .before .before .before .before .before .before .before .before .before .if1 .left)) .few, c .before .before .before .before .before .before .before .read-u16 .ensures, c .before .before .before .before .chain-right .kept .1 .1 .0)))
 
--- src/rt:255:5
 all-accepted-requires : tie.Need-all-accepted-requires
 unfolding blockCount laidOut
 all-accepted-requires c κs =
@@ -108,7 +84,6 @@ all-accepted-requires c κs =
       ),
     )
 
--- src/rt:239:1
 returns-4 : tie.Need-returns-4
 returns-4 c = c .all-accepted .ensures ∙ sym (order-accepted (c .before .before .before .before .before .before .before .before .before .before .before .before .before .before .before .before .before .args .stakes .now) (c .before .before .before .before .before .before .before .before .before .before .before .before .before .before .before .before .before .args .store .now) (bytes-of (c .before .before .before .before .before .before .before .before .before .before .before .before .before .before .before .before .before .args .store .now) (λ i h. omega (arith, c .before .before .before .before .before .before .before .before .before .before .before .before .before .before .before .shared-slice-known2 .given i))) (sym (c .before .before .before .before .before .before .before .before .before .before .before .entries-readable .ensures .0) ∙ not-false (c .before .before .before .before .before .before .before .before .before .before .before .entries-readable .result) (c .before .before .before .before .before .before .before .before .before .if2 .left)) (sym (c .before .before .before .before .before .chain-right .ensures .0) ∙ not-false (c .before .before .before .before .before .chain-right .result) (c .before .before .before .if3 .left)))
 

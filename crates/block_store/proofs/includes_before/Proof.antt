@@ -1,13 +1,12 @@
 use borrow.Author.Needs.{needs}
-use Prim.Native.Nat.{ℕ, _≤_, _<_, _-_, _+_}
-use mathlib.Core.Path.{_≡_, refl, sym, ap, _∙_}
+use Prim.Native.Nat.{_≤_, _-_}
+use mathlib.Core.Path.{_≡_, sym, ap, _∙_}
 use mathlib.Core.List.{List}
 use mathlib.Core.Bool.{Bool}
 use native.Mathlib.Omega.{arith}
-use lib.ListN.{length, drop, getD}
+use lib.ListN.{drop, getD}
 use Rattle.base.specs.Lists.{allOf}
 use Rattle.types.specs.Record.{blockIn, noReference}
-use Rattle.types.specs.Values.{asReference}
 use Rattle.types.specs.Reference.{BlockReference}
 use Rattle.block_store.specs.Layout.{Record, entries, positionOf, lookup}
 use Rattle.block_store.specs.Store.{recordsOf}
@@ -15,11 +14,6 @@ use Rattle.block_store.specs.Check.{storedBefore}
 use Rattle.block_store.proofs.Lookups.{before-none, before-late, before-early, all-on, all-stop, all-end}
 use Rattle.block_store.proofs.includes_before.Statement.{statement}
 use Rattle.block_store.proofs.includes_before.Tie as tie
-use Rattle.block_store.proofs.includes_before.Reads as reads
-use Rattle.block_store.proofs.includes_before.Lts as lts
-use Rattle.block_store.proofs.find_ordered.Reads as find-ordered-reads
-use Rattle.types.proofs.include.Reads as include-reads
-use Rattle.types.proofs.include_count.Reads as include-count-reads
 
 abbrev Inv-loop : tie.InvT-loop
 Inv-loop store order rec at count k₀ k = (k ≤ count) × (allOf (storedBefore (entries (recordsOf store)) at) (blockIn rec .includes) ≡ allOf (storedBefore (entries (recordsOf store)) at) (drop k (blockIn rec .includes)))
@@ -27,23 +21,18 @@ Inv-loop store order rec at count k₀ k = (k ≤ count) × (allOf (storedBefore
 abbrev μ-loop : tie.MeasureT-loop
 μ-loop store order rec at count k₀ k = count - k
 
--- src/lib.rt:186:9
 include-count-requires : tie.Need-include-count-requires Inv-loop μ-loop
 include-count-requires c κs = search needs
 
--- src/lib.rt:188:5
 loop-holds : tie.Need-loop-holds Inv-loop μ-loop
 loop-holds c = search needs
 
--- src/lib.rt:189:44
 include-requires : tie.Need-include-requires Inv-loop μ-loop
 include-requires c κs = search needs
 
--- src/lib.rt:189:13
 find-ordered-requires : tie.Need-find-ordered-requires Inv-loop μ-loop
 find-ordered-requires c κs = search needs
 
--- src/lib.rt:191:13
 returns : tie.Need-returns Inv-loop μ-loop
 returns c =
     let a = c .before .before .before .before .before .before .before .before .before .args in
@@ -55,7 +44,6 @@ returns c =
     let p : c .before .find-ordered .result ≡ positionOf (lookup (entries rs) i) = c .before .find-ordered .ensures ∙ ap (λ (x : BlockReference). positionOf (lookup (entries rs) x)) (c .before .before .include .ensures) in
     sym (l .inv .1 ∙ all-stop noReference stored is (l .k) (omega arith) (before-none rs (a .at) i (sym p ∙ c .if1 .taken)))
 
--- src/lib.rt:194:13
 returns-2 : tie.Need-returns-2 Inv-loop μ-loop
 returns-2 c =
     let a = c .before .before .before .before .before .before .before .before .before .before .args in
@@ -67,15 +55,12 @@ returns-2 c =
     let p : c .before .before .find-ordered .result ≡ positionOf (lookup (entries rs) i) = c .before .before .find-ordered .ensures ∙ ap (λ (x : BlockReference). positionOf (lookup (entries rs) x)) (c .before .before .before .include .ensures) in
     sym (l .inv .1 ∙ all-stop noReference stored is (l .k) (omega arith) (before-late rs (a .at) i (omega arith)))
 
--- src/lib.rt:196:13
 add-k : tie.Need-add-k Inv-loop μ-loop
 add-k c = search needs
 
--- src/lib.rt:188:5
 loop-less : tie.Need-loop-less Inv-loop μ-loop
 loop-less c = search needs
 
--- src/lib.rt:188:5
 loop-again : tie.Need-loop-again Inv-loop μ-loop
 loop-again c =
     let a = c .before .before .before .before .before .before .before .before .before .before .args in
@@ -87,7 +72,6 @@ loop-again c =
     let p : c .before .before .find-ordered .result ≡ positionOf (lookup (entries rs) i) = c .before .before .find-ordered .ensures ∙ ap (λ (x : BlockReference). positionOf (lookup (entries rs) x)) (c .before .before .before .include .ensures) in
     (omega arith, l .inv .1 ∙ all-on noReference stored is (l .k) (omega arith) (before-early rs (a .at) i (λ z. c .before .if1 .left (p ∙ z)) (omega arith)))
 
--- src/lib.rt:182:1
 returns-3 : tie.Need-returns-3 Inv-loop μ-loop
 returns-3 c =
     let a = c .before .before .before .before .before .before .args in

@@ -6,39 +6,28 @@ use Rattle.block_store.proofs.Search.{laid-out}
 use Rattle.block_store.proofs.Appended.{full-bytes, full-blocks}
 use Rattle.block_store.proofs.is_full.Statement.{statement}
 use Rattle.block_store.proofs.is_full.Tie as tie
-use Rattle.block_store.proofs.is_full.Reads as reads
-use Rattle.block_store.proofs.is_full.Lts as lts
-use Rattle.base.proofs.read_u16.Reads as read-u16-reads
-use Rattle.base.proofs.read_u32.Reads as read-u32-reads
 
--- src/lib.rt:329:30
 read-u32-requires : tie.Need-read-u32-requires
 read-u32-requires c κs = omega (arith, laid-out (c .before .before .args .store .now) (c .before .before .pre) .reads .header .long)
 
--- src/lib.rt:329:30
 cast-room : tie.Need-cast-room
 cast-room c = search needs
 
--- src/lib.rt:329:16
 sub-room : tie.Need-sub-room
 unfolding usedLength
 sub-room c = omega (arith, laid-out (c .before .before .before .args .store .now) (c .before .before .before .pre) .reads .header .within, c .read-u32 .ensures)
 
--- src/lib.rt:331:9
 returns : tie.Need-returns
 unfolding usedLength
 returns c = sym (full-bytes (c .before .before .before .before .args .store .now) (c .before .before .before .before .pre) (c .before .before .before .before .args .rec .now) (omega (arith, laid-out (c .before .before .before .before .args .store .now) (c .before .before .before .before .pre) .reads .header .within)))
 
--- src/lib.rt:334:9
 returns-2 : tie.Need-returns-2
 unfolding usedLength
 returns-2 c = sym (full-bytes (c .before .before .before .before .before .args .store .now) (c .before .before .before .before .before .pre) (c .before .before .before .before .before .args .rec .now) (omega (arith, laid-out (c .before .before .before .before .before .args .store .now) (c .before .before .before .before .before .pre) .reads .header .within)))
 
--- src/lib.rt:336:13
 read-u16-requires : tie.Need-read-u16-requires
 read-u16-requires c κs = omega (arith, laid-out (c .before .before .before .before .before .args .store .now) (c .before .before .before .before .before .pre) .reads .header .long)
 
--- src/lib.rt:325:1
 returns-3 : tie.Need-returns-3
 unfolding usedLength
 returns-3 c = rw (c .read-u16 .ensures) (sym (full-blocks (c .before .before .before .before .before .before .args .store .now) (c .before .before .before .before .before .before .pre) (c .before .before .before .before .before .before .args .rec .now) (omega (arith, laid-out (c .before .before .before .before .before .before .args .store .now) (c .before .before .before .before .before .before .pre) .reads .header .within))))

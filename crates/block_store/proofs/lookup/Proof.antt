@@ -9,12 +9,6 @@ use Rattle.block_store.proofs.Search.{laid-out}
 use Rattle.block_store.proofs.Along.{Along, along-start, along-entry, along-end, met-hit, met-past, met-on}
 use Rattle.block_store.proofs.lookup.Statement.{statement}
 use Rattle.block_store.proofs.lookup.Tie as tie
-use Rattle.block_store.proofs.lookup.Reads as reads
-use Rattle.block_store.proofs.lookup.Lts as lts
-use Rattle.base.proofs.read_u16.Reads as read-u16-reads
-use Rattle.base.proofs.read_u32.Reads as read-u32-reads
-use Rattle.block_store.proofs.reference_at.Reads as reference-at-reads
-use Rattle.types.proofs.compare.Reads as compare-reads
 
 abbrev Inv-loop : tie.InvT-loop
 Inv-loop store block at₀ left₀ at left = Along store (asReference block) at left
@@ -22,77 +16,59 @@ Inv-loop store block at₀ left₀ at left = Along store (asReference block) at 
 abbrev μ-loop : tie.MeasureT-loop
 μ-loop store block at₀ left₀ at left = left
 
--- src/lib.rt:208:18
 read-u32-requires : tie.Need-read-u32-requires Inv-loop μ-loop
 read-u32-requires c κs = omega (arith, laid-out (c .before .args .store .now) (c .before .pre) .reads .header .long)
 
--- src/lib.rt:208:18
 cast-at : tie.Need-cast-at Inv-loop μ-loop
 cast-at c = search needs
 
--- src/lib.rt:209:20
 read-u16-requires : tie.Need-read-u16-requires Inv-loop μ-loop
 read-u16-requires c κs = omega (arith, laid-out (c .before .before .args .store .now) (c .before .before .pre) .reads .header .long)
 
--- src/lib.rt:209:20
 cast-left : tie.Need-cast-left Inv-loop μ-loop
 cast-left c = search needs
 
--- src/lib.rt:210:5
 loop-holds : tie.Need-loop-holds Inv-loop μ-loop
 unfolding blockCount
 loop-holds c = along-start (c .before .before .before .args .store .now) (c .before .before .before .pre) (asReference (c .before .before .before .args .block)) (c .before .read-u32 .result) (c .read-u16 .result) (c .before .read-u32 .ensures) (c .read-u16 .ensures)
 
--- src/lib.rt:211:39
 reference-at-requires : tie.Need-reference-at-requires Inv-loop μ-loop
 reference-at-requires c κs = along-entry (c .before .before .before .before .before .args .store .now) (c .before .before .before .before .before .pre) (asReference (c .before .before .before .before .before .args .block)) (c .before .loop .at) (c .before .loop .left) (c .before .loop .inv) (c .loop-test .taken)
 
--- src/lib.rt:211:13
 compare-requires : tie.Need-compare-requires Inv-loop μ-loop
 compare-requires c κs = search needs
 
--- src/lib.rt:214:17
 enum-told : tie.Need-enum-told Inv-loop μ-loop
 enum-told c = search needs
 
--- src/lib.rt:214:17
 returns : tie.Need-returns Inv-loop μ-loop
 returns c = met-hit (c .before .before .before .before .before .before .before .before .before .args .store .now) (c .before .before .before .before .before .before .before .before .before .pre) (asReference (c .before .before .before .before .before .before .before .before .before .args .block)) (c .before .before .before .before .before .loop .at) (c .before .before .before .before .before .loop .left) (c .before .before .before .before .before .loop .inv) (c .before .before .before .before .loop-test .taken) (asReference (c .before .before .before .reference-at .result)) (c .before .before .before .reference-at .ensures) (sym (c .before .before .compare .ensures) ∙ c .enum-told .given .1)
 
--- src/lib.rt:217:17
 enum-told-2 : tie.Need-enum-told-2 Inv-loop μ-loop
 enum-told-2 c = search needs
 
--- src/lib.rt:217:17
 returns-2 : tie.Need-returns-2 Inv-loop μ-loop
 unfolding positionOf
 returns-2 c = rw (met-past (c .before .before .before .before .before .before .before .before .before .args .store .now) (c .before .before .before .before .before .before .before .before .before .pre) (asReference (c .before .before .before .before .before .before .before .before .before .args .block)) (c .before .before .before .before .before .loop .at) (c .before .before .before .before .before .loop .left) (c .before .before .before .before .before .loop .inv) (c .before .before .before .before .loop-test .taken) (asReference (c .before .before .before .reference-at .result)) (c .before .before .before .reference-at .ensures) (sym (c .before .before .compare .ensures) ∙ c .enum-told2 .given .1))
 
--- src/lib.rt:220:22
 enum-told-3 : tie.Need-enum-told-3 Inv-loop μ-loop
 enum-told-3 c = search needs
 
--- src/lib.rt:220:22
 read-u32-requires-2 : tie.Need-read-u32-requires-2 Inv-loop μ-loop
 read-u32-requires-2 c κs = omega (arith, entry-room (c .before .before .before .before .before .before .before .before .before .args .store .now) (c .before .before .before .before .before .loop .at) (along-entry (c .before .before .before .before .before .before .before .before .before .args .store .now) (c .before .before .before .before .before .before .before .before .before .pre) (asReference (c .before .before .before .before .before .before .before .before .before .args .block)) (c .before .before .before .before .before .loop .at) (c .before .before .before .before .before .loop .left) (c .before .before .before .before .before .loop .inv) (c .before .before .before .before .loop-test .taken)) .inside)
 
--- src/lib.rt:220:22
 cast-at-2 : tie.Need-cast-at-2 Inv-loop μ-loop
 cast-at-2 c = search needs
 
--- src/lib.rt:221:24
 sub-left : tie.Need-sub-left Inv-loop μ-loop
 sub-left c = search needs
 
--- src/lib.rt:210:5
 loop-less : tie.Need-loop-less Inv-loop μ-loop
 loop-less c = search needs
 
--- src/lib.rt:210:5
 loop-again : tie.Need-loop-again Inv-loop μ-loop
 loop-again c = met-on (c .before .before .before .before .before .before .before .before .before .before .args .store .now) (c .before .before .before .before .before .before .before .before .before .before .pre) (asReference (c .before .before .before .before .before .before .before .before .before .before .args .block)) (c .before .before .before .before .before .before .loop .at) (c .before .before .before .before .before .before .loop .left) (c .before .before .before .before .before .before .loop .inv) (c .before .before .before .before .before .loop-test .taken) (asReference (c .before .before .before .before .reference-at .result)) (c .before .before .before .before .reference-at .ensures) (c .read-u322 .result) (sym (c .before .before .before .compare .ensures) ∙ c .before .enum-told3 .given .1) (c .read-u322 .ensures)
 
--- src/lib.rt:204:1
 returns-3 : tie.Need-returns-3 Inv-loop μ-loop
 unfolding positionOf
 returns-3 c = rw (along-end (c .before .before .before .before .before .args .store .now) (c .before .before .before .before .before .pre) (asReference (c .before .before .before .before .before .args .block)) (c .before .loop .at) (c .before .loop .left) (c .before .loop .inv) (omega arith))

@@ -5,19 +5,13 @@ use Rattle.base.proofs.Tests.{not-both}
 use Rattle.types.specs.Values.{asReference}
 use Rattle.block_store.specs.Layout.{entries, lookup}
 use Rattle.block_store.specs.Store.{blockCount, recordsOf}
-use Rattle.block_store.specs.Step.{LastAt, none-last}
+use Rattle.block_store.specs.Step.{LastAt}
 use Rattle.block_store.proofs.Loops.{entry-room}
 use Rattle.block_store.proofs.Lookups.{none-is}
 use Rattle.block_store.proofs.Search.{laid-out}
 use Rattle.block_store.proofs.Along.{Along, along-start, along-start-last, along-entry, met-found, met-on, met-last, between-met, between-end}
 use Rattle.block_store.proofs.place_of.Statement.{statement}
 use Rattle.block_store.proofs.place_of.Tie as tie
-use Rattle.block_store.proofs.place_of.Reads as reads
-use Rattle.block_store.proofs.place_of.Lts as lts
-use Rattle.base.proofs.read_u16.Reads as read-u16-reads
-use Rattle.base.proofs.read_u32.Reads as read-u32-reads
-use Rattle.block_store.proofs.reference_at.Reads as reference-at-reads
-use Rattle.types.proofs.compare.Reads as compare-reads
 
 abbrev Inv-loop : tie.InvT-loop
 Inv-loop store block below₀ at₀ left₀ below at left = (a : Along store (asReference block) at left) × LastAt (a .passed) below
@@ -25,79 +19,61 @@ Inv-loop store block below₀ at₀ left₀ below at left = (a : Along store (as
 abbrev μ-loop : tie.MeasureT-loop
 μ-loop store block below₀ at₀ left₀ below at left = left
 
--- src/lib.rt:279:18
 read-u32-requires : tie.Need-read-u32-requires Inv-loop μ-loop
 read-u32-requires c κs = omega (arith, laid-out (c .before .args .store .now) (c .before .pre .0) .reads .header .long)
 
--- src/lib.rt:279:18
 cast-at : tie.Need-cast-at Inv-loop μ-loop
 cast-at c = search needs
 
--- src/lib.rt:280:20
 read-u16-requires : tie.Need-read-u16-requires Inv-loop μ-loop
 read-u16-requires c κs = omega (arith, laid-out (c .before .before .args .store .now) (c .before .before .pre .0) .reads .header .long)
 
--- src/lib.rt:280:20
 cast-left : tie.Need-cast-left Inv-loop μ-loop
 cast-left c = search needs
 
--- src/lib.rt:281:5
 loop-holds : tie.Need-loop-holds Inv-loop μ-loop
 unfolding blockCount
 loop-holds c = (along-start (c .before .before .before .args .store .now) (c .before .before .before .pre .0) (asReference (c .before .before .before .args .block)) (c .before .read-u32 .result) (c .read-u16 .result) (c .before .read-u32 .ensures) (c .read-u16 .ensures), along-start-last (c .before .before .before .args .store .now) (c .before .before .before .pre .0) (asReference (c .before .before .before .args .block)) (c .before .read-u32 .result) (c .read-u16 .result) (c .before .read-u32 .ensures) (c .read-u16 .ensures))
 
--- src/lib.rt:282:39
 reference-at-requires : tie.Need-reference-at-requires Inv-loop μ-loop
 reference-at-requires c κs = along-entry (c .before .before .before .before .before .args .store .now) (c .before .before .before .before .before .pre .0) (asReference (c .before .before .before .before .before .args .block)) (c .before .loop .at) (c .before .loop .left) (c .before .loop .inv .0) (c .loop-test .taken)
 
--- src/lib.rt:282:13
 compare-requires : tie.Need-compare-requires Inv-loop μ-loop
 compare-requires c κs = search needs
 
--- src/lib.rt:285:17
 enum-told : tie.Need-enum-told Inv-loop μ-loop
 enum-told c = search needs
 
--- src/lib.rt:286:22
 read-u32-requires-2 : tie.Need-read-u32-requires-2 Inv-loop μ-loop
 read-u32-requires-2 c κs = omega (arith, entry-room (c .before .before .before .before .before .before .before .before .before .args .store .now) (c .before .before .before .before .before .loop .at) (along-entry (c .before .before .before .before .before .before .before .before .before .args .store .now) (c .before .before .before .before .before .before .before .before .before .pre .0) (asReference (c .before .before .before .before .before .before .before .before .before .args .block)) (c .before .before .before .before .before .loop .at) (c .before .before .before .before .before .loop .left) (c .before .before .before .before .before .loop .inv .0) (c .before .before .before .before .loop-test .taken)) .inside)
 
--- src/lib.rt:286:22
 cast-at-2 : tie.Need-cast-at-2 Inv-loop μ-loop
 cast-at-2 c = search needs
 
--- src/lib.rt:287:24
 sub-left : tie.Need-sub-left Inv-loop μ-loop
 sub-left c = search needs
 
--- src/lib.rt:281:5
 loop-less : tie.Need-loop-less Inv-loop μ-loop
 loop-less c = search needs
 
--- src/lib.rt:281:5
 loop-again : tie.Need-loop-again Inv-loop μ-loop
 loop-again c = (
   met-on (c .before .before .before .before .before .before .before .before .before .before .args .store .now) (c .before .before .before .before .before .before .before .before .before .before .pre .0) (asReference (c .before .before .before .before .before .before .before .before .before .before .args .block)) (c .before .before .before .before .before .before .loop .at) (c .before .before .before .before .before .before .loop .left) (c .before .before .before .before .before .before .loop .inv .0) (c .before .before .before .before .before .loop-test .taken) (asReference (c .before .before .before .before .reference-at .result)) (c .before .before .before .before .reference-at .ensures) (c .read-u322 .result) (sym (c .before .before .before .compare .ensures) ∙ c .before .enum-told .given .1) (c .read-u322 .ensures),
   met-last (c .before .before .before .before .before .before .before .before .before .before .args .store .now) (c .before .before .before .before .before .before .before .before .before .before .pre .0) (asReference (c .before .before .before .before .before .before .before .before .before .before .args .block)) (c .before .before .before .before .before .before .loop .at) (c .before .before .before .before .before .before .loop .left) (c .before .before .before .before .before .before .loop .inv .0) (c .before .before .before .before .before .loop-test .taken) (asReference (c .before .before .before .before .reference-at .result)) (c .before .before .before .before .reference-at .ensures) (c .read-u322 .result) (c .before .before .before .before .before .before .loop .below) (sym (c .before .before .before .compare .ensures) ∙ c .before .enum-told .given .1) (c .read-u322 .ensures) (c .before .before .before .before .before .before .loop .inv .1),
 )
 
--- src/lib.rt:291:17
 enum-told-2 : tie.Need-enum-told-2 Inv-loop μ-loop
 enum-told-2 c = search needs
 
--- src/lib.rt:291:17
 returns : tie.Need-returns Inv-loop μ-loop
 returns c = absurd (not-both (none-is (lookup (entries (recordsOf (c .before .before .before .before .before .before .before .before .before .args .store .now))) (asReference (c .before .before .before .before .before .before .before .before .before .args .block))) (c .before .before .before .before .before .before .before .before .before .pre .1)) (met-found (c .before .before .before .before .before .before .before .before .before .args .store .now) (c .before .before .before .before .before .before .before .before .before .pre .0) (asReference (c .before .before .before .before .before .before .before .before .before .args .block)) (c .before .before .before .before .before .loop .at) (c .before .before .before .before .before .loop .left) (c .before .before .before .before .before .loop .inv .0) (c .before .before .before .before .loop-test .taken) (asReference (c .before .before .before .reference-at .result)) (c .before .before .before .reference-at .ensures) (sym (c .before .before .compare .ensures) ∙ c .enum-told2 .given .1)))
 
--- src/lib.rt:294:17
 enum-told-3 : tie.Need-enum-told-3 Inv-loop μ-loop
 enum-told-3 c = search needs
 
--- src/lib.rt:294:17
 returns-2 : tie.Need-returns-2 Inv-loop μ-loop
 returns-2 c = between-met (c .before .before .before .before .before .before .before .before .before .args .store .now) (c .before .before .before .before .before .before .before .before .before .pre .0) (asReference (c .before .before .before .before .before .before .before .before .before .args .block)) (c .before .before .before .before .before .loop .at) (c .before .before .before .before .before .loop .left) (c .before .before .before .before .before .loop .inv .0) (c .before .before .before .before .before .loop .below) (c .before .before .before .before .loop-test .taken) (asReference (c .before .before .before .reference-at .result)) (c .before .before .before .reference-at .ensures) (sym (c .before .before .compare .ensures) ∙ c .enum-told3 .given .1) (c .before .before .before .before .before .loop .inv .1)
 
--- src/lib.rt:274:1
 returns-3 : tie.Need-returns-3 Inv-loop μ-loop
 returns-3 c = between-end (c .before .before .before .before .before .args .store .now) (c .before .before .before .before .before .pre .0) (asReference (c .before .before .before .before .before .args .block)) (c .before .loop .at) (c .before .loop .left) (c .before .loop .inv .0) (c .before .loop .below) (omega arith) (c .before .loop .inv .1)
 

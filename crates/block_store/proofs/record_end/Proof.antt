@@ -3,31 +3,22 @@ use native.Mathlib.Omega.{arith}
 use Rattle.block_store.proofs.Loops.{entry-room}
 use Rattle.block_store.proofs.record_end.Statement.{statement}
 use Rattle.block_store.proofs.record_end.Tie as tie
-use Rattle.block_store.proofs.record_end.Reads as reads
-use Rattle.block_store.proofs.record_end.Lts as lts
-use Rattle.base.proofs.read_u32.Reads as read-u32-reads
 
--- src/lib.rt:23:5
 add-result : tie.Need-add-result
 add-result c = omega (arith, entry-room (c .before .args .store .now) (c .before .args .at) (c .before .pre) .inside)
 
--- src/lib.rt:23:36
 add-read-u32 : tie.Need-add-read-u32
 add-read-u32 c = omega (arith, entry-room (c .before .args .store .now) (c .before .args .at) (c .before .pre) .inside)
 
--- src/lib.rt:23:14
 read-u32-requires : tie.Need-read-u32-requires
 read-u32-requires c κs = omega (arith, entry-room (c .before .args .store .now) (c .before .args .at) (c .before .pre) .inside)
 
--- src/lib.rt:23:14
 cast-result : tie.Need-cast-result
 cast-result c = search needs
 
--- src/lib.rt:23:5
 add-result-2 : tie.Need-add-result-2
 add-result-2 c = omega (arith, entry-room (c .before .before .args .store .now) (c .before .before .args .at) (c .before .before .pre) .inside, c .read-u32 .ensures)
 
--- src/lib.rt:19:1
 returns : tie.Need-returns
 returns c = search needs
 

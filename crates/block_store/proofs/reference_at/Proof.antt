@@ -7,38 +7,27 @@ use Rattle.block_store.specs.Entry.{blockAt}
 use Rattle.block_store.proofs.Loops.{entry-room, record-part}
 use Rattle.block_store.proofs.reference_at.Statement.{statement}
 use Rattle.block_store.proofs.reference_at.Tie as tie
-use Rattle.block_store.proofs.reference_at.Reads as reads
-use Rattle.block_store.proofs.reference_at.Lts as lts
-use Rattle.block_store.proofs.record_end.Reads as record-end-reads
-use Rattle.types.proofs.reference.Reads as reference-reads
 
--- src/lib.rt:31:16
 add-from : tie.Need-add-from
 add-from c = omega (arith, entry-room (c .before .args .store .now) (c .before .args .at) (c .before .pre) .inside)
 
--- src/lib.rt:32:9
 record-end-requires : tie.Need-record-end-requires
 record-end-requires c κs = search needs
 
--- src/lib.rt:33:22
 sub-reference : tie.Need-sub-reference
 sub-reference c = search needs
 
--- src/lib.rt:33:22
 part-reference-start : tie.Need-part-reference-start
 part-reference-start c = search needs
 
--- src/lib.rt:33:22
 part-reference-end : tie.Need-part-reference-end
 part-reference-end c = omega (arith, entry-room (c .before .before .args .store .now) (c .before .before .args .at) (c .before .before .pre) .inside, c .record-end .ensures)
 
--- src/lib.rt:33:5
 reference-requires : tie.Need-reference-requires
 reference-requires c κs =
     let a = c .before .before .before .args in
     rw (record-part (a .store .now) (a .at) (c .before .record-end .result) (c .before .record-end .ensures)) (entry-room (a .store .now) (a .at) (c .before .before .before .pre) .formed)
 
--- src/lib.rt:27:1
 returns : tie.Need-returns
 unfolding blockAt
 returns c =

@@ -18,7 +18,7 @@ use Rattle.types.specs.Record.{referenceBytes, statementBytes, blockBytes, stat
 use Rattle.types.proofs.Records.{BlockFits, blockBytes-blockOf, blockOf-fits, length-reference, length-includes}
 use Rattle.block_store.specs.Layout.{Record, Entry, referenceOf, entries, nextPosition, entryBytes, bodyBytes, headerBytes, layout, lookup}
 use Rattle.block_store.specs.Store.{usedLength, recordsOf, storeInOrder}
-use Rattle.block_store.specs.Payload.{payloadIn, payloadOf, payloadAt, stretchOf}
+use Rattle.block_store.specs.Payload.{shareStretch, payloadOf, payloadAt, stretchOf}
 use Rattle.block_store.proofs.Store.{Right, InOrder, in-order, recordsOf-right, recordsOf-bytes, right-block, length-body, length-header}
 
 -- ---- in a block's bytes
@@ -97,7 +97,7 @@ stored (r ∷ rs) (and h hs) (and b bs) =
 -- the stretch that is given back is the share's payload
 pub payload-is : (c : Committee) (s : Bytes) → AllBytes s → storeInOrder c s ≡ true → (l : TransactionLocator) (e : Entry) (v : Bytes)
     → lookup (entries (recordsOf s)) (l .block) ≡ some e → getElem? (e .block .statements) (l .offset) ≡ some (share v) → stretchOf (payloadAt s l) s ≡ v
-unfolding payloadAt payloadOf payloadIn stretchOf lookup
+unfolding payloadAt payloadOf shareStretch stretchOf lookup
 payload-is c s b h l e v f g =
     let rs : List Record = recordsOf s in
     let i : InOrder c s = in-order c s h in
