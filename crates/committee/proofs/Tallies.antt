@@ -1,0 +1,137 @@
+-- The members of a vote set, each once, and the aggregator that counts the votes of a list of voters. Assumes nothing.
+use mathlib.Core.Path.{_≡_, refl, sym, ap, _∙_}
+use mathlib.Core.Logic.{_⊎_, inl, inr}
+use mathlib.Core.Bool.{Bool, true, false, _||_}
+use mathlib.Core.List.{List, [], _∷_, _++_, map, append-nil}
+use Prim.Native.Nat.{ℕ, zero, suc, _+_, _-_, _≤_, _<_}
+use native.Mathlib.Omega.{arith}
+use native.Mathlib.Decide.{ℕ-discrete}
+use lib.Dec.{eqb}
+use lib.ListN.{length, getD}
+use borrow.Author.Tests.{eq-eqb, ne-eqb, eqb-true}
+use Rattle.base.specs.Lists.{pick, allOf, keep, countFrom, sumOf, _∈_, Once}
+use Rattle.base.proofs.Tests.{fails, not-both, and-right, or-cases, or-left, or-right}
+use Rattle.base.proofs.Lists.{countFrom-add, keep-append}
+use Rattle.base.proofs.Once.{once-countFrom, once-keep}
+use Rattle.base.proofs.Members.{in-empty, in-cases, in-first, in-left, in-right, in-append, in-filter, filter-in, in-countFrom}
+use Rattle.committee.specs.Committee.{AuthorityIndex, Committee, known, getStake}
+use Rattle.committee.specs.AuthoritySet.{AuthoritySet, member, members, inserted, stakeFrom, stakeOf}
+use Rattle.committee.specs.StakeAggregator.{StakeAggregator, noVotes, counted, hasQuorum, aggregatorInOrder}
+use Rattle.committee.specs.Quorum.{HoldQuorum}
+use Rattle.committee.proofs.Votes.{member-nobody, member-inserted}
+use Rattle.committee.proofs.Aggregators.{counted-in-order, noVotes-order}
+use Rattle.committee.proofs.Quorums.{quorum-counted, counted-quorum}
+
+-- ---- the members
+
+pub members-once : (v : AuthoritySet) → Once (members v)
+unfolding members
+members-once v = once-keep (member v) (once-countFrom 0 128)
+
+pub members-in : (v : AuthoritySet) (a : AuthorityIndex) → a ∈ members v → member v a ≡ true
+unfolding members
+members-in v a m = filter-in (member v) (countFrom 0 128) m .1
+
+pub in-members : (v : AuthoritySet) (a : AuthorityIndex) → a < 128 → member v a ≡ true → a ∈ members v
+unfolding members
+in-members v a k h = in-filter (member v) (countFrom 0 128) (in-countFrom 0 128 a (omega arith) (omega arith)) h
+
+-- ---- their stakes
+
+-- the stakes f of the members among the numbers from k on that the committee's part c has
+stakes-kept : (v : AuthoritySet) (f : ℕ → ℕ) (k : ℕ) (c : Committee) → ((i : ℕ) → f (k + i) ≡ getD c i 0) → sumOf (map f (keep (member v) (countFrom k (length c)))) ≡ stakeFrom k c v
+unfolding countFrom keep sumOf stakeFrom
+stakes-kept v f k [] h = refl
+stakes-kept v f k (s ∷ c) h = go (member v k) (stakes-kept v f (k + 1) c (λ i. let e : k + 1 + i ≡ k + suc i = omega arith in rw e (h (suc i))))
+  where
+    first : f k ≡ s
+    first = let e : k + 0 ≡ k = omega arith in rw e at (h 0)
+
+    go : (t : Bool) → sumOf (map f (keep (member v) (countFrom (k + 1) (length c)))) ≡ stakeFrom (k + 1) c v
+        → sumOf (map f (pick t (k ∷ keep (member v) (countFrom (k + 1) (length c))) (keep (member v) (countFrom (k + 1) (length c))))) ≡ pick t s 0 + stakeFrom (k + 1) c v
+    go true e = rw (first, e)
+    go false e = e ∙ omega arith
+
+-- no number from k on is a member
+none-kept : (p : ℕ → Bool) (k n : ℕ) → ((a : ℕ) → k ≤ a → p a ≡ false) → keep p (countFrom k n) ≡ []
+unfolding keep countFrom
+none-kept p k zero h = refl
+none-kept p k (suc n) h = rw (h k (omega arith)) (none-kept p (k + 1) n (λ a (l : k + 1 ≤ a). h a (omega arith)))
+
+-- the stake of a set of known members is the sum of their stakes, each once
+pub stake-members : (c : Committee) (v : AuthoritySet) → length c ≤ 128 → ((a : AuthorityIndex) → member v a ≡ true → a < length c) → stakeOf c v ≡ sumOf (map (getStake c) (members v))
+unfolding stakeOf members getStake
+stake-members c v few known =
+    let n : ℕ = 128 - length c in
+    let whole : countFrom 0 128 ≡ countFrom 0 (length c) ++ countFrom (0 + length c) n = let e : 128 ≡ length c + n = omega arith in ap (countFrom 0) e ∙ countFrom-add 0 (length c) n in
+    let above : keep (member v) (countFrom (0 + length c) n) ≡ [] =
+    none-kept (member v) (0 + length c) n (λ a (k : 0 + length c ≤ a). fails (member v a) (λ t. omega (arith, known a t))) in
+    let kept : keep (member v) (countFrom 0 128) ≡ keep (member v) (countFrom 0 (length c)) =
+    ap (keep (member v)) whole ∙ keep-append (member v) (countFrom 0 (length c)) (countFrom (0 + length c) n) ∙ ap (λ (l : List ℕ). keep (member v) (countFrom 0 (length c)) ++ l) above ∙ append-nil (keep (member v) (countFrom 0 (length c))) in
+    sym (stakes-kept v (λ a. getD c a 0) 0 c (λ i. let e : 0 + i ≡ i = omega arith in rw e)) ∙ ap (λ (l : List ℕ). sumOf (map (λ a. getD c a 0) l)) (sym kept)
+
+-- ---- an aggregator
+
+-- counting a vote puts in its author and no other
+pub member-counted : (c : Committee) (g : StakeAggregator) (a b : AuthorityIndex) → member (counted c g a .votes) b ≡ member (g .votes) b || eqb b a
+unfolding counted
+member-counted c g a b = split (member (g .votes) a) refl
+  where
+    same : member (g .votes) a ≡ true → (t : Bool) → member (g .votes) b ≡ t → Dec (b ≡ a) → t ≡ t || eqb b a
+    same h true e d = refl
+    same h false e (no d) = sym (ne-eqb b a d)
+    same h false e (yes d) = sym e ∙ rw (d, h, eq-eqb a a refl)
+
+    split : (t : Bool) → member (g .votes) a ≡ t → member (pick t g (record { votes = inserted (g .votes) a; stake = g .stake + getStake c a }) .votes) b ≡ member (g .votes) b || eqb b a
+    split true e = same e (member (g .votes) b) refl (ℕ-discrete b a)
+    split false e = member-inserted (g .votes) a b
+
+-- ---- an aggregator that counts the votes of a list
+
+-- the aggregator's votes are those of the voters, all known, and its stake theirs
+pub record Counting (c : Committee) (voters : List AuthorityIndex) (g : StakeAggregator) : Type 0 where
+  pub inOrder : aggregatorInOrder c g ≡ true
+  pub allKnown : (a : AuthorityIndex) → a ∈ voters → known c a ≡ true
+  pub voted : (a : AuthorityIndex) → a ∈ voters → member (g .votes) a ≡ true
+  pub only : (a : AuthorityIndex) → member (g .votes) a ≡ true → a ∈ voters
+
+pub stake-right : (c : Committee) (g : StakeAggregator) → aggregatorInOrder c g ≡ true → g .stake ≡ stakeOf c (g .votes)
+unfolding aggregatorInOrder
+stake-right c g h = eqb-true (g .stake) (stakeOf c (g .votes)) (and-right (allOf (known c) (members (g .votes))) _ h)
+
+-- one more vote
+pub counts-more : (c : Committee) (voters : List AuthorityIndex) (g : StakeAggregator) (a : AuthorityIndex) → known c a ≡ true → Counting c voters g → Counting c (voters ++ a ∷ []) (counted c g a)
+counts-more c voters g a k n =
+    record {
+      inOrder = counted-in-order c g a k (n .inOrder);
+      allKnown = λ b m. either b (in-append voters m) (λ q. n .allKnown b q) (λ e. rw e k);
+      voted = λ b m. rw (member-counted c g a b) (either b (in-append voters m) (λ q. or-left (member (g .votes) b) (eqb b a) (n .voted b q)) (λ e. or-right (member (g .votes) b) (eqb b a) (eq-eqb b a e)));
+      only = λ b h. which b (or-cases (member (g .votes) b) (eqb b a) (sym (member-counted c g a b) ∙ h));
+    }
+  where
+    either : {P : Type 0} (b : AuthorityIndex) → (b ∈ voters) ⊎ (b ∈ (a ∷ [])) → (b ∈ voters → P) → (b ≡ a → P) → P
+    either b (inl q) f g = f q
+    either {P} b (inr q) f g = one (in-cases q)
+      where
+        one : (b ≡ a) ⊎ (b ∈ []) → P
+        one (inl e) = g e
+        one (inr m) = absurd (in-empty m)
+
+    which : (b : AuthorityIndex) → (member (g .votes) b ≡ true) ⊎ (eqb b a ≡ true) → b ∈ (voters ++ a ∷ [])
+    which b (inl h) = in-left (a ∷ []) (n .only b h)
+    which b (inr h) = in-right voters (in-first (eqb-true b a h))
+
+-- the first vote
+pub counts-first : (c : Committee) (a : AuthorityIndex) → known c a ≡ true → Counting c (a ∷ []) (counted c noVotes a)
+counts-first c a k =
+    counts-more c [] noVotes a k
+    (record { inOrder = noVotes-order c; allKnown = λ b m. absurd (in-empty m); voted = λ b m. absurd (in-empty m); only = λ b h. absurd (not-both h (member-nobody b)) })
+
+-- they hold quorum stake exactly where the aggregator does
+pub counts-quorum : (c : Committee) (voters : List AuthorityIndex) (g : StakeAggregator) → Counting c voters g → hasQuorum c g ≡ true → HoldQuorum c (λ a. a ∈ voters)
+unfolding hasQuorum
+counts-quorum c voters g n h = counted-quorum c (g .votes) (λ a. a ∈ voters) (λ a k e. n .only a e) (rw (stake-right c g (n .inOrder)) at h)
+
+pub quorum-counts : (c : Committee) (voters : List AuthorityIndex) (g : StakeAggregator) → Counting c voters g → HoldQuorum c (λ a. a ∈ voters) → hasQuorum c g ≡ true
+unfolding hasQuorum
+quorum-counts c voters g n q = rw (stake-right c g (n .inOrder)) (quorum-counted c (g .votes) (λ a. a ∈ voters) (λ a k m. n .voted a m) q)

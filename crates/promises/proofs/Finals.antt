@@ -1,0 +1,139 @@
+-- The parts of the third statement that are about finality: the finality question, the final list, and its independence of the order of feeds.
+-- Assumes nothing.
+use mathlib.Core.Path.{_≡_, refl, sym, ap, _∙_, subst}
+use mathlib.Core.Logic.{_↔_}
+use mathlib.Core.Bool.{true, false}
+use mathlib.Core.List.{List, [], _∷_, map}
+use mathlib.Core.Option.{Option·some-injective}
+use Prim.Native.Nat.{ℕ, _≤_, _<_}
+use native.Mathlib.Omega.{arith}
+use lib.ListN.{length, length-map}
+use borrow.Author.Tests.{le-ltb, lt-ltb}
+use Rattle.base.specs.Lists.{allOf, pairwise, _∈_}
+use Rattle.base.specs.Le.{Bytes}
+use Rattle.base.specs.Checks.{refusal, passes, refused, checked}
+use Rattle.base.proofs.Tests.{and-both}
+use Rattle.base.proofs.Members.{in-all, in-map, map-in}
+use Rattle.base.proofs.Lists.{every-in}
+use Rattle.committee.specs.Committee.{Committee, broken}
+use Rattle.types.specs.Reference.{TransactionLocator, locatorBefore}
+use Rattle.types.specs.Block.{Block}
+use Rattle.types.specs.Record.{blockOf}
+use Rattle.block_store.specs.Layout.{Record}
+use Rattle.block_store.specs.Store.{recordsOf}
+use Rattle.block_store.proofs.Store.{in-order, recordsOf-right, right-block}
+use Rattle.finalization_interpreter.specs.Ancestry.{Final}
+use Rattle.finalization_interpreter.specs.Voters.{isFinal}
+use Rattle.finalization_interpreter.specs.Finality.{blocksOf, certifyingPositions, finalityChecks, finality}
+use Rattle.finalization_interpreter.specs.Claims.{FinalMeant}
+use Rattle.finalization_interpreter.specs.NextFinal.{FinalList, finalList}
+use Rattle.finalization_interpreter.proofs.Claimed.{final-meant}
+use Rattle.finalization_interpreter.proofs.FinalList.{Ascending, none-left, and-then, final-list-ascending, final-list-in, final-list-order}
+use Rattle.finalization_interpreter.proofs.Asked.{in-order-stored, asked-on, asked-once}
+use Rattle.promises.specs.Feeds.{Engine, fresh, Accepted, storedBlocks, storedRecords}
+use Rattle.promises.specs.ThirdStatement.{AnsweredFinal, GivesFinal, Start, engineOf, acceptedOf, SameRecords}
+use Rattle.promises.proofs.Storing.{asRecord, StoreOf, fresh-holds, run-holds}
+
+-- ---- what a store that holds the accepted records answers
+
+blocks-in : (as′ : List Accepted) → map (λ (r : Record). r .block) (map asRecord as′) ≡ map (λ (a : Accepted). a .block) as′
+blocks-in [] = refl
+blocks-in (a ∷ as′) = ap {B = List Block} (λ bs. a .block ∷ bs) (blocks-in as′)
+
+pub blocks-are : (c : Committee) (s : Bytes) (as′ : List Accepted) → StoreOf c s as′ → blocksOf s ≡ storedBlocks as′
+unfolding blocksOf storedBlocks
+blocks-are c s as′ h = ap (λ (rs : List Record). map (λ (r : Record). r .block) rs) (h .records) ∙ blocks-in as′
+
+final-exactly : (c : Committee) (s : Bytes) (as′ : List Accepted) → broken c ≡ false → StoreOf c s as′ → (l : TransactionLocator) → (isFinal c (blocksOf s) l ≡ true) ↔ Final c (storedBlocks as′) l
+unfolding FinalMeant blocksOf
+final-exactly c s as′ b h l =
+    subst (λ (bs : List Block). (isFinal c (blocksOf s) l ≡ true) ↔ Final c bs l) (blocks-are c s as′ h)
+    (final-meant c (blocksOf s) (record { sound = b; records = recordsOf s; accepted = in-order c s (h .order) .accepted; blocks = refl }) l)
+
+as-many : (c : Committee) (s : Bytes) (as′ : List Accepted) → StoreOf c s as′ → length (recordsOf s) ≡ length as′
+as-many c s as′ h = ap (λ (rs : List Record). length rs) (h .records) ∙ length-map as′ asRecord
+
+-- "A locator is answered final exactly when ..": only 40 can refuse
+answered-final : (c : Committee) (g : Engine) (as′ : List Accepted) → broken c ≡ false → StoreOf c (g .store) as′ → (l : TransactionLocator) (ps : List ℕ)
+    → length as′ ≤ length ps → AnsweredFinal c g (storedBlocks as′) l ps
+unfolding finality finalityChecks checked passes refusal allOf
+answered-final c g as′ b h l ps k =
+    record {
+      final = isFinal c (blocksOf (g .store)) l;
+      certifying = length (certifyingPositions c (g .store) l);
+      answer = rw (b, h .order, le-ltb (length ps) (length (recordsOf (g .store))) (omega (arith, as-many c (g .store) as′ h)));
+      exactly = final-exactly c (g .store) as′ b h l;
+    }
+
+-- 01: "Only 40 can then refuse the finality question"
+short-refused : (c : Committee) (g : Engine) (as′ : List Accepted) → broken c ≡ false → StoreOf c (g .store) as′ → (l : TransactionLocator) (ps : List ℕ)
+    → length ps < length as′ → finality c (g .store) ps l .answer ≡ refused 40
+unfolding finality finalityChecks checked passes refusal allOf
+short-refused c g as′ b h l ps k = rw (b, h .order, lt-ltb (length ps) (length (recordsOf (g .store))) (omega (arith, as-many c (g .store) as′ h)))
+
+ascending-pairwise : {ls : List TransactionLocator} → Ascending ls → pairwise locatorBefore ls ≡ true
+unfolding pairwise
+ascending-pairwise none-left = refl
+ascending-pairwise (and-then {l = l} {ls = ls} h a) = and-both _ _ (in-all (locatorBefore l) ls h) (ascending-pairwise a)
+
+-- "the final list gives exactly these, ascending"
+gives-final : (c : Committee) (g : Engine) (as′ : List Accepted) → broken c ≡ false → StoreOf c (g .store) as′ → GivesFinal c g (storedBlocks as′)
+gives-final c g as′ b h =
+    let bs : List Block = blocksOf (g .store) in
+    record {
+      list = finalList c bs;
+      given = asked-on c (g .store) b (h .order);
+      exactly = λ l.
+          let e = final-list-in c bs l in
+          let f = final-exactly c (g .store) as′ b h l in
+          (λ m. f .0 (e .0 m), λ q. e .1 (f .1 q));
+      ascending = ascending-pairwise (final-list-ascending c bs);
+    }
+
+-- ---- the same records have the same blocks
+
+block-carried : (c d : Committee) (s t : Bytes) (xs ys : List Accepted) → StoreOf c s xs → StoreOf d t ys
+    → ((r : Bytes) → r ∈ storedRecords xs → r ∈ storedRecords ys) → (b : Block) → b ∈ blocksOf s → b ∈ blocksOf t
+unfolding blocksOf storedRecords
+block-carried c d s t xs ys h k f b m =
+    let y = map-in (λ (r : Record). r .block) (recordsOf s) m in
+    let r : Record = y .0 in
+    let x = map-in asRecord xs (subst (λ (rs : List Record). r ∈ rs) (h .records) (y .1)) in
+    let p : r .bytes ∈ map (λ (a : Accepted). a .bytes) xs =
+    subst (λ (z : Bytes). z ∈ map (λ (a : Accepted). a .bytes) xs) (ap (λ (z : Record). z .bytes) (x .2)) (in-map (λ (a : Accepted). a .bytes) (x .1)) in
+    let z = map-in (λ (a : Accepted). a .bytes) ys (f (r .bytes) p) in
+    let q : Record = asRecord (z .0) in
+    let there-too : q ∈ recordsOf t = subst (λ (rs : List Record). q ∈ rs) (sym (k .records)) (in-map asRecord (z .1)) in
+    let one-block : q .block ≡ r .block =
+    Option·some-injective _ _
+    (sym (right-block q (every-in (recordsOf t) q (recordsOf-right t) there-too)) ∙ ap blockOf (z .2) ∙ right-block r (every-in (recordsOf s) r (recordsOf-right s) (y .1))) in
+    subst (λ (e : Block). e ∈ map (λ (w : Record). w .block) (recordsOf t)) (one-block ∙ y .2) (in-map (λ (w : Record). w .block) there-too)
+
+-- ---- the parts of the third statement
+
+pub store-of : (c : Committee) (t : Start) → StoreOf c (engineOf c t .store) (acceptedOf c t)
+unfolding engineOf acceptedOf fresh
+store-of c t = run-holds c (fresh (t .past) (t .words)) (t .feeds) (fresh-holds c (t .past) (t .allowed))
+
+pub answers-final : (c : Committee) → broken c ≡ false → (t : Start) (l : TransactionLocator) (ps : List ℕ) → length (acceptedOf c t) ≤ length ps
+    → AnsweredFinal c (engineOf c t) (storedBlocks (acceptedOf c t)) l ps
+answers-final c b t = answered-final c (engineOf c t) (acceptedOf c t) b (store-of c t)
+
+pub answers-40 : (c : Committee) → broken c ≡ false → (t : Start) (l : TransactionLocator) (ps : List ℕ) → length ps < length (acceptedOf c t)
+    → finality c (engineOf c t .store) ps l .answer ≡ refused 40
+answers-40 c b t = short-refused c (engineOf c t) (acceptedOf c t) b (store-of c t)
+
+pub gives-finals : (c : Committee) → broken c ≡ false → (t : Start) → GivesFinal c (engineOf c t) (storedBlocks (acceptedOf c t))
+gives-finals c b t = gives-final c (engineOf c t) (acceptedOf c t) b (store-of c t)
+
+pub same-list : (c : Committee) → broken c ≡ false → (t u : Start) → SameRecords c t u → (ls ms : List TransactionLocator)
+    → FinalList c (engineOf c t .store) ls → FinalList c (engineOf c u .store) ms → ls ≡ ms
+same-list c b t u f ls ms x y =
+    let h = store-of c t in
+    let k = store-of c u in
+    let s : Bytes = engineOf c t .store in
+    let r : Bytes = engineOf c u .store in
+    asked-once c s x (asked-on c s b (h .order))
+    ∙ final-list-order c (in-order-stored c s (h .order)) (in-order-stored c r (k .order))
+    (λ e. (block-carried c c s r (acceptedOf c t) (acceptedOf c u) h k (λ z. f z .0) e, block-carried c c r s (acceptedOf c u) (acceptedOf c t) k h (λ z. f z .1) e))
+    ∙ asked-once c r (asked-on c r b (k .order)) y

@@ -1,0 +1,10 @@
+pub mod Computing
+pub mod Feeds
+pub mod Storing
+pub mod Finals
+pub mod Announced
+pub mod Standing
+pub mod Statements
+pub mod Shares
+pub mod Since
+pub mod ThirdStatement
