@@ -78,10 +78,10 @@ module _ {A : Type 0} where
     every-append [] ys none-of k = k
     every-append (x ∷ xs) ys (and h hs) k = and h (every-append xs ys hs k)
 
-    pub every-filter : (p : A → Bool) (xs : List A) → Every P xs → Every P (keep p xs)
+    pub every-keep : (p : A → Bool) (xs : List A) → Every P xs → Every P (keep p xs)
     unfolding keep
-    every-filter p [] none-of = none-of
-    every-filter p (x ∷ xs) (and h hs) = go (p x) (every-filter p xs hs)
+    every-keep p [] none-of = none-of
+    every-keep p (x ∷ xs) (and h hs) = go (p x) (every-keep p xs hs)
       where
         go : (t : Bool) → Every P (keep p xs) → Every P (pick t (x ∷ keep p xs) (keep p xs))
         go true k = and h k
@@ -92,13 +92,13 @@ module _ {A : Type 0} where
     pairs-append [] ys no-pairs k e = k
     pairs-append (x ∷ xs) ys (with-later h hs) k (and e es) = with-later (every-append xs ys h e) (pairs-append xs ys hs k es)
 
-    pub pairs-filter : (p : A → Bool) (xs : List A) → Pairs R xs → Pairs R (keep p xs)
+    pub pairs-keep : (p : A → Bool) (xs : List A) → Pairs R xs → Pairs R (keep p xs)
     unfolding keep
-    pairs-filter p [] no-pairs = no-pairs
-    pairs-filter p (x ∷ xs) (with-later h hs) = go (p x) (pairs-filter p xs hs)
+    pairs-keep p [] no-pairs = no-pairs
+    pairs-keep p (x ∷ xs) (with-later h hs) = go (p x) (pairs-keep p xs hs)
       where
         go : (t : Bool) → Pairs R (keep p xs) → Pairs R (pick t (x ∷ keep p xs) (keep p xs))
-        go true k = with-later (every-filter p xs h) k
+        go true k = with-later (every-keep p xs h) k
         go false k = k
 
 module _ {A B : Type 0} {P : A → Type 0} {Q : B → Type 0} where
@@ -136,10 +136,10 @@ module _ {A B : Type 0} {R : A → A → Type 0} {S : B → B → Type 0} where
 
 module _ {A : Type 0} {Q : A → Type 0} where
   -- what holds of the elements that pass a test
-  pub filter-every : (p : A → Bool) (xs : List A) → Every Q (keep p xs) → Every (λ x. p x ≡ true → Q x) xs
+  pub keep-every : (p : A → Bool) (xs : List A) → Every Q (keep p xs) → Every (λ x. p x ≡ true → Q x) xs
   unfolding keep
-  filter-every p [] h = none-of
-  filter-every p (x ∷ xs) h = and (first (p x) h) (filter-every p xs (others (p x) h))
+  keep-every p [] h = none-of
+  keep-every p (x ∷ xs) h = and (first (p x) h) (keep-every p xs (others (p x) h))
     where
       others : (t : Bool) → Every Q (pick t (x ∷ keep p xs) (keep p xs)) → Every Q (keep p xs)
       others true (and q qs) = qs
@@ -149,10 +149,10 @@ module _ {A : Type 0} {Q : A → Type 0} where
       first true (and q qs) e = q
       first false qs e = absurd (not-both e refl)
 
-  pub every-filtered : (p : A → Bool) (xs : List A) → Every (λ x. p x ≡ true → Q x) xs → Every Q (keep p xs)
+  pub every-kept : (p : A → Bool) (xs : List A) → Every (λ x. p x ≡ true → Q x) xs → Every Q (keep p xs)
   unfolding keep
-  every-filtered p [] none-of = none-of
-  every-filtered p (x ∷ xs) (and h hs) = go (p x) refl (every-filtered p xs hs)
+  every-kept p [] none-of = none-of
+  every-kept p (x ∷ xs) (and h hs) = go (p x) refl (every-kept p xs hs)
     where
       go : (t : Bool) → p x ≡ t → Every Q (keep p xs) → Every Q (pick t (x ∷ keep p xs) (keep p xs))
       go true e k = and (h e) k
@@ -213,10 +213,10 @@ module _ {A : Type 0} where
   holds-some p none h = absurd (not-both h refl)
   holds-some p (some a) h = (a, refl, h)
 
-  pub length-filter : (p : A → Bool) (xs : List A) → length (keep p xs) ≤ length xs
+  pub length-keep : (p : A → Bool) (xs : List A) → length (keep p xs) ≤ length xs
   unfolding keep
-  length-filter p [] = omega arith
-  length-filter p (x ∷ xs) = go (p x) (length-filter p xs)
+  length-keep p [] = omega arith
+  length-keep p (x ∷ xs) = go (p x) (length-keep p xs)
     where
       go : (t : Bool) → length (keep p xs) ≤ length xs → length (pick t (x ∷ keep p xs) (keep p xs)) ≤ suc (length xs)
       go true h = omega arith

@@ -81,19 +81,19 @@ module _ {A : Type 0} where
   in-all p (x ∷ xs) f = and-both (p x) (allOf p xs) (f x here) (in-all p xs (λ y m. f y (there m)))
 
   -- the elements of which a test holds
-  pub in-filter : (p : A → Bool) {x : A} (xs : List A) → x ∈ xs → p x ≡ true → x ∈ keep p xs
+  pub in-keep : (p : A → Bool) {x : A} (xs : List A) → x ∈ xs → p x ≡ true → x ∈ keep p xs
   unfolding keep
-  in-filter p (x ∷ xs) here h = rw h here
-  in-filter p {x} (y ∷ xs) (there m) h = kept (p y) (in-filter p xs m h)
+  in-keep p (x ∷ xs) here h = rw h here
+  in-keep p {x} (y ∷ xs) (there m) h = kept (p y) (in-keep p xs m h)
     where
       kept : (t : Bool) → x ∈ keep p xs → x ∈ pick t (y ∷ keep p xs) (keep p xs)
       kept true k = there k
       kept false k = k
 
-  pub filter-in : (p : A → Bool) {x : A} (xs : List A) → x ∈ keep p xs → (x ∈ xs) × (p x ≡ true)
+  pub keep-in : (p : A → Bool) {x : A} (xs : List A) → x ∈ keep p xs → (x ∈ xs) × (p x ≡ true)
   unfolding keep
-  filter-in p [] m = absurd (in-empty m)
-  filter-in p {x} (y ∷ xs) m = split (p y) refl (λ k. filter-in p xs k) m
+  keep-in p [] m = absurd (in-empty m)
+  keep-in p {x} (y ∷ xs) m = split (p y) refl (λ k. keep-in p xs k) m
     where
       first : p y ≡ true → (x ∈ keep p xs → (x ∈ xs) × (p x ≡ true)) → (x ≡ y) ⊎ (x ∈ keep p xs) → (x ∈ (y ∷ xs)) × (p x ≡ true)
       first e f (inl q) = (in-first q, rw q e)

@@ -4,7 +4,7 @@ use mathlib.Core.List.{List, _∷_}
 use Prim.Native.Nat.{ℕ, zero, suc, _+_}
 use native.Mathlib.Omega.{arith}
 use Rattle.base.specs.Lists.{pick, keep, countFrom, Once, empty, also}
-use Rattle.base.proofs.Members.{filter-in, countFrom-in}
+use Rattle.base.proofs.Members.{keep-in, countFrom-in}
 
 -- the numbers from i on
 pub once-countFrom : (i n : ℕ) → Once (countFrom i n)
@@ -19,5 +19,5 @@ once-keep p empty = empty
 once-keep p (also {x} {xs} f o) = go (p x) (once-keep p o)
   where
     go : (t : Bool) → Once (keep p xs) → Once (pick t (x ∷ keep p xs) (keep p xs))
-    go true k = also (λ m. f (filter-in p xs m .0)) k
+    go true k = also (λ m. f (keep-in p xs m .0)) k
     go false k = k

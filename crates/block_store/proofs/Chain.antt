@@ -7,7 +7,7 @@ use Prim.Native.Nat.{ℕ}
 use Rattle.base.specs.Lists.{pick, anyOf, keep}
 use Rattle.base.specs.Checks.{passes}
 use Rattle.base.proofs.Tests.{fails, and-left, and-right, neither-left, neither-right}
-use Rattle.base.proofs.Lists.{Every, none-of, and, every, every-filter, Pairs, no-pairs, with-later}
+use Rattle.base.proofs.Lists.{Every, none-of, and, every, every-keep, Pairs, no-pairs, with-later}
 use Rattle.committee.specs.Committee.{Committee}
 use Rattle.types.specs.Reference.{BlockReference, sameReference, referenceBefore}
 use Rattle.types.proofs.References.{reference-irrefl, reference-trans, reference-asymmetric, reference-other, differ-other}
@@ -92,15 +92,15 @@ placed-first e [] none-of = refl
 placed-first e (d ∷ ds) (and h hs) = rw h
 
 -- some of the entries, sorted, are those of the sorted entries
-filter-placed : (p : Entry → Bool) (e : Entry) (ds : List Entry) → Ascending ds → keep p (placed e ds) ≡ pick (p e) (placed e (keep p ds)) (keep p ds)
+keep-placed : (p : Entry → Bool) (e : Entry) (ds : List Entry) → Ascending ds → keep p (placed e ds) ≡ pick (p e) (placed e (keep p ds)) (keep p ds)
 unfolding placed keep
-filter-placed p e [] no-pairs = refl
-filter-placed p e (d ∷ ds) (with-later h hs) = go (lower e d) refl (filter-placed p e ds hs)
+keep-placed p e [] no-pairs = refl
+keep-placed p e (d ∷ ds) (with-later h hs) = go (lower e d) refl (keep-placed p e ds hs)
   where
     go : (t : Bool) → lower e d ≡ t → keep p (placed e ds) ≡ pick (p e) (placed e (keep p ds)) (keep p ds)
         → keep p (pick t (e ∷ d ∷ ds) (d ∷ placed e ds)) ≡ pick (p e) (placed e (keep p (d ∷ ds))) (keep p (d ∷ ds))
     go true l ih =
-        rw (placed-first e (keep p (d ∷ ds)) (every-filter p (d ∷ ds) (and l (every (λ f k. lower-transitive e d f l k) ds h))))
+        rw (placed-first e (keep p (d ∷ ds)) (every-keep p (d ∷ ds) (and l (every (λ f k. lower-transitive e d f l k) ds h))))
     go false l ih = by-tests (p d) (p e) ih
       where
         by-tests : (u v : Bool) → keep p (placed e ds) ≡ pick v (placed e (keep p ds)) (keep p ds)
@@ -110,10 +110,10 @@ filter-placed p e (d ∷ ds) (with-later h hs) = go (lower e d) refl (filter-pla
         by-tests false true q = q
         by-tests false false q = q
 
-ascending-filter : (p : Entry → Bool) (es : List Entry) → Distinct es → ascending (keep p es) ≡ keep p (ascending es)
+ascending-keep : (p : Entry → Bool) (es : List Entry) → Distinct es → ascending (keep p es) ≡ keep p (ascending es)
 unfolding ascending keep
-ascending-filter p [] no-pairs = refl
-ascending-filter p (e ∷ es) (with-later h hs) = go (p e) refl (ascending-filter p es hs) ∙ sym (filter-placed p e (ascending es) (ascending-ascends es hs))
+ascending-keep p [] no-pairs = refl
+ascending-keep p (e ∷ es) (with-later h hs) = go (p e) refl (ascending-keep p es hs) ∙ sym (keep-placed p e (ascending es) (ascending-ascends es hs))
   where
     go : (t : Bool) → p e ≡ t → ascending (keep p es) ≡ keep p (ascending es)
         → ascending (pick t (e ∷ keep p es) (keep p es)) ≡ pick (p e) (placed e (keep p (ascending es))) (keep p (ascending es))
@@ -122,15 +122,15 @@ ascending-filter p (e ∷ es) (with-later h hs) = go (p e) refl (ascending-filte
 
 -- ---- the chain
 
-filter-all : (p : Entry → Bool) (es : List Entry) → Every (λ e. p e ≡ true) es → keep p es ≡ es
+keep-all : (p : Entry → Bool) (es : List Entry) → Every (λ e. p e ≡ true) es → keep p es ≡ es
 unfolding keep
-filter-all p [] none-of = refl
-filter-all p (e ∷ es) (and h hs) = rw (h, filter-all p es hs)
+keep-all p [] none-of = refl
+keep-all p (e ∷ es) (and h hs) = rw (h, keep-all p es hs)
 
 -- of ascending entries, those above one are those after it
 after : (xs ys : List Entry) (e : Entry) → Ascending (xs ++ e ∷ ys) → keep (lower e) (xs ++ e ∷ ys) ≡ ys
 unfolding keep
-after [] ys e (with-later h hs) = rw (lower-self e) (filter-all (lower e) ys h)
+after [] ys e (with-later h hs) = rw (lower-self e) (keep-all (lower e) ys h)
 after (x ∷ xs) ys e (with-later h hs) = rw (lower-not x e (at xs h)) (after xs ys e hs)
   where
     at : (zs : List Entry) → Every (λ d. lower x d ≡ true) (zs ++ e ∷ ys) → lower x e ≡ true
@@ -146,7 +146,7 @@ pub next-after : (es xs ys : List Entry) (e : Entry) → Distinct es → ascendi
 unfolding nextPosition
 next-after es xs ys e d h =
     let up : Ascending (xs ++ e ∷ ys) = rw h at (ascending-ascends es d) in
-    rw (least-first (keep (lower e) es), ascending-filter (lower e) es d, h, after xs ys e up)
+    rw (least-first (keep (lower e) es), ascending-keep (lower e) es d, h, after xs ys e up)
 
 chained-from : (es xs ys : List Entry) → Distinct es → ascending es ≡ xs ++ ys → Chain es (positionOf (first ys)) ys
 unfolding positionOf first

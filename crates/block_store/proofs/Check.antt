@@ -13,7 +13,7 @@ use Rattle.base.specs.Lists.{pick, allOf, _∈_, here, there}
 use Rattle.base.specs.Le.{Bytes, leBytes, leAt, leNumber}
 use Rattle.base.specs.Read.{Part}
 use Rattle.base.proofs.Tests.{and-left, and-right, same-test, fails}
-use Rattle.base.proofs.Lists.{append-nil, Every, none-of, and, every, every-filter, all-every, every-all, Pairs, no-pairs, with-later, pairwise-pairs, pairs-pairwise}
+use Rattle.base.proofs.Lists.{append-nil, Every, none-of, and, every, every-keep, all-every, every-all, Pairs, no-pairs, with-later, pairwise-pairs, pairs-pairwise}
 use Rattle.base.proofs.Le.{AllBytes, bytes-left, length-leBytes, leBytes-leNumber, leNumber-leBytes, leAt-add}
 use Rattle.base.proofs.Read.{part}
 use Rattle.base.proofs.Parts.{PartOf, part-taken, part-complete, part-left, part-right, part-part, part-at, part-same}
@@ -241,7 +241,7 @@ module _ (s : Bytes) (rs : List Record) (t : Bytes) (split : s ≡ layout rs ++ 
           let h : Bytes = headerBytes rs in
           let own : Bytes = leBytes 4 v in
           let p = body-part es rs e m in
-          number-part 4 v s (e .position) (omega (arith, least-below (usedBy rs) (omega (arith, length-body [] rs)) _ (every-filter (λ d. referenceBefore (referenceOf e) (referenceOf d)) es (entries-below rs))))
+          number-part 4 v s (e .position) (omega (arith, least-below (usedBy rs) (omega (arith, length-body [] rs)) _ (every-keep (λ d. referenceBefore (referenceOf e) (referenceOf d)) es (entries-below rs))))
           (part-at s own (length h + (p .0 + 0)) (e .position) (omega (arith, length-header rs, p .2))
           (part-same s (layout rs ++ t) own _ split
           (part-left (layout rs) own t _

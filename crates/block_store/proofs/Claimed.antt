@@ -11,7 +11,7 @@ use borrow.Author.Tests.{le-leb}
 use Rattle.base.specs.Lists.{pick, keep, _∈_, here, there}
 use Rattle.base.specs.Le.{Bytes}
 use Rattle.base.proofs.Tests.{fails, not-both}
-use Rattle.base.proofs.Members.{in-empty, in-cases, in-filter, filter-in}
+use Rattle.base.proofs.Members.{in-empty, in-cases, in-keep, keep-in}
 use Rattle.types.proofs.References.{reference-trans}
 use Rattle.block_store.specs.Layout.{Entry, referenceOf, lesser, least, positionOf, nextPosition, usedBy, layout}
 use Rattle.block_store.specs.Store.{allowedLength, storeHolding}
@@ -78,11 +78,11 @@ unfolding ChainMeant nextPosition positionOf
 chain-meant es e = go (least (keep (lower e) es)) refl
   where
     go : (o : Option Entry) → least (keep (lower e) es) ≡ o → NextOf es e (positionOf o)
-    go none k = last (λ f m. fails (lower e f) (λ t. least-none (keep (lower e) es) k f (in-filter (lower e) es m t)))
+    go none k = last (λ f m. fails (lower e f) (λ t. least-none (keep (lower e) es) k f (in-keep (lower e) es m t)))
     go (some d) k =
         let l : LeastOf (keep (lower e) es) d = least-of (keep (lower e) es) d k in
-        let r = filter-in (lower e) es (l .stands) in
-        next d (r .0) (r .1) (λ f m t. l .lowest f (in-filter (lower e) es m t))
+        let r = keep-in (lower e) es (l .stands) in
+        next d (r .0) (r .1) (λ f m t. l .lowest f (in-keep (lower e) es m t))
 
 pub fresh-in-order : FreshInOrder
 unfolding FreshInOrder allowedLength storeHolding usedBy

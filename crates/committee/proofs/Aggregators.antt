@@ -12,7 +12,7 @@ use Rattle.base.specs.Lists.{pick, allOf, countFrom, _∈_}
 use Rattle.base.specs.Checks.{passes}
 use Rattle.base.proofs.Checks.{passes-first, passes-others}
 use Rattle.base.proofs.Tests.{not-both, and-both, and-left, and-right, or-cases}
-use Rattle.base.proofs.Members.{in-filter, filter-in, all-in, in-all}
+use Rattle.base.proofs.Members.{in-keep, keep-in, all-in, in-all}
 use Rattle.committee.specs.Committee.{AuthorityIndex, Committee, committeeChecks, broken, known, getStake}
 use Rattle.committee.specs.AuthoritySet.{AuthoritySet, nobody, stakeFrom, member, inserted, members, stakeOf}
 use Rattle.committee.specs.StakeAggregator.{StakeAggregator, noVotes, counted, aggregatorInOrder}
@@ -35,12 +35,12 @@ counted-in-order c g a k h = split (member (g .votes) a) refl
     held = sym (eqb-true (g .stake) (stakeOf c (g .votes)) (and-right (allOf (known c) (members (g .votes))) _ h))
 
     was : (b : AuthorityIndex) → b ∈ countFrom 0 128 → (member (g .votes) b ≡ true) ⊎ (eqb b a ≡ true) → known c b ≡ true
-    was b m (inl e) = all-in (known c) (members (g .votes)) (and-left _ _ h) (in-filter (member (g .votes)) (countFrom 0 128) m e)
+    was b m (inl e) = all-in (known c) (members (g .votes)) (and-left _ _ h) (in-keep (member (g .votes)) (countFrom 0 128) m e)
     was b m (inr e) = ap (known c) (eqb-true b a e) ∙ k
 
     all-known : allOf (known c) (members (inserted (g .votes) a)) ≡ true
     all-known = in-all (known c) (members (inserted (g .votes) a)) (λ b m.
-        let r = filter-in (member (inserted (g .votes) a)) (countFrom 0 128) m in
+        let r = keep-in (member (inserted (g .votes) a)) (countFrom 0 128) m in
         was b (r .0) (or-cases (member (g .votes) b) (eqb b a) (sym (member-inserted (g .votes) a b) ∙ r .1)))
 
     split : (t : Bool) → member (g .votes) a ≡ t → aggregatorInOrder c (pick t g (record { votes = inserted (g .votes) a; stake = g .stake + getStake c a })) ≡ true
@@ -73,7 +73,7 @@ stake-nobody (s ∷ c) i = rw (member-nobody i, stake-nobody c (i + 1))
 pub noVotes-order : (c : Committee) → aggregatorInOrder c noVotes ≡ true
 unfolding aggregatorInOrder stakeOf members
 noVotes-order c =
-    and-both _ _ (in-all (known c) (members nobody) (λ b m. absurd (not-both (filter-in (member nobody) (countFrom 0 128) m .1) (member-nobody b))))
+    and-both _ _ (in-all (known c) (members nobody) (λ b m. absurd (not-both (keep-in (member nobody) (countFrom 0 128) m .1) (member-nobody b))))
     (eq-eqb 0 (stakeFrom 0 c nobody) (sym (stake-nobody c 0)))
 
 -- a committee that is not broken has at most 128 members

@@ -11,7 +11,7 @@ use Rattle.base.specs.Lists.{pick, allOf, sumOf, countFrom}
 use Rattle.base.specs.Checks.{passes}
 use Rattle.base.proofs.Checks.{passes-first, passes-others}
 use Rattle.base.proofs.Loops.{drop-next}
-use Rattle.base.proofs.Members.{filter-in, in-all, all-in, in-filter, in-countFrom, countFrom-in}
+use Rattle.base.proofs.Members.{keep-in, in-all, all-in, in-keep, in-countFrom, countFrom-in}
 use Rattle.base.proofs.Tests.{fails, not-both}
 use Rattle.committee.specs.Committee.{AuthorityIndex, Stake, Committee, totalStake, committeeChecks, broken, known, getStake}
 use Rattle.committee.specs.AuthoritySet.{AuthoritySet, member, members, stakeFrom, stakeOf}
@@ -53,7 +53,7 @@ total-most c h =
 -- a set is known where no number past the committee is in it, and unknown where one is
 pub members-known : (c : Committee) (v : AuthoritySet) → ((a : AuthorityIndex) → length c ≤ a → a < 128 → member v a ≡ false) → allOf (known c) (members v) ≡ true
 unfolding members known
-members-known c v h = in-all (known c) (members v) (λ a m. let k = filter-in (member v) (countFrom 0 128) m in within a (countFrom-in 0 128 (k .0) .1) (k .1))
+members-known c v h = in-all (known c) (members v) (λ a m. let k = keep-in (member v) (countFrom 0 128) m in within a (countFrom-in 0 128 (k .0) .1) (k .1))
   where
     within : (a : AuthorityIndex) → a < 0 + 128 → member v a ≡ true → known c a ≡ true
     within a l e = not-below a l e (decLt a (length c))
@@ -65,4 +65,4 @@ members-known c v h = in-all (known c) (members v) (λ a m. let k = filter-in (m
 pub members-unknown : (c : Committee) (v : AuthoritySet) (a : AuthorityIndex) → length c ≤ a → a < 128 → member v a ≡ true → allOf (known c) (members v) ≡ false
 unfolding members known
 members-unknown c v a h l e =
-    fails (allOf (known c) (members v)) (λ k. not-both (all-in (known c) (members v) k (in-filter (member v) (countFrom 0 128) (in-countFrom 0 128 a (omega arith) (omega arith)) e)) (le-ltb a (length c) h))
+    fails (allOf (known c) (members v)) (λ k. not-both (all-in (known c) (members v) k (in-keep (member v) (countFrom 0 128) (in-countFrom 0 128 a (omega arith) (omega arith)) e)) (le-ltb a (length c) h))

@@ -13,7 +13,7 @@ use Rattle.base.specs.Lists.{pick, allOf, keep, countFrom, sumOf, _∈_, Once}
 use Rattle.base.proofs.Tests.{fails, not-both, and-right, or-cases, or-left, or-right}
 use Rattle.base.proofs.Lists.{countFrom-add, keep-append}
 use Rattle.base.proofs.Once.{once-countFrom, once-keep}
-use Rattle.base.proofs.Members.{in-empty, in-cases, in-first, in-left, in-right, in-append, in-filter, filter-in, in-countFrom}
+use Rattle.base.proofs.Members.{in-empty, in-cases, in-first, in-left, in-right, in-append, in-keep, keep-in, in-countFrom}
 use Rattle.committee.specs.Committee.{AuthorityIndex, Committee, known, getStake}
 use Rattle.committee.specs.AuthoritySet.{AuthoritySet, member, members, inserted, stakeFrom, stakeOf}
 use Rattle.committee.specs.StakeAggregator.{StakeAggregator, noVotes, counted, hasQuorum, aggregatorInOrder}
@@ -30,11 +30,11 @@ members-once v = once-keep (member v) (once-countFrom 0 128)
 
 pub members-in : (v : AuthoritySet) (a : AuthorityIndex) → a ∈ members v → member v a ≡ true
 unfolding members
-members-in v a m = filter-in (member v) (countFrom 0 128) m .1
+members-in v a m = keep-in (member v) (countFrom 0 128) m .1
 
 pub in-members : (v : AuthoritySet) (a : AuthorityIndex) → a < 128 → member v a ≡ true → a ∈ members v
 unfolding members
-in-members v a k h = in-filter (member v) (countFrom 0 128) (in-countFrom 0 128 a (omega arith) (omega arith)) h
+in-members v a k h = in-keep (member v) (countFrom 0 128) (in-countFrom 0 128 a (omega arith) (omega arith)) h
 
 -- ---- their stakes
 

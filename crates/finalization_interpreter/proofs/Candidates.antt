@@ -10,7 +10,7 @@ use native.Mathlib.Omega.{arith}
 use native.Mathlib.Decide.{ℕ-discrete}
 use Rattle.base.specs.Lists.{anyOf, keep, _∈_, here}
 use Rattle.base.proofs.Tests.{and-both, and-left, and-right, fails, not-both, holds-or-not}
-use Rattle.base.proofs.Members.{in-left, in-right, in-flatten, in-map, any-in, in-any, in-filter, filter-in}
+use Rattle.base.proofs.Members.{in-left, in-right, in-flatten, in-map, any-in, in-any, in-keep, keep-in}
 use Rattle.committee.specs.Committee.{Committee}
 use Rattle.types.specs.Reference.{BlockReference, TransactionLocator, TransactionLocatorRange, locator, sameLocator, referenceBefore, locatorBefore}
 use Rattle.types.specs.Block.{Block, spans}
@@ -133,12 +133,12 @@ module _ (c : Committee) (bs : List Block) (after : Option TransactionLocator) w
       split (byOffset e k) = byOffset (b .block ∙ e) (omega (arith, b .offset))
 
   below-in : {l : TransactionLocator} (b : Below c bs after l) → b .place ∈ keep (λ x. isAfter after x && isFinal c bs x) (candidates bs after)
-  below-in b = in-filter (λ x. isAfter after x && isFinal c bs x) (candidates bs after) (b .candidate) (and-both _ _ (b .later) (b .final))
+  below-in b = in-keep (λ x. isAfter after x && isFinal c bs x) (candidates bs after) (b .candidate) (and-both _ _ (b .later) (b .final))
 
   least-of : {o : Option TransactionLocator} → Least (keep (λ x. isAfter after x && isFinal c bs x) (candidates bs after)) o → LeastFinal c bs after o
   least-of (no-one f) = nothing (λ m h. fails (isFinal c bs m) (λ k. f _ (below-in (candidate-below (m .offset) m refl k h))))
   least-of (one-of l m f) =
-      let r = filter-in (λ x. isAfter after x && isFinal c bs x) (candidates bs after) m in
+      let r = keep-in (λ x. isAfter after x && isFinal c bs x) (candidates bs after) m in
       least l (and-right (isAfter after l) (isFinal c bs l) (r .1)) (and-left (isAfter after l) (isFinal c bs l) (r .1))
       (λ x k h. fails (locatorBefore x l) (λ e. let b = candidate-below (x .offset) x refl k h in not-both (still-before l b e) (f (b .place) (below-in b))))
 

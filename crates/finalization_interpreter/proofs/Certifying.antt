@@ -6,7 +6,7 @@ use Prim.Native.Nat.{suc}
 use lib.ListN.{length, length-map}
 use Rattle.base.specs.Lists.{pick, keep, _∈_, here, there}
 use Rattle.base.specs.Le.{Bytes}
-use Rattle.base.proofs.Lists.{Every, none-of, and, every-in, pairs-filter}
+use Rattle.base.proofs.Lists.{Every, none-of, and, every-in, pairs-keep}
 use Rattle.committee.specs.Committee.{Committee}
 use Rattle.types.specs.Reference.{TransactionLocator, referenceBefore}
 use Rattle.types.specs.Block.{Block}
@@ -56,7 +56,7 @@ in-ascending x (e ∷ es) (there m) = placed-other e x (ascending es) (in-ascend
 pub certifying-ascends : (c : Committee) (s : Bytes) (l : TransactionLocator) → storeInOrder c s ≡ true
     → Ascending (keep (λ e. certifies c (blocksOf s) l (e .block)) (ascending (entries (recordsOf s))))
 certifying-ascends c s l h =
-    pairs-filter (λ e. certifies c (blocksOf s) l (e .block)) (ascending (entries (recordsOf s)))
+    pairs-keep (λ e. certifies c (blocksOf s) l (e .block)) (ascending (entries (recordsOf s)))
     (ascending-ascends (entries (recordsOf s)) (distinct c (recordsOf s) (in-order c s h .accepted)))
 
 -- 01: "the number of certifying blocks": as many positions as certifiers

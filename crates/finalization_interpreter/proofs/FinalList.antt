@@ -8,7 +8,7 @@ use native.Mathlib.Omega.{arith}
 use native.Mathlib.Decide.{ℕ-discrete}
 use Rattle.base.specs.Lists.{pick, keep, countFrom, _∈_, here, there}
 use Rattle.base.proofs.Tests.{not-both, holds-or-not}
-use Rattle.base.proofs.Members.{in-empty, in-cases, in-first, in-flatten, in-map, in-filter, filter-in}
+use Rattle.base.proofs.Members.{in-empty, in-cases, in-first, in-flatten, in-map, in-keep, keep-in}
 use Rattle.committee.specs.Committee.{Committee}
 use Rattle.types.specs.Reference.{TransactionLocator, TransactionLocatorRange, locator, sameLocator, locatorBefore, offsets, locators}
 use Rattle.types.specs.Block.{Block, spans}
@@ -46,13 +46,13 @@ ascending-unique (and-then {l = x} {ls = xs} h a) (and-then {l = y} {ls = ys} k 
     later {p} before-all e z m (inl d) = absurd (locator-irrefl p (rw (d ∙ sym e) at (before-all z m)))
     later before-all e z m (inr n) = n
 
-pub filter-ascending : (p : TransactionLocator → Bool) {ls : List TransactionLocator} → Ascending ls → Ascending (keep p ls)
+pub keep-ascending : (p : TransactionLocator → Bool) {ls : List TransactionLocator} → Ascending ls → Ascending (keep p ls)
 unfolding keep
-filter-ascending p none-left = none-left
-filter-ascending p (and-then {l = l} {ls = ls} h a) = split (p l) (filter-ascending p a)
+keep-ascending p none-left = none-left
+keep-ascending p (and-then {l = l} {ls = ls} h a) = split (p l) (keep-ascending p a)
   where
     split : (t : Bool) → Ascending (keep p ls) → Ascending (pick t (l ∷ keep p ls) (keep p ls))
-    split true b = and-then (λ m k. h m (filter-in p ls k .0)) b
+    split true b = and-then (λ m k. h m (keep-in p ls k .0)) b
     split false b = b
 
 -- ---- putting locators in order
@@ -162,14 +162,14 @@ final-voted c bs l h = let v = final-votes c bs l h in in-flatten (vote-voted (v
 
 pub final-list-ascending : (c : Committee) (bs : List Block) → Ascending (finalList c bs)
 unfolding finalList
-final-list-ascending c bs = filter-ascending (isFinal c bs) (ascending-locators (flatten (map voted bs)))
+final-list-ascending c bs = keep-ascending (isFinal c bs) (ascending-locators (flatten (map voted bs)))
 
 -- it holds the final locators and no others
 pub final-list-in : (c : Committee) (bs : List Block) (l : TransactionLocator) → (l ∈ finalList c bs) ↔ (isFinal c bs l ≡ true)
 unfolding finalList
 final-list-in c bs l = (
-  λ m. filter-in (isFinal c bs) (ascendingLocators (flatten (map voted bs))) m .1,
-  λ e. in-filter (isFinal c bs) (ascendingLocators (flatten (map voted bs))) (in-ascending l (flatten (map voted bs)) (final-voted c bs l e)) e,
+  λ m. keep-in (isFinal c bs) (ascendingLocators (flatten (map voted bs))) m .1,
+  λ e. in-keep (isFinal c bs) (ascendingLocators (flatten (map voted bs))) (in-ascending l (flatten (map voted bs)) (final-voted c bs l e)) e,
 )
 
 -- order: the final list depends on which blocks are stored alone

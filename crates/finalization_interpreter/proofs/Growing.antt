@@ -10,7 +10,7 @@ use lib.ListN.{length}
 use borrow.Author.Tests.{lt-ltb, ltb-true}
 use Rattle.base.specs.Lists.{pick, anyOf, _∈_, here, there}
 use Rattle.base.proofs.Tests.{and-both, and-left, and-right, or-cases, or-left, or-right, not-both}
-use Rattle.base.proofs.Members.{any-in, in-any, in-map, map-in, in-filter, filter-in}
+use Rattle.base.proofs.Members.{any-in, in-any, in-map, map-in, in-keep, keep-in}
 use Rattle.committee.specs.Committee.{AuthorityIndex, Committee, Stake, totalStake, isQuorum}
 use Rattle.committee.specs.AuthoritySet.{AuthoritySet, nobody, member, inserted, united, setOf, stakeOf}
 use Rattle.committee.proofs.Votes.{member-nobody, member-united, member-setOf}
@@ -110,9 +110,9 @@ module _ (c : Committee) (bs : List Block) (l m : TransactionLocator) (f : (d : 
       authors a k e =
           let x = any-in (eqb a) (map author (certifiers c bs l)) (sym (member-setOf (map author (certifiers c bs l)) a) ∙ e) in
           let b = map-in author (certifiers c bs l) (x .1) in
-          let s = filter-in (certifies c bs l) bs (b .1) in
+          let s = keep-in (certifies c bs l) bs (b .1) in
           member-setOf (map author (certifiers c bs m)) a
-          ∙ in-any (eqb a) (in-map author (in-filter (certifies c bs m) bs (s .0) (certifies-mono (b .0) (s .1)))) (ap (λ (n : AuthorityIndex). eqb a n) (b .2) ∙ x .2)
+          ∙ in-any (eqb a) (in-map author (in-keep (certifies c bs m) bs (s .0) (certifies-mono (b .0) (s .1)))) (ap (λ (n : AuthorityIndex). eqb a n) (b .2) ∙ x .2)
 
 -- a final locator has a vote
 pub final-votes : (c : Committee) (bs : List Block) (l : TransactionLocator) → isFinal c bs l ≡ true → VoteAmong bs l
@@ -122,7 +122,7 @@ final-votes c bs l h =
     let q = quorum-member c (λ a. member all-of a ≡ true) (counted-quorum c all-of (λ a. member all-of a ≡ true) (λ a k e. e) h) in
     let x = any-in (eqb (q .0)) (map author (certifiers c bs l)) (sym (member-setOf (map author (certifiers c bs l)) (q .0)) ∙ q .1) in
     let b = map-in author (certifiers c bs l) (x .1) in
-    let s = filter-in (certifies c bs l) bs (b .1) in
+    let s = keep-in (certifies c bs l) bs (b .1) in
     let vs : AuthoritySet = voters bs l (b .0 .reference) in
     let v = quorum-member c (λ a. member vs a ≡ true) (counted-quorum c vs (λ a. member vs a ≡ true) (λ a k e. e) (and-right (not (b .0 .marked)) _ (s .1))) in
     voter-votes bs l (b .0 .reference) (v .0) (v .1)

@@ -12,7 +12,7 @@ use lib.Dec.{ltb, leb, eqb}
 use borrow.Author.Tests.{lt-ltb, le-ltb, le-leb, lt-leb, ltb-true, ltb-false, leb-true, eqb-true, eqb-false, eq-eqb, ne-eqb}
 use Rattle.base.specs.Lists.{pick, anyOf, find, keep}
 use Rattle.base.proofs.Tests.{and-left, and-right}
-use Rattle.base.proofs.Lists.{Every, none-of, and, every, every-one, every-filter, every-map, every-flatten, Pairs, no-pairs, with-later, pairs-filter, pairs-map, pairs-flatten}
+use Rattle.base.proofs.Lists.{Every, none-of, and, every, every-one, every-keep, every-map, every-flatten, Pairs, no-pairs, with-later, pairs-keep, pairs-map, pairs-flatten}
 use Rattle.committee.specs.Committee.{AuthorityIndex, Committee, totalStake, isQuorum}
 use Rattle.committee.specs.StakeAggregator.{StakeAggregator, noVotes, counted, hasQuorum}
 use Rattle.types.specs.Reference.{TransactionLocatorRange, within}
@@ -313,7 +313,7 @@ ordered-voteOver c a q s e xs h =
 -- so does leaving
 pub ordered-afterLeaving : (c : Committee) (q s e : ℕ) (xs : List Item) → Ordered xs → Ordered (afterLeaving c q s e xs)
 unfolding afterLeaving
-ordered-afterLeaving c q s e xs h = pairs-filter _ xs h
+ordered-afterLeaving c q s e xs h = pairs-keep _ xs h
 
 -- ---- leaving
 
@@ -364,7 +364,7 @@ module _ (c : Committee) (q s e : ℕ) where
       go false true false et eu ev ih = rw et ih
       go false false v et eu ev ih = rw et ih
       go true true true et eu ev ih =
-          rw (et, ← within-same q s e p o x f g et, eu, ev) (held-later x p o et rest (every-filter (stays (totalStake c) q s e) xs b))
+          rw (et, ← within-same q s e p o x f g et, eu, ev) (held-later x p o et rest (every-keep (stays (totalStake c) q s e) xs b))
       go true true false et eu ev ih = rw (et, ← within-same q s e p o x f g et, eu, ev)
       go true false v et eu ev ih = rw (et, ← within-same q s e p o x f g et, eu)
 

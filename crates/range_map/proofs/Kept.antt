@@ -6,7 +6,7 @@ use Prim.Native.Nat.{ℕ, _*_, _<_}
 use lib.Dec.{ltb}
 use lib.ListN.{length}
 use Rattle.base.specs.Lists.{pick}
-use Rattle.base.proofs.Lists.{append-nil, Every, none-of, and, every, every-append, every-filter, every-map, no-pairs, with-later, pairs-append}
+use Rattle.base.proofs.Lists.{append-nil, Every, none-of, and, every, every-append, every-keep, every-map, no-pairs, with-later, pairs-append}
 use Rattle.committee.specs.Committee.{AuthorityIndex, Committee, known}
 use Rattle.committee.specs.StakeAggregator.{noVotes, aggregatorInOrder}
 use Rattle.committee.proofs.Aggregators.{counted-in-order, noVotes-order}
@@ -67,8 +67,8 @@ module _ (c : Committee) (p start end : ℕ) where
   sound-afterLeaving xs s =
       record {
         ordered = ordered-afterLeaving c p start end xs (s .ordered);
-        full = every-filter (stays _ p start end) xs (s .full);
-        votes = every-filter (stays _ p start end) xs (s .votes);
+        full = every-keep (stays _ p start end) xs (s .full);
+        votes = every-keep (stays _ p start end) xs (s .votes);
       }
 
   -- one more item, after all others

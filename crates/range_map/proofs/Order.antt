@@ -12,7 +12,7 @@ use borrow.Author.Tests.{lt-ltb, ltb-true, eqb-true, ne-eqb, eq-eqb}
 use Rattle.base.specs.Lists.{pick, pairwise, find, holds, same, countFrom}
 use Rattle.base.proofs.Tests.{and-left, and-right}
 use Rattle.base.proofs.Orders.{same-true, same-refl}
-use Rattle.base.proofs.Lists.{Every, every, every-append, every-filter, every-map, every-all, all-every, countFrom-every, every-countFrom, pairs-append, pairs-map, pairwise-pairs, pairs-pairwise, find-passes, find-every, holds-some, length-filter}
+use Rattle.base.proofs.Lists.{Every, every, every-append, every-keep, every-map, every-all, all-every, countFrom-every, every-countFrom, pairs-append, pairs-map, pairwise-pairs, pairs-pairwise, find-passes, find-every, holds-some, length-keep}
 use Rattle.committee.specs.Committee.{AuthorityIndex, Committee, known}
 use Rattle.committee.specs.AuthoritySet.{member}
 use Rattle.committee.specs.StakeAggregator.{noVotes, aggregatorInOrder}
@@ -113,7 +113,7 @@ pending-voteOver c es a k q s e xs h =
 
 pub pending-afterLeaving : (c : Committee) (es : List Entry) (q s e : ℕ) (xs : List Item) → Every (Pending c es) xs → Every (Pending c es) (afterLeaving c q s e xs)
 unfolding afterLeaving
-pending-afterLeaving c es q s e xs h = every-filter _ xs h
+pending-afterLeaving c es q s e xs h = every-keep _ xs h
 
 -- ---- a new entry, after all others
 
@@ -218,4 +218,4 @@ length-voteOver c a q s e xs = length-map (bothCuts q s e xs) _
 
 pub length-afterLeaving : (c : Committee) (q s e : ℕ) (xs : List Item) → length (afterLeaving c q s e xs) ≤ length xs
 unfolding afterLeaving
-length-afterLeaving c q s e xs = length-filter _ xs
+length-afterLeaving c q s e xs = length-keep _ xs

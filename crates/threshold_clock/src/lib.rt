@@ -73,8 +73,8 @@ fn statement_refusal(statement: BaseStatement) -> u64
         BaseStatement::Reject(_) => 0,
         BaseStatement::RejectFor(_, _) => 0,
         BaseStatement::VoteRange(range) => range_refusal(
-            range.offset_start_incl,
-            range.offset_end_excl,
+            range.offset_start_inclusive,
+            range.offset_end_exclusive,
         ),
     }
 }

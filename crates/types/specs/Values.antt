@@ -33,7 +33,7 @@ unfoldable pub asLocator : locators.TransactionLocator → TransactionLocator
 asLocator l = locator (asReference (l .block)) (l .offset)
 
 unfoldable pub asRange : ranges.TransactionLocatorRange → TransactionLocatorRange
-asRange r = newRange (asReference (r .block)) (r .«offset_start_incl») (r .«offset_end_excl»)
+asRange r = newRange (asReference (r .block)) (r .«offset_start_inclusive») (r .«offset_end_exclusive»)
 
 -- a statement of a record; of a share the code holds where its payload starts and how long it is
 unfoldable pub asStatement : Bytes → statements.BaseStatement → Statement

@@ -33,8 +33,8 @@ pub struct TransactionLocator {
 
 pub struct TransactionLocatorRange {
     pub block: BlockReference,
-    pub offset_start_incl: u64,
-    pub offset_end_excl: u64,
+    pub offset_start_inclusive: u64,
+    pub offset_end_exclusive: u64,
 }
 
 // A statement of a record. Of a share: where its payload starts in the record, and its length.
@@ -80,13 +80,13 @@ impl TransactionLocatorRange {
     // Range ends stay below it.
     pub const MAX_LEN: u64 = 1048576;
 
-    pub fn new(block: BlockReference, offset_start_incl: u64, offset_end_excl: u64) -> Self
-        ensures { λ r. ⌜ asRange r ≡ newRange (asReference block) «offset_start_incl» «offset_end_excl» ⌝ }
+    pub fn new(block: BlockReference, offset_start_inclusive: u64, offset_end_exclusive: u64) -> Self
+        ensures { λ r. ⌜ asRange r ≡ newRange (asReference block) «offset_start_inclusive» «offset_end_exclusive» ⌝ }
     {
         TransactionLocatorRange {
             block,
-            offset_start_incl,
-            offset_end_excl,
+            offset_start_inclusive,
+            offset_end_exclusive,
         }
     }
 
@@ -98,8 +98,8 @@ impl TransactionLocatorRange {
         let block = locator.block;
         TransactionLocatorRange {
             block,
-            offset_start_incl: locator.offset,
-            offset_end_excl: locator.offset + 1,
+            offset_start_inclusive: locator.offset,
+            offset_end_exclusive: locator.offset + 1,
         }
     }
 }
@@ -486,7 +486,7 @@ fn counted_offsets(statement: BaseStatement) -> u64
         BaseStatement::Accept(_) => 1,
         BaseStatement::Reject(_) => 0,
         BaseStatement::RejectFor(_, _) => 0,
-        BaseStatement::VoteRange(range) => range.offset_end_excl - range.offset_start_incl,
+        BaseStatement::VoteRange(range) => range.offset_end_exclusive - range.offset_start_inclusive,
     }
 }
 
