@@ -68,7 +68,7 @@ module _ (c : Committee) (bs : List Block) where
       split (inr m) = let q = r l .0 here in absurd (not-both (h x m) (g l (q .0) (q .1)))
   first-left after l h r (nothing g) = let q = r l .0 here in absurd (not-both (q .0) (g l (q .1)))
 
-  later-after : (after : Option TransactionLocator) (l m : TransactionLocator) → isAfter after l ≡ true → locatorBefore l m ≡ true → isAfter after m ≡ true
+  pub later-after : (after : Option TransactionLocator) (l m : TransactionLocator) → isAfter after l ≡ true → locatorBefore l m ≡ true → isAfter after m ≡ true
   unfolding isAfter
   later-after none l m h k = refl
   later-after (some x) l m h k = locator-trans x l m h k

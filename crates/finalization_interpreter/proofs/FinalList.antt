@@ -18,7 +18,7 @@ use Rattle.finalization_interpreter.specs.Voters.{votesFor, isFinal}
 use Rattle.finalization_interpreter.specs.NextFinal.{placedLocator, ascendingLocators, finalList}
 use Rattle.finalization_interpreter.proofs.Votes.{Covered, spanned}
 use Rattle.finalization_interpreter.proofs.Growing.{final-votes}
-use Rattle.finalization_interpreter.proofs.Finality.{is-final-order}
+use Rattle.finalization_interpreter.proofs.Finals.{is-final-order}
 
 -- ---- ascending lists
 
