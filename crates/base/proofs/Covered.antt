@@ -1,12 +1,12 @@
 -- Elements that differ, as many as a list has, are all of its elements. Assumes nothing.
-use mathlib.Core.Path.{_≡_, refl, sym, ap, _∙_, subst}
+use mathlib.Core.Path.{_≡_, refl, sym, ap, subst}
 use mathlib.Core.Logic.{_⊎_, inl, inr}
 use mathlib.Core.List.{List, [], _∷_, _++_}
-use Prim.Native.Nat.{ℕ, suc, _+_, _≤_}
+use Prim.Native.Nat.{_+_, _≤_}
 use native.Mathlib.Omega.{arith}
 use lib.ListN.{length, length-append}
-use Rattle.base.specs.Lists.{_∈_, here, there, Once, empty, also}
-use Rattle.base.proofs.Members.{in-empty, in-cases, in-left, in-right, in-append}
+use Rattle.base.specs.Lists.{_∈_, here, there, Once, also}
+use Rattle.base.proofs.Members.{in-cases, in-left, in-right, in-append}
 
 module _ {A : Type 0} where
   -- a list around one of its elements

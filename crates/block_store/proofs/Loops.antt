@@ -204,11 +204,12 @@ pub walking-kept : (s : Bytes) (at : ℕ) (starts : List ℕ) → Walking s (blo
 walking-kept s at starts w h = w .kept ∙ ap positions (sym (walking-all s at starts w h))
 
 -- all were walked over
-pub walking-done : (s : Bytes) (i at : ℕ) (starts : List ℕ) → headerRight s ≡ true → Walking s i at starts → i ≡ blockCount s
-    → (eqb at (usedLength s) ≡ readable s) × (eqb at (usedLength s) ≡ true → take (blockCount s) starts ≡ positions (recordsOf s))
-walking-done s i at starts k w e =
+pub walking-done : (s : Bytes) (i at used : ℕ) (starts : List ℕ) → headerRight s ≡ true → Walking s i at starts → i ≡ blockCount s → used ≡ usedLength s
+    → (eqb at used ≡ readable s) × (eqb at used ≡ true → take (blockCount s) starts ≡ positions (recordsOf s))
+walking-done s i at used starts k w e u =
     let v : Walking s (blockCount s) at starts = subst (λ (n : ℕ). Walking s n at starts) e w in
-    (walking-end s at starts k v, λ h. walking-kept s at starts v (sym (walking-end s at starts k v) ∙ h))
+    let ends : eqb at used ≡ readable s = ap (eqb at) u ∙ walking-end s at starts k v in
+    (ends, λ h. walking-kept s at starts v (sym ends ∙ h))
 
 -- what a refusal says
 pub refuses : {X : Type 0} {t : Bool} → t ≡ false → (false ≡ t) × (false ≡ true → X)

@@ -134,7 +134,7 @@ returns-4 c =
     let l = c .before .loop in
     let s = c .before .before .before .before .before .before .args .store .now in
     let u = c .before .before .before .read-u32 in
-    rw (u .ensures) (walking-done s (l .i) (l .at) (l .starts) (c .before .before .before .before .before .before .pre .0) (l .inv .0) (omega arith))
+    walking-done s (l .i) (l .at) (u .result) (l .starts) (c .before .before .before .before .before .before .pre .0) (l .inv .0) (omega arith) (u .ensures)
 
 pub entries-readable-spec : {M : Type 1} → statement M
 entries-readable-spec =
