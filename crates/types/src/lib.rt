@@ -80,7 +80,11 @@ impl TransactionLocatorRange {
     // Range ends stay below it.
     pub const MAX_LEN: u64 = 1048576;
 
-    pub fn new(block: BlockReference, offset_start_inclusive: u64, offset_end_exclusive: u64) -> Self
+    pub fn new(
+        block: BlockReference,
+        offset_start_inclusive: u64,
+        offset_end_exclusive: u64,
+    ) -> Self
         ensures { λ r. ⌜ asRange r ≡ newRange (asReference block) «offset_start_inclusive» «offset_end_exclusive» ⌝ }
     {
         TransactionLocatorRange {
@@ -486,7 +490,8 @@ fn counted_offsets(statement: BaseStatement) -> u64
         BaseStatement::Accept(_) => 1,
         BaseStatement::Reject(_) => 0,
         BaseStatement::RejectFor(_, _) => 0,
-        BaseStatement::VoteRange(range) => range.offset_end_exclusive - range.offset_start_inclusive,
+        BaseStatement::VoteRange(range) => range.offset_end_exclusive
+            - range.offset_start_inclusive,
     }
 }
 
