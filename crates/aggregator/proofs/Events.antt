@@ -28,7 +28,7 @@ use Rattle.range_map.proofs.Items.{holds-facts}
 use Rattle.range_map.proofs.Order.{Pending, pending-voteOver}
 use Rattle.aggregator.specs.ProcessBlock.{Event, missed, eventOf, Processing, vote, votes, registering, processBlock}
 use Rattle.aggregator.specs.Feed.{Lent, processed, feedChecks}
-use Rattle.aggregator.proofs.Feed.{passed, sound-registering, lent-state}
+use Rattle.aggregator.proofs.Keeping.{passed, sound-registering, lent-state}
 use Rattle.aggregator.proofs.ProcessBlock.{Sound, sound-vote}
 
 -- no two entries stand at one position

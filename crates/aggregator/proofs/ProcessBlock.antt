@@ -12,12 +12,12 @@ use Rattle.base.proofs.Orders.{same-refl}
 use Rattle.committee.specs.Committee.{AuthorityIndex, Committee, known}
 use Rattle.committee.specs.StakeAggregator.{hasQuorum}
 use Rattle.types.specs.Reference.{BlockReference, sameReference, TransactionLocatorRange, offsets}
-use Rattle.types.specs.Block.{Statement, Block, author, votedRange}
+use Rattle.types.specs.Block.{Statement, Block, author, votedRange, countedOffsets, eventRoom}
 use Rattle.block_store.specs.Layout.{Entry, positionOf, lookup}
 use Rattle.range_map.specs.Items.{Item, itemAt, voteOver}
 use Rattle.range_map.proofs.Items.{Ordered, ordered-voteOver, ordered-afterLeaving}
 use Rattle.range_map.proofs.Order.{Pending, pending-voteOver, pending-afterLeaving, pending-register, ordered-register, length-voteOver, length-afterLeaving}
-use Rattle.aggregator.specs.ProcessBlock.{Event, eventOf, Processing, vote, votes, registering, processBlock, countedOffsets, eventRoom}
+use Rattle.aggregator.specs.ProcessBlock.{Event, eventOf, Processing, vote, votes, registering, processBlock}
 
 -- a new entry is found by its reference
 pub lookup-new : (es : List Entry) (new : Entry) → lookup (new ∷ es) (new .block .reference) ≡ some new
@@ -74,7 +74,7 @@ one-event c es r i o (some x) = go (hasQuorum c (x .aggregator))
     go false = omega arith
 
 module _ (c : Committee) (es : List Entry) (a : AuthorityIndex) where
-  events-vote : (i : ℕ) (r : Option TransactionLocatorRange) (z : Processing) → length (vote c es a i r z .events) ≤ length (z .events) + countedOffsets r
+  pub events-vote : (i : ℕ) (r : Option TransactionLocatorRange) (z : Processing) → length (vote c es a i r z .events) ≤ length (z .events) + countedOffsets r
   unfolding vote countedOffsets offsets
   events-vote i none z = omega arith
   events-vote i (some r) z =

@@ -30,7 +30,7 @@ use Rattle.range_map.proofs.Order.{Pending, pending-position}
 use Rattle.aggregator.specs.ProcessBlock.{Event, missed, eventOf, Processing, vote, registering}
 use Rattle.aggregator.specs.Pending.{pendingChecks, standingOf, pending}
 use Rattle.aggregator.proofs.Events.{one-position}
-use Rattle.aggregator.proofs.Feed.{State}
+use Rattle.aggregator.proofs.Keeping.{State}
 use Rattle.aggregator.proofs.ProcessBlock.{lookup-new}
 
 -- ---- positions

@@ -9,11 +9,12 @@ use Rattle.base.specs.Lists.{pick}
 use Rattle.base.specs.Le.{Bytes}
 use Rattle.base.specs.Checks.{Check, _⇒_, refusal, passes, Answer, refused, answered}
 use Rattle.committee.specs.Committee.{Committee, broken}
+use Rattle.types.specs.Block.{eventRoom}
 use Rattle.block_store.specs.Layout.{Record, readRecord, entries}
 use Rattle.block_store.specs.Accept.{blockChecks}
 use Rattle.block_store.specs.Store.{recordsOf, storeInOrder, storeFull, storeHolding}
 use Rattle.range_map.specs.Table.{tableOf, itemsOf, tableInOrder, room}
-use Rattle.aggregator.specs.ProcessBlock.{eventWords, Processing, processBlock, eventRoom}
+use Rattle.aggregator.specs.ProcessBlock.{eventWords, Processing, processBlock}
 
 -- what a feed is lent, and the record; the work slice's content is free, and no answer reads it
 pub record Lent : Type 0 where

@@ -1,9 +1,9 @@
 -- `process_block`: the votes of a block on the pending items, and the events (committee.rs). Assumes nothing: these are definitions.
-use Prim.Native.Nat.{ℕ, _+_, _-_, _*_, max}
+use Prim.Native.Nat.{ℕ, _+_, max}
 use mathlib.Core.List.{List, [], _∷_, _++_, map, flatten}
 use mathlib.Core.Option.{Option, none, some}
 use lib.ListN.{length}
-use Rattle.base.specs.Lists.{pick, holds, sumOf}
+use Rattle.base.specs.Lists.{pick, holds}
 use Rattle.committee.specs.Committee.{AuthorityIndex, Committee}
 use Rattle.committee.specs.StakeAggregator.{hasQuorum}
 use Rattle.types.specs.Reference.{BlockReference, TransactionLocatorRange, offsets}
@@ -61,11 +61,3 @@ registering c es b xs =
 -- the block's shares, then its votes; es are the stored entries, and "the block being fed counts as stored"
 unfoldable pub processBlock : Committee → List Entry → Block → List Item → Processing
 processBlock c es b xs = votes c es (author b) 0 (b .statements) (registering c es b xs)
-
-unfoldable pub countedOffsets : Option TransactionLocatorRange → ℕ
-countedOffsets none = 0
-countedOffsets (some r) = r .end - r .start
-
--- 01: "3 words for each accept and each offset of each range"
-unfoldable pub eventRoom : Block → ℕ
-eventRoom b = 3 * sumOf (map (λ s. countedOffsets (votedRange s)) (b .statements))

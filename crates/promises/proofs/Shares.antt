@@ -33,7 +33,7 @@ use Rattle.range_map.proofs.Table.{itemsOf-tableOf}
 use Rattle.aggregator.specs.ProcessBlock.{Processing, registering, processBlock}
 use Rattle.aggregator.specs.Feed.{Lent, processed, feedChecks, refusedFeed, acceptedFeed, feedRecord, feed}
 use Rattle.aggregator.specs.Pending.{Standing, standingOf, pending}
-use Rattle.aggregator.proofs.Feed.{State, Kept, Passed, passed, feed-keeps, sound-registering, lent-state}
+use Rattle.aggregator.proofs.Keeping.{State, Kept, Passed, passed, feed-keeps, sound-registering, lent-state}
 use Rattle.aggregator.proofs.ProcessBlock.{lookup-new}
 use Rattle.aggregator.proofs.View.{positionIn, held-own, held-other, found-still, standing-held, standing-none, pending-passes}
 use Rattle.promises.specs.Feeds.{Feed, Engine, fresh, outcome, left, run, Accepted, acceptedIn, accepted}

@@ -17,7 +17,7 @@ use Rattle.block_store.specs.Claims.{FreshInOrder}
 use Rattle.block_store.proofs.Store.{length-layout, recordsOf-laid, readRecord-some, Holding, accepting}
 use Rattle.block_store.proofs.Claimed.{fresh-in-order}
 use Rattle.aggregator.specs.Feed.{Lent, feedChecks, refusedFeed, acceptedFeed, feed}
-use Rattle.aggregator.proofs.Feed.{Passed, passed}
+use Rattle.aggregator.proofs.Keeping.{Passed, passed}
 use Rattle.promises.proofs.Feeds.{taken, feed-cases}
 use Rattle.promises.specs.Feeds.{Feed, Engine, outcome, left, run, Accepted, acceptedIn, accepted}
 

@@ -13,6 +13,7 @@ use Rattle.base.specs.Checks.{refusal, passes}
 use Rattle.base.proofs.Lists.{none-of, no-pairs}
 use Rattle.base.proofs.Checks.{passes-first, passes-others, passes-left, passes-right}
 use Rattle.committee.specs.Committee.{Committee}
+use Rattle.types.specs.Block.{eventRoom}
 use Rattle.block_store.specs.Layout.{Record, Entry, readRecord, usedBy, entries}
 use Rattle.block_store.specs.Accept.{blockChecks}
 use Rattle.block_store.specs.Store.{recordsOf, storeInOrder, storeFull}
@@ -21,7 +22,7 @@ use Rattle.block_store.proofs.Store.{Right, readRecord-some, Holding, accepting
 use Rattle.range_map.specs.Table.{tableOf, itemsOf, tableInOrder, room}
 use Rattle.range_map.proofs.Table.{length-tableOf}
 use Rattle.range_map.proofs.Order.{InOrder, in-order, order-tableOf, room-fits}
-use Rattle.aggregator.specs.ProcessBlock.{Event, eventWords, registering, eventRoom}
+use Rattle.aggregator.specs.ProcessBlock.{Event, eventWords, registering}
 use Rattle.aggregator.specs.Feed.{Lent, Fed, processed, lentChecks, recordChecks, feedChecks, refusedFeed, acceptedFeed, feedRecord, feed}
 use Rattle.aggregator.proofs.ProcessBlock.{Sound, sound-registered, sound-processBlock, events-processBlock}
 
