@@ -212,7 +212,7 @@ fn read_reference(s: &[u8], at: usize) -> BlockReference
     }
 }
 
-fn read_locator(s: &[u8], at: usize) -> TransactionLocator
+pub fn read_locator(s: &[u8], at: usize) -> TransactionLocator
     requires { ⌜ at + 56 ≤ length (now s) ⌝ }
     ensures { λ r. ⌜ asLocator r ≡ locatorAt (now (s .entry)) at ⌝ }
 {

@@ -1,0 +1,178 @@
+// Standard input and output of `listing`: read piece by piece, written through a buffer.
+ghost use mathlib.Core.Path.{_≡_};
+ghost use Prim.Native.Nat.{_+_, _≤_, _<_};
+ghost use lib.ListN.{length};
+ghost use Rattle.listing_io.specs.Sizes.{sizeAtMost};
+use libc::STDIN_FILENO;
+use libc::STDOUT_FILENO;
+use listing_lib::Size;
+
+// How far the buffer is filled, and how many of the events that were printed were processed ones.
+pub struct Printed {
+    pub at: usize,
+    pub processed: u64,
+}
+
+// Fills the first `size` bytes, and answers how many there were.
+fn read_front(bytes: &mut [u8], size: usize) -> usize
+    requires { ⌜ size ≤ length (now bytes) ⌝ }
+    ensures { λ r. ⌜ r ≤ size ⌝ }
+{
+    io::read_full(STDIN_FILENO, &mut bytes[..size])
+}
+
+// The stakes that follow the member count.
+fn read_stakes(count: u8, bytes: &mut [u8], stakes: &mut [u64]) -> usize
+    requires { ⌜ (length (now bytes) ≡ 2032) × (length (now stakes) ≡ 254) ⌝ }
+    ensures { λ r. ⌜ r ≤ 254 ⌝ }
+{
+    let size = listing_lib::stake_bytes(count);
+    let got = read_front(bytes, size);
+    listing_lib::committee_of(count, &bytes[..got], stakes)
+}
+
+// Reads the committee's stakes and answers how many they are.
+pub fn read_committee(stakes: &mut [u64]) -> usize
+    requires { ⌜ length (now stakes) ≡ 254 ⌝ }
+    ensures { λ r. ⌜ r ≤ 254 ⌝ }
+{
+    let mut head = [0u8; 1];
+    let got = io::read_full(STDIN_FILENO, &mut head);
+    let count = listing_lib::member_count(&head[..got]);
+    let mut bytes = [0u8; 2032];
+    read_stakes(count, &mut bytes, stakes)
+}
+
+// What the next four bytes say.
+fn read_size() -> Size
+    ensures { λ r. ⌜ sizeAtMost 8192 r ⌝ }
+{
+    let mut head = [0u8; 4];
+    let got = io::read_full(STDIN_FILENO, &mut head);
+    listing_lib::size_of(&head[..got])
+}
+
+// Reads the next record to the front of `rec`.
+pub fn read_record(rec: &mut [u8]) -> Size
+    requires { ⌜ length (now rec) ≡ 8192 ⌝ }
+    ensures { λ r. ⌜ sizeAtMost 8192 r ⌝ }
+{
+    let size = read_size();
+    let Size::Of(n) = size else {
+        return size;
+    };
+    let got = read_front(rec, n);
+    if got < n {
+        return Size::Broken;
+    }
+    size
+}
+
+// Writes out what the buffer holds.
+pub fn flush(out: &[u8], at: usize)
+    requires { ⌜ at ≤ length (now out) ⌝ }
+{
+    io::write_all(STDOUT_FILENO, &out[..at]);
+}
+
+// Where the next line goes: at the front, after writing out what the buffer holds, where it has no room for a line any more.
+pub fn room(out: &[u8], at: usize) -> usize
+    requires { ⌜ (at ≤ length (now out)) × (128 ≤ length (now out)) ⌝ }
+    ensures { λ r. ⌜ r + 128 ≤ length (now (out .entry)) ⌝ }
+{
+    if out.len() - at < 128 {
+        flush(out, at);
+        return 0;
+    }
+    at
+}
+
+// Prints one event of record k: three words from i on.
+fn print_event(out: &mut [u8], from: usize, k: u64, events: &[u64], i: usize) -> usize
+    requires { ⌜ (from ≤ length (now out)) × ((128 ≤ length (now out)) × (i + 2 < length (now events))) ⌝ }
+    ensures { λ r. ⌜ (r ≤ length (now (out .entry))) × (length (now (out .exit)) ≡ length (now (out .entry))) ⌝ }
+{
+    let at = room(out, from);
+    listing_lib::put_event(out, at, events[i], k, events[i + 1], events[i + 2])
+}
+
+fn one_if_processed(kind: u64) -> u64 {
+    if kind == 1 { 1 } else { 0 }
+}
+
+// Prints the events of record k.
+pub fn print_events(out: &mut [u8], from: usize, k: u64, events: &[u64]) -> Printed
+    requires { ⌜ (from ≤ length (now out)) × (128 ≤ length (now out)) ⌝ }
+    ensures { λ r. ⌜ (r .at ≤ length (now (out .entry))) × (length (now (out .exit)) ≡ length (now (out .entry))) ⌝ }
+{
+    let mut at = from;
+    let mut processed: u64 = 0;
+    let mut i = 0;
+    while i + 2 < events.len() {
+        at = print_event(out, at, k, events, i);
+        processed = std::num::wrapping_add_u64(processed, one_if_processed(events[i]));
+        i += 3;
+    }
+    Printed { at, processed }
+}
+
+fn print_final(
+    out: &mut [u8],
+    from: usize,
+    round: u64,
+    author: u64,
+    digest: u64,
+    offset: u64,
+    blocks: u64,
+    stake: u64,
+) -> usize
+    requires { ⌜ (from ≤ length (now out)) × (128 ≤ length (now out)) ⌝ }
+    ensures { λ r. ⌜ (r ≤ length (now (out .entry))) × (length (now (out .exit)) ≡ length (now (out .entry))) ⌝ }
+{
+    let at = room(out, from);
+    listing_lib::put_final(out, at, round, author, digest, offset, blocks, stake)
+}
+
+// A line for each offset from `first` to `end`.
+fn print_offsets(
+    out: &mut [u8],
+    from: usize,
+    round: u64,
+    author: u64,
+    digest: u64,
+    first: u64,
+    end: u64,
+    blocks: u64,
+    stake: u64,
+) -> usize
+    requires { ⌜ (from ≤ length (now out)) × (128 ≤ length (now out)) ⌝ }
+    ensures { λ r. ⌜ (r ≤ length (now (out .entry))) × (length (now (out .exit)) ≡ length (now (out .entry))) ⌝ }
+{
+    let mut at = from;
+    let mut offset = first;
+    while offset < end {
+        at = print_final(out, at, round, author, digest, offset, blocks, stake);
+        offset += 1;
+    }
+    at
+}
+
+// Prints a stretch of final locators: ten words, author, round, four words of the digest (the first byte highest), first offset, end,
+// certifying blocks, stake.
+pub fn print_finals(out: &mut [u8], from: usize, stretch: &[u64]) -> usize
+    requires { ⌜ (from ≤ length (now out)) × ((128 ≤ length (now out)) × (length (now stretch) ≡ 10)) ⌝ }
+    ensures { λ r. ⌜ (r ≤ length (now (out .entry))) × (length (now (out .exit)) ≡ length (now (out .entry))) ⌝ }
+{
+    let digest = stretch[2] / 4294967296;
+    print_offsets(
+        out,
+        from,
+        stretch[1],
+        stretch[0],
+        digest,
+        stretch[6],
+        stretch[7],
+        stretch[8],
+        stretch[9],
+    )
+}

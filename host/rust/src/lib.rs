@@ -1,0 +1,255 @@
+//! The engine's calls for a host in Rust: safe functions over the calls of `lomkhvide.h`.
+//!
+//! Link the archive that `rt staticlib host` writes (`target/staticlib/libhost.a`).
+
+/// A refusal, by its number.
+#[derive(Clone, Copy, Debug, PartialEq, Eq)]
+pub struct Refused(pub u64);
+
+mod calls {
+    #[link(name = "host", kind = "static")]
+    extern "C" {
+        pub fn lomkhvide_new_committee(stakes: *const u8, stakes_len: usize) -> u64;
+        pub fn lomkhvide_finality(
+            stakes: *const u8,
+            stakes_len: usize,
+            store: *const u8,
+            store_len: usize,
+            positions: *mut u8,
+            positions_len: usize,
+            locator: *const u8,
+            locator_len: usize,
+        ) -> u64;
+        pub fn lomkhvide_payload_length(
+            stakes: *const u8,
+            stakes_len: usize,
+            store: *const u8,
+            store_len: usize,
+            locator: *const u8,
+            locator_len: usize,
+        ) -> u64;
+        pub fn lomkhvide_payload_start(
+            stakes: *const u8,
+            stakes_len: usize,
+            store: *const u8,
+            store_len: usize,
+            locator: *const u8,
+            locator_len: usize,
+        ) -> u64;
+    }
+}
+
+/// Below 2^63 a word is the answer, and 2^63 + n is refusal n.
+fn answer(word: u64) -> Result<u64, Refused> {
+    if word >> 63 == 0 {
+        Ok(word)
+    } else {
+        Err(Refused(word & (u64::MAX >> 1)))
+    }
+}
+
+/// Words as they cross: 8 bytes each, lowest first.
+pub fn bytes_of(words: &[u64]) -> Vec<u8> {
+    words.iter().flat_map(|word| word.to_le_bytes()).collect()
+}
+
+/// A committee that the engine has taken: its stakes, as every other call is lent them.
+#[derive(Clone, Debug, PartialEq, Eq)]
+pub struct Committee {
+    stakes: Vec<u8>,
+    total: u64,
+}
+
+impl Committee {
+    /// Sets a committee, or 1 to 4.
+    pub fn new(stakes: &[u64]) -> Result<Committee, Refused> {
+        Committee::from_bytes(bytes_of(stakes))
+    }
+
+    /// The same of stakes as they cross, or 5 where they are not whole words.
+    pub fn from_bytes(stakes: Vec<u8>) -> Result<Committee, Refused> {
+        // The slice is lent for the call alone, and the call only reads it.
+        let word = unsafe { calls::lomkhvide_new_committee(stakes.as_ptr(), stakes.len()) };
+        let total = answer(word)?;
+        Ok(Committee { stakes, total })
+    }
+
+    pub fn total_stake(&self) -> u64 {
+        self.total
+    }
+
+    pub fn stakes(&self) -> &[u8] {
+        &self.stakes
+    }
+}
+
+/// A locator as it crosses: author 8 bytes, round 8, digest 32, offset 8.
+#[derive(Clone, Copy, Debug, PartialEq, Eq)]
+pub struct Locator(pub [u8; 56]);
+
+impl Locator {
+    pub fn new(author: u64, round: u64, digest: [u8; 32], offset: u64) -> Locator {
+        let mut bytes = [0; 56];
+        bytes[..8].copy_from_slice(&author.to_le_bytes());
+        bytes[8..16].copy_from_slice(&round.to_le_bytes());
+        bytes[16..48].copy_from_slice(&digest);
+        bytes[48..].copy_from_slice(&offset.to_le_bytes());
+        Locator(bytes)
+    }
+}
+
+/// Whether a locator is final, and the positions in the store of the blocks that certify it, in ascending order of reference.
+#[derive(Clone, Debug, PartialEq, Eq)]
+pub struct Finality {
+    pub is_final: bool,
+    pub certifying: Vec<u64>,
+}
+
+impl Committee {
+    /// Whether a locator is final; or 5, 10.
+    pub fn finality(&self, store: &[u8], locator: &Locator) -> Result<Finality, Refused> {
+        let mut positions = vec![0; 8 * 1024];
+        let (stakes, locator) = (&self.stakes, &locator.0);
+        // The slices are lent for the call alone, and the one that it writes is this function's own.
+        let word = unsafe {
+            calls::lomkhvide_finality(
+                stakes.as_ptr(),
+                stakes.len(),
+                store.as_ptr(),
+                store.len(),
+                positions.as_mut_ptr(),
+                positions.len(),
+                locator.as_ptr(),
+                locator.len(),
+            )
+        };
+        let number = answer(word)?;
+        let certifying = positions.chunks_exact(8).take((number / 2) as usize);
+        Ok(Finality {
+            is_final: number % 2 == 1,
+            certifying: certifying.map(|word| u64::from_le_bytes(word.try_into().unwrap())).collect(),
+        })
+    }
+
+    /// A stored share's payload, as the part of the store that holds it; or 5, 10, 41.
+    pub fn payload<'a>(&self, store: &'a [u8], locator: &Locator) -> Result<&'a [u8], Refused> {
+        let (stakes, locator) = (&self.stakes, &locator.0);
+        // The slices are lent for the calls alone, and the calls only read them.
+        let (start, length) = unsafe {
+            (
+                calls::lomkhvide_payload_start(
+                    stakes.as_ptr(),
+                    stakes.len(),
+                    store.as_ptr(),
+                    store.len(),
+                    locator.as_ptr(),
+                    locator.len(),
+                ),
+                calls::lomkhvide_payload_length(
+                    stakes.as_ptr(),
+                    stakes.len(),
+                    store.as_ptr(),
+                    store.len(),
+                    locator.as_ptr(),
+                    locator.len(),
+                ),
+            )
+        };
+        let (start, length) = (answer(start)? as usize, answer(length)? as usize);
+        Ok(&store[start..start + length])
+    }
+}
+
+#[cfg(test)]
+mod tests {
+    use super::*;
+
+    #[test]
+    fn committees() {
+        assert_eq!(Committee::new(&[5, 3, 3, 2, 2, 1, 1]).unwrap().total_stake(), 17);
+        assert_eq!(Committee::new(&[]), Err(Refused(1)));
+        assert_eq!(Committee::new(&[1, 0]), Err(Refused(2)));
+        assert_eq!(Committee::new(&[1; 128]).unwrap().total_stake(), 128);
+        assert_eq!(Committee::new(&[1; 129]), Err(Refused(3)));
+        assert_eq!(Committee::new(&[u64::MAX / 2]).unwrap().total_stake(), u64::MAX / 2);
+        assert_eq!(Committee::new(&[u64::MAX / 2, 1]), Err(Refused(4)));
+    }
+
+    #[test]
+    fn every_length_of_stakes() {
+        for length in 0..=2000 {
+            // each stake is 2, so that whole words up to 128 of them are a committee
+            let stakes: Vec<u8> = (0..length).map(|i| if i % 8 == 0 { 2 } else { 0 }).collect();
+            let want = match length {
+                0 => Err(Refused(1)),
+                _ if length % 8 != 0 => Err(Refused(5)),
+                _ if length > 1024 => Err(Refused(3)),
+                _ => Ok(length as u64 / 4),
+            };
+            let got = Committee::from_bytes(stakes).map(|committee| committee.total_stake());
+            assert_eq!(got, want, "{length} bytes");
+        }
+    }
+
+    /// A block record of author 0.
+    fn record(round: u64, k: u8, includes: &[u8], payloads: &[&[u8]]) -> Vec<u8> {
+        let mut bytes = vec![0; 56];
+        bytes[8..16].copy_from_slice(&round.to_le_bytes());
+        bytes[19] = k;
+        bytes[49] = (includes.len() / 48) as u8;
+        bytes[51] = payloads.len() as u8;
+        bytes.extend(includes);
+        for payload in payloads {
+            bytes.push(0);
+            bytes.extend((payload.len() as u16).to_le_bytes());
+            bytes.extend(*payload);
+        }
+        bytes
+    }
+
+    /// A store of these records, in ascending order of reference as of arrival, with bytes to spare.
+    fn store(records: &[Vec<u8>]) -> Vec<u8> {
+        let mut bytes = vec![0; 16];
+        for (i, record) in records.iter().enumerate() {
+            let next = if i + 1 < records.len() { bytes.len() + 8 + record.len() } else { 0 };
+            bytes.extend((next as u32).to_le_bytes());
+            bytes.extend((record.len() as u32).to_le_bytes());
+            bytes.extend(record);
+        }
+        let used = bytes.len() as u32;
+        bytes[0] = if records.is_empty() { 0 } else { 16 };
+        bytes[4..8].copy_from_slice(&used.to_le_bytes());
+        bytes[8] = records.len() as u8;
+        bytes.resize(bytes.len() + 100, 7);
+        bytes
+    }
+
+    #[test]
+    fn payloads() {
+        let committee = Committee::new(&[1]).unwrap();
+        let first = record(0, 1, &[], &[]);
+        let second = record(1, 2, &first[..48], &[b"gain", b"", b"table"]);
+        let store = store(&[first, second]);
+        let mut digest = [0; 32];
+        digest[3] = 2;
+        for (offset, payload) in [&b"gain"[..], b"", b"table"].iter().enumerate() {
+            let locator = Locator::new(0, 1, digest, offset as u64);
+            assert_eq!(committee.payload(&store, &locator), Ok(*payload));
+        }
+        assert_eq!(committee.payload(&store, &Locator::new(0, 1, digest, 3)), Err(Refused(41)));
+        assert_eq!(committee.payload(&store, &Locator::new(1, 1, digest, 0)), Err(Refused(41)));
+        assert_eq!(committee.payload(&store, &Locator::new(0, 1, digest, u64::MAX)), Err(Refused(41)));
+        let share = |offset| committee.finality(&store, &Locator::new(0, 1, digest, offset));
+        let certified = Finality { is_final: true, certifying: vec![80] };
+        assert_eq!([share(0), share(1), share(2)], [Ok(certified.clone()), Ok(certified.clone()), Ok(certified)]);
+        assert_eq!(share(3), Ok(Finality { is_final: false, certifying: vec![] }));
+        let two = Committee::new(&[1, 2]).unwrap();
+        assert_eq!(two.finality(&store, &Locator::new(0, 1, digest, 0)), Err(Refused(10)), "its clock is not met");
+        let used = store.len() - 100;
+        for length in 0..store.len() {
+            let got = committee.payload(&store[..length], &Locator::new(0, 1, digest, 0));
+            let want = if length < used { Err(Refused(10)) } else { Ok(&b"gain"[..]) };
+            assert_eq!(got, want, "{length} bytes of the store");
+        }
+    }
+}

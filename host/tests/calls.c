@@ -1,0 +1,161 @@
+/* Calls each function of lomkhvide.h and compares the words. The last line is "N passed, M failed". */
+#include <inttypes.h>
+#include <stdio.h>
+#include <stdlib.h>
+#include <string.h>
+
+#include "lomkhvide.h"
+
+static int passed, failed;
+
+static void same(const char *what, uint64_t got, uint64_t want) {
+    if (got == want) {
+        passed++;
+    } else {
+        failed++;
+        printf("%s: %" PRIu64 ", not %" PRIu64 "\n", what, got, want);
+    }
+}
+
+static uint64_t refused(uint64_t number) {
+    return (UINT64_C(1) << 63) + number;
+}
+
+static void put_word(uint8_t *to, uint64_t word) {
+    for (int i = 0; i < 8; i++) {
+        to[i] = (uint8_t)(word >> (8 * i));
+    }
+}
+
+/* n stakes, each of them `stake`, but for the last, which is `last`; lent from their own allocation, so that a read past the
+ * end can be seen by a checker of memory */
+static uint64_t set(size_t n, uint64_t stake, uint64_t last, size_t cut) {
+    uint8_t *bytes = malloc(8 * n + 1);
+    for (size_t i = 0; i < n; i++) {
+        put_word(bytes + 8 * i, i + 1 < n ? stake : last);
+    }
+    uint64_t word = lomkhvide_new_committee(bytes, 8 * n - cut);
+    free(bytes);
+    return word;
+}
+
+static void committees(void) {
+    const uint64_t most = (UINT64_C(1) << 63) - 1;
+    same("no stakes", set(0, 0, 0, 0), refused(1));
+    same("one stake", set(1, 0, 1, 0), 1);
+    same("a stake of zero", set(4, 1, 0, 0), refused(2));
+    same("128 stakes", set(128, 1, 1, 0), 128);
+    same("129 stakes", set(129, 1, 1, 0), refused(3));
+    same("129 stakes, one of them zero", set(129, 1, 0, 0), refused(2));
+    same("5000 stakes", set(5000, 1, 1, 0), refused(3));
+    same("5000 stakes, one of them zero", set(5000, 1, 0, 0), refused(2));
+    same("the most", set(1, 0, most, 0), most);
+    same("one more", set(2, 1, most, 0), refused(4));
+    same("stakes that sum past 2^64", set(3, UINT64_C(1) << 63, 1, 0), refused(4));
+    for (size_t cut = 1; cut < 8; cut++) {
+        same("bytes that are not whole words", set(4, 1, 1, cut), refused(5));
+        same("bytes that are not whole words, thousands", set(5000, 1, 1, cut), refused(5));
+    }
+    const uint64_t course[] = {5, 3, 3, 2, 2, 1, 1};
+    uint8_t bytes[56];
+    for (int i = 0; i < 7; i++) {
+        put_word(bytes + 8 * i, course[i]);
+    }
+    same("the course committee", lomkhvide_new_committee(bytes, sizeof bytes), 17);
+    same("a refusal is one", LOMKHVIDE_IS_REFUSED(refused(5)), 1);
+    same("the most is no refusal", LOMKHVIDE_IS_REFUSED(most), 0);
+    same("a refusal's number", LOMKHVIDE_REFUSAL(refused(42)), 42);
+}
+
+/* A block record: author 0, the given round, a digest whose fourth byte is k; with an include, if there is one, and a share, if its
+ * payload is not empty. Answers its length. */
+static size_t put_record(uint8_t *to, uint64_t round, uint8_t k, const uint8_t *include, const char *payload) {
+    size_t n = 56;
+    memset(to, 0, n);
+    put_word(to + 8, round);
+    to[16 + 3] = k;
+    if (include != NULL) {
+        to[49] = 1;
+        memcpy(to + n, include, 48);
+        n += 48;
+    }
+    if (*payload != 0) {
+        to[51] = 1;
+        to[n] = 0;
+        to[n + 1] = (uint8_t)strlen(payload);
+        to[n + 2] = 0;
+        memcpy(to + n + 3, payload, strlen(payload));
+        n += 3 + strlen(payload);
+    }
+    return n;
+}
+
+/* A store with a block of round 0 and one of round 1 that includes it and shares "gain". */
+static void payloads(void) {
+    uint8_t one[8], store[512], locator[57], kept[512];
+    put_word(one, 1);
+    memset(store, 0, sizeof store);
+    size_t first = put_record(store + 24, 0, 1, NULL, "");
+    size_t second_at = 24 + first;
+    size_t second = put_record(store + second_at + 8, 1, 2, store + 24, "gain");
+    store[0] = 16;
+    store[4] = (uint8_t)(second_at + 8 + second);
+    store[8] = 2;
+    store[16] = (uint8_t)second_at;
+    store[20] = (uint8_t)first;
+    store[second_at + 4] = (uint8_t)second;
+    memset(locator, 0, sizeof locator);
+    memcpy(locator, store + second_at + 8, 48);
+    memcpy(kept, store, sizeof store);
+    same("a payload's length", lomkhvide_payload_length(one, 8, store, sizeof store, locator, 56), 4);
+    uint64_t at = lomkhvide_payload_start(one, 8, store, sizeof store, locator, 56);
+    same("where it begins", at, second_at + 8 + 56 + 48 + 3);
+    same("what stands there", memcmp(store + at, "gain", 4), 0);
+    for (size_t n = 0; n < 58; n++) {
+        uint64_t want = n == 56 ? 4 : refused(20);
+        same("a locator of any length", lomkhvide_payload_length(one, 8, store, sizeof store, locator, n), want);
+        want = n == 56 ? at : refused(20);
+        same("the same for its place", lomkhvide_payload_start(one, 8, store, sizeof store, locator, n), want);
+    }
+    locator[48] = 1;
+    same("no such share", lomkhvide_payload_length(one, 8, store, sizeof store, locator, 56), refused(41));
+    same("nor its place", lomkhvide_payload_start(one, 8, store, sizeof store, locator, 56), refused(41));
+    same("no committee", lomkhvide_payload_length(one, 0, store, sizeof store, locator, 3), refused(5));
+    same("stakes cut short", lomkhvide_payload_start(one, 7, store, sizeof store, locator, 3), refused(5));
+    same("a store cut short", lomkhvide_payload_length(one, 8, store, second_at, locator, 3), refused(10));
+    same("no store", lomkhvide_payload_start(one, 8, store, 0, locator, 3), refused(10));
+    same("nothing is written", memcmp(store, kept, sizeof store), 0);
+
+    static uint8_t positions[LOMKHVIDE_POSITIONS_LEN + 8], before[LOMKHVIDE_POSITIONS_LEN + 8];
+    memset(positions, 9, sizeof positions);
+    memcpy(before, positions, sizeof positions);
+    for (size_t n = 0; n < 58; n++) {
+        if (n != 56) {
+            uint64_t word = lomkhvide_finality(one, 8, store, sizeof store, positions, LOMKHVIDE_POSITIONS_LEN, locator, n);
+            same("finality, a locator of any length", word, refused(20));
+        }
+    }
+    for (size_t n = 0; n < sizeof positions; n += n < 64 ? 1 : 509) {
+        if (n != LOMKHVIDE_POSITIONS_LEN) {
+            same("finality, positions of any length", lomkhvide_finality(one, 8, store, sizeof store, positions, n, locator, 56), refused(40));
+        }
+    }
+    same("no committee", lomkhvide_finality(one, 0, store, sizeof store, positions, 8, locator, 3), refused(5));
+    same("no store", lomkhvide_finality(one, 8, store, 0, positions, 8, locator, 3), refused(10));
+    same("20 before 40", lomkhvide_finality(one, 8, store, sizeof store, positions, 8, locator, 3), refused(20));
+    same("refused, so nothing is written", memcmp(positions, before, sizeof positions), 0);
+    same("no vote, so not final", lomkhvide_finality(one, 8, store, sizeof store, positions, LOMKHVIDE_POSITIONS_LEN, locator, 56), 0);
+    same("no certifying block, so nothing is written", memcmp(positions, before, sizeof positions), 0);
+    locator[48] = 0;
+    same("a sole owner's share is final", lomkhvide_finality(one, 8, store, sizeof store, positions, LOMKHVIDE_POSITIONS_LEN, locator, 56), 3);
+    put_word(before, second_at);
+    same("the position of its block", memcmp(positions, before, sizeof positions), 0);
+    same("the store is as it was", memcmp(store, kept, sizeof store), 0);
+}
+
+int main(void) {
+    committees();
+    payloads();
+    printf("%d passed, %d failed\n", passed, failed);
+    return failed != 0;
+}
