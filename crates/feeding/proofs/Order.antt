@@ -42,7 +42,7 @@ unfolding isNone
 read-go bytes none h = refl
 read-go bytes (some b) h = absurd (not-both refl h)
 
-read-none : (bytes : Bytes) → wellFormed bytes ≡ false → readRecord bytes ≡ none
+pub read-none : (bytes : Bytes) → wellFormed bytes ≡ false → readRecord bytes ≡ none
 unfolding wellFormed readRecord
 read-none bytes w = read-go bytes (blockOf bytes) w
 
@@ -51,6 +51,10 @@ unfolding readRecord recordIn
 read-some bytes w = rw (block-of bytes w)
 
 -- ---- the whole order
+
+pub lent-only : (c : Committee) (s : Bytes) (t : List ℕ) → Numbered (pendingChecks c s t)
+unfolding pendingChecks
+lent-only c s t = and (lit< tt) (and (lit< tt) (and (lit< tt) none-of))
 
 module _ (c : Committee) (m : Lent) (bytes : Bytes) where
   lent : List Check
@@ -70,10 +74,6 @@ module _ (c : Committee) (m : Lent) (bytes : Bytes) where
   unfolding pendingChecks lent work
   lent-numbered = and (lit< tt) (and (lit< tt) (and (lit< tt) (and (lit< tt) none-of)))
 
-  lent-only : Numbered lent
-  unfolding pendingChecks lent
-  lent-only = and (lit< tt) (and (lit< tt) (and (lit< tt) none-of))
-
   pub feeds-lent : (o : Option Record) → (refusal (pendingChecks c (m .store) (m .table)) ≡ 0 → ⊥) → refusal (feedChecks c m o) ≡ refusal (pendingChecks c (m .store) (m .table))
   unfolding lent
   feeds-lent o h =
@@ -83,7 +83,7 @@ module _ (c : Committee) (m : Lent) (bytes : Bytes) where
   module _ (h : refusal (pendingChecks c (m .store) (m .table)) ≡ 0) where
     at-work : refusal (lent ++ work) ≡ pick (ltb (length (m .work)) (length (m .table))) 12 0
     unfolding lent work refusal
-    at-work = refusal-then lent work lent-only h
+    at-work = refusal-then lent work (lent-only c (m .store) (m .table)) h
 
     pub feeds-work : (o : Option Record) → length (m .work) < length (m .table) → refusal (feedChecks c m o) ≡ 12
     feeds-work o l =

@@ -1,7 +1,10 @@
 // Feeding a record: one call over the committee and all lent memory. Follows committee.rs (`TransactionAggregator`) and block_store.rs.
 ghost use mathlib.Core.Path.{_≡_};
+ghost use Rattle.base.specs.Checks.{refusal};
 ghost use Rattle.aggregator.specs.Feed.{feed, lentOf};
 ghost use Rattle.feeding.specs.Answers.{asFeedAnswer};
+ghost use Rattle.feeding.specs.Refusals.{earlyChecks};
+ghost use Rattle.feeding.specs.FirstStatement.{FirstStatement};
 
 // The number of events, or a refusal.
 pub enum FeedAnswer {
@@ -41,3 +44,22 @@ pub fn feed(
     block_store::append(store, rec);
     FeedAnswer::Events(done.events as u64)
 }
+
+// The first refusal of a feed before those about memory (5, 10, 11, 20 to 30); 0 where none applies.
+pub fn early_refusal(stakes: &[u64], store: &[u8], table: &[u64], rec: &[u8]) -> u64
+    ensures { λ r. ⌜ r ≡ refusal (earlyChecks (now (stakes .entry)) (now (store .entry)) (now (table .entry)) (now (rec .entry))) ⌝ }
+{
+    let lent = aggregator::lent_refusal(stakes, store, table);
+    if lent != 0 {
+        return lent;
+    }
+    if !types::well_formed(rec) {
+        return 20;
+    }
+    aggregator::block_refusal(stakes, store, rec)
+}
+
+// The mission's first statement.
+pub fn first_statement()
+    ensures { λ _. ⌜ FirstStatement ⌝ }
+{}
