@@ -4,3 +4,4 @@ pub mod Alike
 pub mod Ends
 pub mod Filling
 pub mod Asking
+pub mod Claimed

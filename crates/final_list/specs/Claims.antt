@@ -31,17 +31,17 @@ StretchesAlike = (c : Committee) (s : Bytes) → broken c ≡ false → storeInO
     → t ∈ stretches c s n after → (t .first < t .end) × ((l : TransactionLocator) → l ∈ stretchLocators t → Alike c s t l)
 
 -- what the single questions, asked on, give: first the locators of the stretches, then what they give after the last one;
--- none is left exactly where the answer says that none follow, and while more follow the slice is full
-pub record Asked (c : Committee) (s : Bytes) (n : ℕ) (after : Option TransactionLocator) (ls : List TransactionLocator) : Type 0 where
+-- none is left exactly where the answer says that none follow, and while more follow as many stretches are given as were asked for
+pub record Asked (c : Committee) (s : Bytes) (n : ℕ) (after : Option TransactionLocator) (ls : List TransactionLocator) (ts : List FinalStretch) : Type 0 where
   pub rest : List TransactionLocator
-  pub splits : ls ≡ flatten (map stretchLocators (stretches c s n after)) ++ rest
-  pub onward : AskedOn c s (reached after (stretches c s n after)) rest
-  pub none-left : (moreFollow c s (reached after (stretches c s n after)) ≡ false) ↔ (rest ≡ [])
-  pub full : moreFollow c s (reached after (stretches c s n after)) ≡ true → length (stretches c s n after) ≡ n
+  pub splits : ls ≡ flatten (map stretchLocators ts) ++ rest
+  pub onward : AskedOn c s (reached after ts) rest
+  pub none-left : (moreFollow c s (reached after ts) ≡ false) ↔ (rest ≡ [])
+  pub full : moreFollow c s (reached after ts) ≡ true → length ts ≡ n
 
 unfoldable pub StretchesAsked : Type 0
 StretchesAsked = (c : Committee) (s : Bytes) → broken c ≡ false → storeInOrder c s ≡ true → (n : ℕ) (after : Option TransactionLocator) (ls : List TransactionLocator)
-    → AskedOn c s after ls → Asked c s n after ls
+    → AskedOn c s after ls → Asked c s n after ls (stretches c s n after)
 
 pub record Claims : Type 0 where
   pub alike : StretchesAlike
