@@ -16,6 +16,7 @@ fn main() {
     let mut modules = String::new();
     if let Some(source) = found {
         println!("cargo::rustc-cfg=has_rust");
+        println!("cargo::metadata=present=1");
         for file in FILES {
             let path = fs::canonicalize(source.join(format!("{file}.rs"))).unwrap();
             println!("cargo::rerun-if-changed={}", path.display());

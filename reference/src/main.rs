@@ -1,1 +1,84 @@
-fn main(){ println!("{}", mysticeti::PRESENT); }
+//! The command of the reference runs; see README.md beside.
+
+use std::io::Write;
+use std::process::exit;
+use std::time::{Duration, Instant};
+
+use reference::compare::compare;
+use reference::list::List;
+use reference::tally::Tally;
+use reference::{engine, exhaustive, generate, shrink};
+
+fn main() {
+    let words: Vec<String> = std::env::args().skip(1).collect();
+    let word = |i: usize| words.get(i).map(String::as_str);
+    match word(0) {
+        Some("lists") => lists(number(word(1), 1000), number(word(2), 1)),
+        Some("list") => one(number(word(1), 0), number(word(2), 1)),
+        _ => {
+            eprintln!("lists N [SEED]: runs N lists\nlist K [SEED]: runs and prints list K");
+            exit(2);
+        }
+    }
+}
+
+fn number(word: Option<&str>, default: u64) -> u64 {
+    word.map_or(default, |word| word.replace('_', "").parse().expect("a number"))
+}
+
+/// List n of a run: every fourth is the next of the exhaustive ones, in steps that meet each of them once.
+fn list(seed: u64, n: u64) -> List {
+    const STEP: u64 = 524_287; // a prime that does not divide their number
+    if n % 4 == 3 {
+        exhaustive::list((seed.wrapping_add(n / 4) % exhaustive::COUNT) * STEP % exhaustive::COUNT)
+    } else {
+        generate::list(seed, n)
+    }
+}
+
+fn sides() {
+    let (there, missing) = engine::calls();
+    println!("engine: {}", if there.is_empty() { "not linked".into() } else { there.join(", ") });
+    if !missing.is_empty() {
+        println!("calls not in the archive, hence not compared: {}", missing.join(", "));
+    }
+    if !mysticeti::PRESENT {
+        println!("the Rust's files are not there: nothing is compared with the Rust, only with the model of 01");
+    }
+}
+
+fn lists(count: u64, seed: u64) {
+    sides();
+    let (start, mut told) = (Instant::now(), Instant::now());
+    let mut tally = Tally::default();
+    let mut failed = 0;
+    for n in 0..count {
+        let list = list(seed, n);
+        if let Err(text) = compare(&list, &mut tally) {
+            failed += 1;
+            println!("list {n} of seed {seed} failed: {text}");
+            if failed <= 3 {
+                let (list, text) = shrink::smallest(&list, text);
+                println!("its smallest form: {text}\n{}", list.describe());
+            }
+        }
+        if told.elapsed() > Duration::from_secs(5) {
+            println!("{} of {count} lists, {failed} failed, {} s", n + 1, start.elapsed().as_secs());
+            let _ = std::io::stdout().flush();
+            told = Instant::now();
+        }
+    }
+    println!("{}", tally.describe());
+    println!("seed {seed}, {:.1} s", start.elapsed().as_secs_f64());
+    println!("{} passed, {failed} failed", count - failed);
+    exit((failed > 0) as i32);
+}
+
+fn one(n: u64, seed: u64) {
+    let list = list(seed, n);
+    println!("{}", list.describe());
+    let mut tally = Tally::default();
+    let outcome = compare(&list, &mut tally);
+    println!("{}\n{outcome:?}", tally.describe());
+    exit(outcome.is_err() as i32);
+}

@@ -21,3 +21,5 @@ pub mod config;
 pub mod crypto;
 #[cfg(has_rust)]
 pub mod data;
+#[cfg(has_rust)]
+pub mod make;

@@ -1,0 +1,15 @@
+//! Reference runs: the engine, the unchanged Rust and a model of document 01 on the same lists.
+
+pub mod compare;
+pub mod damage;
+pub mod engine;
+pub mod exhaustive;
+pub mod generate;
+pub mod list;
+pub mod model;
+pub mod questions;
+pub mod rng;
+#[cfg_attr(not(has_rust), path = "no_rust.rs")]
+pub mod rust;
+pub mod shrink;
+pub mod tally;
