@@ -35,7 +35,7 @@ fn main() {
     }
     for call in CALLS {
         println!("cargo::rustc-check-cfg=cfg({call})");
-        let name = format!("\0{call}\0");
+        let name = format!("{call}\0");
         if bytes.windows(name.len()).any(|window| window == name.as_bytes()) {
             println!("cargo::rustc-cfg={call}");
         }

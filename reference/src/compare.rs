@@ -1,5 +1,6 @@
 //! One list on all sides: the model says what is right, and the Rust and the engine are held to it after every record.
 
+use crate::damage;
 use crate::engine;
 use crate::list::List;
 use crate::model::committee::{is_quorum, is_valid, Committee, MOST_STAKE};
@@ -74,6 +75,10 @@ pub fn compare(list: &List, tally: &mut Tally) -> Outcome {
     let mut rng = Rng::of(&list.to_listing());
     points(&sides, &mut rng)?;
     adds(&sides, &mut rng)?;
+    if list.store < 16 {
+        // No store at all: each call is 10, which the model reads off the bytes.
+        return list.records.iter().try_for_each(|record| damage::every_call(&sides.right, record, &[0; 56], tally));
+    }
     let asked = rng.below(list.records.len() as u64 + 1) as usize;
     for (i, record) in list.records.iter().enumerate() {
         if i == asked {
@@ -84,7 +89,13 @@ pub fn compare(list: &List, tally: &mut Tally) -> Outcome {
     }
     questions::ask(&sides, &mut rng, tally).map_err(|text| format!("at the end: {text}"))?;
     let read = State::read(&sides.committee, &sides.right.store, &sides.right.table);
-    same("the model's own reading of its memory", "read", read.as_ref(), Ok(&sides.state))
+    same("the model's own reading of its memory", "read", read.as_ref(), Ok(&sides.state))?;
+    if list.records.is_empty() || !rng.once_in(3) {
+        return Ok(());
+    }
+    let record = rng.pick(&list.records).clone();
+    let locator = questions::some_locator(&sides, &mut rng);
+    (0..4).try_for_each(|_| damage::memory(&sides.right, &record, &locator.bytes(), &mut rng, tally))
 }
 
 /// Sets the committee on each side; none where it is refused.

@@ -39,7 +39,7 @@ pub fn list(n: u64) -> List {
         let statements = statements(take(MENU), i, &references);
         blocks.push(Block { reference: *reference, marked: mark == i as u64 + 1, includes, statements });
     }
-    List { stakes: stakes.to_vec(), store: 4096, records: blocks.iter().map(Block::encode).collect() }
+    List::roomy(stakes.to_vec(), blocks.iter().map(Block::encode).collect())
 }
 
 fn bare(author: u64, round: u64, k: u8) -> Block {

@@ -6,9 +6,6 @@ use crate::model::committee::{is_quorum, COURSE, MOST_STAKE};
 use crate::model::record::{Block, Locator, Reference, Statement, MAX_INCLUDES, MAX_STATEMENTS};
 use crate::rng::Rng;
 
-/// A store that holds every list but those made to fill it.
-const ROOMY: usize = 1 << 20;
-
 /// A list by its number and the seed of the run.
 pub fn list(seed: u64, n: u64) -> List {
     let mut rng = Rng::new(seed.wrapping_mul(0x2545f4914f6cdd1d) ^ n);
@@ -78,7 +75,7 @@ fn broken(rng: &mut Rng) -> List {
 /// A store of about the length that the records need (13), and now and then one that is too short at all (10).
 fn full(rng: &mut Rng) -> List {
     let mut list = small(rng);
-    let needed: usize = list.records.iter().map(|record| record.len() + 8).sum::<usize>() + 16;
+    let needed = list.needed();
     list.store = match rng.below(6) {
         0 => rng.below(40) as usize,
         1 => needed,
@@ -103,7 +100,7 @@ fn committee_only(rng: &mut Rng) -> List {
     if style == 3 && most > 1 {
         stakes[most as usize - 1] = 0;
     }
-    List { stakes, store: ROOMY, records: vec![] }
+    List::roomy(stakes, vec![])
 }
 
 /// Stakes of up to `most` members: equal, unequal, very unequal, and near the limit of the total.
@@ -151,7 +148,7 @@ fn finish(rng: &mut Rng, stakes: Vec<u64>, shape: Shape) -> List {
     }
     let mut records: Vec<Vec<u8>> = blocks.iter().map(Block::encode).collect();
     arrive(rng, &mut records);
-    List { stakes, store: ROOMY, records }
+    List::roomy(stakes, records)
 }
 
 /// Another order of arrival: a record comes late, or again.
@@ -321,14 +318,14 @@ fn break_rule(rng: &mut Rng, block: &mut Block, members: u64) {
         match rng.below(14) {
             0 => block.reference.author = *rng.pick(&[members, members + 1, 128, u64::MAX]),
             1 => block.reference.round = 0,
-            2 => block.reference.round = *rng.pick(&[1, block.reference.round + 1, u64::MAX]),
+            2 => block.reference.round = *rng.pick(&[1, block.reference.round.wrapping_add(1), u64::MAX]),
             3 if !block.includes.is_empty() => {
                 let i = rng.below(block.includes.len() as u64) as usize;
                 block.includes[i].author = *rng.pick(&[members, 127, 128, u64::MAX]);
             }
             4 if !block.includes.is_empty() => {
                 let i = rng.below(block.includes.len() as u64) as usize;
-                block.includes[i].round = *rng.pick(&[block.reference.round, block.reference.round + 1, u64::MAX]);
+                block.includes[i].round = *rng.pick(&[block.reference.round, block.reference.round.wrapping_add(1), u64::MAX]);
             }
             5 if !block.includes.is_empty() => {
                 let i = rng.below(block.includes.len() as u64) as usize;
@@ -340,7 +337,7 @@ fn break_rule(rng: &mut Rng, block: &mut Block, members: u64) {
             9 => add(rng, block, Statement::Accept(Locator::new(target, u64::MAX))),
             10 => add(rng, block, Statement::Accept(Locator::new(target, u64::MAX - 1))),
             11 => drop(block.includes.pop()),
-            12 => block.includes.retain(|include| include.round + 1 != block.reference.round),
+            12 => block.includes.retain(|include| include.round.wrapping_add(1) != block.reference.round),
             _ => block.reference.digest[rng.below(32) as usize] ^= 1,
         }
     }
@@ -365,7 +362,7 @@ impl Chain {
     }
 
     fn list(self, stakes: Vec<u64>) -> List {
-        List { stakes, store: ROOMY, records: self.blocks.iter().map(Block::encode).collect() }
+        List::roomy(stakes, self.blocks.iter().map(Block::encode).collect())
     }
 }
 

@@ -10,6 +10,18 @@ pub struct List {
 }
 
 impl List {
+    /// A list with a store that holds all its records and some bytes more.
+    pub fn roomy(stakes: Vec<u64>, records: Vec<Vec<u8>>) -> List {
+        let mut list = List { stakes, store: 0, records };
+        list.store = list.needed() + 100;
+        list
+    }
+
+    /// The length of a store that all its records fill.
+    pub fn needed(&self) -> usize {
+        self.records.iter().map(|record| record.len() + 8).sum::<usize>() + 16
+    }
+
     /// The stakes as they cross.
     pub fn stake_bytes(&self) -> Vec<u8> {
         self.stakes.iter().flat_map(|stake| stake.to_le_bytes()).collect()

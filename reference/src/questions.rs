@@ -11,7 +11,7 @@ use crate::rng::Rng;
 use crate::tally::Tally;
 
 /// Most locators asked about one by one.
-const MOST_ASKED: usize = 24;
+const MOST_ASKED: usize = 8;
 
 pub fn ask(sides: &Sides, rng: &mut Rng, tally: &mut Tally) -> Outcome {
     let graph = Graph::new(&sides.committee, &sides.state.stores);
@@ -56,6 +56,15 @@ fn locators(sides: &Sides, graph: &Graph, rng: &mut Rng) -> BTreeSet<Locator> {
         asked.insert(Locator::new(stored.block.reference, rng.below(4)));
     }
     asked
+}
+
+/// A locator of a stored block, if there is one.
+pub fn some_locator(sides: &Sides, rng: &mut Rng) -> Locator {
+    let blocks = &sides.state.stores.blocks;
+    if blocks.is_empty() {
+        return Locator::new(Reference { author: 0, round: 0, digest: [0; 32] }, 0);
+    }
+    Locator::new(rng.pick(blocks).block.reference, rng.below(3))
 }
 
 /// Every question about one locator.
