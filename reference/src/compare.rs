@@ -160,7 +160,8 @@ fn adds(sides: &Sides, rng: &mut Rng) -> Outcome {
         }
     }
     if let Some(rust) = &sides.rust {
-        let set = crate::model::record::number(&right[..8]) as u128 | (crate::model::record::number(&right[8..16]) as u128) << 64;
+        let set =
+            crate::model::record::number(&right[..8]) as u128 | (crate::model::record::number(&right[8..16]) as u128) << 64;
         same(&format!("add of voters {voters:?}"), "Rust", rust.adds(&voters), Ok((answers, set)))?;
         voters.push(members + rng.below(3));
         same("add of an unknown voter", "Rust", rust.adds(&voters), Err("Authority not found".into()))?;
@@ -240,7 +241,7 @@ impl Sides {
 }
 
 /// Which of 01's numbers a text of `verify` stands for.
-fn verify_refusal(text: &str) -> u64 {
+pub fn verify_refusal(text: &str) -> u64 {
     let texts = [
         ("Unknown block author", 21),
         ("references unknown authority", 24),

@@ -86,7 +86,8 @@ pub fn add(stakes: &[u8], aggregator: &mut [u8], voter: u64) -> Answer {
     #[cfg(lomkhvide_add)]
     {
         extern "C" {
-            fn lomkhvide_add(stakes: *mut u8, stakes_len: usize, aggregator: *mut u8, aggregator_len: usize, voter: u64) -> u64;
+            fn lomkhvide_add(stakes: *mut u8, stakes_len: usize, aggregator: *mut u8, aggregator_len: usize, voter: u64)
+                -> u64;
         }
         let (stakes, aggregator) = (read(stakes), write(aggregator));
         answer(Some(unsafe { lomkhvide_add(stakes.0, stakes.1, aggregator.0, aggregator.1, voter) }))

@@ -173,7 +173,15 @@ fn graph(rng: &mut Rng, stakes: &[u64], shape: &Shape) -> Vec<Block> {
         let mut stake = 0;
         let more = rng.below(3);
         let enough = |stake: u64| is_quorum(total, stake);
-        let mut count = authors.iter().take_while(|a| !enough(stake) && { stake += stakes[**a as usize]; true }).count();
+        let mut count = authors
+            .iter()
+            .take_while(|a| {
+                !enough(stake) && {
+                    stake += stakes[**a as usize];
+                    true
+                }
+            })
+            .count();
         count = (count + more as usize).min(authors.len());
         authors.truncate(count);
         if rng.once_in(3) {
@@ -436,7 +444,16 @@ fn counts(rng: &mut Rng) -> List {
     block.reference.round = 1;
     block.includes = vec![chain.blocks[0].reference; MAX_INCLUDES + rng.below(2) as usize];
     let statements = MAX_STATEMENTS + rng.below(2) as usize;
-    block.statements = (0..statements).map(|i| if i % 3 < 2 { Statement::Share(vec![]) } else { Statement::Accept(Locator::new(block.reference, i as u64 - 1)) }).collect();
+    block.statements =
+        (0..statements)
+            .map(|i| {
+                if i % 3 < 2 {
+                    Statement::Share(vec![])
+                } else {
+                    Statement::Accept(Locator::new(block.reference, i as u64 - 1))
+                }
+            })
+            .collect();
     chain.blocks.push(block);
     chain.list(chain_stakes(rng))
 }

@@ -13,8 +13,14 @@ fn main() {
     let words: Vec<String> = std::env::args().skip(1).collect();
     let word = |i: usize| words.get(i).map(String::as_str);
     match word(0) {
-        Some("lists") => lists(number(word(1), 1000), number(word(2), 1)),
+        Some("lists") => lists(number(word(1), 4000), number(word(2), 1)),
         Some("list") => one(number(word(1), 0), number(word(2), 1)),
+        Some("boundary") => boundary(word(1) == Some("exact")),
+        Some("model") => model(word(1).expect("a file")),
+        #[cfg(has_rust)]
+        Some("sample") => sample(word(1).expect("a folder"), word(2) == Some("check")),
+        #[cfg(has_rust)]
+        Some("departures") => reference::departures::show(),
         _ => {
             eprintln!("lists N [SEED]: runs N lists\nlist K [SEED]: runs and prints list K");
             exit(2);
@@ -72,6 +78,40 @@ fn lists(count: u64, seed: u64) {
     println!("seed {seed}, {:.1} s", start.elapsed().as_secs_f64());
     println!("{} passed, {failed} failed", count - failed);
     exit((failed > 0) as i32);
+}
+
+/// Writes the fixed sample, or checks that it is what the Rust's answers make.
+#[cfg(has_rust)]
+fn sample(folder: &str, check: bool) {
+    match reference::sample::write(folder.as_ref(), check) {
+        Ok(count) => println!("{count} inputs"),
+        Err(text) => {
+            println!("{text}");
+            exit(1);
+        }
+    }
+}
+
+/// Every length of every slice. `exact`: for a checker of memory, which sees what canaries cannot.
+fn boundary(exact: bool) {
+    sides();
+    let outcome = reference::boundary::run(exact).and_then(|calls| match exact {
+        true => Ok(calls),
+        false => reference::boundary::longest_store().map(|_| calls),
+    });
+    match outcome {
+        Ok(calls) => println!("{calls} passed, 0 failed"),
+        Err(text) => {
+            println!("{text}\n0 passed, 1 failed");
+            exit(1);
+        }
+    }
+}
+
+/// What `listing` prints for an input, by the model.
+fn model(file: &str) {
+    let input = std::fs::read(file).expect("the input");
+    print!("{}", reference::model::listing::listing(&input));
 }
 
 fn one(n: u64, seed: u64) {

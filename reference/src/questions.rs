@@ -131,7 +131,8 @@ fn in_bulk(sides: &Sides, graph: &Graph, rng: &mut Rng) -> Outcome {
         }
         same("final_stretches", "engine", got, Ok(2 * fit as u64 + (fit < rest.len()) as u64))?;
         if out != right {
-            let words = |bytes: &[u8]| bytes.chunks_exact(80).map(|c| c.chunks(8).map(number).collect()).collect::<Vec<Vec<_>>>();
+            let words =
+                |bytes: &[u8]| bytes.chunks_exact(80).map(|c| c.chunks(8).map(number).collect()).collect::<Vec<Vec<_>>>();
             same("stretches", "engine", words(&out), words(&right))?;
             same_bytes("stretches", &out, &right)?;
         }

@@ -1,6 +1,7 @@
 //! The Rust's side: blocks made for it, its calls recorded, its panics caught.
 
 use std::cell::{Cell, RefCell};
+use std::collections::HashSet;
 use std::panic::{catch_unwind, AssertUnwindSafe};
 use std::rc::Rc;
 use std::sync::{Arc, Once};
@@ -170,6 +171,11 @@ impl RustSide {
         caught(|| self.whole.process(&self.committee, block))
     }
 
+    /// Puts blocks into the store alone.
+    pub fn store_all(&mut self, blocks: &[Block]) {
+        blocks.iter().for_each(|block| self.store.insert_block(make_block(block)));
+    }
+
     /// The pending ranges, by reference and start.
     pub fn pending(&self) -> Vec<PendingRange> {
         let state = self.whole.inner.state();
@@ -191,9 +197,8 @@ impl RustSide {
 
     /// `finalized_tx_certifying_blocks`, sorted by 01's order.
     pub fn final_list(&self) -> Result<Vec<(Locator, Vec<Reference>)>, String> {
-        let finals = caught(|| {
-            FinalizationInterpreter::new(&self.store, self.committee.clone()).finalized_tx_certifying_blocks()
-        })?;
+        let finals =
+            caught(|| FinalizationInterpreter::new(&self.store, self.committee.clone()).finalized_tx_certifying_blocks())?;
         let each = finals.iter().map(|(k, blocks)| {
             let mut blocks: Vec<Reference> = blocks.iter().map(reference).collect();
             blocks.sort();
@@ -202,6 +207,11 @@ impl RustSide {
         let mut list: Vec<(Locator, Vec<Reference>)> = each.collect();
         list.sort();
         Ok(list)
+    }
+
+    /// The stake of the blocks' authors, each once.
+    pub fn total_stake(&self, blocks: &[Reference]) -> u64 {
+        self.committee.get_total_stake(&blocks.iter().map(|block| block.author).collect::<HashSet<u64>>())
     }
 
     /// The interpreter's list as it comes, unsorted, and its length: for timing.
@@ -222,6 +232,18 @@ impl Prepared {
     pub fn feed(&self, side: &RustSide) -> usize {
         let mut aggregator = Aggregator::new();
         for block in &self.0 {
+            aggregator.inner.process_block(block, None, &side.committee);
+        }
+        let calls = aggregator.calls.borrow().len();
+        calls
+    }
+
+    /// The same, each block above round 0 verified and each put into a store.
+    pub fn feed_checked(&self, side: &RustSide) -> usize {
+        let (mut aggregator, mut store) = (Aggregator::new(), BlockStore::default());
+        for block in &self.0 {
+            assert!(block.round() == 0 || block.verify(&side.committee).is_ok());
+            store.insert_block(block.clone());
             aggregator.inner.process_block(block, None, &side.committee);
         }
         let calls = aggregator.calls.borrow().len();
