@@ -10,6 +10,39 @@ mod calls {
     #[link(name = "host", kind = "static")]
     extern "C" {
         pub fn lomkhvide_new_committee(stakes: *const u8, stakes_len: usize) -> u64;
+        pub fn lomkhvide_is_quorum(total: u64, amount: u64) -> u64;
+        pub fn lomkhvide_is_valid(total: u64, amount: u64) -> u64;
+        pub fn lomkhvide_add(stakes: *const u8, stakes_len: usize, aggregator: *mut u8, aggregator_len: usize, voter: u64) -> u64;
+        pub fn lomkhvide_next_final(
+            stakes: *const u8,
+            stakes_len: usize,
+            store: *const u8,
+            store_len: usize,
+            after: *const u8,
+            after_len: usize,
+            found: *mut u8,
+            found_len: usize,
+        ) -> u64;
+        pub fn lomkhvide_pending_stake(
+            stakes: *const u8,
+            stakes_len: usize,
+            store: *const u8,
+            store_len: usize,
+            table: *const u8,
+            table_len: usize,
+            locator: *const u8,
+            locator_len: usize,
+        ) -> u64;
+        pub fn lomkhvide_pending_voters(
+            stakes: *const u8,
+            stakes_len: usize,
+            store: *const u8,
+            store_len: usize,
+            table: *const u8,
+            table_len: usize,
+            locator: *const u8,
+            locator_len: usize,
+        ) -> u64;
         pub fn lomkhvide_finality(
             stakes: *const u8,
             stakes_len: usize,
@@ -98,6 +131,38 @@ impl Locator {
     }
 }
 
+/// Whether an amount of stake is quorum of a total.
+pub fn is_quorum(total: u64, amount: u64) -> bool {
+    // The call is lent nothing.
+    unsafe { calls::lomkhvide_is_quorum(total, amount) == 1 }
+}
+
+/// Whether it is valid.
+pub fn is_valid(total: u64, amount: u64) -> bool {
+    // The call is lent nothing.
+    unsafe { calls::lomkhvide_is_valid(total, amount) == 1 }
+}
+
+/// Voters, by bits, and the stake that they hold together.
+#[derive(Clone, Copy, Debug, Default, PartialEq, Eq)]
+pub struct Aggregator {
+    pub low: u64,
+    pub high: u64,
+    pub stake: u64,
+}
+
+/// The stake and the number of the voters of a pending locator.
+#[derive(Clone, Copy, Debug, PartialEq, Eq)]
+pub struct Pending {
+    pub stake: u64,
+    pub voters: u64,
+}
+
+/// A fresh pending table: 6,145 words.
+pub fn fresh_table() -> Vec<u8> {
+    vec![0; 8 * 6145]
+}
+
 /// Whether a locator is final, and the positions in the store of the blocks that certify it, in ascending order of reference.
 #[derive(Clone, Debug, PartialEq, Eq)]
 pub struct Finality {
@@ -129,6 +194,72 @@ impl Committee {
             is_final: number % 2 == 1,
             certifying: certifying.map(|word| u64::from_le_bytes(word.try_into().unwrap())).collect(),
         })
+    }
+
+    /// The least final locator after a given one, or from the start; or 5, 10.
+    pub fn next_final(&self, store: &[u8], after: Option<&Locator>) -> Result<Option<Locator>, Refused> {
+        let mut found = [0; 56];
+        let stakes = &self.stakes;
+        let after: &[u8] = after.map_or(&[], |locator| &locator.0);
+        // The slices are lent for the call alone, and the one that it writes is this function's own.
+        let word = unsafe {
+            calls::lomkhvide_next_final(
+                stakes.as_ptr(),
+                stakes.len(),
+                store.as_ptr(),
+                store.len(),
+                after.as_ptr(),
+                after.len(),
+                found.as_mut_ptr(),
+                found.len(),
+            )
+        };
+        Ok(if answer(word)? == 1 { Some(Locator(found)) } else { None })
+    }
+
+    /// The stake and the number of voters of a pending locator; or 5, 10, 11, 42.
+    pub fn pending(&self, store: &[u8], table: &[u8], locator: &Locator) -> Result<Pending, Refused> {
+        let (stakes, locator) = (&self.stakes, &locator.0);
+        // The slices are lent for the calls alone, and the calls only read them.
+        let (stake, voters) = unsafe {
+            (
+                calls::lomkhvide_pending_stake(
+                    stakes.as_ptr(),
+                    stakes.len(),
+                    store.as_ptr(),
+                    store.len(),
+                    table.as_ptr(),
+                    table.len(),
+                    locator.as_ptr(),
+                    locator.len(),
+                ),
+                calls::lomkhvide_pending_voters(
+                    stakes.as_ptr(),
+                    stakes.len(),
+                    store.as_ptr(),
+                    store.len(),
+                    table.as_ptr(),
+                    table.len(),
+                    locator.as_ptr(),
+                    locator.len(),
+                ),
+            )
+        };
+        Ok(Pending { stake: answer(stake)?, voters: answer(voters)? })
+    }
+
+    /// Puts a voter into the aggregator: whether quorum holds now; or 6, 21, and the aggregator is as it was.
+    pub fn add(&self, aggregator: &mut Aggregator, voter: u64) -> Result<bool, Refused> {
+        let stakes = &self.stakes;
+        let mut held = bytes_of(&[aggregator.low, aggregator.high, aggregator.stake]);
+        // The slices are lent for the call alone, and the one that it writes is this function's own.
+        let word = unsafe {
+            calls::lomkhvide_add(stakes.as_ptr(), stakes.len(), held.as_mut_ptr(), held.len(), voter)
+        };
+        let quorum = answer(word)? == 1;
+        let words: Vec<u64> = held.chunks_exact(8).map(|word| u64::from_le_bytes(word.try_into().unwrap())).collect();
+        *aggregator = Aggregator { low: words[0], high: words[1], stake: words[2] };
+        Ok(quorum)
     }
 
     /// A stored share's payload, as the part of the store that holds it; or 5, 10, 41.
@@ -191,6 +322,23 @@ mod tests {
         }
     }
 
+    #[test]
+    fn votes() {
+        assert!(is_quorum(17, 12) && !is_quorum(17, 11) && is_valid(17, 6) && !is_valid(17, 5));
+        let committee = Committee::new(&[5, 3, 3, 2, 2, 1, 1]).unwrap();
+        let mut aggregator = Aggregator::default();
+        assert_eq!(committee.add(&mut aggregator, 0), Ok(false));
+        assert_eq!(committee.add(&mut aggregator, 0), Ok(false));
+        assert_eq!(committee.add(&mut aggregator, 1), Ok(false));
+        assert_eq!(committee.add(&mut aggregator, 7), Err(Refused(21)));
+        assert_eq!(aggregator, Aggregator { low: 3, high: 0, stake: 8 });
+        assert_eq!(committee.add(&mut aggregator, 2), Ok(false));
+        assert_eq!(committee.add(&mut aggregator, 6), Ok(true));
+        assert_eq!(aggregator, Aggregator { low: 71, high: 0, stake: 12 });
+        aggregator.stake = 11;
+        assert_eq!(committee.add(&mut aggregator, 6), Err(Refused(6)));
+    }
+
     /// A block record of author 0.
     fn record(round: u64, k: u8, includes: &[u8], payloads: &[&[u8]]) -> Vec<u8> {
         let mut bytes = vec![0; 56];
@@ -243,6 +391,23 @@ mod tests {
         let certified = Finality { is_final: true, certifying: vec![80] };
         assert_eq!([share(0), share(1), share(2)], [Ok(certified.clone()), Ok(certified.clone()), Ok(certified)]);
         assert_eq!(share(3), Ok(Finality { is_final: false, certifying: vec![] }));
+        let mut listed = Vec::new();
+        let mut after = None;
+        while let Some(locator) = committee.next_final(&store, after.as_ref()).unwrap() {
+            listed.push(locator);
+            after = Some(locator);
+        }
+        let shares: Vec<Locator> = (0..3).map(|offset| Locator::new(0, 1, digest, offset)).collect();
+        assert_eq!(listed, shares);
+        let mut table = fresh_table();
+        let pending = |table: &[u8], offset| committee.pending(&store, table, &Locator::new(0, 1, digest, offset));
+        assert_eq!(pending(&table, 0), Err(Refused(42)));
+        table[..56].copy_from_slice(&bytes_of(&[1, 80, 0, 3, 1, 0, 1]));
+        assert_eq!(pending(&table, 2), Ok(Pending { stake: 1, voters: 1 }));
+        assert_eq!(pending(&table, 3), Err(Refused(42)));
+        assert_eq!(pending(&table[8..], 2), Err(Refused(11)));
+        table[8] = 81;
+        assert_eq!(pending(&table, 2), Err(Refused(11)), "no entry stands there");
         let two = Committee::new(&[1, 2]).unwrap();
         assert_eq!(two.finality(&store, &Locator::new(0, 1, digest, 0)), Err(Refused(10)), "its clock is not met");
         let used = store.len() - 100;
