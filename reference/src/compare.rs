@@ -90,7 +90,7 @@ pub fn compare(list: &List, tally: &mut Tally) -> Outcome {
     questions::ask(&sides, &mut rng, tally).map_err(|text| format!("at the end: {text}"))?;
     let read = State::read(&sides.committee, &sides.right.store, &sides.right.table);
     same("the model's own reading of its memory", "read", read.as_ref(), Ok(&sides.state))?;
-    if list.records.is_empty() || !rng.once_in(3) {
+    if list.records.is_empty() || !rng.once_in(if list.store < 30_000 { 3 } else { 30 }) {
         return Ok(());
     }
     let record = rng.pick(&list.records).clone();

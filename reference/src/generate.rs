@@ -15,9 +15,14 @@ pub fn list(seed: u64, n: u64) -> List {
         133 => events(&mut rng),
         233 if rng.once_in(20) => blocks(&mut rng),
         333 => counts(&mut rng),
+        77 => every_byte(&mut rng),
         _ => match rng.below(20) {
             0 => committee_only(&mut rng),
-            1 => wide(&mut rng),
+            1 => {
+                // Lists of many members are long, so most of them have some twenty.
+                let most = if rng.once_in(6) { 128 } else { 24 };
+                wide(&mut rng, most)
+            }
             2..=4 => runs(&mut rng),
             5 => full(&mut rng),
             6..=8 => broken(&mut rng),
@@ -43,9 +48,9 @@ fn small(rng: &mut Rng) -> List {
     finish(rng, stakes, shape)
 }
 
-/// Up to 128 members, few rounds.
-fn wide(rng: &mut Rng) -> List {
-    let stakes = stakes(rng, 128);
+/// Many members, few rounds.
+fn wide(rng: &mut Rng, most: u64) -> List {
+    let stakes = stakes(rng, most);
     let shape = Shape { rounds: rng.within(1, 2), statements: 2, run: 2, wrong: 20 };
     finish(rng, stakes, shape)
 }
@@ -70,6 +75,30 @@ fn broken(rng: &mut Rng) -> List {
         list.records.push(record);
     }
     list
+}
+
+/// A record with each of its bytes changed in turn, and cut and extended to each length, before the record itself. Some of these
+/// copies keep the rules (another digest or payload) and are stored.
+fn every_byte(rng: &mut Rng) -> List {
+    let stakes = stakes(rng, 3);
+    let shape = Shape { rounds: 2, statements: 3, run: 2, wrong: 1000 };
+    let mut list = finish(rng, stakes, shape);
+    let Some(record) = list.records.pop() else { return list };
+    for at in 0..record.len() {
+        let byte = record[at];
+        let others = [byte ^ 1, byte ^ 0x80, byte.wrapping_add(3), 0, 0xff];
+        let mut copy = record.clone();
+        copy[at] = *rng.pick(&others);
+        list.records.push(copy);
+        list.records.push(record[..at].to_vec());
+    }
+    for more in 1..20 {
+        let mut copy = record.clone();
+        copy.resize(record.len() + more, rng.word() as u8);
+        list.records.push(copy);
+    }
+    list.records.push(record);
+    List::roomy(list.stakes, list.records)
 }
 
 /// A store of about the length that the records need (13), and now and then one that is too short at all (10).

@@ -10,8 +10,10 @@ use crate::model::record::{number, Locator, Reference};
 use crate::rng::Rng;
 use crate::tally::Tally;
 
-/// Most locators asked about one by one.
-const MOST_ASKED: usize = 8;
+/// Most locators asked about one by one: every question checks the whole store, so there are fewer over a long one.
+fn most_asked(sides: &Sides) -> usize {
+    (60_000 / sides.state.stores.used() as usize).clamp(1, 8)
+}
 
 pub fn ask(sides: &Sides, rng: &mut Rng, tally: &mut Tally) -> Outcome {
     let graph = Graph::new(&sides.committee, &sides.state.stores);
@@ -37,12 +39,13 @@ pub fn ask(sides: &Sides, rng: &mut Rng, tally: &mut Tally) -> Outcome {
 fn locators(sides: &Sides, graph: &Graph, rng: &mut Rng) -> BTreeSet<Locator> {
     let voted: Vec<Locator> = graph.voted().into_iter().collect();
     let mut asked = BTreeSet::new();
-    if voted.len() <= MOST_ASKED {
+    let most = most_asked(sides);
+    if voted.len() <= most {
         asked.extend(&voted);
     } else {
-        asked.extend((0..MOST_ASKED).map(|_| *rng.pick(&voted)));
+        asked.extend((0..most).map(|_| *rng.pick(&voted)));
     }
-    if !voted.is_empty() {
+    if !voted.is_empty() && (most > 1 || rng.once_in(4)) {
         let beside = *rng.pick(&voted);
         asked.insert(Locator { offset: beside.offset.saturating_add(1), ..beside });
         asked.insert(Locator { offset: beside.offset.saturating_sub(1), ..beside });
@@ -101,10 +104,13 @@ fn one(sides: &Sides, locator: &Locator, finality: &Finality) -> Outcome {
 /// The next final locator, asked on until none (or a few times, from a random place, where the list is long).
 fn asked_on(sides: &Sides, list: &[(Locator, Finality)], rng: &mut Rng) -> Outcome {
     let lent = &sides.engine;
-    let long = list.len() > 30;
+    let most = most_asked(sides);
+    let long = list.len() > 3 * most;
     let first = if long { rng.below(list.len() as u64) as usize } else { 0 };
     let mut after = if first == 0 { Vec::new() } else { list[first - 1].0.bytes().to_vec() };
-    for right in list.iter().map(|(locator, _)| Some(locator)).chain([None]).skip(first).take(if long { 5 } else { 31 }) {
+    for right in
+        list.iter().map(|(locator, _)| Some(locator)).chain([None]).skip(first).take(if long { most } else { 3 * most + 1 })
+    {
         let mut out = vec![0x77; 56];
         let Some(got) = engine::next_final(&lent.stakes, &lent.store, &after, &mut out) else { return Ok(()) };
         same("next_final", "engine", got, Ok(right.is_some() as u64))?;

@@ -46,7 +46,14 @@ fn smaller(list: &List) -> impl Iterator<Item = List> + '_ {
         list.stakes.pop();
         list
     });
-    chunks.chain(singles).chain(parts).chain(members)
+    // One member with more than two thirds of the stake needs no other's blocks.
+    let alone = (0..list.stakes.len()).filter(|_| list.stakes.len() > 1 && list.stakes.iter().all(|stake| *stake < 1000));
+    let alone = alone.map(|i| {
+        let mut list = list.clone();
+        list.stakes = (0..list.stakes.len()).map(|j| if i == j { 1000 } else { 1 }).collect();
+        list
+    });
+    chunks.chain(singles).chain(members).chain(alone).chain(parts)
 }
 
 fn without(list: &List, from: usize, count: usize) -> List {
