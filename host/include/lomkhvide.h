@@ -63,6 +63,14 @@ uint64_t lomkhvide_pending_stake(const uint8_t *stakes, size_t stakes_len, const
 uint64_t lomkhvide_pending_voters(const uint8_t *stakes, size_t stakes_len, const uint8_t *store, size_t store_len, const uint8_t *table,
                                   size_t table_len, const uint8_t *locator, size_t locator_len);
 
+/* Feeds a block record: the number of its events. The record is stored and counted, and the events are written to the front of `events`,
+ * three words each: 1 processed, 2 late or 3 unknown; the statement's index; the offset. The bytes after them keep their content.
+ * Refused, in this order: 5; 10; 11; 20 a malformed record; 21 to 30 a record that breaks a rule; 15 events not of 8,192 words, or with
+ * under 3 words for each accept and each offset of each range; 13 the store is full; 14 the table is full. */
+#define LOMKHVIDE_EVENTS_LEN ((size_t)65536)
+uint64_t lomkhvide_feed(const uint8_t *stakes, size_t stakes_len, uint8_t *store, size_t store_len, uint8_t *table, size_t table_len,
+                        uint8_t *events, size_t events_len, const uint8_t *record, size_t record_len);
+
 /* The length of a stored share's payload. Refused last: 41 no such share. */
 uint64_t lomkhvide_payload_length(const uint8_t *stakes, size_t stakes_len, const uint8_t *store, size_t store_len,
                                   const uint8_t *locator, size_t locator_len);

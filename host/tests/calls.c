@@ -258,11 +258,77 @@ static void payloads(void) {
     same("the store is as it was", memcmp(store, kept, sizeof store), 0);
 }
 
+/* Everything that a feed is lent to write. */
+static struct {
+    uint8_t store[1024], table[LOMKHVIDE_TABLE_LEN + 8], events[LOMKHVIDE_EVENTS_LEN + 8];
+} lent, kept;
+
+/* Feeds a record, lent from its own allocation, with memory of these sizes. */
+static uint64_t feed(const uint8_t *stakes, size_t stakes_len, size_t store, size_t table, size_t events, const uint8_t *record, size_t n) {
+    uint8_t *own = malloc(n + 1);
+    memcpy(own, record, n);
+    uint64_t word = lomkhvide_feed(stakes, stakes_len, lent.store, store, lent.table, table, lent.events, events, own, n);
+    free(own);
+    return word;
+}
+
+/* A sole owner's block of round 0, one of round 1 that shares, one of round 2 that accepts the share. */
+static void feeding(void) {
+    const size_t t = LOMKHVIDE_TABLE_LEN, v = LOMKHVIDE_EVENTS_LEN;
+    uint8_t one[8], first[256], second[256], third[256], locator[56], found[56];
+    put_word(one, 1);
+    memset(&lent, 0, sizeof lent);
+    lent.store[4] = 16;
+    memset(lent.events, 9, sizeof lent.events);
+    kept = lent;
+    size_t n = put_record(first, 0, 1, NULL, "");
+    for (size_t cut = 0; cut < n; cut++) {
+        same("a record cut short", feed(one, 8, 1024, t, v, first, cut), refused(20));
+    }
+    same("no committee", feed(one, 7, 0, 0, 0, first, 0), refused(5));
+    same("no store", feed(one, 8, 15, 0, 0, first, 0), refused(10));
+    for (size_t m = 0; m < sizeof lent.table; m += m < 64 ? 1 : 499) {
+        if (m != t) {
+            same("a table of any length", feed(one, 8, 1024, m, 0, first, 0), refused(11));
+        }
+    }
+    for (size_t m = 0; m < sizeof lent.events; m += m < 64 ? 1 : 499) {
+        if (m != v) {
+            same("events of any length", feed(one, 8, 1024, t, m, first, n), refused(15));
+            same("20 before 15", feed(one, 8, 1024, t, m, first, n - 1), refused(20));
+        }
+    }
+    same("a store that is full", feed(one, 8, 16 + 8 + n - 1, t, v, first, n), refused(13));
+    same("refused, so nothing is written", memcmp(&lent, &kept, sizeof lent), 0);
+    same("the first block", feed(one, 8, 1024, t, v, first, n), 0);
+    same("it is stored", memcmp(lent.store + 24, first, n), 0);
+    same("once", feed(one, 8, 1024, t, v, first, n), refused(23));
+    same("the second block", feed(one, 8, 1024, t, v, second, put_record(second, 1, 2, first, "gain")), 0);
+    memcpy(locator, second, 48);
+    memset(locator + 48, 0, 8);
+    same("its share is pending", lomkhvide_pending_stake(one, 8, lent.store, 1024, lent.table, t, locator, 56), 1);
+    same("no events", memcmp(lent.events, kept.events, sizeof lent.events), 0);
+    n = put_record(third, 2, 3, second, "");
+    third[51] = 1;
+    third[n] = 1;
+    memcpy(third + n + 1, locator, 56);
+    n += 57;
+    same("the third block", feed(one, 8, 1024, t, v, third, n), 1);
+    put_word(kept.events, 1);
+    put_word(kept.events + 8, 0);
+    put_word(kept.events + 16, 0);
+    same("the share is processed", memcmp(lent.events, kept.events, sizeof lent.events), 0);
+    same("and no longer pending", lomkhvide_pending_stake(one, 8, lent.store, 1024, lent.table, t, locator, 56), refused(42));
+    same("and final", lomkhvide_next_final(one, 8, lent.store, 1024, locator, 0, found, 56), 1);
+    same("no byte past the table", memcmp(lent.table + t, kept.table + t, sizeof lent.table - t), 0);
+}
+
 int main(void) {
     committees();
     quorums();
     adding();
     payloads();
+    feeding();
     printf("%d passed, %d failed\n", passed, failed);
     return failed != 0;
 }

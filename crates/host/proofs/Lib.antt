@@ -6,3 +6,4 @@ pub mod Written
 pub mod Added
 pub mod Standings
 pub mod NextFinals
+pub mod Feeds

@@ -4,3 +4,4 @@ pub mod Finality
 pub mod Add
 pub mod Pending
 pub mod NextFinal
+pub mod Feed

@@ -8,7 +8,7 @@ ghost use lib.Dec.{eqb};
 ghost use lib.ListN.{length, take};
 ghost use Rattle.base.specs.Lists.{anyOf};
 ghost use Rattle.base.specs.Checks.{_⇒_, refusal};
-ghost use Rattle.words.specs.Words.{wordsOf};
+ghost use Rattle.words.specs.Words.{wordsOf, bytesOf};
 ghost use Rattle.block_store.specs.Payload.{payloadLength};
 ghost use Rattle.block_store.specs.Answers.{asPayloadLength, asPlace, payloadPlace};
 ghost use lib.Seq.{sets};
@@ -21,6 +21,9 @@ ghost use Rattle.aggregator.specs.Pending.{pendingChecks};
 ghost use Rattle.host.specs.Calls.{encoded, flag, committeeOf, newCommitteeCall};
 ghost use Rattle.host.specs.Add.{aggregatorOf, aggregatorBytes, flagged, addOf, addCall};
 ghost use Rattle.host.specs.Pending.{pendingIn, askedPending, pendingStakeCall, pendingVotersCall};
+ghost use Rattle.feeding.specs.Answers.{asFeedAnswer};
+ghost use Rattle.feeding.specs.Refusals.{earlyChecks};
+ghost use Rattle.host.specs.Feed.{fedWith, feedOf, feedCall};
 ghost use Rattle.host.specs.NextFinal.{afterOf, asAfter, askedNextFinal, nextFinalCall};
 ghost use Rattle.host.specs.Payload.{locatorOf, refusalBefore, asked, payloadLengthCall, payloadStartCall};
 ghost use Rattle.host.specs.Finality.{finalityNumber, askedFinality, finalityCall, numbersFit};
@@ -34,6 +37,7 @@ use committee::AuthoritySet;
 use committee::NewCommittee;
 use committee::Stake;
 use committee::StakeAggregator;
+use feeding::FeedAnswer;
 use finalization_interpreter::FinalityAnswer;
 use finalization_interpreter::MaybeLocator;
 use finalization_interpreter::NextFinalAnswer;
@@ -465,4 +469,86 @@ pub extern "C" fn lomkhvide_next_final(
     let mut held = [0u64; 128];
     let n = stakes_of(stakes, &mut held);
     next_final_of(&held[..n], store, after, found)
+}
+
+// ---- feeding
+
+// 15 for events of another size, after 5, 10, 11, 20 to 30.
+fn no_events(stakes: &[u64], store: &[u8], table: &[u64], rec: &[u8]) -> u64
+    ensures { λ r. ⌜ r ≡ refusal (earlyChecks (now (stakes .entry)) (now (store .entry)) (now (table .entry)) (now (rec .entry)) ++ ((true ⇒ 15) ∷ [])) ⌝ }
+{
+    let early = feeding::early_refusal(stakes, store, table, rec);
+    if early != 0 {
+        return early;
+    }
+    15
+}
+
+// Feeds a record with the events as bytes and a work slice of its own.
+fn feed_words(
+    stakes: &[u64],
+    store: &mut [u8],
+    table: &mut [u64],
+    events: &mut [u8],
+    rec: &[u8],
+) -> FeedAnswer
+    requires { ⌜ (length (now table) ≡ 6145) × (length (now events) ≡ 65536) ⌝ }
+    ensures { λ r. ⌜ asFeedAnswer r ≡ fedWith (now (stakes .entry)) (now (store .entry)) (now (table .entry)) (wordsOf (now (events .entry))) (now (rec .entry)) .answer ⌝ }
+    ensures { λ r. ⌜ now (store .exit) ≡ fedWith (now (stakes .entry)) (now (store .entry)) (now (table .entry)) (wordsOf (now (events .entry))) (now (rec .entry)) .store ⌝ }
+    ensures { λ r. ⌜ now (table .exit) ≡ fedWith (now (stakes .entry)) (now (store .entry)) (now (table .entry)) (wordsOf (now (events .entry))) (now (rec .entry)) .table ⌝ }
+    ensures { λ r. ⌜ now (events .exit) ≡ bytesOf (fedWith (now (stakes .entry)) (now (store .entry)) (now (table .entry)) (wordsOf (now (events .entry))) (now (rec .entry)) .events) ⌝ }
+{
+    let mut work = [0u64; 6145];
+    let mut words = [0u64; 8192];
+    words::words_of(events, &mut words);
+    let answer = feeding::feed(stakes, store, table, &mut work, &mut words, rec);
+    words::bytes_of(&words, events);
+    answer
+}
+
+fn feed_of(
+    stakes: &[u64],
+    store: &mut [u8],
+    table: &mut [u8],
+    events: &mut [u8],
+    rec: &[u8],
+) -> FeedAnswer
+    ensures { λ r. ⌜ asFeedAnswer r ≡ feedOf (now (stakes .entry)) (now (store .entry)) (now (table .entry)) (now (events .entry)) (now (rec .entry)) .answer ⌝ }
+    ensures { λ r. ⌜ now (store .exit) ≡ feedOf (now (stakes .entry)) (now (store .entry)) (now (table .entry)) (now (events .entry)) (now (rec .entry)) .store ⌝ }
+    ensures { λ r. ⌜ now (table .exit) ≡ feedOf (now (stakes .entry)) (now (store .entry)) (now (table .entry)) (now (events .entry)) (now (rec .entry)) .table ⌝ }
+    ensures { λ r. ⌜ now (events .exit) ≡ feedOf (now (stakes .entry)) (now (store .entry)) (now (table .entry)) (now (events .entry)) (now (rec .entry)) .events ⌝ }
+{
+    if table.len() != 49160 {
+        return FeedAnswer::Refused(refusal_before(11, stakes, store));
+    }
+    let mut words = [0u64; 6145];
+    words::words_of(table, &mut words);
+    if events.len() != 65536 {
+        return FeedAnswer::Refused(no_events(stakes, store, &words, rec));
+    }
+    let answer = feed_words(stakes, store, &mut words, events, rec);
+    words::bytes_of(&words, table);
+    answer
+}
+
+// Feeds a record: the number of events, which stand at the front, three words each.
+#[no_mangle]
+pub extern "C" fn lomkhvide_feed(
+    stakes: &[u8],
+    store: &mut [u8],
+    table: &mut [u8],
+    events: &mut [u8],
+    rec: &[u8],
+) -> u64
+    ensures { λ r. ⌜ r ≡ encoded (feedCall (now (stakes .entry)) (now (store .entry)) (now (table .entry)) (now (events .entry)) (now (rec .entry)) .answer) ⌝ }
+    ensures { λ r. ⌜ now (store .exit) ≡ feedCall (now (stakes .entry)) (now (store .entry)) (now (table .entry)) (now (events .entry)) (now (rec .entry)) .store ⌝ }
+    ensures { λ r. ⌜ now (table .exit) ≡ feedCall (now (stakes .entry)) (now (store .entry)) (now (table .entry)) (now (events .entry)) (now (rec .entry)) .table ⌝ }
+    ensures { λ r. ⌜ now (events .exit) ≡ feedCall (now (stakes .entry)) (now (store .entry)) (now (table .entry)) (now (events .entry)) (now (rec .entry)) .events ⌝ }
+{
+    let mut held = [0u64; 128];
+    let n = stakes_of(stakes, &mut held);
+    match feed_of(&held[..n], store, table, events, rec) {
+        FeedAnswer::Events(count) => count,
+        FeedAnswer::Refused(number) => REFUSED + number,
+    }
 }

@@ -43,6 +43,18 @@ mod calls {
             locator: *const u8,
             locator_len: usize,
         ) -> u64;
+        pub fn lomkhvide_feed(
+            stakes: *const u8,
+            stakes_len: usize,
+            store: *mut u8,
+            store_len: usize,
+            table: *mut u8,
+            table_len: usize,
+            events: *mut u8,
+            events_len: usize,
+            record: *const u8,
+            record_len: usize,
+        ) -> u64;
         pub fn lomkhvide_finality(
             stakes: *const u8,
             stakes_len: usize,
@@ -84,6 +96,11 @@ fn answer(word: u64) -> Result<u64, Refused> {
 /// Words as they cross: 8 bytes each, lowest first.
 pub fn bytes_of(words: &[u64]) -> Vec<u8> {
     words.iter().flat_map(|word| word.to_le_bytes()).collect()
+}
+
+/// And back.
+fn words_of(bytes: &[u8]) -> Vec<u64> {
+    bytes.chunks_exact(8).map(|word| u64::from_le_bytes(word.try_into().unwrap())).collect()
 }
 
 /// A committee that the engine has taken: its stakes, as every other call is lent them.
@@ -158,6 +175,29 @@ pub struct Pending {
     pub voters: u64,
 }
 
+/// What became of an offset that a statement of the record votes on.
+#[derive(Clone, Copy, Debug, PartialEq, Eq)]
+pub enum Outcome {
+    Processed,
+    Late,
+    Unknown,
+}
+
+/// An event of a feed.
+#[derive(Clone, Copy, Debug, PartialEq, Eq)]
+pub struct Event {
+    pub outcome: Outcome,
+    pub statement: u64,
+    pub offset: u64,
+}
+
+/// A fresh store of that many bytes, at least 16.
+pub fn fresh_store(length: usize) -> Vec<u8> {
+    let mut bytes = vec![0; length.max(16)];
+    bytes[4] = 16;
+    bytes
+}
+
 /// A fresh pending table: 6,145 words.
 pub fn fresh_table() -> Vec<u8> {
     vec![0; 8 * 6145]
@@ -189,11 +229,40 @@ impl Committee {
             )
         };
         let number = answer(word)?;
-        let certifying = positions.chunks_exact(8).take((number / 2) as usize);
-        Ok(Finality {
-            is_final: number % 2 == 1,
-            certifying: certifying.map(|word| u64::from_le_bytes(word.try_into().unwrap())).collect(),
-        })
+        Ok(Finality { is_final: number % 2 == 1, certifying: words_of(&positions[..8 * (number / 2) as usize]) })
+    }
+
+    /// Feeds a block record: its events; or 5, 10, 11, 20 to 30, 15, 13, 14, and store and table are as they were.
+    pub fn feed(&self, store: &mut [u8], table: &mut [u8], record: &[u8]) -> Result<Vec<Event>, Refused> {
+        let mut events = vec![0; 8 * 8192];
+        let stakes = &self.stakes;
+        // The slices are lent for the call alone. The borrow checker sees to it that those that it writes overlap no other.
+        let word = unsafe {
+            calls::lomkhvide_feed(
+                stakes.as_ptr(),
+                stakes.len(),
+                store.as_mut_ptr(),
+                store.len(),
+                table.as_mut_ptr(),
+                table.len(),
+                events.as_mut_ptr(),
+                events.len(),
+                record.as_ptr(),
+                record.len(),
+            )
+        };
+        let count = answer(word)? as usize;
+        let words = words_of(&events[..24 * count]);
+        let event = |words: &[u64]| Event {
+            outcome: match words[0] {
+                1 => Outcome::Processed,
+                2 => Outcome::Late,
+                _ => Outcome::Unknown,
+            },
+            statement: words[1],
+            offset: words[2],
+        };
+        Ok(words.chunks_exact(3).map(event).collect())
     }
 
     /// The least final locator after a given one, or from the start; or 5, 10.
@@ -257,7 +326,7 @@ impl Committee {
             calls::lomkhvide_add(stakes.as_ptr(), stakes.len(), held.as_mut_ptr(), held.len(), voter)
         };
         let quorum = answer(word)? == 1;
-        let words: Vec<u64> = held.chunks_exact(8).map(|word| u64::from_le_bytes(word.try_into().unwrap())).collect();
+        let words = words_of(&held);
         *aggregator = Aggregator { low: words[0], high: words[1], stake: words[2] };
         Ok(quorum)
     }
@@ -416,5 +485,34 @@ mod tests {
             let want = if length < used { Err(Refused(10)) } else { Ok(&b"gain"[..]) };
             assert_eq!(got, want, "{length} bytes of the store");
         }
+    }
+
+    #[test]
+    fn feeding() {
+        let committee = Committee::new(&[1]).unwrap();
+        let (mut store, mut table) = (fresh_store(1000), fresh_table());
+        let first = record(0, 1, &[], &[]);
+        let second = record(1, 2, &first[..48], &[b"gain", b"table"]);
+        let mut third = record(2, 3, &second[..48], &[]);
+        third[51] = 1;
+        third.push(3);
+        third.extend(&second[..48]);
+        third.extend(bytes_of(&[1, 4]));
+        assert_eq!(committee.feed(&mut store, &mut table, &second), Err(Refused(30)));
+        assert_eq!(committee.feed(&mut store, &mut table, &first), Ok(vec![]));
+        let before = (store.clone(), table.clone());
+        assert_eq!(committee.feed(&mut store, &mut table, &first), Err(Refused(23)));
+        assert_eq!(committee.feed(&mut store, &mut table[8..], &second), Err(Refused(11)));
+        assert_eq!(committee.feed(&mut store[..200], &mut table, &second), Err(Refused(13)));
+        assert_eq!((&store, &table), (&before.0, &before.1), "a refusal writes nothing");
+        assert_eq!(committee.feed(&mut store, &mut table, &second), Ok(vec![]));
+        let locator = |offset| Locator::new(0, 1, second[16..48].try_into().unwrap(), offset);
+        assert_eq!(committee.pending(&store, &table, &locator(1)), Ok(Pending { stake: 1, voters: 1 }));
+        let event = |outcome, offset| Event { outcome, statement: 0, offset };
+        let events = vec![event(Outcome::Processed, 1), event(Outcome::Unknown, 2), event(Outcome::Unknown, 3)];
+        assert_eq!(committee.feed(&mut store, &mut table, &third), Ok(events));
+        assert_eq!(committee.pending(&store, &table, &locator(0)), Ok(Pending { stake: 1, voters: 1 }));
+        assert_eq!(committee.pending(&store, &table, &locator(1)), Err(Refused(42)));
+        assert_eq!(committee.payload(&store, &locator(1)), Ok(&b"table"[..]));
     }
 }
