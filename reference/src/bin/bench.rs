@@ -32,9 +32,16 @@ fn table() {
         [("course run", course), ("100 blocks", graphs::generated(100)), ("1,000 blocks", graphs::generated(1000))]
     {
         let fed = fed(&blocks);
-        let finals = fed.as_ref().map(final_list).unwrap_or(0);
-        let engine = fed.as_ref().map(|memory| least(|| final_list(memory)));
-        row(&format!("final list, {name} ({finals} final)"), engine, rust_final(&blocks, finals));
+        let finals = fed.as_ref().and_then(asked_on).unwrap_or(0);
+        assert!(
+            fed.as_ref().and_then(final_list).is_none_or(|count| count == finals),
+            "the list in bulk is as long as asked on"
+        );
+        let rust = rust_final(&blocks, finals);
+        let engine = fed.as_ref().filter(|memory| final_list(memory).is_some()).map(|memory| least(|| final_list(memory)));
+        row(&format!("final list in bulk, {name} ({finals} final)"), engine, rust);
+        let engine = fed.as_ref().map(|memory| least(|| asked_on(memory)));
+        row(&format!("final list asked on, {name}"), engine, rust);
         let engine = fed.as_ref().map(|_| least(|| feed_all(&blocks)));
         row(&format!("feeding, {name}"), engine, rust_feed(&blocks));
         row(&format!("the same, the Rust with `verify` and its store, {name}"), engine, rust_feed_checked(&blocks));
@@ -100,17 +107,27 @@ fn feed_all(blocks: &[Block]) -> u64 {
     memory.store[8] as u64
 }
 
+/// The final list by the next final locator, asked on until none: the number of its locators.
+fn asked_on(memory: &Memory) -> Option<u64> {
+    let (mut after, mut out, mut count) = (Vec::new(), vec![0; 56], 0);
+    while engine::next_final(&memory.stakes, &memory.store, &after, &mut out)? == Ok(1) {
+        after = out.clone();
+        count += 1;
+    }
+    Some(count)
+}
+
 /// The whole final list in bulk: the number of its locators.
-fn final_list(memory: &Memory) -> u64 {
+fn final_list(memory: &Memory) -> Option<u64> {
     let (mut after, mut out, mut count) = (Vec::new(), vec![0; 128 * STRETCH_BYTES], 0);
     loop {
-        let answer = engine::final_stretches(&memory.stakes, &memory.store, &after, &mut out);
-        let answer = answer.expect("the call").expect("a store in order");
+        let answer = engine::final_stretches(&memory.stakes, &memory.store, &after, &mut out)?;
+        let answer = answer.expect("a store in order");
         for stretch in out.chunks(STRETCH_BYTES).take(answer as usize / 2) {
             count += number(&stretch[56..64]) - number(&stretch[48..56]);
         }
         if answer % 2 == 0 {
-            return count;
+            return Some(count);
         }
         let last: Vec<u64> = out[out.len() - STRETCH_BYTES..].chunks(8).map(number).collect();
         let digest: Vec<u8> = last[2..6].iter().flat_map(|word| word.to_be_bytes()).collect();
