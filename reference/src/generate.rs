@@ -20,7 +20,7 @@ pub fn list(seed: u64, n: u64) -> List {
             0 => committee_only(&mut rng),
             1 => {
                 // Lists of many members are long, so most of them have some twenty.
-                let most = if rng.once_in(6) { 128 } else { 24 };
+                let most = if rng.once_in(12) { 128 } else { 24 };
                 wide(&mut rng, most)
             }
             2..=4 => runs(&mut rng),
@@ -58,7 +58,7 @@ fn wide(rng: &mut Rng, most: u64) -> List {
 /// Long runs of shares and ranges that cut them.
 fn runs(rng: &mut Rng) -> List {
     let stakes = stakes(rng, 5);
-    let shape = Shape { rounds: rng.within(2, 4), statements: 12, run: 12, wrong: 30 };
+    let shape = Shape { rounds: rng.within(2, 3), statements: 8, run: 10, wrong: 30 };
     finish(rng, stakes, shape)
 }
 

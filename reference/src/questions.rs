@@ -12,7 +12,7 @@ use crate::tally::Tally;
 
 /// Most locators asked about one by one: every question checks the whole store, so there are fewer over a long one.
 fn most_asked(sides: &Sides) -> usize {
-    (60_000 / sides.state.stores.used() as usize).clamp(1, 8)
+    (40_000 / sides.state.stores.used() as usize).clamp(1, 8)
 }
 
 pub fn ask(sides: &Sides, rng: &mut Rng, tally: &mut Tally) -> Outcome {
@@ -104,7 +104,7 @@ fn one(sides: &Sides, locator: &Locator, finality: &Finality) -> Outcome {
 /// The next final locator, asked on until none (or a few times, from a random place, where the list is long).
 fn asked_on(sides: &Sides, list: &[(Locator, Finality)], rng: &mut Rng) -> Outcome {
     let lent = &sides.engine;
-    let most = most_asked(sides);
+    let most = if list.len() > 100 { 1 } else { most_asked(sides) };
     let long = list.len() > 3 * most;
     let first = if long { rng.below(list.len() as u64) as usize } else { 0 };
     let mut after = if first == 0 { Vec::new() } else { list[first - 1].0.bytes().to_vec() };
