@@ -128,6 +128,16 @@ fn points(sides: &Sides, rng: &mut Rng) -> Outcome {
     let mut stakes = vec![0, 1, total / 3, total - total / 3, total, MOST_STAKE, rng.word() >> rng.below(64)];
     stakes.extend([-2, -1, 0, 1, 2].map(|i| ((2 * total as u128 / 3) as u64).saturating_add_signed(i)));
     stakes.extend([-2, -1, 0, 1, 2].map(|i| (total / 3).saturating_add_signed(i)));
+    // The engine takes any two words.
+    for _ in 0..4 {
+        let (total, stake) = (rng.word() >> rng.below(64), rng.word() >> rng.below(64));
+        for stake in [stake, total, (2 * total as u128 / 3) as u64 + rng.below(2), total / 3 + rng.below(2)] {
+            if let Some(got) = engine::is_quorum(total, stake).zip(engine::is_valid(total, stake)) {
+                let right = (is_quorum(total, stake), is_valid(total, stake));
+                same(&format!("is_quorum, is_valid of stake {stake} in {total}"), "engine", got, right)?;
+            }
+        }
+    }
     for stake in stakes {
         let what = format!("of stake {stake} in {total}");
         if let Some(got) = engine::is_quorum(total, stake) {

@@ -11,6 +11,7 @@ pub mod generate;
 pub mod graphs;
 pub mod list;
 pub mod model;
+pub mod program;
 pub mod questions;
 pub mod rng;
 #[cfg_attr(not(has_rust), path = "no_rust.rs")]

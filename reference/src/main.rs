@@ -7,7 +7,7 @@ use std::time::{Duration, Instant};
 use reference::compare::compare;
 use reference::list::List;
 use reference::tally::Tally;
-use reference::{engine, exhaustive, generate, shrink};
+use reference::{engine, exhaustive, generate, program, shrink};
 
 fn main() {
     let words: Vec<String> = std::env::args().skip(1).collect();
@@ -16,6 +16,7 @@ fn main() {
         Some("lists") => lists(number(word(1), 4000), number(word(2), 1)),
         Some("list") => one(number(word(1), 0), number(word(2), 1)),
         Some("boundary") => boundary(word(1) == Some("exact")),
+        Some("listing") => listing(number(word(1), 1000), number(word(2), 1)),
         Some("model") => model(word(1).expect("a file")),
         #[cfg(has_rust)]
         Some("sample") => sample(word(1).expect("a folder"), word(2) == Some("check")),
@@ -106,6 +107,23 @@ fn boundary(exact: bool) {
             exit(1);
         }
     }
+}
+
+/// The program `listing` on generated inputs.
+fn listing(count: u64, seed: u64) {
+    if !program::is_there() {
+        println!("the program is not built (rt check listing)\n0 passed, 1 failed");
+        exit(1);
+    }
+    let mut failed = 0;
+    for n in 0..count {
+        if let Err(text) = program::run(&program::input(seed, n)) {
+            failed += 1;
+            println!("input {n} of seed {seed}: {text}");
+        }
+    }
+    println!("{} passed, {failed} failed", count - failed);
+    exit((failed > 0) as i32);
 }
 
 /// What `listing` prints for an input, by the model.
