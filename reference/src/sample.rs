@@ -1,7 +1,7 @@
 //! The fixed sample: small inputs of `listing` with the lines that the Rust's answers make. A program of the repository replays
 //! them under `rt ci` with no Rust at hand.
 //!
-//! The inputs are the shortest of the generated lists that show something new: a kind of line, a number of a refusal, a size of
+//! The first input is the course run. The others are the shortest of the generated lists that show something new: a kind of line, a number of a refusal, a size of
 //! committee, a mark, an author with two blocks in a round. Every line is made of the Rust's answers alone; rejects, empty ranges
 //! and refusals that `verify` does not know are left out.
 
@@ -11,6 +11,7 @@ use std::path::Path;
 
 use crate::compare::verify_refusal;
 use crate::generate;
+use crate::graphs::course_run;
 use crate::list::List;
 use crate::model::feed::{Event, Kind};
 use crate::model::listing::{listing, Lines};
@@ -21,18 +22,21 @@ const SEED: u64 = 8;
 const TRIED: u64 = 20_000;
 const LONGEST: usize = 1_500;
 const MOST_BYTES: usize = 16_000;
+const MOST_LINES: usize = 40;
 
 /// The sample: inputs by name, and what `listing` prints for each.
 pub fn make() -> Vec<(String, Vec<u8>, String)> {
     let lists = (0..TRIED).map(|n| generate::list(SEED, n)).filter(|list| list.to_listing().len() <= LONGEST);
     let mut lists: Vec<List> = lists.filter(|list| list.stakes.len() <= 128 && list.store >= list.needed()).collect();
     lists.sort_by_key(|list| list.to_listing().len());
+    lists.insert(0, List::roomy(vec![1; 4], course_run().iter().map(Block::encode).collect()));
     let (mut seen, mut sample, mut bytes) = (BTreeSet::new(), Vec::new(), 0);
     for list in lists {
         let Some(text) = rust_listing(&list) else { continue };
         let shown = shows(&list, &text);
         let input = list.to_listing();
-        if shown.is_subset(&seen) || bytes + input.len() > MOST_BYTES {
+        // Long outputs would show nothing more (and 15, which the Rust does not know, asks for one).
+        if shown.is_subset(&seen) || bytes + input.len() > MOST_BYTES || text.lines().count() > MOST_LINES {
             continue;
         }
         assert_eq!(text, listing(&input), "the model prints what the Rust's answers make");
@@ -82,22 +86,22 @@ pub fn rust_listing(list: &List) -> Option<String> {
         let block = Block::decode(record)?;
         let round_0 = block.reference.round == 0;
         let is_stored = |reference| stored.iter().any(|stored| stored.reference == reference);
+        // What `verify` does not look at: 20, 23 and 28; 21 and 22 of round 0; 30.
+        let author_known = block.reference.author < list.stakes.len() as u64;
+        let bare = block.includes.is_empty() && block.statements.is_empty();
+        let most = |statement: &Statement| matches!(statement, Statement::Accept(locator) if locator.offset == u64::MAX);
+        let accept_most = block.statements.iter().any(most);
+        if (round_0 && !(bare && author_known)) || is_stored(block.reference) || accept_most {
+            return None;
+        }
         if !round_0 {
             if let Err(text) = side.verify(&block).ok()? {
                 lines.refused(i + 1, verify_refusal(&text));
                 continue;
             }
         }
-        // What `verify` does not look at: 21 and 22 of round 0, 23, 28 and 30; and what is outside the Rust's domain.
-        let author_known = block.reference.author < list.stakes.len() as u64;
-        let bare = block.includes.is_empty() && block.statements.is_empty();
-        let most = |statement: &Statement| matches!(statement, Statement::Accept(locator) if locator.offset == u64::MAX);
-        let accept_most = block.statements.iter().any(most);
         let includes_stored = block.includes.iter().all(|include| is_stored(*include));
-        if (round_0 && !(bare && author_known)) || is_stored(block.reference) || accept_most || !includes_stored {
-            return None;
-        }
-        if !block.statements.iter().all(in_domain) {
+        if !includes_stored || !block.statements.iter().all(in_domain) {
             return None;
         }
         let calls = side.feed(&block).ok()?;
