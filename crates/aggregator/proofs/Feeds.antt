@@ -1,34 +1,29 @@
--- The checks of feeding, one group after the other, and what a feed gives in each case. Assumes nothing.
-use mathlib.Core.Path.{_≡_, refl, sym, ap, _∙_}
+-- The checks of a record, one group after the other. Assumes nothing.
+use mathlib.Core.Path.{_≡_, refl, sym, _∙_}
 use mathlib.Core.Bool.{Bool, true, false, not}
-use mathlib.Core.List.{List, [], _∷_, _++_, map, flatten, append-assoc}
-use mathlib.Core.Option.{Option, none, some, Option·map}
+use mathlib.Core.List.{List, [], _∷_, _++_, map, flatten}
+use mathlib.Core.Option.{Option, none, some}
 use Prim.Native.Nat.{ℕ, _≤_, _<_}
 use native.Mathlib.Omega.{arith}
 use lib.Dec.{ltb, lit<}
-use lib.ListN.{length, drop}
+use lib.ListN.{length}
 use borrow.Author.Tests.{lt-ltb, le-ltb}
 use Rattle.base.specs.Lists.{pick, anyOf, isNone}
 use Rattle.base.specs.Le.{Bytes}
-use Rattle.base.specs.Checks.{Check, _⇒_, refusal, passes}
-use Rattle.base.proofs.Tests.{fails, not-both}
-use Rattle.base.proofs.Lists.{Every, none-of, and, every-append, every-in}
-use Rattle.base.proofs.Refusals.{Numbered, zero-passes, passes-zero, refusal-first, refusal-then}
+use Rattle.base.specs.Checks.{_⇒_, refusal, passes}
+use Rattle.base.proofs.Lists.{none-of, and, every-append, every-in}
+use Rattle.base.proofs.Refusals.{Numbered, zero-passes, refusal-first, refusal-then}
 use Rattle.committee.specs.Committee.{Committee}
 use Rattle.types.specs.Reference.{BlockReference}
 use Rattle.types.specs.Block.{Block, eventRoom}
-use Rattle.types.specs.Record.{blockOf, wellFormed, blockIn}
+use Rattle.types.specs.Record.{wellFormed, blockIn}
 use Rattle.types.specs.Verify.{headChecks, includeChecks, statementChecks, bodyChecks}
-use Rattle.types.proofs.Shape.{block-of}
 use Rattle.threshold_clock.proofs.Checking.{includes-numbered, statements-numbered}
-use Rattle.block_store.specs.Layout.{Record, readRecord, Entry, entries, positionOf, lookup}
+use Rattle.block_store.specs.Layout.{Record, Entry, entries, positionOf, lookup}
 use Rattle.block_store.specs.Accept.{isStored, firstMissing, blockChecks}
 use Rattle.block_store.specs.Store.{recordsOf, recordIn, storeFull}
 use Rattle.block_store.proofs.Lookups.{lookup-stored, lookup-in, missing-test}
 use Rattle.block_store.proofs.Store.{entries-within}
-use Rattle.range_map.specs.Table.{room}
-use Rattle.aggregator.specs.Pending.{pendingChecks}
-use Rattle.aggregator.specs.Feed.{Lent, Fed, processed, lentChecks, recordChecks, feedChecks, refusedFeed, acceptedFeed, feedRecord, feed}
 use Rattle.aggregator.specs.Step.{acceptChecks}
 
 -- ---- 21 to 30
@@ -123,112 +118,10 @@ module _ (c : Committee) (s : Bytes) (n : ℕ) (rec : Bytes) where
         unfolding refusal
         record-none f = after-block ∙ rw (le-ltb n (eventRoom (blockIn rec)) l, f)
 
-accept-numbered : (c : Committee) (s : Bytes) (n : ℕ) (rec : Bytes) → Numbered (acceptChecks c s n rec)
+pub accept-numbered : (c : Committee) (s : Bytes) (n : ℕ) (rec : Bytes) → Numbered (acceptChecks c s n rec)
 unfolding acceptChecks
 accept-numbered c s n rec = go (wellFormed rec)
   where
     go : (t : Bool) → Numbered (pick t (blockChecks c (recordsOf s) (blockIn rec) ++ ((ltb n (eventRoom (blockIn rec)) ⇒ 15) ∷ (storeFull s (recordIn rec) ⇒ 13) ∷ [])) ((true ⇒ 20) ∷ []))
     go true = every-append (blockChecks c (recordsOf s) (blockIn rec)) _ (block-numbered c (recordsOf s) (blockIn rec)) (and (lit< tt) (and (lit< tt) none-of))
     go false = and (lit< tt) none-of
-
--- ---- the record that is read
-
-read-go : (bytes : Bytes) (o : Option Block) → not (isNone o) ≡ false → Option·map {B = Record} (λ b. record { bytes = bytes; block = b }) o ≡ none
-unfolding isNone
-read-go bytes none h = refl
-read-go bytes (some b) h = absurd (not-both refl h)
-
-read-none : (bytes : Bytes) → wellFormed bytes ≡ false → readRecord bytes ≡ none
-unfolding wellFormed readRecord
-read-none bytes w = read-go bytes (blockOf bytes) w
-
-pub read-some : (bytes : Bytes) → wellFormed bytes ≡ true → readRecord bytes ≡ some (recordIn bytes)
-unfolding readRecord recordIn
-read-some bytes w = rw (block-of bytes w)
-
--- ---- the whole order
-
-module _ (c : Committee) (m : Lent) (bytes : Bytes) where
-  lent : List Check
-  lent = pendingChecks c (m .store) (m .table)
-
-  work : List Check
-  work = (ltb (length (m .work)) (length (m .table)) ⇒ 12) ∷ []
-
-  asked : List Check
-  asked = acceptChecks c (m .store) (length (m .events)) bytes
-
-  split : (o : Option Record) → feedChecks c m o ≡ (lent ++ work) ++ recordChecks c m o
-  unfolding feedChecks lentChecks pendingChecks lent work
-  split o = refl
-
-  lent-numbered : Numbered (lent ++ work)
-  unfolding pendingChecks lent work
-  lent-numbered = and (lit< tt) (and (lit< tt) (and (lit< tt) (and (lit< tt) none-of)))
-
-  lent-only : Numbered lent
-  unfolding pendingChecks lent
-  lent-only = and (lit< tt) (and (lit< tt) (and (lit< tt) none-of))
-
-  pub feeds-lent : (o : Option Record) → (refusal (pendingChecks c (m .store) (m .table)) ≡ 0 → ⊥) → refusal (feedChecks c m o) ≡ refusal (pendingChecks c (m .store) (m .table))
-  unfolding lent
-  feeds-lent o h =
-      let e : refusal (lent ++ work) ≡ refusal lent = refusal-first lent work h in
-      ap refusal (split o) ∙ refusal-first (lent ++ work) (recordChecks c m o) (λ z. h (sym e ∙ z)) ∙ e
-
-  module _ (h : refusal (pendingChecks c (m .store) (m .table)) ≡ 0) where
-    at-work : refusal (lent ++ work) ≡ pick (ltb (length (m .work)) (length (m .table))) 12 0
-    unfolding lent work refusal
-    at-work = refusal-then lent work lent-only h
-
-    pub feeds-work : (o : Option Record) → length (m .work) < length (m .table) → refusal (feedChecks c m o) ≡ 12
-    feeds-work o l =
-        let e : refusal (lent ++ work) ≡ 12 = at-work ∙ rw (lt-ltb (length (m .work)) (length (m .table)) l) in
-        ap refusal (split o) ∙ refusal-first (lent ++ work) (recordChecks c m o) (λ (z : refusal (lent ++ work) ≡ 0). omega (arith, e)) ∙ e
-
-    pub feeds-record : (o : Option Record) → length (m .table) ≤ length (m .work) → refusal (feedChecks c m o) ≡ refusal (recordChecks c m o)
-    feeds-record o l =
-        let e : refusal (lent ++ work) ≡ 0 = at-work ∙ rw (le-ltb (length (m .work)) (length (m .table)) l) in
-        ap refusal (split o) ∙ refusal-then (lent ++ work) (recordChecks c m o) lent-numbered e
-
-  full : Check
-  full = ltb (room (m .table)) (processed c m (recordIn bytes) .most) ⇒ 14
-
-  with-full : wellFormed bytes ≡ true → recordChecks c m (readRecord bytes) ≡ asked ++ (full ∷ [])
-  unfolding recordChecks asked acceptChecks full recordIn
-  with-full w = rw (read-some bytes w, w) (sym (append-assoc (blockChecks c (recordsOf (m .store)) (blockIn bytes)) _ _))
-
-  pub feeds-asked : (refusal (acceptChecks c (m .store) (length (m .events)) bytes) ≡ 0 → ⊥) → refusal (recordChecks c m (readRecord bytes)) ≡ refusal (acceptChecks c (m .store) (length (m .events)) bytes)
-  unfolding asked recordChecks acceptChecks
-  feeds-asked h = go (wellFormed bytes) refl
-    where
-      go : (t : Bool) → wellFormed bytes ≡ t → refusal (recordChecks c m (readRecord bytes)) ≡ refusal asked
-      go true w = ap refusal (with-full w) ∙ refusal-first asked (full ∷ []) h
-      go false w = rw (read-none bytes w, w)
-
-  pub feeds-full : wellFormed bytes ≡ true → refusal (acceptChecks c (m .store) (length (m .events)) bytes) ≡ 0
-      → refusal (recordChecks c m (readRecord bytes)) ≡ pick (ltb (room (m .table)) (processed c m (recordIn bytes) .most)) 14 0
-  unfolding asked full refusal
-  feeds-full w z = ap refusal (with-full w) ∙ refusal-then asked (full ∷ []) asked-numbered z
-    where
-      asked-numbered : Numbered asked
-      asked-numbered = accept-numbered c (m .store) (length (m .events)) bytes
-
-  -- ---- what a feed gives
-
-  pub feed-refuses : (n : ℕ) → n ≡ refusal (feedChecks c m (readRecord bytes)) → (n ≡ 0 → ⊥) → feed c m bytes ≡ refusedFeed m n
-  unfolding feed feedRecord
-  feed-refuses n e f = go (readRecord bytes) e
-    where
-      go : (o : Option Record) → n ≡ refusal (feedChecks c m o) → feedRecord c m o ≡ refusedFeed m n
-      go none z = ap (refusedFeed m) (sym z)
-      go (some r) z = rw (fails (passes (feedChecks c m (some r))) (λ p. f (z ∙ passes-zero _ p))) (ap (refusedFeed m) (sym z))
-
-  pub feed-accepts : wellFormed bytes ≡ true → refusal (feedChecks c m (readRecord bytes)) ≡ 0 → feed c m bytes ≡ acceptedFeed c m (recordIn bytes)
-  unfolding feed feedRecord asked full
-  feed-accepts w z = rw (read-some bytes w, zero-passes _ all-numbered (rw (read-some bytes w) at z))
-    where
-      all-numbered : Numbered (feedChecks c m (some (recordIn bytes)))
-      all-numbered =
-          rw (split (some (recordIn bytes)), ← read-some bytes w, with-full w)
-          (every-append (lent ++ work) _ lent-numbered (every-append asked _ (accept-numbered c (m .store) (length (m .events)) bytes) (and (lit< tt) none-of)))

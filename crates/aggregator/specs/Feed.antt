@@ -23,6 +23,9 @@ pub record Lent : Type 0 where
   pub work : List ℕ
   pub events : List ℕ
 
+abbrev pub lentOf : Bytes → List ℕ → List ℕ → List ℕ → Lent
+lentOf s t w v = record { store = s; table = t; work = w; events = v }
+
 -- what a feed answers, and what it leaves of the slices that it was lent
 pub record Fed : Type 0 where
   pub answer : Answer ℕ

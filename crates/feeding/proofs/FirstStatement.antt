@@ -1,0 +1,131 @@
+-- The mission's first statement. Assumes nothing.
+use mathlib.Core.Path.{_≡_, refl, ap, _∙_}
+use mathlib.Core.Bool.{Bool, true, false, not, _&&_}
+use mathlib.Core.List.{List, [], _∷_, _++_}
+use mathlib.Core.Option.{Option, none, some}
+use Prim.Native.Nat.{_≤_}
+use lib.Dec.{ltb}
+use lib.ListN.{length, drop}
+use lib.Seq.{drop-at}
+use borrow.Author.Tests.{le-ltb, ltb-false}
+use Rattle.base.specs.Lists.{pick, allOf}
+use Rattle.base.specs.Le.{Bytes}
+use Rattle.base.specs.Checks.{Check, _⇒_, refusal, passes}
+use Rattle.base.proofs.Tests.{not-both, fails}
+use Rattle.base.proofs.Checks.{passes-first, passes-others, passes-left, passes-right}
+use Rattle.base.proofs.Passing.{passes-append}
+use Rattle.committee.specs.Committee.{Committee, broken}
+use Rattle.types.specs.Block.{eventRoom}
+use Rattle.block_store.specs.Layout.{Record, readRecord, layout}
+use Rattle.block_store.specs.Accept.{blockChecks}
+use Rattle.block_store.specs.Store.{recordsOf, storeFull, storeHolding}
+use Rattle.block_store.proofs.Store.{length-layout, readRecord-some, Holding, accepting}
+use Rattle.range_map.specs.Table.{room}
+use Rattle.range_map.proofs.Table.{itemsOf-tableOf}
+use Rattle.aggregator.specs.Feed.{Lent, processed, lentChecks, recordChecks, feedChecks, refusedFeed, acceptedFeed, feedRecord, feed}
+use Rattle.aggregator.specs.Step.{wordsOf}
+use Rattle.aggregator.proofs.Keeping.{Passed, passed, State, lent-state, Kept, feed-keeps}
+use Rattle.aggregator.proofs.Telling.{length-words}
+use Rattle.feeding.specs.FirstStatement.{EnoughMemory, KeepsRules, Counted, FirstApplies, here, later, Refused, FirstStatement}
+
+-- the refusal number is the first that applies
+first-applies : (ks : List Check) → passes ks ≡ false → FirstApplies (refusal ks) ks
+unfolding passes allOf refusal
+first-applies [] h = absurd (not-both refl h)
+first-applies (k ∷ ks) h = go (k .applies) refl h (first-applies ks)
+  where
+    go : (t : Bool) → k .applies ≡ t → not t && passes ks ≡ false → (passes ks ≡ false → FirstApplies (refusal ks) ks) → FirstApplies (pick t (k .number) (refusal ks)) (k ∷ ks)
+    go true e h ih = here e
+    go false e h ih = later e (ih h)
+
+-- what the first and the fourth check say
+lent-facts : (c : Committee) (m : Lent) (r : Record) → passes (feedChecks c m (some r)) ≡ true → (broken c ≡ false) × (length (m .table) ≤ length (m .work))
+unfolding feedChecks lentChecks
+lent-facts c m r p =
+    let h = passes-left (lentChecks c m) (recordChecks c m (some r)) p in
+    (passes-first _ _ h, ltb-false _ _ (passes-first _ _ (passes-others _ _ (passes-others _ _ (passes-others _ _ h)))))
+
+-- a record that keeps the rules passes every check
+lent-passes : (c : Committee) (m : Lent) (r : Record) → EnoughMemory c m r → passes (lentChecks c m) ≡ true
+unfolding lentChecks passes allOf
+lent-passes c m r e = rw (e .committee, e .store, e .table, le-ltb (length (m .work)) (length (m .table)) (e .work))
+
+room-passes : (c : Committee) (m : Lent) (r : Record) → EnoughMemory c m r
+    → passes ((ltb (length (m .events)) (eventRoom (r .block)) ⇒ 15) ∷ (storeFull (m .store) r ⇒ 13) ∷ (ltb (room (m .table)) (processed c m r .most) ⇒ 14) ∷ []) ≡ true
+unfolding passes allOf
+room-passes c m r e = rw (le-ltb (length (m .events)) (eventRoom (r .block)) (e .events), e .bytes, le-ltb (room (m .table)) (processed c m r .most) (e .items))
+
+all-pass : (c : Committee) (m : Lent) (r : Record) → passes (blockChecks c (recordsOf (m .store)) (r .block)) ≡ true → EnoughMemory c m r → passes (feedChecks c m (some r)) ≡ true
+unfolding feedChecks recordChecks
+all-pass c m r b e =
+    passes-append (lentChecks c m) _ ∙ rw (lent-passes c m r e) (passes-append (blockChecks c (recordsOf (m .store)) (r .block)) _ ∙ rw b (room-passes c m r e))
+
+-- "is stored and counted"
+counted : (c : Committee) (m : Lent) (bytes : Bytes) (k : KeepsRules c m bytes) → Counted c m (k .rec) (feed c m bytes)
+counted c m bytes k = rw accepts here-counted
+  where
+    r : Record
+    r = k .rec
+
+    e : EnoughMemory c m r
+    e = k .memory
+
+    accepts : feed c m bytes ≡ acceptedFeed c m r
+    accepts = unfold feed feedRecord in rw (k .formed, all-pass c m r (k .rules) e)
+
+    held : Holding c (r ∷ recordsOf (m .store)) (m .store)
+    held = accepting c (m .store) r (e .store) (readRecord-some bytes r (k .formed)) (k .rules) (e .bytes)
+
+    kept : Kept c m (acceptedFeed c m r)
+    kept = rw accepts at (feed-keeps c m bytes (record { store = e .store; table = e .table }))
+
+    here-counted : Counted c m r (acceptedFeed c m r)
+    here-counted =
+        record {
+          answer = unfold acceptedFeed in refl;
+          stored = unfold acceptedFeed in held .records;
+          store-order = kept .state .store;
+          store-past = unfold acceptedFeed storeHolding in drop-at (layout (r ∷ recordsOf (m .store))) _ _ (length-layout (r ∷ recordsOf (m .store)));
+          items = unfold acceptedFeed in itemsOf-tableOf (length (m .table)) (processed c m r .items);
+          table-order = rw (← records) (kept .state .table);
+          events = unfold acceptedFeed wordsOf in ap (λ n. wordsOf (processed c m r .events) ++ drop n (m .events)) (length-words (processed c m r .events));
+        }
+      where
+        records : recordsOf (acceptedFeed c m r .store) ≡ r ∷ recordsOf (m .store)
+        records = unfold acceptedFeed in held .records
+
+-- "Every other input gets the first refusal number that applies"
+others : (c : Committee) (m : Lent) (bytes : Bytes) → (KeepsRules c m bytes → ⊥) → Refused c m bytes (feed c m bytes)
+others c m bytes n = unfold feed in go (readRecord bytes) refl
+  where
+    refuses : passes (feedChecks c m (readRecord bytes)) ≡ false → Refused c m bytes (refusedFeed m (refusal (feedChecks c m (readRecord bytes))))
+    refuses f =
+        unfold refusedFeed in
+        record { number = refusal (feedChecks c m (readRecord bytes)); answer = refl; first = first-applies (feedChecks c m (readRecord bytes)) f; store = refl; table = refl; events = refl }
+
+    never : passes (feedChecks c m none) ≡ false
+    never = unfold feedChecks recordChecks in fails _ (λ p. not-both refl (passes-first (true ⇒ 20) [] (passes-right (lentChecks c m) _ p)))
+
+    keeps : (r : Record) → readRecord bytes ≡ some r → passes (feedChecks c m (some r)) ≡ true → KeepsRules c m bytes
+    keeps r e p =
+        let a : Passed c m r = passed c m r p in
+        let s : State c (m .store) (m .table) = lent-state c m r p in
+        let l = lent-facts c m r p in
+        record {
+          rec = r;
+          formed = e;
+          rules = a .block;
+          memory = record { committee = l .0; store = s .store; table = s .table; work = l .1; events = a .events; bytes = a .stored; items = a .items };
+        }
+
+    go : (o : Option Record) → readRecord bytes ≡ o → Refused c m bytes (feedRecord c m o)
+    go none e = unfold feedRecord in rw e at (refuses (rw e never))
+    go (some r) e = unfold feedRecord in by-checks (passes (feedChecks c m (some r))) refl
+      where
+        by-checks : (t : Bool) → passes (feedChecks c m (some r)) ≡ t
+            → Refused c m bytes (pick t (acceptedFeed c m r) (refusedFeed m (refusal (feedChecks c m (some r)))))
+        by-checks true p = absurd (n (keeps r e p))
+        by-checks false p = rw e at (refuses (rw e p))
+
+pub first-statement : FirstStatement
+first-statement = record { kept = counted; others = others }

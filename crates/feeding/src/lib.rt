@@ -1,0 +1,65 @@
+// Feeding a record: one call over the committee and all lent memory. Follows committee.rs (`TransactionAggregator`) and block_store.rs.
+ghost use mathlib.Core.Path.{_≡_};
+ghost use Rattle.base.specs.Checks.{refusal};
+ghost use Rattle.aggregator.specs.Feed.{feed, lentOf};
+ghost use Rattle.feeding.specs.Answers.{asFeedAnswer};
+ghost use Rattle.feeding.specs.Refusals.{earlyChecks};
+ghost use Rattle.feeding.specs.FirstStatement.{FirstStatement};
+
+// The number of events, or a refusal.
+pub enum FeedAnswer {
+    Events(u64),
+    Refused(u64),
+}
+
+// Feeds a record. A refusal writes nothing but the work slice; else the record is stored and counted, and its events stand at the front.
+pub fn feed(
+    stakes: &[u64],
+    store: &mut [u8],
+    table: &mut [u64],
+    work: &mut [u64],
+    events: &mut [u64],
+    rec: &[u8],
+) -> FeedAnswer
+    ensures { λ r. ⌜ asFeedAnswer r ≡ feed (now (stakes .entry)) (lentOf (now (store .entry)) (now (table .entry)) (now (work .entry)) (now (events .entry))) (now (rec .entry)) .answer ⌝ }
+    ensures { λ r. ⌜ now (store .exit) ≡ feed (now (stakes .entry)) (lentOf (now (store .entry)) (now (table .entry)) (now (work .entry)) (now (events .entry))) (now (rec .entry)) .store ⌝ }
+    ensures { λ r. ⌜ now (table .exit) ≡ feed (now (stakes .entry)) (lentOf (now (store .entry)) (now (table .entry)) (now (work .entry)) (now (events .entry))) (now (rec .entry)) .table ⌝ }
+    ensures { λ r. ⌜ now (events .exit) ≡ feed (now (stakes .entry)) (lentOf (now (store .entry)) (now (table .entry)) (now (work .entry)) (now (events .entry))) (now (rec .entry)) .events ⌝ }
+{
+    let lent = aggregator::lent_refusal(stakes, store, table);
+    if lent != 0 {
+        return FeedAnswer::Refused(lent);
+    }
+    if work.len() < table.len() {
+        return FeedAnswer::Refused(12);
+    }
+    let refusal = aggregator::record_refusal(stakes, store, rec, events.len());
+    if refusal != 0 {
+        return FeedAnswer::Refused(refusal);
+    }
+    if !aggregator::items_fit(stakes, store, rec, table, work, events) {
+        return FeedAnswer::Refused(14);
+    }
+    let done = aggregator::process_block(stakes, store, rec, table, events, true);
+    block_store::append(store, rec);
+    FeedAnswer::Events(done.events as u64)
+}
+
+// The first refusal of a feed before those about memory (5, 10, 11, 20 to 30); 0 where none applies.
+pub fn early_refusal(stakes: &[u64], store: &[u8], table: &[u64], rec: &[u8]) -> u64
+    ensures { λ r. ⌜ r ≡ refusal (earlyChecks (now (stakes .entry)) (now (store .entry)) (now (table .entry)) (now (rec .entry))) ⌝ }
+{
+    let lent = aggregator::lent_refusal(stakes, store, table);
+    if lent != 0 {
+        return lent;
+    }
+    if !types::well_formed(rec) {
+        return 20;
+    }
+    aggregator::block_refusal(stakes, store, rec)
+}
+
+// The mission's first statement.
+pub fn first_statement()
+    ensures { λ _. ⌜ FirstStatement ⌝ }
+{}
