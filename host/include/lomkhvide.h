@@ -21,6 +21,18 @@
  * Refused: 1 no stakes, 2 a stake of zero, 3 more than 128, 4 a total over 2^63 - 1, 5 bytes that are not whole words. */
 uint64_t lomkhvide_new_committee(const uint8_t *stakes, size_t stakes_len);
 
+/* Whether an amount of stake is quorum of a total (3 * amount > 2 * total), and whether it is valid (3 * amount > total): 1 or 0, of any
+ * two words. */
+uint64_t lomkhvide_is_quorum(uint64_t total, uint64_t amount);
+uint64_t lomkhvide_is_valid(uint64_t total, uint64_t amount);
+
+/* Puts a voter into an aggregator of three words: the voters' bits, 0 to 63 and 64 to 127, and their stake. 1 where quorum holds now,
+ * else 0.
+ * Refused: 5 stakes that are no committee or not whole words, 6 an aggregator not of three words, with voters that are not all known,
+ * or with a stake that is not their sum, 21 a voter who is not known. */
+#define LOMKHVIDE_AGGREGATOR_LEN ((size_t)24)
+uint64_t lomkhvide_add(const uint8_t *stakes, size_t stakes_len, uint8_t *aggregator, size_t aggregator_len, uint64_t voter);
+
 /* A store is lent whole: 16 to 2^32 - 1 bytes. A fresh one has 16 at byte 4 (four bytes, lowest first) and zeros elsewhere in its
  * first 16 bytes.
  *
@@ -28,6 +40,7 @@ uint64_t lomkhvide_new_committee(const uint8_t *stakes, size_t stakes_len);
  *
  * Each question below is refused, in this order: 5 stakes that are no committee or not whole words; 10 a store not in order;
  * 20 a locator not of 56 bytes; then its own number. */
+#define LOMKHVIDE_LOCATOR_LEN ((size_t)56)
 
 /* Whether a locator is final: 2 * number of certifying blocks, and 1 more where it is. The positions of these blocks in the store,
  * one word each, are written to the front in ascending order of reference; the bytes after them keep their content.
@@ -35,6 +48,28 @@ uint64_t lomkhvide_new_committee(const uint8_t *stakes, size_t stakes_len);
 #define LOMKHVIDE_POSITIONS_LEN ((size_t)8192)
 uint64_t lomkhvide_finality(const uint8_t *stakes, size_t stakes_len, const uint8_t *store, size_t store_len, uint8_t *positions,
                             size_t positions_len, const uint8_t *locator, size_t locator_len);
+
+/* The least final locator after a given one, or from the start where `after` has no bytes: 1, and the locator is written to `found`; or 0
+ * where none is left. Asked on after the locator that it found, until 0, it gives every final locator in ascending order.
+ * Refused last: 40 `found` not of 56 bytes. */
+uint64_t lomkhvide_next_final(const uint8_t *stakes, size_t stakes_len, const uint8_t *store, size_t store_len, const uint8_t *after,
+                              size_t after_len, uint8_t *found, size_t found_len);
+
+/* The stake and the number of the voters of a pending locator. The pending table is 6,145 words; a fresh one is zeros.
+ * Refused between 10 and 20: 11 a table not of 6,145 words or not in order. Refused last: 42 not pending. */
+#define LOMKHVIDE_TABLE_LEN ((size_t)49160)
+uint64_t lomkhvide_pending_stake(const uint8_t *stakes, size_t stakes_len, const uint8_t *store, size_t store_len, const uint8_t *table,
+                                 size_t table_len, const uint8_t *locator, size_t locator_len);
+uint64_t lomkhvide_pending_voters(const uint8_t *stakes, size_t stakes_len, const uint8_t *store, size_t store_len, const uint8_t *table,
+                                  size_t table_len, const uint8_t *locator, size_t locator_len);
+
+/* Feeds a block record: the number of its events. The record is stored and counted, and the events are written to the front of `events`,
+ * three words each: 1 processed, 2 late or 3 unknown; the statement's index; the offset. The bytes after them keep their content.
+ * Refused, in this order: 5; 10; 11; 20 a malformed record; 21 to 30 a record that breaks a rule; 15 events not of 8,192 words, or with
+ * under 3 words for each accept and each offset of each range; 13 the store is full; 14 the table is full. */
+#define LOMKHVIDE_EVENTS_LEN ((size_t)65536)
+uint64_t lomkhvide_feed(const uint8_t *stakes, size_t stakes_len, uint8_t *store, size_t store_len, uint8_t *table, size_t table_len,
+                        uint8_t *events, size_t events_len, const uint8_t *record, size_t record_len);
 
 /* The length of a stored share's payload. Refused last: 41 no such share. */
 uint64_t lomkhvide_payload_length(const uint8_t *stakes, size_t stakes_len, const uint8_t *store, size_t store_len,

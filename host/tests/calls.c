@@ -67,6 +67,63 @@ static void committees(void) {
     same("a refusal's number", LOMKHVIDE_REFUSAL(refused(42)), 42);
 }
 
+static void quorums(void) {
+    const uint64_t most = (UINT64_C(1) << 63) - 1;
+    same("3 of 4", lomkhvide_is_quorum(4, 3), 1);
+    same("2 of 4", lomkhvide_is_quorum(4, 2), 0);
+    same("2 of 4 is valid", lomkhvide_is_valid(4, 2), 1);
+    same("1 of 4 is not", lomkhvide_is_valid(4, 1), 0);
+    same("2 of 3", lomkhvide_is_quorum(3, 2), 0);
+    same("3 of 3", lomkhvide_is_quorum(3, 3), 1);
+    same("all of the most", lomkhvide_is_quorum(most, most), 1);
+    same("two thirds of the most", lomkhvide_is_quorum(most, most / 3 * 2), 0);
+    same("all of every word", lomkhvide_is_quorum(UINT64_MAX, UINT64_MAX), 1);
+    same("a third of every word", lomkhvide_is_valid(UINT64_MAX, UINT64_MAX / 3), 0);
+    same("one more", lomkhvide_is_valid(UINT64_MAX, UINT64_MAX / 3 + 1), 1);
+}
+
+static void put_aggregator(uint8_t *to, uint64_t low, uint64_t high, uint64_t stake) {
+    put_word(to, low);
+    put_word(to + 8, high);
+    put_word(to + 16, stake);
+}
+
+/* Stakes of 1, but for author 2, who has 3: 6 in all. */
+static void adding(void) {
+    uint8_t stakes[32], held[32], want[32];
+    for (int i = 0; i < 4; i++) {
+        put_word(stakes + 8 * i, i == 2 ? 3 : 1);
+    }
+    memset(held, 9, sizeof held);
+    memset(want, 9, sizeof want);
+    put_aggregator(held, 0, 0, 0);
+    same("the first vote", lomkhvide_add(stakes, 32, held, 24, 2), 0);
+    put_aggregator(want, 4, 0, 3);
+    same("its aggregator", memcmp(held, want, sizeof held), 0);
+    same("the same vote again", lomkhvide_add(stakes, 32, held, 24, 2), 0);
+    same("counts once", memcmp(held, want, sizeof held), 0);
+    same("a second voter, no quorum yet", lomkhvide_add(stakes, 32, held, 24, 0), 0);
+    same("a third voter, quorum", lomkhvide_add(stakes, 32, held, 24, 3), 1);
+    put_aggregator(want, 13, 0, 5);
+    same("their aggregator", memcmp(held, want, sizeof held), 0);
+    same("an unknown voter", lomkhvide_add(stakes, 32, held, 24, 4), refused(21));
+    same("no voter at all", lomkhvide_add(stakes, 32, held, 24, UINT64_MAX), refused(21));
+    for (size_t n = 0; n <= sizeof held; n++) {
+        if (n != 24) {
+            same("an aggregator of any length", lomkhvide_add(stakes, 32, held, n, 1), refused(6));
+            same("no committee", lomkhvide_add(stakes, 31, held, n, 1), refused(5));
+        }
+    }
+    same("refused, so nothing is written", memcmp(held, want, sizeof held), 0);
+    put_aggregator(want, 13, 0, 6);
+    memcpy(held, want, sizeof held);
+    same("a stake that is no sum", lomkhvide_add(stakes, 32, held, 24, 1), refused(6));
+    put_aggregator(want, 13, 1, 5);
+    memcpy(held, want, sizeof held);
+    same("a voter who is not known", lomkhvide_add(stakes, 32, held, 24, 9), refused(6));
+    same("nothing is written", memcmp(held, want, sizeof held), 0);
+}
+
 /* A block record: author 0, the given round, a digest whose fourth byte is k; with an include, if there is one, and a share, if its
  * payload is not empty. Answers its length. */
 static size_t put_record(uint8_t *to, uint64_t round, uint8_t k, const uint8_t *include, const char *payload) {
@@ -151,11 +208,127 @@ static void payloads(void) {
     put_word(before, second_at);
     same("the position of its block", memcmp(positions, before, sizeof positions), 0);
     same("the store is as it was", memcmp(store, kept, sizeof store), 0);
+
+    uint8_t found[58], room[58];
+    memset(found, 9, sizeof found);
+    memcpy(room, found, sizeof found);
+    for (size_t n = 0; n < 58; n++) {
+        if (n != 0 && n != 56) {
+            same("next final after bytes of any length", lomkhvide_next_final(one, 8, store, sizeof store, locator, n, found, 8), refused(20));
+        }
+        if (n != 56) {
+            same("room of any length", lomkhvide_next_final(one, 8, store, sizeof store, locator, 0, found, n), refused(40));
+            same("and after a locator", lomkhvide_next_final(one, 8, store, sizeof store, locator, 56, found, n), refused(40));
+        }
+    }
+    same("no committee", lomkhvide_next_final(one, 7, store, sizeof store, locator, 3, found, 3), refused(5));
+    same("no store", lomkhvide_next_final(one, 8, store, 15, locator, 3, found, 3), refused(10));
+    same("none after it", lomkhvide_next_final(one, 8, store, sizeof store, locator, 56, found, 56), 0);
+    same("nothing is written", memcmp(found, room, sizeof found), 0);
+    same("one from the start", lomkhvide_next_final(one, 8, store, sizeof store, locator, 0, found, 56), 1);
+    memcpy(room, locator, 56);
+    same("it is the share", memcmp(found, room, sizeof found), 0);
+
+    static uint8_t table[LOMKHVIDE_TABLE_LEN + 8], lent[LOMKHVIDE_TABLE_LEN + 8];
+    same("nothing is pending", lomkhvide_pending_stake(one, 8, store, sizeof store, table, LOMKHVIDE_TABLE_LEN, locator, 56), refused(42));
+    put_word(table, 1);
+    put_word(table + 8, second_at);
+    put_word(table + 24, 1);
+    put_word(table + 32, 1);
+    put_word(table + 48, 1);
+    memcpy(lent, table, sizeof table);
+    same("a pending share's stake", lomkhvide_pending_stake(one, 8, store, sizeof store, table, LOMKHVIDE_TABLE_LEN, locator, 56), 1);
+    same("its voters", lomkhvide_pending_voters(one, 8, store, sizeof store, table, LOMKHVIDE_TABLE_LEN, locator, 56), 1);
+    for (size_t n = 0; n < sizeof table; n += n < 64 ? 1 : 499) {
+        if (n != LOMKHVIDE_TABLE_LEN) {
+            same("a table of any length", lomkhvide_pending_stake(one, 8, store, sizeof store, table, n, locator, 3), refused(11));
+            same("the same for voters", lomkhvide_pending_voters(one, 8, store, sizeof store, table, n, locator, 3), refused(11));
+        }
+    }
+    for (size_t n = 0; n < 58; n++) {
+        if (n != 56) {
+            same("pending, a locator of any length", lomkhvide_pending_stake(one, 8, store, sizeof store, table, LOMKHVIDE_TABLE_LEN, locator, n), refused(20));
+        }
+    }
+    same("no store", lomkhvide_pending_stake(one, 8, store, 8, table, 3, locator, 3), refused(10));
+    same("no committee", lomkhvide_pending_voters(one, 1, store, 8, table, 3, locator, 3), refused(5));
+    same("the table is as it was", memcmp(table, lent, sizeof table), 0);
+    put_word(table + 48, 2);
+    same("a stake that is no sum", lomkhvide_pending_voters(one, 8, store, sizeof store, table, LOMKHVIDE_TABLE_LEN, locator, 3), refused(11));
+    same("the store is as it was", memcmp(store, kept, sizeof store), 0);
+}
+
+/* Everything that a feed is lent to write. */
+static struct {
+    uint8_t store[1024], table[LOMKHVIDE_TABLE_LEN + 8], events[LOMKHVIDE_EVENTS_LEN + 8];
+} lent, kept;
+
+/* Feeds a record, lent from its own allocation, with memory of these sizes. */
+static uint64_t feed(const uint8_t *stakes, size_t stakes_len, size_t store, size_t table, size_t events, const uint8_t *record, size_t n) {
+    uint8_t *own = malloc(n + 1);
+    memcpy(own, record, n);
+    uint64_t word = lomkhvide_feed(stakes, stakes_len, lent.store, store, lent.table, table, lent.events, events, own, n);
+    free(own);
+    return word;
+}
+
+/* A sole owner's block of round 0, one of round 1 that shares, one of round 2 that accepts the share. */
+static void feeding(void) {
+    const size_t t = LOMKHVIDE_TABLE_LEN, v = LOMKHVIDE_EVENTS_LEN;
+    uint8_t one[8], first[256], second[256], third[256], locator[56], found[56];
+    put_word(one, 1);
+    memset(&lent, 0, sizeof lent);
+    lent.store[4] = 16;
+    memset(lent.events, 9, sizeof lent.events);
+    kept = lent;
+    size_t n = put_record(first, 0, 1, NULL, "");
+    for (size_t cut = 0; cut < n; cut++) {
+        same("a record cut short", feed(one, 8, 1024, t, v, first, cut), refused(20));
+    }
+    same("no committee", feed(one, 7, 0, 0, 0, first, 0), refused(5));
+    same("no store", feed(one, 8, 15, 0, 0, first, 0), refused(10));
+    for (size_t m = 0; m < sizeof lent.table; m += m < 64 ? 1 : 499) {
+        if (m != t) {
+            same("a table of any length", feed(one, 8, 1024, m, 0, first, 0), refused(11));
+        }
+    }
+    for (size_t m = 0; m < sizeof lent.events; m += m < 64 ? 1 : 499) {
+        if (m != v) {
+            same("events of any length", feed(one, 8, 1024, t, m, first, n), refused(15));
+            same("20 before 15", feed(one, 8, 1024, t, m, first, n - 1), refused(20));
+        }
+    }
+    same("a store that is full", feed(one, 8, 16 + 8 + n - 1, t, v, first, n), refused(13));
+    same("refused, so nothing is written", memcmp(&lent, &kept, sizeof lent), 0);
+    same("the first block", feed(one, 8, 1024, t, v, first, n), 0);
+    same("it is stored", memcmp(lent.store + 24, first, n), 0);
+    same("once", feed(one, 8, 1024, t, v, first, n), refused(23));
+    same("the second block", feed(one, 8, 1024, t, v, second, put_record(second, 1, 2, first, "gain")), 0);
+    memcpy(locator, second, 48);
+    memset(locator + 48, 0, 8);
+    same("its share is pending", lomkhvide_pending_stake(one, 8, lent.store, 1024, lent.table, t, locator, 56), 1);
+    same("no events", memcmp(lent.events, kept.events, sizeof lent.events), 0);
+    n = put_record(third, 2, 3, second, "");
+    third[51] = 1;
+    third[n] = 1;
+    memcpy(third + n + 1, locator, 56);
+    n += 57;
+    same("the third block", feed(one, 8, 1024, t, v, third, n), 1);
+    put_word(kept.events, 1);
+    put_word(kept.events + 8, 0);
+    put_word(kept.events + 16, 0);
+    same("the share is processed", memcmp(lent.events, kept.events, sizeof lent.events), 0);
+    same("and no longer pending", lomkhvide_pending_stake(one, 8, lent.store, 1024, lent.table, t, locator, 56), refused(42));
+    same("and final", lomkhvide_next_final(one, 8, lent.store, 1024, locator, 0, found, 56), 1);
+    same("no byte past the table", memcmp(lent.table + t, kept.table + t, sizeof lent.table - t), 0);
 }
 
 int main(void) {
     committees();
+    quorums();
+    adding();
     payloads();
+    feeding();
     printf("%d passed, %d failed\n", passed, failed);
     return failed != 0;
 }

@@ -9,7 +9,7 @@ use native.Mathlib.Omega.{arith}
 use lib.Dec.{eqb}
 use lib.ListN.{getElem?}
 use borrow.Author.Tests.{eqb-true}
-use Rattle.base.specs.Lists.{pick, find, holds, _∈_, here, there}
+use Rattle.base.specs.Lists.{pick, find, holds, _∈_}
 use Rattle.base.specs.Checks.{passes}
 use Rattle.base.proofs.Members.{in-empty, in-cases, in-append, flatten-in, map-in}
 use Rattle.base.proofs.Lists.{Every, every-in, find-passes, find-every, find-in}
@@ -20,8 +20,9 @@ use Rattle.types.specs.Block.{Statement, author, isShareAt, votedRange}
 use Rattle.types.proofs.References.{reference-same}
 use Rattle.block_store.specs.Layout.{Record, Entry, referenceOf, entries, positionOf, lookup}
 use Rattle.block_store.specs.Store.{recordsOf}
+use Rattle.block_store.proofs.Visit.{one-position}
 use Rattle.block_store.proofs.Accepted.{known-author}
-use Rattle.block_store.proofs.Store.{entries-below, entries-within}
+use Rattle.block_store.proofs.Store.{entries-within}
 use Rattle.range_map.specs.Items.{Item, itemHolds, itemAt, voteOver}
 use Rattle.range_map.specs.Table.{itemsOf}
 use Rattle.range_map.proofs.Items.{holds-facts}
@@ -30,15 +31,6 @@ use Rattle.aggregator.specs.ProcessBlock.{Event, missed, eventOf, Proces
 use Rattle.aggregator.specs.Feed.{Lent, processed, feedChecks}
 use Rattle.aggregator.proofs.Keeping.{passed, sound-registering, lent-state}
 use Rattle.aggregator.proofs.ProcessBlock.{Sound, sound-vote}
-
--- no two entries stand at one position
-pub one-position : (rs : List Record) {e d : Entry} → e ∈ entries rs → d ∈ entries rs → e .position ≡ d .position → e ≡ d
-unfolding entries
-one-position [] m k q = absurd (in-empty m)
-one-position (r ∷ rs) here here q = refl
-one-position (r ∷ rs) {d = d} here (there k) q = absurd (omega (arith, every-in (entries rs) d (entries-below rs) k))
-one-position (r ∷ rs) {e = e} (there m) here q = absurd (omega (arith, every-in (entries rs) e (entries-below rs) m))
-one-position (r ∷ rs) (there m) (there k) q = one-position rs m k q
 
 -- a stored block of that reference has a share at that offset
 pub record Shared (es : List Entry) (r : BlockReference) (o : ℕ) : Type 0 where
@@ -65,7 +57,7 @@ item-shared c rs xs h r o x f = go (lookup (entries rs) r) refl f
         let w = holds-facts (d .position) o x (find-passes (itemHolds (d .position) o) xs x g) in
         let here-is : Entry → Bool = λ e. eqb (e .position) (x .position) in
         let e : p .entry .position ≡ x .position = eqb-true _ _ (find-passes here-is (entries rs) (p .entry) (p .found)) in
-        let q : p .entry ≡ d = one-position rs (find-in here-is (entries rs) (p .entry) (p .found)) (looked d k) (e ∙ w .0) in
+        let q : p .entry ≡ d = one-position rs (p .entry) d (find-in here-is (entries rs) (p .entry) (p .found)) (looked d k) (e ∙ w .0) in
         record {
           entry = p .entry;
           stands = find-in here-is (entries rs) (p .entry) (p .found);

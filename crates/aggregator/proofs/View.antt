@@ -29,7 +29,7 @@ use Rattle.range_map.proofs.Items.{Ordered, heldAt, unless, held-voteOver, held
 use Rattle.range_map.proofs.Order.{Pending, pending-position}
 use Rattle.aggregator.specs.ProcessBlock.{Event, missed, eventOf, Processing, vote, registering}
 use Rattle.aggregator.specs.Pending.{pendingChecks, standingOf, pending}
-use Rattle.aggregator.proofs.Events.{one-position}
+use Rattle.block_store.proofs.Visit.{one-position}
 use Rattle.aggregator.proofs.Keeping.{State}
 use Rattle.aggregator.proofs.ProcessBlock.{lookup-new}
 
@@ -58,7 +58,7 @@ same-position rs q r e h =
     go : (o : Option Entry) → lookup (entries rs) r ≡ o → eqb (e .position) (positionOf o) ≡ true → sameReference r q ≡ true
     go none k t = absurd (omega (arith, eqb-true (e .position) 0 t, every-in (entries rs) e (entries-within rs) (found-in (entries rs) q e h) .from))
     go (some d) k t =
-        let one : e ≡ d = one-position rs (found-in (entries rs) q e h) (found-in (entries rs) r d k) (eqb-true (e .position) (d .position) t) in
+        let one : e ≡ d = one-position rs e d (found-in (entries rs) q e h) (found-in (entries rs) r d k) (eqb-true (e .position) (d .position) t) in
         same-reference (sym (found-called (entries rs) r d k) ∙ ap (λ (x : Entry). referenceOf x) (sym one) ∙ found-called (entries rs) q e h)
 
 -- ---- one vote

@@ -2,10 +2,12 @@
 use mathlib.Core.Path.{refl}
 use Rattle.committee.specs.Committee.{isQuorum, isValid}
 use Rattle.types.proofs.Computing.{computing}
+use Rattle.aggregator.proofs.Computing.{computing as counting}
+use Rattle.finalization_interpreter.proofs.Computing.{computing as certifying}
 use Rattle.cards.specs.Marked.{MarkedCards}
 
 pub marked : MarkedCards
-unfolding computing
+unfolding computing counting certifying
 marked =
     record {
       four-quorum = λ c h. rw h;
@@ -21,4 +23,12 @@ marked =
       range-too-far = λ r. refl;
       range-backwards = λ r. refl;
       runs = λ r v w x l. refl;
+      cut = refl;
+      empty-range = refl;
+      sole-final = refl;
+      sole-pending = refl;
+      marked-not = refl;
+      child-certifies = refl;
+      author-once = refl;
+      third-author = refl;
     }

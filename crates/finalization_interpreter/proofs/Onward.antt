@@ -33,7 +33,7 @@ use Rattle.finalization_interpreter.proofs.Starts.{finalAfter, least-is
 
 -- ---- no locator past the last offset is final
 
-share-index : (ss : List Statement) (k : ℕ) → holds isShare (getElem? ss k) ≡ true → k < length ss
+pub share-index : (ss : List Statement) (k : ℕ) → holds isShare (getElem? ss k) ≡ true → k < length ss
 unfolding holds
 share-index [] k h = absurd (not-both h refl)
 share-index (s ∷ ss) zero h = omega arith
@@ -55,7 +55,7 @@ span-end b f q m = go (span-of (b .reference) 0 (b .statements) q m)
     go (ofVote s n e) = vote-end s q (every-in (b .statements) s (f .statements) n) e
 
 module _ (s : Bytes) (bytes : AllBytes s) where
-  block-fits : (b : Block) → b ∈ blocksOf s → BlockFits b
+  pub block-fits : (b : Block) → b ∈ blocksOf s → BlockFits b
   unfolding blocksOf
   block-fits b m =
       let r = map-in (λ x. x .block) (recordsOf s) m in

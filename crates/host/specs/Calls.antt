@@ -1,6 +1,6 @@
 -- The calls of a host: how an answer crosses as one word, and what stands for the stakes that it sends. Assumes nothing: these are definitions.
 use Prim.Native.Nat.{ℕ, _+_, _/_}
-use mathlib.Core.Bool.{_&&_}
+use mathlib.Core.Bool.{Bool, _&&_}
 use mathlib.Core.List.{[]}
 use lib.Dec.{leb}
 use lib.ListN.{length}
@@ -14,6 +14,10 @@ use Rattle.words.specs.Words.{wholeWords, wordsOf}
 unfoldable pub encoded : Answer ℕ → ℕ
 encoded (answered n) = n
 encoded (refused n) = 9223372036854775808 + n
+
+-- yes as 1, no as 0
+unfoldable pub flag : Bool → ℕ
+flag t = pick t 1 0
 
 -- 01: "Stakes and words cross as 8 bytes each; broken stakes are 5": bytes that are not whole words, or more words than a committee has
 -- members, are no committee; and a call with no committee is refused with 5

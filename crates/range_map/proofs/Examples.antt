@@ -1,4 +1,4 @@
--- 01's edge card of the range map, evaluated. Assumes nothing.
+-- Votes over items, evaluated; 01's marked card stands in crate `cards`. Assumes nothing.
 use Prim.Native.Nat.{ℕ}
 use mathlib.Core.Path.{_≡_, refl}
 use mathlib.Core.List.{[], _∷_}
@@ -11,17 +11,7 @@ abbrev pub item : ℕ → ℕ → ℕ → ℕ → Item
 item start end votes stake =
     record { position = 16; start = start; end = end; aggregator = record { votes = record { low = votes; high = 0 }; stake = stake } }
 
--- M item 0..8, vote 3..5: 0..3, 3..5, 5..8
-pub cut-vote : voteOver (1 ∷ 1 ∷ 1 ∷ 1 ∷ []) 1 16 3 5 (item 0 8 1 1 ∷ []) ≡ item 0 3 1 1 ∷ item 3 5 3 2 ∷ item 5 8 1 1 ∷ []
-unfolding computing
-cut-vote = refl
-
--- then 3..3 changes nothing
-pub empty-vote : voteOver (1 ∷ 1 ∷ 1 ∷ 1 ∷ []) 2 16 3 3 (item 0 3 1 1 ∷ item 3 5 3 2 ∷ item 5 8 1 1 ∷ []) ≡ item 0 3 1 1 ∷ item 3 5 3 2 ∷ item 5 8 1 1 ∷ []
-unfolding computing
-empty-vote = refl
-
--- nor does it cut
+-- an empty range cuts nothing
 pub empty-uncut : voteOver (1 ∷ 1 ∷ 1 ∷ 1 ∷ []) 2 16 3 3 (item 0 8 1 1 ∷ []) ≡ item 0 8 1 1 ∷ []
 unfolding computing
 empty-uncut = refl

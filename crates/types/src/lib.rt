@@ -434,7 +434,8 @@ pub fn next_statement(rec: &[u8], cursor: StatementCursor) -> NextStatement
 
 // ---- runs of shares
 
-fn is_share(statement: BaseStatement) -> bool
+// Whether a statement is a share.
+pub fn is_share(statement: BaseStatement) -> bool
     ensures { λ r. ⌜ ((rec : Bytes) → r ≡ isShare (asStatement rec statement)) ⌝ }
 {
     match statement {

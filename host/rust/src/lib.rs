@@ -10,6 +10,51 @@ mod calls {
     #[link(name = "host", kind = "static")]
     extern "C" {
         pub fn lomkhvide_new_committee(stakes: *const u8, stakes_len: usize) -> u64;
+        pub fn lomkhvide_is_quorum(total: u64, amount: u64) -> u64;
+        pub fn lomkhvide_is_valid(total: u64, amount: u64) -> u64;
+        pub fn lomkhvide_add(stakes: *const u8, stakes_len: usize, aggregator: *mut u8, aggregator_len: usize, voter: u64) -> u64;
+        pub fn lomkhvide_next_final(
+            stakes: *const u8,
+            stakes_len: usize,
+            store: *const u8,
+            store_len: usize,
+            after: *const u8,
+            after_len: usize,
+            found: *mut u8,
+            found_len: usize,
+        ) -> u64;
+        pub fn lomkhvide_pending_stake(
+            stakes: *const u8,
+            stakes_len: usize,
+            store: *const u8,
+            store_len: usize,
+            table: *const u8,
+            table_len: usize,
+            locator: *const u8,
+            locator_len: usize,
+        ) -> u64;
+        pub fn lomkhvide_pending_voters(
+            stakes: *const u8,
+            stakes_len: usize,
+            store: *const u8,
+            store_len: usize,
+            table: *const u8,
+            table_len: usize,
+            locator: *const u8,
+            locator_len: usize,
+        ) -> u64;
+        pub fn lomkhvide_feed(
+            stakes: *const u8,
+            stakes_len: usize,
+            store: *mut u8,
+            store_len: usize,
+            table: *mut u8,
+            table_len: usize,
+            events: *mut u8,
+            events_len: usize,
+            record: *const u8,
+            record_len: usize,
+        ) -> u64;
         pub fn lomkhvide_finality(
             stakes: *const u8,
             stakes_len: usize,
@@ -51,6 +96,11 @@ fn answer(word: u64) -> Result<u64, Refused> {
 /// Words as they cross: 8 bytes each, lowest first.
 pub fn bytes_of(words: &[u64]) -> Vec<u8> {
     words.iter().flat_map(|word| word.to_le_bytes()).collect()
+}
+
+/// And back.
+fn words_of(bytes: &[u8]) -> Vec<u64> {
+    bytes.chunks_exact(8).map(|word| u64::from_le_bytes(word.try_into().unwrap())).collect()
 }
 
 /// A committee that the engine has taken: its stakes, as every other call is lent them.
@@ -98,6 +148,61 @@ impl Locator {
     }
 }
 
+/// Whether an amount of stake is quorum of a total.
+pub fn is_quorum(total: u64, amount: u64) -> bool {
+    // The call is lent nothing.
+    unsafe { calls::lomkhvide_is_quorum(total, amount) == 1 }
+}
+
+/// Whether it is valid.
+pub fn is_valid(total: u64, amount: u64) -> bool {
+    // The call is lent nothing.
+    unsafe { calls::lomkhvide_is_valid(total, amount) == 1 }
+}
+
+/// Voters, by bits, and the stake that they hold together.
+#[derive(Clone, Copy, Debug, Default, PartialEq, Eq)]
+pub struct Aggregator {
+    pub low: u64,
+    pub high: u64,
+    pub stake: u64,
+}
+
+/// The stake and the number of the voters of a pending locator.
+#[derive(Clone, Copy, Debug, PartialEq, Eq)]
+pub struct Pending {
+    pub stake: u64,
+    pub voters: u64,
+}
+
+/// What became of an offset that a statement of the record votes on.
+#[derive(Clone, Copy, Debug, PartialEq, Eq)]
+pub enum Outcome {
+    Processed,
+    Late,
+    Unknown,
+}
+
+/// An event of a feed.
+#[derive(Clone, Copy, Debug, PartialEq, Eq)]
+pub struct Event {
+    pub outcome: Outcome,
+    pub statement: u64,
+    pub offset: u64,
+}
+
+/// A fresh store of that many bytes, at least 16.
+pub fn fresh_store(length: usize) -> Vec<u8> {
+    let mut bytes = vec![0; length.max(16)];
+    bytes[4] = 16;
+    bytes
+}
+
+/// A fresh pending table: 6,145 words.
+pub fn fresh_table() -> Vec<u8> {
+    vec![0; 8 * 6145]
+}
+
 /// Whether a locator is final, and the positions in the store of the blocks that certify it, in ascending order of reference.
 #[derive(Clone, Debug, PartialEq, Eq)]
 pub struct Finality {
@@ -124,11 +229,106 @@ impl Committee {
             )
         };
         let number = answer(word)?;
-        let certifying = positions.chunks_exact(8).take((number / 2) as usize);
-        Ok(Finality {
-            is_final: number % 2 == 1,
-            certifying: certifying.map(|word| u64::from_le_bytes(word.try_into().unwrap())).collect(),
-        })
+        Ok(Finality { is_final: number % 2 == 1, certifying: words_of(&positions[..8 * (number / 2) as usize]) })
+    }
+
+    /// Feeds a block record: its events; or 5, 10, 11, 20 to 30, 15, 13, 14, and store and table are as they were.
+    pub fn feed(&self, store: &mut [u8], table: &mut [u8], record: &[u8]) -> Result<Vec<Event>, Refused> {
+        let mut events = vec![0; 8 * 8192];
+        let stakes = &self.stakes;
+        // The slices are lent for the call alone. The borrow checker sees to it that those that it writes overlap no other.
+        let word = unsafe {
+            calls::lomkhvide_feed(
+                stakes.as_ptr(),
+                stakes.len(),
+                store.as_mut_ptr(),
+                store.len(),
+                table.as_mut_ptr(),
+                table.len(),
+                events.as_mut_ptr(),
+                events.len(),
+                record.as_ptr(),
+                record.len(),
+            )
+        };
+        let count = answer(word)? as usize;
+        let words = words_of(&events[..24 * count]);
+        let event = |words: &[u64]| Event {
+            outcome: match words[0] {
+                1 => Outcome::Processed,
+                2 => Outcome::Late,
+                _ => Outcome::Unknown,
+            },
+            statement: words[1],
+            offset: words[2],
+        };
+        Ok(words.chunks_exact(3).map(event).collect())
+    }
+
+    /// The least final locator after a given one, or from the start; or 5, 10.
+    pub fn next_final(&self, store: &[u8], after: Option<&Locator>) -> Result<Option<Locator>, Refused> {
+        let mut found = [0; 56];
+        let stakes = &self.stakes;
+        let after: &[u8] = after.map_or(&[], |locator| &locator.0);
+        // The slices are lent for the call alone, and the one that it writes is this function's own.
+        let word = unsafe {
+            calls::lomkhvide_next_final(
+                stakes.as_ptr(),
+                stakes.len(),
+                store.as_ptr(),
+                store.len(),
+                after.as_ptr(),
+                after.len(),
+                found.as_mut_ptr(),
+                found.len(),
+            )
+        };
+        Ok(if answer(word)? == 1 { Some(Locator(found)) } else { None })
+    }
+
+    /// The stake and the number of voters of a pending locator; or 5, 10, 11, 42.
+    pub fn pending(&self, store: &[u8], table: &[u8], locator: &Locator) -> Result<Pending, Refused> {
+        let (stakes, locator) = (&self.stakes, &locator.0);
+        // The slices are lent for the calls alone, and the calls only read them.
+        let (stake, voters) = unsafe {
+            (
+                calls::lomkhvide_pending_stake(
+                    stakes.as_ptr(),
+                    stakes.len(),
+                    store.as_ptr(),
+                    store.len(),
+                    table.as_ptr(),
+                    table.len(),
+                    locator.as_ptr(),
+                    locator.len(),
+                ),
+                calls::lomkhvide_pending_voters(
+                    stakes.as_ptr(),
+                    stakes.len(),
+                    store.as_ptr(),
+                    store.len(),
+                    table.as_ptr(),
+                    table.len(),
+                    locator.as_ptr(),
+                    locator.len(),
+                ),
+            )
+        };
+        Ok(Pending { stake: answer(stake)?, voters: answer(voters)? })
+    }
+
+    /// Puts a voter into the aggregator: whether quorum holds now; or 6, 21, and the aggregator is as it was.
+    pub fn add(&self, aggregator: &mut Aggregator, voter: u64) -> Result<bool, Refused> {
+        let stakes = &self.stakes;
+        let mut held = bytes_of(&[aggregator.low, aggregator.high, aggregator.stake]);
+        // The slices are lent for the call alone, and the one that it writes is this function's own.
+        let word = unsafe {
+            calls::lomkhvide_add(stakes.as_ptr(), stakes.len(), held.as_mut_ptr(), held.len(), voter)
+        };
+        let quorum = answer(word)? == 1;
+        let words = words_of(&held);
+        *aggregator = Aggregator { low: words[0], high: words[1], stake: words[2] };
+        Ok(quorum)
     }
 
     /// A stored share's payload, as the part of the store that holds it; or 5, 10, 41.
@@ -191,6 +391,23 @@ mod tests {
         }
     }
 
+    #[test]
+    fn votes() {
+        assert!(is_quorum(17, 12) && !is_quorum(17, 11) && is_valid(17, 6) && !is_valid(17, 5));
+        let committee = Committee::new(&[5, 3, 3, 2, 2, 1, 1]).unwrap();
+        let mut aggregator = Aggregator::default();
+        assert_eq!(committee.add(&mut aggregator, 0), Ok(false));
+        assert_eq!(committee.add(&mut aggregator, 0), Ok(false));
+        assert_eq!(committee.add(&mut aggregator, 1), Ok(false));
+        assert_eq!(committee.add(&mut aggregator, 7), Err(Refused(21)));
+        assert_eq!(aggregator, Aggregator { low: 3, high: 0, stake: 8 });
+        assert_eq!(committee.add(&mut aggregator, 2), Ok(false));
+        assert_eq!(committee.add(&mut aggregator, 6), Ok(true));
+        assert_eq!(aggregator, Aggregator { low: 71, high: 0, stake: 12 });
+        aggregator.stake = 11;
+        assert_eq!(committee.add(&mut aggregator, 6), Err(Refused(6)));
+    }
+
     /// A block record of author 0.
     fn record(round: u64, k: u8, includes: &[u8], payloads: &[&[u8]]) -> Vec<u8> {
         let mut bytes = vec![0; 56];
@@ -243,6 +460,23 @@ mod tests {
         let certified = Finality { is_final: true, certifying: vec![80] };
         assert_eq!([share(0), share(1), share(2)], [Ok(certified.clone()), Ok(certified.clone()), Ok(certified)]);
         assert_eq!(share(3), Ok(Finality { is_final: false, certifying: vec![] }));
+        let mut listed = Vec::new();
+        let mut after = None;
+        while let Some(locator) = committee.next_final(&store, after.as_ref()).unwrap() {
+            listed.push(locator);
+            after = Some(locator);
+        }
+        let shares: Vec<Locator> = (0..3).map(|offset| Locator::new(0, 1, digest, offset)).collect();
+        assert_eq!(listed, shares);
+        let mut table = fresh_table();
+        let pending = |table: &[u8], offset| committee.pending(&store, table, &Locator::new(0, 1, digest, offset));
+        assert_eq!(pending(&table, 0), Err(Refused(42)));
+        table[..56].copy_from_slice(&bytes_of(&[1, 80, 0, 3, 1, 0, 1]));
+        assert_eq!(pending(&table, 2), Ok(Pending { stake: 1, voters: 1 }));
+        assert_eq!(pending(&table, 3), Err(Refused(42)));
+        assert_eq!(pending(&table[8..], 2), Err(Refused(11)));
+        table[8] = 81;
+        assert_eq!(pending(&table, 2), Err(Refused(11)), "no entry stands there");
         let two = Committee::new(&[1, 2]).unwrap();
         assert_eq!(two.finality(&store, &Locator::new(0, 1, digest, 0)), Err(Refused(10)), "its clock is not met");
         let used = store.len() - 100;
@@ -251,5 +485,34 @@ mod tests {
             let want = if length < used { Err(Refused(10)) } else { Ok(&b"gain"[..]) };
             assert_eq!(got, want, "{length} bytes of the store");
         }
+    }
+
+    #[test]
+    fn feeding() {
+        let committee = Committee::new(&[1]).unwrap();
+        let (mut store, mut table) = (fresh_store(1000), fresh_table());
+        let first = record(0, 1, &[], &[]);
+        let second = record(1, 2, &first[..48], &[b"gain", b"table"]);
+        let mut third = record(2, 3, &second[..48], &[]);
+        third[51] = 1;
+        third.push(3);
+        third.extend(&second[..48]);
+        third.extend(bytes_of(&[1, 4]));
+        assert_eq!(committee.feed(&mut store, &mut table, &second), Err(Refused(30)));
+        assert_eq!(committee.feed(&mut store, &mut table, &first), Ok(vec![]));
+        let before = (store.clone(), table.clone());
+        assert_eq!(committee.feed(&mut store, &mut table, &first), Err(Refused(23)));
+        assert_eq!(committee.feed(&mut store, &mut table[8..], &second), Err(Refused(11)));
+        assert_eq!(committee.feed(&mut store[..200], &mut table, &second), Err(Refused(13)));
+        assert_eq!((&store, &table), (&before.0, &before.1), "a refusal writes nothing");
+        assert_eq!(committee.feed(&mut store, &mut table, &second), Ok(vec![]));
+        let locator = |offset| Locator::new(0, 1, second[16..48].try_into().unwrap(), offset);
+        assert_eq!(committee.pending(&store, &table, &locator(1)), Ok(Pending { stake: 1, voters: 1 }));
+        let event = |outcome, offset| Event { outcome, statement: 0, offset };
+        let events = vec![event(Outcome::Processed, 1), event(Outcome::Unknown, 2), event(Outcome::Unknown, 3)];
+        assert_eq!(committee.feed(&mut store, &mut table, &third), Ok(events));
+        assert_eq!(committee.pending(&store, &table, &locator(0)), Ok(Pending { stake: 1, voters: 1 }));
+        assert_eq!(committee.pending(&store, &table, &locator(1)), Err(Refused(42)));
+        assert_eq!(committee.payload(&store, &locator(1)), Ok(&b"table"[..]));
     }
 }

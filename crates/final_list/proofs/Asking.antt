@@ -1,0 +1,30 @@
+-- What the question in bulk answers, refusal by refusal. Assumes nothing.
+use mathlib.Core.Path.{_≡_, refl}
+use mathlib.Core.Bool.{true, false}
+use mathlib.Core.List.{List}
+use mathlib.Core.Option.{Option}
+use Prim.Native.Nat.{ℕ, _/_}
+use lib.ListN.{length}
+use Rattle.base.specs.Lists.{allOf}
+use Rattle.base.specs.Le.{Bytes}
+use Rattle.base.specs.Checks.{refusal, passes, Answer, refused, answered, checked}
+use Rattle.committee.specs.Committee.{Committee, broken}
+use Rattle.types.specs.Reference.{TransactionLocator}
+use Rattle.block_store.specs.Store.{storeInOrder}
+use Rattle.finalization_interpreter.specs.NextFinal.{nextFinalChecks}
+use Rattle.final_list.specs.Stretches.{stretches, Given, givenAfter, wordsAfter, finalStretches}
+
+module _ (c : Committee) (s : Bytes) (out : List ℕ) (after : Option TransactionLocator) where
+  pub bulk-broken : broken c ≡ true → record { answer = refused 5; out = out } ≡ finalStretches c s out after
+  unfolding finalStretches nextFinalChecks checked passes refusal allOf
+  bulk-broken h = rw h
+
+  module _ (b : broken c ≡ false) where
+    pub bulk-disordered : storeInOrder c s ≡ false → record { answer = refused 10; out = out } ≡ finalStretches c s out after
+    unfolding finalStretches nextFinalChecks checked passes refusal allOf
+    bulk-disordered h = rw (b, h)
+
+    pub bulk-asked : storeInOrder c s ≡ true → (a : Answer Given) (ws : List ℕ) → a ≡ answered (givenAfter c s after (stretches c s (length out / 10) after))
+        → ws ≡ wordsAfter (stretches c s (length out / 10) after) out → record { answer = a; out = ws } ≡ finalStretches c s out after
+    unfolding finalStretches nextFinalChecks checked passes refusal allOf
+    bulk-asked o a ws e f = rw (b, o, e, f)

@@ -1,0 +1,73 @@
+-- No final locator of a store in order stands at the last offset: 28 refuses votes for it. Assumes nothing.
+use mathlib.Core.Path.{_≡_, sym, subst}
+use mathlib.Core.Bool.{true, false}
+use mathlib.Core.List.{List, [], _∷_, map, flatten}
+use mathlib.Core.Option.{some, Option·some-injective, Option·none-ne-some}
+use Prim.Native.Nat.{ℕ, _+_, _≤_, _<_}
+use native.Mathlib.Omega.{arith}
+use native.Mathlib.Decide.{decLt}
+use lib.Dec.{eqb}
+use borrow.Author.Tests.{eqb-false}
+use Rattle.base.specs.Lists.{holds, _∈_, here, there}
+use Rattle.base.specs.Le.{Bytes}
+use Rattle.base.specs.Checks.{_⇒_, passes}
+use Rattle.base.proofs.Le.{AllBytes}
+use Rattle.base.proofs.Tests.{and-left, and-right}
+use Rattle.base.proofs.Lists.{every-in}
+use Rattle.base.proofs.Members.{in-empty, in-left, in-right, in-flatten, in-map}
+use Rattle.base.proofs.Checks.{passes-none}
+use Rattle.committee.specs.Committee.{Committee}
+use Rattle.types.specs.Reference.{TransactionLocator, TransactionLocatorRange, locator, newRange, oneRange}
+use Rattle.types.specs.Block.{Statement, share, accept, reject, voteRange, Block, votedRange, spans}
+use Rattle.types.specs.Verify.{headChecks, includeChecks, statementChecks, bodyChecks}
+use Rattle.types.proofs.Spans.{Span, ofShare, ofVote, span-of}
+use Rattle.types.proofs.Records.{StatementFits, BlockFits}
+use Rattle.block_store.specs.Layout.{Record}
+use Rattle.block_store.specs.Store.{recordsOf, storeInOrder}
+use Rattle.block_store.specs.Accept.{blockChecks, allAccepted}
+use Rattle.block_store.proofs.Store.{in-order}
+use Rattle.block_store.proofs.Accepted.{blocks}
+use Rattle.finalization_interpreter.specs.Voters.{isFinal}
+use Rattle.finalization_interpreter.specs.Finality.{blocksOf}
+use Rattle.finalization_interpreter.proofs.Votes.{spanned}
+use Rattle.finalization_interpreter.proofs.Growing.{final-votes}
+use Rattle.finalization_interpreter.proofs.Onward.{share-index, block-fits}
+
+-- ---- 28 of an accepted block
+
+accept-lower : (c : Committee) (rs : List Record) (b : Block) → passes (blockChecks c rs b) ≡ true → (l : TransactionLocator) → accept l ∈ b .statements → l .offset ≡ 18446744073709551615 → ⊥
+unfolding blockChecks bodyChecks statementChecks
+accept-lower c rs b h l m =
+    eqb-false (l .offset) 18446744073709551615
+    (passes-none (blockChecks c rs b) h (eqb (l .offset) 18446744073709551615 ⇒ 28)
+    (in-right (headChecks c b) (there (in-left _ (in-right (flatten (map (includeChecks c b) (b .includes))) (in-left _ (in-flatten here (in-map statementChecks m))))))))
+
+accepts-lower : (c : Committee) (rs : List Record) → allAccepted c rs ≡ true → (b : Block) → b ∈ blocks rs → (l : TransactionLocator) → accept l ∈ b .statements → l .offset ≡ 18446744073709551615 → ⊥
+unfolding allAccepted
+accepts-lower c [] h b m l k = absurd (in-empty m)
+accepts-lower c (r ∷ rs) h b here l k = accept-lower c rs b (and-left _ _ h) l k
+accepts-lower c (r ∷ rs) h b (there m) l k = accepts-lower c rs (and-right (passes (blockChecks c rs (r .block))) _ h) b m l k
+
+-- ---- the ends of votes
+
+module _ (c : Committee) (s : Bytes) (bytes : AllBytes s) (o : storeInOrder c s ≡ true) where
+  vote-end : (b : Block) → b ∈ blocksOf s → (x : Statement) → x ∈ b .statements → StatementFits x → (q : TransactionLocatorRange) → votedRange x ≡ some q → q .end ≤ 18446744073709551615
+  unfolding votedRange oneRange newRange blocksOf
+  vote-end b m (share p) k f q e = absurd (Option·none-ne-some q e)
+  vote-end b m (accept l) k f q e = rw (← Option·some-injective _ _ e) (omega (arith, f .offset, accepts-lower c (recordsOf s) (in-order c s o .accepted) b m l k))
+  vote-end b m (reject l other) k f q e = absurd (Option·none-ne-some q e)
+  vote-end b m (voteRange r) k f q e = rw (← Option·some-injective _ _ e) (omega (arith, f .end))
+
+  span-end : (b : Block) → b ∈ blocksOf s → (q : TransactionLocatorRange) → q ∈ spans b → q .end ≤ 18446744073709551615
+  unfolding spans oneRange newRange locator
+  span-end b m q i = go (block-fits s bytes b m) (span-of (b .reference) 0 (b .statements) q i)
+    where
+      go : BlockFits b → Span (b .reference) 0 (b .statements) q → q .end ≤ 18446744073709551615
+      go f (ofShare k h e) = rw e (omega (arith, share-index (b .statements) k h, f .fewStatements))
+      go f (ofVote x n e) = vote-end b m x n (every-in (b .statements) x (f .statements) n) q e
+
+  pub final-offset : (l : TransactionLocator) → isFinal c (blocksOf s) l ≡ true → l .offset < 18446744073709551615
+  final-offset l h =
+      let v = final-votes c (blocksOf s) l h in
+      let p = spanned (v .block) l (v .votes) in
+      omega (arith, span-end (v .block) (v .stands) (p .span) (p .stands), p .covering .below)

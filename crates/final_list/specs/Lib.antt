@@ -1,0 +1,4 @@
+pub mod Stretches
+pub mod Claims
+pub mod Answers
+pub mod Step

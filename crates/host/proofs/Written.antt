@@ -1,0 +1,72 @@
+-- Bytes written with the highest first, and locators written. Assumes nothing.
+use mathlib.Core.Path.{_≡_, sym, _∙_}
+use mathlib.Core.List.{List, _++_, reverse-append}
+use Prim.Native.Nat.{ℕ, _+_, _/_, _%_, _^_, _<_}
+use native.Mathlib.Nat.{mod-eq-of-lt}
+use native.Mathlib.Numerals.{add-one}
+use native.Mathlib.Omega.{arith}
+use lib.ListN.{length, set, length-append, length-reverse}
+use lib.Seq.{sets}
+use Rattle.base.specs.Le.{leBytes}
+use Rattle.base.proofs.Le.{length-leBytes, leBytes-add, leBytes-mod, sets-append}
+use Rattle.words.proofs.Stores.{sets-complete}
+use Rattle.types.specs.Reference.{TransactionLocator}
+use Rattle.types.specs.Record.{referenceBytes, locatorBytes}
+use Rattle.types.specs.Values.{beBytes, digestBytes}
+use Rattle.types.specs.declared.BlockDigest as digest
+
+pub length-beBytes : (n v : ℕ) → length (beBytes n v) ≡ n
+unfolding beBytes
+length-beBytes n v = length-reverse (leBytes n v) ∙ length-leBytes n v
+
+-- the high part stands first
+be-add : (m n v : ℕ) → beBytes (m + n) v ≡ beBytes n (v / 256 ^ m) ++ beBytes m (v % 256 ^ m)
+unfolding beBytes
+be-add m n v = rw (leBytes-add m n v, reverse-append (leBytes m v) (leBytes n (v / 256 ^ m)), leBytes-mod m v)
+
+-- two halves written one after the other
+pub high-double : (n v : ℕ) (l : List ℕ) (p : ℕ) → sets (sets l p (beBytes n (v / 256 ^ n))) (p + n) (beBytes n (v % 256 ^ n)) ≡ sets l p (beBytes (n + n) v)
+high-double n v l p = sym (rw (be-add n n v, sets-append (beBytes n (v / 256 ^ n)) (beBytes n (v % 256 ^ n)) l p, length-beBytes n (v / 256 ^ n)))
+
+-- four words written one after the other
+pub high-four : (d : digest.BlockDigest) (l : List ℕ) (p : ℕ)
+    → sets (sets (sets (sets l p (beBytes 8 (d .0))) (p + 8) (beBytes 8 (d .1))) (p + 16) (beBytes 8 (d .2))) (p + 24) (beBytes 8 (d .3)) ≡ sets l p (digestBytes d)
+unfolding digestBytes
+high-four d l p =
+    let e : p + 8 + 8 ≡ p + 16 = omega arith in
+    let f : p + 16 + 8 ≡ p + 24 = omega arith in
+    sym (rw (
+      sets-append (beBytes 8 (d .0)) (beBytes 8 (d .1) ++ (beBytes 8 (d .2) ++ beBytes 8 (d .3))) l p,
+      length-beBytes 8 (d .0),
+      sets-append (beBytes 8 (d .1)) (beBytes 8 (d .2) ++ beBytes 8 (d .3)) (sets l p (beBytes 8 (d .0))) (p + 8),
+      length-beBytes 8 (d .1),
+      e,
+      sets-append (beBytes 8 (d .2)) (beBytes 8 (d .3)) (sets (sets l p (beBytes 8 (d .0))) (p + 8) (beBytes 8 (d .1))) (p + 16),
+      length-beBytes 8 (d .2),
+      f,
+    ))
+
+pub length-digestBytes : (d : digest.BlockDigest) → length (digestBytes d) ≡ 32
+unfolding digestBytes
+length-digestBytes d = simp (length-append, length-beBytes)
+
+-- the parts of a locator written one after the other
+pub locator-written : (t : TransactionLocator) (l : List ℕ) → length (t .block .digest) ≡ 32 → length l ≡ 56
+    → sets (sets (sets (sets l 0 (leBytes 8 (t .block .authority))) 8 (leBytes 8 (t .block .round))) 16 (t .block .digest)) 48 (leBytes 8 (t .offset)) ≡ locatorBytes t
+unfolding locatorBytes referenceBytes
+locator-written t l h k =
+    let a = leBytes 8 (t .block .authority) in
+    let r = leBytes 8 (t .block .round) in
+    let d = t .block .digest in
+    let o = leBytes 8 (t .offset) in
+    let one : length a ≡ 8 = length-leBytes 8 (t .block .authority) in
+    let two : length r ≡ 8 = length-leBytes 8 (t .block .round) in
+    let four : length o ≡ 8 = length-leBytes 8 (t .offset) in
+    let parts : length (a ++ (r ++ d) ++ o) ≡ length l = simp (length-append) (omega arith) in
+    let three : length (a ++ (r ++ d)) ≡ 48 = simp (length-append) (omega arith) in
+    sym (rw (sets-append (a ++ (r ++ d)) o l 0, three, sets-append a (r ++ d) l 0, one, sets-append r d (sets l 0 a) 8, two)) ∙ sets-complete l (a ++ (r ++ d) ++ o) parts
+
+-- two bytes, the highest first
+pub high-two : (v : ℕ) (l : List ℕ) (p : ℕ) → v < 65536 → set (set l p (v / 256)) (p + 1) (v % 256) ≡ sets l p (beBytes 2 v)
+unfolding beBytes leBytes
+high-two v l p h = rw (add-one, mod-eq-of-lt {n = v / 256} {m = 256} (omega arith))
