@@ -2,7 +2,7 @@
 """Makes the inputs of `listing` and what it has to print on them (by model.py).
 
     python3 inputs/make.py           writes the files of the crates listing and listing_runs
-    python3 inputs/make.py --check   says which of these files are not what it makes
+    python3 inputs/make.py --check   says which of these files, and which tables of docs/COURSE.md, are not what it makes
     python3 inputs/make.py --long FILE   writes the input with the longest list of final locators and the most events, which is not checked in
 
 Every record of these inputs has its own number in its digest's first four bytes, highest byte first, as in the course run.
@@ -14,7 +14,7 @@ from collections import namedtuple
 from mistakes import MISTAKES
 from model import COURSE, listing
 
-CRATES = os.path.join(os.path.dirname(os.path.abspath(__file__)), "..", "crates")
+ROOT = os.path.join(os.path.dirname(os.path.abspath(__file__)), "..")
 
 # ---- bytes of an input
 
@@ -513,18 +513,31 @@ def check(path, data):
         return False
 
 
+def course_lines(page, name):
+    """The two columns of the table below an exercise's heading: right lines and mistaken ones."""
+    part = page[page.index(f"`{name}.bin`\n") :]
+    rows = [row.split("|")[1:3] for row in part[: part.index("\n01:")].split("\n") if row.startswith("|")][2:]
+    return ["".join(cell.strip(" `") + "\n" for cell in column if cell.strip()).encode() for column in zip(*rows)]
+
+
 def main(args):
     if args[:1] == ["--long"]:
         with open(args[1], "wb") as f:
             f.write(long_input())
         return 0
     wrong = 0
+    with open(os.path.join(ROOT, "docs", "COURSE.md"), encoding="utf-8") as f:
+        page = f.read()
     for name, mistaken in MISTAKES.items():
-        if output(INPUTS[name]) == output(INPUTS[name], engine=mistaken):
+        right, other = output(INPUTS[name]), output(INPUTS[name], engine=mistaken)
+        if right == other:
             print(f"{name}: the mistake shows nowhere")
             wrong = 1
+        if course_lines(page, name) != [right, other]:
+            print(f"docs/COURSE.md has other lines for {name}")
+            wrong = 1
     for place, data in files():
-        path = os.path.join(CRATES, place)
+        path = os.path.join(ROOT, "crates", place)
         if args == ["--check"]:
             if not check(path, data):
                 print(f"crates/{place} is not what make.py makes")

@@ -5,11 +5,6 @@ use lib.ListN.{length}
 use native.Mathlib.Omega.{arith}
 use Rattle.listing_io.proofs.print_stretches.Statement.{statement}
 use Rattle.listing_io.proofs.print_stretches.Tie as tie
-use Rattle.listing_io.proofs.print_stretches.Reads as reads
-use Rattle.listing_io.proofs.print_stretches.Lts as lts
-use Rattle.listing_io.proofs.print_stretch.Reads as print-stretch-reads
-use Rattle.std.proofs.num.wrapping_add_u64.Reads as wrapping-add-u64-reads
-use Rattle.std.proofs.num.wrapping_sub_u64.Reads as wrapping-sub-u64-reads
 
 abbrev Inv-loop : tie.InvT-loop
 Inv-loop out₀ from stretches at₀ counted₀ i₀ out at counted i = (at ≤ length out₀) × ((length out ≡ length out₀) × (i ≤ length stretches))
@@ -17,71 +12,55 @@ Inv-loop out₀ from stretches at₀ counted₀ i₀ out at counted i = (at ≤ 
 abbrev μ-loop : tie.MeasureT-loop
 μ-loop out₀ from stretches at₀ counted₀ i₀ out at counted i = length stretches - i
 
--- src/lib.rt:196:5
 loop-holds : tie.Need-loop-holds Inv-loop μ-loop
 loop-holds c = (omega arith, (refl, omega arith))
 
--- src/lib.rt:196:11
 add-loop : tie.Need-add-loop Inv-loop μ-loop
 add-loop c = search needs
 
--- src/lib.rt:197:9
 print-stretch-requires : tie.Need-print-stretch-requires Inv-loop μ-loop
 print-stretch-requires c κs = search needs
 
--- src/lib.rt:198:60
 add-wrapping-sub-u64 : tie.Need-add-wrapping-sub-u64 Inv-loop μ-loop
 add-wrapping-sub-u64 c = search needs
 
--- src/lib.rt:198:50
 mul-wrapping-sub-u64 : tie.Need-mul-wrapping-sub-u64 Inv-loop μ-loop
 mul-wrapping-sub-u64 c = search needs
 
--- src/lib.rt:198:50
 shared-slice-read-wrapping-sub-u64 : tie.Need-shared-slice-read-wrapping-sub-u64 Inv-loop μ-loop
 shared-slice-read-wrapping-sub-u64 c = search needs
 
--- src/lib.rt:198:78
 add-wrapping-sub-u64-2 : tie.Need-add-wrapping-sub-u64-2 Inv-loop μ-loop
 add-wrapping-sub-u64-2 c = search needs
 
--- src/lib.rt:198:68
 mul-wrapping-sub-u64-2 : tie.Need-mul-wrapping-sub-u64-2 Inv-loop μ-loop
 mul-wrapping-sub-u64-2 c = search needs
 
--- src/lib.rt:198:68
 shared-slice-read-wrapping-sub-u64-2 :
     tie.Need-shared-slice-read-wrapping-sub-u64-2 Inv-loop μ-loop
 shared-slice-read-wrapping-sub-u64-2 c = search needs
 
--- src/lib.rt:198:13
 wrapping-sub-u64-requires : tie.Need-wrapping-sub-u64-requires Inv-loop μ-loop
 wrapping-sub-u64-requires c κs = search needs
 
--- src/lib.rt:199:9
 wrapping-add-u64-requires : tie.Need-wrapping-add-u64-requires Inv-loop μ-loop
 wrapping-add-u64-requires c κs = search needs
 
--- src/lib.rt:200:9
 add-i : tie.Need-add-i Inv-loop μ-loop
 add-i c = search needs
 
--- src/lib.rt:196:5
 loop-less : tie.Need-loop-less Inv-loop μ-loop
 loop-less c = search needs
 
--- src/lib.rt:196:5
 loop-again : tie.Need-loop-again Inv-loop μ-loop
 loop-again c =
     let after = c .before .before .before .before .before .before in
     let printed = after .print-stretch .ensures in
     (omega (arith, printed .0), (printed .1 ∙ after .before .before .before .loop .inv .1 .0, omega arith))
 
--- src/lib.rt:189:1
 same-length : tie.Need-same-length Inv-loop μ-loop
 same-length c = c .before .loop .inv .1 .0
 
--- src/lib.rt:189:1
 returns : tie.Need-returns Inv-loop μ-loop
 returns c = (c .before .loop .inv .0, c .before .loop .inv .1 .0)
 
