@@ -1,38 +1,5 @@
 // Prints the listing of each file that its arguments name, under a heading.
-use libc::STDOUT_FILENO;
-
-fn print_heading(name: &[u8]) {
-    io::write_all(STDOUT_FILENO, b"== ");
-    io::write_all(STDOUT_FILENO, name);
-    io::write_all(STDOUT_FILENO, b"\n");
-}
-
-fn run_file(name: &[u8]) {
-    print_heading(name);
-    let fd = os::open_read(name);
-    if fd < 0 {
-        os::fail(name);
-        return;
-    }
-    listing_run::listing(fd);
-    libc::close(fd);
-}
-
-fn run_argument(i: usize) {
-    let mut path = io::buffer();
-    let length = os::arg(i, &mut path);
-    run_file(&path[..length]);
-}
-
-fn run_arguments() {
-    let count = os::arg_count();
-    let mut i = 1;
-    while i < count {
-        run_argument(i);
-        i += 1;
-    }
-}
 
 fn main() {
-    run_arguments();
+    listing_files::run_arguments();
 }

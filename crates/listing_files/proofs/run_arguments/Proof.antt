@@ -1,7 +1,7 @@
 use borrow.Author.Needs.{needs}
 use Prim.Native.Nat.{_-_}
-use Rattle.listing_runs.proofs.run_arguments.Statement.{statement}
-use Rattle.listing_runs.proofs.run_arguments.Tie as tie
+use Rattle.listing_files.proofs.run_arguments.Statement.{statement}
+use Rattle.listing_files.proofs.run_arguments.Tie as tie
 
 abbrev Inv-loop : tie.InvT-loop
 Inv-loop count i₀ i = Unit {0}
