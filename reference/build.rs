@@ -4,7 +4,7 @@ use std::path::Path;
 use std::{env, fs};
 
 /// The calls of host/include/lomkhvide.h.
-const CALLS: [&str; 13] = [
+const CALLS: [&str; 12] = [
     "lomkhvide_new_committee",
     "lomkhvide_is_quorum",
     "lomkhvide_is_valid",
@@ -17,7 +17,6 @@ const CALLS: [&str; 13] = [
     "lomkhvide_finality",
     "lomkhvide_next_final",
     "lomkhvide_final_stretches",
-    "lomkhvide_lent_add",
 ];
 
 fn main() {

@@ -14,6 +14,7 @@ fn main() {
     let word = |i: usize| words.get(i).map(String::as_str);
     match word(0) {
         Some("lists") => lists(number(word(1), 4000), number(word(2), 1)),
+        Some("exhaustive") => exhaustive(number(word(1), exhaustive::COUNT)),
         Some("list") => one(number(word(1), 0), number(word(2), 1)),
         Some("boundary") => boundary(word(1) == Some("exact")),
         Some("listing") => listing(number(word(1), 1000), number(word(2), 1)),
@@ -23,7 +24,7 @@ fn main() {
         #[cfg(has_rust)]
         Some("departures") => reference::departures::show(),
         _ => {
-            eprintln!("lists N [SEED]: runs N lists\nlist K [SEED]: runs and prints list K");
+            eprintln!("see reference/run");
             exit(2);
         }
     }
@@ -54,16 +55,17 @@ fn sides() {
     }
 }
 
-fn lists(count: u64, seed: u64) {
+/// Runs lists by their numbers, with a progress line; shows the smallest form of the first that fail.
+fn run(count: u64, list: impl Fn(u64) -> List) -> u64 {
     sides();
     let (start, mut told) = (Instant::now(), Instant::now());
     let mut tally = Tally::default();
     let mut failed = 0;
     for n in 0..count {
-        let list = list(seed, n);
+        let list = list(n);
         if let Err(text) = compare(&list, &mut tally) {
             failed += 1;
-            println!("list {n} of seed {seed} failed: {text}");
+            println!("list {n} failed: {text}");
             if failed <= 3 {
                 let (list, text) = shrink::smallest(&list, text);
                 println!("its smallest form: {text}\n{}", list.describe());
@@ -76,9 +78,23 @@ fn lists(count: u64, seed: u64) {
         }
     }
     println!("{}", tally.describe());
-    println!("seed {seed}, {:.1} s", start.elapsed().as_secs_f64());
+    println!("{:.1} s", start.elapsed().as_secs_f64());
+    failed
+}
+
+fn end(count: u64, failed: u64) -> ! {
     println!("{} passed, {failed} failed", count - failed);
     exit((failed > 0) as i32);
+}
+
+fn lists(count: u64, seed: u64) {
+    println!("seed {seed}");
+    end(count, run(count, |n| list(seed, n)));
+}
+
+/// The first of the exhaustive lists, or all of them.
+fn exhaustive(count: u64) {
+    end(count, run(count, exhaustive::list));
 }
 
 /// Writes the fixed sample, or checks that it is what the Rust's answers make.
@@ -122,8 +138,7 @@ fn listing(count: u64, seed: u64) {
             println!("input {n} of seed {seed}: {text}");
         }
     }
-    println!("{} passed, {failed} failed", count - failed);
-    exit((failed > 0) as i32);
+    end(count, failed);
 }
 
 /// What `listing` prints for an input, by the model.
