@@ -148,7 +148,7 @@ fn cases() -> Vec<Case> {
     let record = ("record", record.clone(), record.len() + 100);
     let positions = ("positions", vec![5; lent::POSITION_BYTES], lent::POSITION_BYTES + 16);
     let found = ("locator written", vec![5; 56], 80);
-    let stretches = ("stretches", vec![5; 3 * lent::STRETCH_BYTES], 130 * lent::STRETCH_BYTES);
+    let stretches = ("stretches", vec![5; lent::STRETCHES_BYTES], lent::STRETCHES_BYTES + 100);
     vec![
         Case {
             name: "new_committee",

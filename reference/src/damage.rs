@@ -95,7 +95,7 @@ fn questions_of_store(stakes: &[u8], store: &[u8], locator: &[u8]) -> Outcome {
         same("next_final over damaged memory", "engine", told, answer)?;
         same_bytes("next_final's locator over damaged memory", &got, &right)?;
     }
-    let (mut right, mut got) = (vec![0x3c; 400], vec![0x3c; 400]);
+    let (mut right, mut got) = (vec![0x3c; lent::STRETCHES_BYTES], vec![0x3c; lent::STRETCHES_BYTES]);
     let answer = lent::final_stretches(stakes, store, locator, &mut right);
     if let Some(told) = engine::final_stretches(stakes, store, locator, &mut got) {
         same("final_stretches over damaged memory", "engine", told, answer)?;

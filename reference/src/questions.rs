@@ -5,7 +5,7 @@ use std::collections::BTreeSet;
 use crate::compare::{same, same_bytes, Outcome, Sides};
 use crate::engine;
 use crate::model::finality::{Finality, Graph};
-use crate::model::lent::{self, stretches, write_finality, POSITION_BYTES, STRETCH_BYTES};
+use crate::model::lent::{stretches, write_finality, write_stretches, MOST_STRETCHES, POSITION_BYTES, STRETCHES_BYTES};
 use crate::model::record::{number, Locator, Reference};
 use crate::rng::Rng;
 use crate::tally::Tally;
@@ -120,32 +120,27 @@ fn asked_on(sides: &Sides, list: &[(Locator, Finality)], rng: &mut Rng) -> Outco
     Ok(())
 }
 
-/// The list in bulk, through slices of a random length, asked on until no more follow.
+/// The list in bulk, from the start and asked on until no more follow; and once from the middle of a stretch.
 fn in_bulk(sides: &Sides, graph: &Graph, rng: &mut Rng) -> Outcome {
     let lent = &sides.engine;
+    let all = stretches(graph, None);
     let mut after = None;
-    let most = *rng.pick(&[1, 2, 3, 127, 128, 129]);
+    let mut middle = all.iter().rfind(|stretch| stretch.end - stretch.first.offset > 1).filter(|_| rng.once_in(4));
     loop {
-        let rest = stretches(graph, after);
-        let mut right = vec![0x19; STRETCH_BYTES * most + rng.below(80) as usize];
-        let mut out = right.clone();
+        let rest = if after.is_none() { all.clone() } else { stretches(graph, after) };
+        let (mut right, mut out) = (vec![0x19; STRETCHES_BYTES], vec![0x19; STRETCHES_BYTES]);
         let after_bytes = after.map_or(Vec::new(), |locator: Locator| locator.bytes().to_vec());
         let Some(got) = engine::final_stretches(&lent.stakes, &lent.store, &after_bytes, &mut out) else { return Ok(()) };
-        let fit = rest.len().min(most).min(lent::MOST_STRETCHES);
-        for (i, stretch) in rest[..fit].iter().enumerate() {
-            lent::put_words(&mut right[STRETCH_BYTES * i..], &stretch.words());
-        }
-        same("final_stretches", "engine", got, Ok(2 * fit as u64 + (fit < rest.len()) as u64))?;
+        same("final_stretches", "engine", got, Ok(write_stretches(&rest, &mut right)))?;
         if out != right {
             let words =
                 |bytes: &[u8]| bytes.chunks_exact(80).map(|c| c.chunks(8).map(number).collect()).collect::<Vec<Vec<_>>>();
             same("stretches", "engine", words(&out), words(&right))?;
-            same_bytes("stretches", &out, &right)?;
         }
-        if fit == rest.len() {
-            return Ok(());
-        }
-        let last = rest[fit - 1];
-        after = Some(Locator { offset: last.end - 1, ..last.first });
+        after = match (rest.get(MOST_STRETCHES), middle.take()) {
+            (Some(_), _) => Some(rest[MOST_STRETCHES - 1].last()),
+            (None, Some(stretch)) => Some(stretch.first),
+            (None, None) => return Ok(()),
+        };
     }
 }

@@ -12,6 +12,7 @@ pub type Answer = Result<u64, u64>;
 pub const POSITION_BYTES: usize = 8 * 1024;
 pub const STRETCH_BYTES: usize = 80;
 pub const MOST_STRETCHES: usize = 128;
+pub const STRETCHES_BYTES: usize = STRETCH_BYTES * MOST_STRETCHES;
 
 pub fn new_committee(stakes: &[u8]) -> Answer {
     Ok(Committee::set_from_bytes(stakes)?.total)
@@ -110,17 +111,24 @@ pub fn next_final(stakes: &[u8], store: &[u8], after: &[u8], out: &mut [u8]) -> 
     }
 }
 
-/// The final list in bulk: 5, 10, 20. As many stretches as fit, at most 128; twice their number, and 1 more where more follow.
+/// The final list in bulk: 5, 10, 20, 40 for a slice not of 128 stretches.
 pub fn final_stretches(stakes: &[u8], store: &[u8], after: &[u8], out: &mut [u8]) -> Answer {
     let committee = Committee::lent(stakes)?;
     let stores = Stores::read(&committee, store)?;
     let after = after_of(after)?;
-    let stretches: Vec<Stretch> = stretches(&Graph::new(&committee, &stores), after);
-    let fit = stretches.len().min(out.len() / STRETCH_BYTES).min(MOST_STRETCHES);
+    if out.len() != STRETCHES_BYTES {
+        return Err(40);
+    }
+    Ok(write_stretches(&stretches(&Graph::new(&committee, &stores), after), out))
+}
+
+/// Writes as many stretches as fit: twice their number, and 1 more where more follow.
+pub fn write_stretches(stretches: &[Stretch], out: &mut [u8]) -> u64 {
+    let fit = stretches.len().min(MOST_STRETCHES);
     for (i, stretch) in stretches[..fit].iter().enumerate() {
         put_words(&mut out[STRETCH_BYTES * i..], &stretch.words());
     }
-    Ok(2 * fit as u64 + (fit < stretches.len()) as u64)
+    2 * fit as u64 + (fit < stretches.len()) as u64
 }
 
 /// Neighbouring final locators with the same certifying blocks, between two places where a vote begins or ends.
@@ -133,6 +141,10 @@ pub struct Stretch {
 }
 
 impl Stretch {
+    pub fn last(&self) -> Locator {
+        Locator { offset: self.end - 1, ..self.first }
+    }
+
     pub fn words(&self) -> [u64; 10] {
         let block = self.first.block;
         let digest = |i: usize| u64::from_be_bytes(block.digest[8 * i..8 * i + 8].try_into().unwrap());
