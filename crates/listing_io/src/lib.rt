@@ -1,67 +1,66 @@
-// Standard input and output of `listing`: read piece by piece, written through a buffer.
+// Input and output of `listing`: read piece by piece, written through a buffer.
 ghost use mathlib.Core.Path.{_≡_};
 ghost use Prim.Native.Nat.{_+_, _≤_, _<_};
 ghost use lib.ListN.{length};
 ghost use Rattle.listing_io.specs.Sizes.{sizeAtMost};
-use libc::STDIN_FILENO;
 use libc::STDOUT_FILENO;
 use listing_lib::Size;
 
-// How far the buffer is filled, and how many of the events that were printed were processed ones.
+// How far the buffer is filled, and the number of what was counted in printing: events that are processed ones, or final locators.
 pub struct Printed {
     pub at: usize,
-    pub processed: u64,
+    pub counted: u64,
 }
 
 // Fills the first `size` bytes, and answers how many there were.
-fn read_front(bytes: &mut [u8], size: usize) -> usize
+fn read_front(fd: i32, bytes: &mut [u8], size: usize) -> usize
     requires { ⌜ size ≤ length (now bytes) ⌝ }
     ensures { λ r. ⌜ r ≤ size ⌝ }
 {
-    io::read_full(STDIN_FILENO, &mut bytes[..size])
+    io::read_full(fd, &mut bytes[..size])
 }
 
 // The stakes that follow the member count.
-fn read_stakes(count: u8, bytes: &mut [u8], stakes: &mut [u64]) -> usize
+fn read_stakes(fd: i32, count: u8, bytes: &mut [u8], stakes: &mut [u64]) -> usize
     requires { ⌜ (length (now bytes) ≡ 2032) × (length (now stakes) ≡ 254) ⌝ }
     ensures { λ r. ⌜ r ≤ 254 ⌝ }
 {
     let size = listing_lib::stake_bytes(count);
-    let got = read_front(bytes, size);
+    let got = read_front(fd, bytes, size);
     listing_lib::committee_of(count, &bytes[..got], stakes)
 }
 
 // Reads the committee's stakes and answers how many they are.
-pub fn read_committee(stakes: &mut [u64]) -> usize
+pub fn read_committee(fd: i32, stakes: &mut [u64]) -> usize
     requires { ⌜ length (now stakes) ≡ 254 ⌝ }
     ensures { λ r. ⌜ r ≤ 254 ⌝ }
 {
     let mut head = [0u8; 1];
-    let got = io::read_full(STDIN_FILENO, &mut head);
+    let got = io::read_full(fd, &mut head);
     let count = listing_lib::member_count(&head[..got]);
     let mut bytes = [0u8; 2032];
-    read_stakes(count, &mut bytes, stakes)
+    read_stakes(fd, count, &mut bytes, stakes)
 }
 
 // What the next four bytes say.
-fn read_size() -> Size
+fn read_size(fd: i32) -> Size
     ensures { λ r. ⌜ sizeAtMost 8192 r ⌝ }
 {
     let mut head = [0u8; 4];
-    let got = io::read_full(STDIN_FILENO, &mut head);
+    let got = io::read_full(fd, &mut head);
     listing_lib::size_of(&head[..got])
 }
 
 // Reads the next record to the front of `rec`.
-pub fn read_record(rec: &mut [u8]) -> Size
+pub fn read_record(fd: i32, rec: &mut [u8]) -> Size
     requires { ⌜ length (now rec) ≡ 8192 ⌝ }
     ensures { λ r. ⌜ sizeAtMost 8192 r ⌝ }
 {
-    let size = read_size();
+    let size = read_size(fd);
     let Size::Of(n) = size else {
         return size;
     };
-    let got = read_front(rec, n);
+    let got = read_front(fd, rec, n);
     if got < n {
         return Size::Broken;
     }
@@ -87,6 +86,15 @@ pub fn room(out: &[u8], at: usize) -> usize
     at
 }
 
+// Prints the refusal of record k; 0 is the committee.
+pub fn print_refused(out: &mut [u8], from: usize, k: u64, number: u64) -> usize
+    requires { ⌜ (from ≤ length (now out)) × (128 ≤ length (now out)) ⌝ }
+    ensures { λ r. ⌜ (r ≤ length (now (out .entry))) × (length (now (out .exit)) ≡ length (now (out .entry))) ⌝ }
+{
+    let at = room(out, from);
+    listing_lib::put_refused(out, at, k, number)
+}
+
 // Prints one event of record k: three words from i on.
 fn print_event(out: &mut [u8], from: usize, k: u64, events: &[u64], i: usize) -> usize
     requires { ⌜ (from ≤ length (now out)) × ((128 ≤ length (now out)) × (i + 2 < length (now events))) ⌝ }
@@ -106,14 +114,14 @@ pub fn print_events(out: &mut [u8], from: usize, k: u64, events: &[u64]) -> Prin
     ensures { λ r. ⌜ (r .at ≤ length (now (out .entry))) × (length (now (out .exit)) ≡ length (now (out .entry))) ⌝ }
 {
     let mut at = from;
-    let mut processed: u64 = 0;
+    let mut counted: u64 = 0;
     let mut i = 0;
     while i + 2 < events.len() {
         at = print_event(out, at, k, events, i);
-        processed = std::num::wrapping_add_u64(processed, one_if_processed(events[i]));
+        counted = std::num::wrapping_add_u64(counted, one_if_processed(events[i]));
         i += 3;
     }
-    Printed { at, processed }
+    Printed { at, counted }
 }
 
 fn print_final(
@@ -157,22 +165,56 @@ fn print_offsets(
     at
 }
 
-// Prints a stretch of final locators: ten words, author, round, four words of the digest (the first byte highest), first offset, end,
-// certifying blocks, stake.
-pub fn print_finals(out: &mut [u8], from: usize, stretch: &[u64]) -> usize
-    requires { ⌜ (from ≤ length (now out)) × ((128 ≤ length (now out)) × (length (now stretch) ≡ 10)) ⌝ }
+// Prints a stretch of final locators, ten words from i on: author, round, four words of the digest (the first byte highest), first
+// offset, end, certifying blocks, stake.
+fn print_stretch(out: &mut [u8], from: usize, stretches: &[u64], i: usize) -> usize
+    requires { ⌜ (from ≤ length (now out)) × ((128 ≤ length (now out)) × (i + 9 < length (now stretches))) ⌝ }
     ensures { λ r. ⌜ (r ≤ length (now (out .entry))) × (length (now (out .exit)) ≡ length (now (out .entry))) ⌝ }
 {
-    let digest = stretch[2] / 4294967296;
+    let digest = stretches[i + 2] / 4294967296;
     print_offsets(
         out,
         from,
-        stretch[1],
-        stretch[0],
+        stretches[i + 1],
+        stretches[i],
         digest,
-        stretch[6],
-        stretch[7],
-        stretch[8],
-        stretch[9],
+        stretches[i + 6],
+        stretches[i + 7],
+        stretches[i + 8],
+        stretches[i + 9],
     )
+}
+
+// Prints stretches of final locators, and counts these.
+pub fn print_stretches(out: &mut [u8], from: usize, stretches: &[u64]) -> Printed
+    requires { ⌜ (from ≤ length (now out)) × (128 ≤ length (now out)) ⌝ }
+    ensures { λ r. ⌜ (r .at ≤ length (now (out .entry))) × (length (now (out .exit)) ≡ length (now (out .entry))) ⌝ }
+{
+    let mut at = from;
+    let mut counted: u64 = 0;
+    let mut i = 0;
+    while i + 9 < stretches.len() {
+        at = print_stretch(out, at, stretches, i);
+        let offsets = std::num::wrapping_sub_u64(stretches[i + 7], stretches[i + 6]);
+        counted = std::num::wrapping_add_u64(counted, offsets);
+        i += 10;
+    }
+    Printed { at, counted }
+}
+
+// Prints the last line and writes out the rest.
+pub fn print_end(
+    out: &mut [u8],
+    from: usize,
+    accepted: u64,
+    refused: u64,
+    processed: u64,
+    pending: u64,
+    finals: u64,
+)
+    requires { ⌜ (from ≤ length (now out)) × (128 ≤ length (now out)) ⌝ }
+{
+    let at = room(out, from);
+    let end = listing_lib::put_end(out, at, accepted, refused, processed, pending, finals);
+    flush(out, end);
 }

@@ -17,7 +17,7 @@ slice-reshare-prefix-committee-of c = search needs
 slice-aggregate-committee-of : tie.Need-slice-aggregate-committee-of
 slice-aggregate-committee-of c =
     let got = c .before .before .before .read-front in
-    sym (length-take-le (got .result) (got .last .0) (omega (arith, got .kept .0)))
+    sym (length-take-le (got .result) (got .last .1 .0) (omega (arith, got .kept .1 .0)))
 
 committee-of-requires : tie.Need-committee-of-requires
 committee-of-requires c κs = search needs

@@ -1,0 +1,5 @@
+// Replays the fixed sample: lists with the Rust's answers, made by reference/run sample, as `listing` prints them.
+
+fn main() {
+    listing_files::run_arguments();
+}

@@ -1,0 +1,3 @@
+//! Stand-in: nothing is read from or written to files.
+
+pub trait ImportExport {}

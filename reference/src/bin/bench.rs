@@ -1,0 +1,263 @@
+//! Times the engine beside the Rust on the same graphs, in one run, and prints a table. See docs/PERFORMANCE.md.
+
+use std::fs;
+use std::hint::black_box;
+use std::process::{Command, Stdio};
+use std::time::{Duration, Instant};
+
+use reference::compare::Memory;
+use reference::engine;
+use reference::graphs;
+use reference::list::List;
+use reference::model::lent::STRETCH_BYTES;
+use reference::model::record::{number, Block, Locator, Reference};
+#[cfg(has_rust)]
+use reference::rust::{Prepared, RustSide};
+
+const STAKES: [u64; 4] = [1; 4];
+
+fn main() {
+    let words: Vec<String> = std::env::args().skip(1).collect();
+    match words.first().map(String::as_str) {
+        Some("memory") => memory_of(&words[1]),
+        _ => table(),
+    }
+}
+
+fn table() {
+    println!("| what | engine | Rust | engine to Rust |");
+    println!("|---|---|---|---|");
+    let course = graphs::course_run();
+    for (name, blocks) in
+        [("course run", course), ("100 blocks", graphs::generated(100)), ("1,000 blocks", graphs::generated(1000))]
+    {
+        let fed = fed(&blocks);
+        let finals = fed.as_ref().and_then(asked_on).unwrap_or(0);
+        assert!(
+            fed.as_ref().and_then(final_list).is_none_or(|count| count == finals),
+            "the list in bulk is as long as asked on"
+        );
+        let rust = rust_final(&blocks, finals);
+        let engine = fed.as_ref().filter(|memory| final_list(memory).is_some()).map(|memory| least(|| final_list(memory)));
+        row(&format!("final list in bulk, {name} ({finals} final)"), engine, rust);
+        let engine = fed.as_ref().map(|memory| least(|| asked_on(memory)));
+        row(&format!("final list asked on, {name}"), engine, rust);
+        let engine = fed.as_ref().map(|_| least(|| feed_all(&blocks)));
+        row(&format!("feeding, {name}"), engine, rust_feed(&blocks));
+        row(&format!("the same, the Rust with `verify` and its store, {name}"), engine, rust_feed_checked(&blocks));
+    }
+    println!();
+    check();
+    longest_listing();
+    peak_memory();
+}
+
+/// A time as it is read best.
+fn time(seconds: f64) -> String {
+    match seconds {
+        _ if seconds < 1e-3 => format!("{:.1} µs", seconds * 1e6),
+        _ if seconds < 1.0 => format!("{:.2} ms", seconds * 1e3),
+        _ => format!("{seconds:.2} s"),
+    }
+}
+
+fn row(name: &str, engine: Option<f64>, rust: Option<f64>) {
+    let shown = |seconds: Option<f64>| seconds.map_or("-".into(), time);
+    let ratio = engine.zip(rust).map_or("-".into(), |(engine, rust)| format!("{:.2}", engine / rust));
+    println!("| {name} | {} | {} | {ratio} |", shown(engine), shown(rust));
+}
+
+/// The time that this process has had on a processor, in seconds: what else runs on the machine is not counted.
+fn processor_time() -> f64 {
+    extern "C" {
+        fn clock_gettime(clock: i32, time: *mut [i64; 2]) -> i32;
+    }
+    const PROCESS: i32 = 2; // CLOCK_PROCESS_CPUTIME_ID of Linux
+    let mut time = [0; 2];
+    assert_eq!(unsafe { clock_gettime(PROCESS, &mut time) }, 0);
+    time[0] as f64 + time[1] as f64 * 1e-9
+}
+
+/// The least time of some runs: 200, or as many as two seconds hold.
+fn least<T>(mut run: impl FnMut() -> T) -> f64 {
+    let start = Instant::now();
+    let mut best = f64::MAX;
+    for _ in 0..200 {
+        let once = processor_time();
+        black_box(run());
+        best = best.min(processor_time() - once);
+        if start.elapsed() > Duration::from_secs(2) {
+            break;
+        }
+    }
+    best
+}
+
+fn lent(blocks: &[Block]) -> (Memory, Vec<Vec<u8>>) {
+    let list = List::roomy(STAKES.to_vec(), blocks.iter().map(Block::encode).collect());
+    (Memory::new(&list), list.records)
+}
+
+/// Feeds every block to the engine, from fresh.
+fn fed(blocks: &[Block]) -> Option<Memory> {
+    let (mut memory, records) = lent(blocks);
+    feed_records(&mut memory, &records)?;
+    Some(memory)
+}
+
+fn feed_records(memory: &mut Memory, records: &[Vec<u8>]) -> Option<()> {
+    for record in records {
+        let Memory { stakes, store, table, events } = memory;
+        engine::feed(stakes, store, table, events, record)?.expect("each record is accepted");
+    }
+    Some(())
+}
+
+fn feed_all(blocks: &[Block]) -> u64 {
+    let memory = fed(blocks).unwrap();
+    memory.store[8] as u64
+}
+
+/// The final list by the next final locator, asked on until none: the number of its locators.
+fn asked_on(memory: &Memory) -> Option<u64> {
+    let (mut after, mut out, mut count) = (Vec::new(), vec![0; 56], 0);
+    while engine::next_final(&memory.stakes, &memory.store, &after, &mut out)? == Ok(1) {
+        after = out.clone();
+        count += 1;
+    }
+    Some(count)
+}
+
+/// The whole final list in bulk: the number of its locators.
+fn final_list(memory: &Memory) -> Option<u64> {
+    let (mut after, mut out, mut count) = (Vec::new(), vec![0; 128 * STRETCH_BYTES], 0);
+    loop {
+        let answer = engine::final_stretches(&memory.stakes, &memory.store, &after, &mut out)?;
+        let answer = answer.expect("a store in order");
+        for stretch in out.chunks(STRETCH_BYTES).take(answer as usize / 2) {
+            count += number(&stretch[56..64]) - number(&stretch[48..56]);
+        }
+        if answer % 2 == 0 {
+            return Some(count);
+        }
+        let last: Vec<u64> = out[out.len() - STRETCH_BYTES..].chunks(8).map(number).collect();
+        let digest: Vec<u8> = last[2..6].iter().flat_map(|word| word.to_be_bytes()).collect();
+        let block = Reference { author: last[0], round: last[1], digest: digest.try_into().unwrap() };
+        after = Locator::new(block, last[7] - 1).bytes().to_vec();
+    }
+}
+
+#[cfg(has_rust)]
+fn side(blocks: &[Block]) -> RustSide {
+    let mut side = RustSide::new(&STAKES).unwrap();
+    side.store_all(blocks);
+    side
+}
+
+#[cfg(has_rust)]
+fn rust_final(blocks: &[Block], finals: u64) -> Option<f64> {
+    let side = side(blocks);
+    assert!(finals == 0 || side.final_count() as u64 == finals, "both find the same number");
+    Some(least(|| side.final_count()))
+}
+
+#[cfg(has_rust)]
+fn rust_feed(blocks: &[Block]) -> Option<f64> {
+    let (side, prepared) = (side(blocks), Prepared::new(blocks));
+    Some(least(|| prepared.feed(&side)))
+}
+
+#[cfg(has_rust)]
+fn rust_feed_checked(blocks: &[Block]) -> Option<f64> {
+    let (side, prepared) = (side(blocks), Prepared::new(blocks));
+    Some(least(|| prepared.feed_checked(&side)))
+}
+
+#[cfg(not(has_rust))]
+fn rust_final(_blocks: &[Block], _finals: u64) -> Option<f64> {
+    None
+}
+
+#[cfg(not(has_rust))]
+fn rust_feed(_blocks: &[Block]) -> Option<f64> {
+    None
+}
+
+#[cfg(not(has_rust))]
+fn rust_feed_checked(_blocks: &[Block]) -> Option<f64> {
+    None
+}
+
+/// The check of a store of 1,000 blocks, by a question that is refused right after it, beside one pass over its bytes.
+fn check() {
+    let Some(memory) = fed(&graphs::generated(1000)) else { return };
+    let used = number(&memory.store[4..8]) as usize;
+    let locator = [0; 3];
+    let check = least(|| engine::payload_length(&memory.stakes, &memory.store, &locator));
+    let pass = least(|| memory.store[..used].iter().fold(0u64, |h, &b| h.wrapping_mul(31).wrapping_add(b as u64)));
+    println!(
+        "check of a store of 1,000 blocks, {used} bytes: {}; one pass of a multiply and add over each byte: {}; ratio {:.2}",
+        time(check),
+        time(pass),
+        check / pass
+    );
+}
+
+/// The longest `listing`, where the program has been built.
+fn longest_listing() {
+    let program = concat!(env!("CARGO_MANIFEST_DIR"), "/../target/bin/listing");
+    if !fs::exists(program).unwrap_or(false) {
+        println!("longest listing: the program is not built (rt check listing)");
+        return;
+    }
+    let input = concat!(env!("CARGO_MANIFEST_DIR"), "/target/longest.bin");
+    let blocks = graphs::longest();
+    let list = List::roomy(vec![1], blocks.iter().map(Block::encode).collect());
+    fs::write(input, list.to_listing()).unwrap();
+    let start = Instant::now();
+    let mut child = Command::new(program).stdin(fs::File::open(input).unwrap()).stdout(Stdio::null()).spawn().unwrap();
+    let mut peak = None;
+    while child.try_wait().unwrap().is_none() {
+        peak = high_water(&format!("/proc/{}/status", child.id())).or(peak);
+        std::thread::sleep(Duration::from_millis(5));
+    }
+    println!(
+        "longest listing, {} records: {}, peak {} kB",
+        blocks.len(),
+        time(start.elapsed().as_secs_f64()),
+        peak.unwrap_or(0)
+    );
+}
+
+/// VmHWM of a process, in kB.
+fn high_water(status: &str) -> Option<u64> {
+    let text = fs::read_to_string(status).ok()?;
+    let line = text.lines().find(|line| line.starts_with("VmHWM"))?;
+    line.split_whitespace().nth(1)?.parse().ok()
+}
+
+/// Peak memory of a process that feeds 1,000 blocks and makes the final list on one side, and of one that only makes the blocks.
+fn peak_memory() {
+    let this = std::env::current_exe().unwrap();
+    for side in ["none", "engine", "rust"] {
+        let out = Command::new(&this).args(["memory", side]).output().unwrap();
+        println!("peak memory, 1,000 blocks, {side}: {} kB", String::from_utf8_lossy(&out.stdout).trim());
+    }
+}
+
+fn memory_of(side: &str) {
+    let blocks = graphs::generated(1000);
+    match side {
+        "engine" => drop(fed(&blocks).map(|memory| final_list(&memory))),
+        #[cfg(has_rust)]
+        "rust" => drop((rust_once(&blocks), 0)),
+        _ => {}
+    }
+    println!("{}", high_water("/proc/self/status").unwrap_or(0));
+}
+
+#[cfg(has_rust)]
+fn rust_once(blocks: &[Block]) -> usize {
+    let side = side(blocks);
+    Prepared::new(blocks).feed(&side) + side.final_count()
+}

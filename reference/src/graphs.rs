@@ -1,0 +1,69 @@
+//! Fixed graphs, for the benchmark.
+
+use crate::model::record::{Block, Locator, Reference, Statement};
+
+/// The course run of 01: four stakes of 1.
+pub fn course_run() -> Vec<Block> {
+    let reference = |k: u64, author: u64, round: u64| Reference { author, round, digest: digest(k) };
+    let mut blocks: Vec<Block> = (0..4).map(|author| bare(reference(author + 1, author, 0), &[])).collect();
+    let mut before: Vec<Reference> = blocks[..3].iter().map(|block| block.reference).collect();
+    for round in 1..4 {
+        let these: Vec<Block> = (0..3).map(|author| bare(reference(2 + 3 * round + author, author, round), &before)).collect();
+        before = these.iter().map(|block| block.reference).collect();
+        blocks.extend(these);
+    }
+    let shared = Locator::new(blocks[4].reference, 0);
+    blocks[4].statements = vec![Statement::Share(vec![])];
+    blocks[8].statements = vec![Statement::Accept(shared)];
+    blocks[9].statements = vec![Statement::Accept(shared)];
+    blocks
+}
+
+/// Four owners, each block above round 0 with the four blocks of the round before, a share, and three accepts of shares of that
+/// round.
+pub fn generated(count: usize) -> Vec<Block> {
+    let reference = |n: usize| Reference { author: n as u64 % 4, round: n as u64 / 4, digest: digest(n as u64 + 1) };
+    let block = |n: usize| {
+        let first = (n / 4).saturating_sub(1) * 4;
+        let before: Vec<Reference> = if n < 4 { vec![] } else { (first..first + 4).map(reference).collect() };
+        let mut block = bare(reference(n), &before);
+        if n >= 4 {
+            block.statements.push(Statement::Share(vec![1, 2, 3]));
+        }
+        if n >= 8 {
+            let others = before.iter().filter(|other| other.author != n as u64 % 4);
+            block.statements.extend(others.map(|other| Statement::Accept(Locator::new(*other, 0))));
+        }
+        block
+    };
+    (0..count).map(block).collect()
+}
+
+/// One owner, whose blocks each vote for 2,730 further offsets of one block: as many final locators as `listing` can hold.
+pub fn longest() -> Vec<Block> {
+    let reference = |n: u64| Reference { author: 0, round: n, digest: digest(n) };
+    let mut blocks = vec![bare(reference(0), &[])];
+    let mut used = 16 + 64;
+    for n in 1.. {
+        let mut block = bare(reference(n), &[reference(n - 1)]);
+        let start = (n - 1) * 2730 % 1_045_000;
+        block.statements.push(Statement::Range(reference(1 + (n - 1) * 2730 / 1_045_000), start, start + 2730));
+        used += 8 + block.encode().len();
+        if used > crate::model::listing::STORE_BYTES {
+            return blocks;
+        }
+        blocks.push(block);
+    }
+    unreachable!("the store ends")
+}
+
+fn bare(reference: Reference, includes: &[Reference]) -> Block {
+    Block { reference, marked: false, includes: includes.to_vec(), statements: vec![] }
+}
+
+/// The bytes 0, 0 and the number's two lowest, highest first; then 28 zeros.
+fn digest(k: u64) -> [u8; 32] {
+    let mut digest = [0; 32];
+    digest[2..4].copy_from_slice(&(k as u16).to_be_bytes());
+    digest
+}

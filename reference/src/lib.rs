@@ -1,0 +1,22 @@
+//! Reference runs: the engine, the unchanged Rust and a model of document 01 on the same lists.
+
+pub mod boundary;
+pub mod compare;
+pub mod damage;
+#[cfg(has_rust)]
+pub mod departures;
+pub mod engine;
+pub mod exhaustive;
+pub mod generate;
+pub mod graphs;
+pub mod list;
+pub mod model;
+pub mod program;
+pub mod questions;
+pub mod rng;
+#[cfg_attr(not(has_rust), path = "no_rust.rs")]
+pub mod rust;
+#[cfg(has_rust)]
+pub mod sample;
+pub mod shrink;
+pub mod tally;

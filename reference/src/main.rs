@@ -1,0 +1,157 @@
+//! The command of the reference runs; see README.md beside.
+
+use std::io::Write;
+use std::process::exit;
+use std::time::{Duration, Instant};
+
+use reference::compare::compare;
+use reference::list::List;
+use reference::tally::Tally;
+use reference::{engine, exhaustive, generate, program, shrink};
+
+fn main() {
+    let words: Vec<String> = std::env::args().skip(1).collect();
+    let word = |i: usize| words.get(i).map(String::as_str);
+    match word(0) {
+        Some("lists") => lists(number(word(1), 4000), number(word(2), 1)),
+        Some("exhaustive") => exhaustive(number(word(1), exhaustive::COUNT)),
+        Some("list") => one(number(word(1), 0), number(word(2), 1)),
+        Some("boundary") => boundary(word(1) == Some("exact")),
+        Some("listing") => listing(number(word(1), 1000), number(word(2), 1)),
+        Some("model") => model(word(1).expect("a file")),
+        #[cfg(has_rust)]
+        Some("sample") => sample(word(1).expect("a folder"), word(2) == Some("check")),
+        #[cfg(has_rust)]
+        Some("departures") => reference::departures::show(),
+        _ => {
+            eprintln!("see reference/run");
+            exit(2);
+        }
+    }
+}
+
+fn number(word: Option<&str>, default: u64) -> u64 {
+    word.map_or(default, |word| word.replace('_', "").parse().expect("a number"))
+}
+
+/// List n of a run: every fourth is the next of the exhaustive ones, in steps that meet each of them once.
+fn list(seed: u64, n: u64) -> List {
+    const STEP: u64 = 524_287; // a prime that does not divide their number
+    if n % 4 == 3 {
+        exhaustive::list((seed.wrapping_add(n / 4) % exhaustive::COUNT) * STEP % exhaustive::COUNT)
+    } else {
+        generate::list(seed, n)
+    }
+}
+
+fn sides() {
+    let (there, missing) = engine::calls();
+    println!("engine: {}", if there.is_empty() { "not linked".into() } else { there.join(", ") });
+    if !missing.is_empty() {
+        println!("calls not in the archive, hence not compared: {}", missing.join(", "));
+    }
+    if !mysticeti::PRESENT {
+        println!("the Rust's files are not there: nothing is compared with the Rust, only with the model of 01");
+    }
+}
+
+/// Runs lists by their numbers, with a progress line; shows the smallest form of the first that fail.
+fn run(count: u64, list: impl Fn(u64) -> List) -> u64 {
+    sides();
+    let (start, mut told) = (Instant::now(), Instant::now());
+    let mut tally = Tally::default();
+    let mut failed = 0;
+    for n in 0..count {
+        let list = list(n);
+        if let Err(text) = compare(&list, &mut tally) {
+            failed += 1;
+            println!("list {n} failed: {text}");
+            if failed <= 3 {
+                let (list, text) = shrink::smallest(&list, text);
+                println!("its smallest form: {text}\n{}", list.describe());
+            }
+        }
+        if told.elapsed() > Duration::from_secs(5) {
+            println!("{} of {count} lists, {failed} failed, {} s", n + 1, start.elapsed().as_secs());
+            let _ = std::io::stdout().flush();
+            told = Instant::now();
+        }
+    }
+    println!("{}", tally.describe());
+    println!("{:.1} s", start.elapsed().as_secs_f64());
+    failed
+}
+
+fn end(count: u64, failed: u64) -> ! {
+    println!("{} passed, {failed} failed", count - failed);
+    exit((failed > 0) as i32);
+}
+
+fn lists(count: u64, seed: u64) {
+    println!("seed {seed}");
+    end(count, run(count, |n| list(seed, n)));
+}
+
+/// The first of the exhaustive lists, or all of them.
+fn exhaustive(count: u64) {
+    end(count, run(count, exhaustive::list));
+}
+
+/// Writes the fixed sample, or checks that it is what the Rust's answers make.
+#[cfg(has_rust)]
+fn sample(folder: &str, check: bool) {
+    match reference::sample::write(folder.as_ref(), check) {
+        Ok(count) => println!("{count} inputs"),
+        Err(text) => {
+            println!("{text}");
+            exit(1);
+        }
+    }
+}
+
+/// Every length of every slice. `exact`: for a checker of memory, which sees what canaries cannot.
+fn boundary(exact: bool) {
+    sides();
+    let outcome = reference::boundary::run(exact).and_then(|calls| match exact {
+        true => Ok(calls),
+        false => reference::boundary::longest_store().map(|_| calls),
+    });
+    match outcome {
+        Ok(calls) => println!("{calls} passed, 0 failed"),
+        Err(text) => {
+            println!("{text}\n0 passed, 1 failed");
+            exit(1);
+        }
+    }
+}
+
+/// The program `listing` on generated inputs.
+fn listing(count: u64, seed: u64) {
+    if !program::is_there() {
+        println!("the program is not built (rt check listing)\n0 passed, 1 failed");
+        exit(1);
+    }
+    let mut failed = 0;
+    for n in 0..count {
+        if let Err(text) = program::run(&program::input(seed, n)) {
+            failed += 1;
+            println!("input {n} of seed {seed}: {text}");
+        }
+    }
+    end(count, failed);
+}
+
+/// What `listing` prints for an input, by the model.
+fn model(file: &str) {
+    let input = std::fs::read(file).expect("the input");
+    print!("{}", reference::model::listing::listing(&input));
+}
+
+fn one(n: u64, seed: u64) {
+    let list = list(seed, n);
+    println!("{}", list.describe());
+    let mut tally = Tally::default();
+    let outcome = compare(&list, &mut tally);
+    println!("{}\n{outcome:?}", tally.describe());
+    exit(outcome.is_err() as i32);
+}

@@ -1,0 +1,109 @@
+//! 01, "Interpreter": voters, certificates, final locators.
+
+use std::collections::BTreeSet;
+
+use super::committee::Committee;
+use super::record::{Block, Locator, Reference, Statement};
+use super::store::Stores;
+
+/// What is answered about a locator: final or not, and the blocks that certify it, in ascending order of reference.
+#[derive(Clone, PartialEq, Eq, Debug)]
+pub struct Finality {
+    pub is_final: bool,
+    pub certifying: Vec<Reference>,
+    /// The stake of their authors, each once.
+    pub stake: u64,
+}
+
+/// The stored blocks in ascending order of reference, each with its inclusive ancestry as places in this order.
+pub struct Graph<'a> {
+    committee: &'a Committee,
+    blocks: Vec<&'a Block>,
+    ancestries: Vec<Vec<usize>>,
+}
+
+impl<'a> Graph<'a> {
+    pub fn new(committee: &'a Committee, stores: &'a Stores) -> Graph<'a> {
+        let blocks: Vec<&Block> = stores.index.values().map(|i| &stores.blocks[*i].block).collect();
+        let mut ancestries: Vec<Vec<usize>> = Vec::new();
+        for (place, block) in blocks.iter().enumerate() {
+            let mut ancestry = vec![false; place + 1];
+            ancestry[place] = true;
+            for include in &block.includes {
+                let include = blocks.binary_search_by_key(include, |block| block.reference).unwrap();
+                ancestries[include].iter().for_each(|below| ancestry[*below] = true);
+            }
+            ancestries.push((0..=place).filter(|below| ancestry[*below]).collect());
+        }
+        Graph { committee, blocks, ancestries }
+    }
+
+    pub fn finality(&self, locator: &Locator) -> Finality {
+        let votes: Vec<bool> = self.blocks.iter().map(|block| votes_for(block, locator)).collect();
+        let mut certifying = Vec::new();
+        let mut authors = 0u128;
+        for (block, ancestry) in self.blocks.iter().zip(&self.ancestries) {
+            let voting = ancestry.iter().filter(|below| votes[**below]);
+            let voters = voting.fold(0u128, |voters, below| voters | 1 << self.blocks[*below].reference.author);
+            if !block.marked && self.committee.is_quorum(self.committee.stake_of(voters)) {
+                certifying.push(block.reference);
+                authors |= 1 << block.reference.author;
+            }
+        }
+        let stake = self.committee.stake_of(authors);
+        Finality { is_final: self.committee.is_quorum(stake), certifying, stake }
+    }
+
+    /// Every locator with a vote, ascending: no other can be final.
+    pub fn voted(&self) -> BTreeSet<Locator> {
+        let mut voted = BTreeSet::new();
+        for block in &self.blocks {
+            for (offset, statement) in block.statements.iter().enumerate() {
+                match statement {
+                    Statement::Share(_) => voted.extend([Locator::new(block.reference, offset as u64)]),
+                    Statement::Accept(locator) => voted.extend([*locator]),
+                    Statement::Range(reference, start, end) => {
+                        voted.extend((*start..*end).map(|offset| Locator::new(*reference, offset)))
+                    }
+                    Statement::Reject(..) => {}
+                }
+            }
+        }
+        voted
+    }
+
+    /// Where a share, an accept or a range begins or ends.
+    pub fn edges(&self) -> BTreeSet<Locator> {
+        let mut edges = BTreeSet::new();
+        for block in &self.blocks {
+            for (offset, statement) in block.statements.iter().enumerate() {
+                let (reference, start, end) = match statement {
+                    Statement::Share(_) => (block.reference, offset as u64, offset as u64 + 1),
+                    Statement::Accept(locator) => (locator.block, locator.offset, locator.offset + 1),
+                    Statement::Range(reference, start, end) => (*reference, *start, *end),
+                    Statement::Reject(..) => continue,
+                };
+                edges.extend([Locator::new(reference, start), Locator::new(reference, end)]);
+            }
+        }
+        edges
+    }
+
+    /// The final list.
+    pub fn final_list(&self) -> Vec<(Locator, Finality)> {
+        let each = self.voted().into_iter().map(|locator| (locator, self.finality(&locator)));
+        each.filter(|(_, finality)| finality.is_final).collect()
+    }
+}
+
+/// Whether the block has the share, an accept or a range covering the locator.
+fn votes_for(block: &Block, locator: &Locator) -> bool {
+    let covers = |statement: &Statement| match statement {
+        Statement::Accept(accepted) => accepted == locator,
+        Statement::Range(reference, start, end) => {
+            *reference == locator.block && *start <= locator.offset && locator.offset < *end
+        }
+        _ => false,
+    };
+    (block.reference == locator.block && block.shares(locator.offset)) || block.statements.iter().any(covers)
+}

@@ -1,0 +1,181 @@
+//! The host's calls over lent bytes, as 01 has them: the answer or the refusal, and what is written. Every length is allowed.
+
+use super::committee::{Committee, Votes};
+use super::feed::{Event, State};
+use super::finality::{Finality, Graph};
+use super::record::{locator_of, number, Locator};
+use super::store::Stores;
+use super::table::Table;
+
+pub type Answer = Result<u64, u64>;
+
+pub const POSITION_BYTES: usize = 8 * 1024;
+pub const STRETCH_BYTES: usize = 80;
+pub const MOST_STRETCHES: usize = 128;
+pub const STRETCHES_BYTES: usize = STRETCH_BYTES * MOST_STRETCHES;
+
+pub fn new_committee(stakes: &[u8]) -> Answer {
+    Ok(Committee::set_from_bytes(stakes)?.total)
+}
+
+pub fn add(stakes: &[u8], aggregator: &mut [u8], voter: u64) -> Answer {
+    let committee = Committee::lent(stakes)?;
+    if aggregator.len() != 24 {
+        return Err(6);
+    }
+    let word = |i: usize| number(&aggregator[8 * i..8 * i + 8]);
+    let mut votes = Votes { voters: word(0) as u128 | (word(1) as u128) << 64, stake: word(2) };
+    let quorum = committee.add(&mut votes, voter)?;
+    put_words(aggregator, &[votes.voters as u64, (votes.voters >> 64) as u64, votes.stake]);
+    Ok(quorum as u64)
+}
+
+pub fn feed(stakes: &[u8], store: &mut [u8], table: &mut [u8], events: &mut [u8], record: &[u8]) -> Answer {
+    let committee = Committee::lent(stakes)?;
+    let mut state = State::read(&committee, store, table)?;
+    let told = state.feed(&committee, store.len(), events.len(), record)?;
+    write_back(&state, &told, store, table, events);
+    Ok(told.len() as u64)
+}
+
+/// The bytes that feeding leaves: those past the used part of the store and past the events keep their content.
+pub fn write_back(state: &State, told: &[Event], store: &mut [u8], table: &mut [u8], events: &mut [u8]) {
+    let used = state.stores.layout();
+    store[..used.len()].copy_from_slice(&used);
+    table.copy_from_slice(&state.table.bytes());
+    for (i, event) in told.iter().enumerate() {
+        put_words(&mut events[24 * i..], &[event.kind as u64, event.statement, event.offset]);
+    }
+}
+
+/// The votes of a pending locator: 5, 10, 11, 20 for a locator not of 56 bytes, 42.
+pub fn pending(stakes: &[u8], store: &[u8], table: &[u8], locator: &[u8]) -> Result<Votes, u64> {
+    let committee = Committee::lent(stakes)?;
+    let stores = Stores::read(&committee, store)?;
+    let table = Table::read(&committee, &stores, table)?;
+    let locator = locator_of(locator).ok_or(20u64)?;
+    let stored = stores.get(&locator.block).ok_or(42u64)?;
+    let item = table.find(stored.position, locator.offset).ok_or(42u64)?;
+    Ok(table.items[item].votes)
+}
+
+/// Where a payload stands, and its length: 5, 10, 20, 41.
+pub fn payload(stakes: &[u8], store: &[u8], locator: &[u8]) -> Result<(u64, u64), u64> {
+    let committee = Committee::lent(stakes)?;
+    let stores = Stores::read(&committee, store)?;
+    stores.payload(&locator_of(locator).ok_or(20u64)?).ok_or(41)
+}
+
+/// 5, 10, 20, 40.
+pub fn finality(stakes: &[u8], store: &[u8], positions: &mut [u8], locator: &[u8]) -> Answer {
+    let committee = Committee::lent(stakes)?;
+    let stores = Stores::read(&committee, store)?;
+    let locator = locator_of(locator).ok_or(20u64)?;
+    if positions.len() != POSITION_BYTES {
+        return Err(40);
+    }
+    let finality = Graph::new(&committee, &stores).finality(&locator);
+    Ok(write_finality(&stores, &finality, positions))
+}
+
+/// The answer of the finality question, its positions written.
+pub fn write_finality(stores: &Stores, finality: &Finality, positions: &mut [u8]) -> u64 {
+    let places: Vec<u64> = finality.certifying.iter().map(|block| stores.get(block).unwrap().position).collect();
+    put_words(positions, &places);
+    2 * places.len() as u64 + finality.is_final as u64
+}
+
+/// A locator to go on from: none where there are no bytes.
+fn after_of(bytes: &[u8]) -> Result<Option<Locator>, u64> {
+    match bytes.len() {
+        0 => Ok(None),
+        _ => locator_of(bytes).map(Some).ok_or(20),
+    }
+}
+
+/// The least final locator after a given one, or from the start: 5, 10, 20, 40 for an answer not of 56 bytes.
+pub fn next_final(stakes: &[u8], store: &[u8], after: &[u8], out: &mut [u8]) -> Answer {
+    let committee = Committee::lent(stakes)?;
+    let stores = Stores::read(&committee, store)?;
+    let after = after_of(after)?;
+    if out.len() != 56 {
+        return Err(40);
+    }
+    let list = Graph::new(&committee, &stores).final_list();
+    match list.iter().find(|(locator, _)| Some(*locator) > after) {
+        Some((locator, _)) => {
+            out.copy_from_slice(&locator.bytes());
+            Ok(1)
+        }
+        None => Ok(0),
+    }
+}
+
+/// The final list in bulk: 5, 10, 20, 40 for a slice not of 128 stretches.
+pub fn final_stretches(stakes: &[u8], store: &[u8], after: &[u8], out: &mut [u8]) -> Answer {
+    let committee = Committee::lent(stakes)?;
+    let stores = Stores::read(&committee, store)?;
+    let after = after_of(after)?;
+    if out.len() != STRETCHES_BYTES {
+        return Err(40);
+    }
+    Ok(write_stretches(&stretches(&Graph::new(&committee, &stores), after), out))
+}
+
+/// Writes as many stretches as fit: twice their number, and 1 more where more follow.
+pub fn write_stretches(stretches: &[Stretch], out: &mut [u8]) -> u64 {
+    let fit = stretches.len().min(MOST_STRETCHES);
+    for (i, stretch) in stretches[..fit].iter().enumerate() {
+        put_words(&mut out[STRETCH_BYTES * i..], &stretch.words());
+    }
+    2 * fit as u64 + (fit < stretches.len()) as u64
+}
+
+/// Neighbouring final locators with the same certifying blocks, between two places where a vote begins or ends.
+#[derive(Clone, Copy, PartialEq, Eq, Debug)]
+pub struct Stretch {
+    pub first: Locator,
+    pub end: u64,
+    pub blocks: u64,
+    pub stake: u64,
+}
+
+impl Stretch {
+    pub fn last(&self) -> Locator {
+        Locator { offset: self.end - 1, ..self.first }
+    }
+
+    pub fn words(&self) -> [u64; 10] {
+        let block = self.first.block;
+        let digest = |i: usize| u64::from_be_bytes(block.digest[8 * i..8 * i + 8].try_into().unwrap());
+        let digest = [0, 1, 2, 3].map(digest);
+        let [a, b, c, d] = digest;
+        [block.author, block.round, a, b, c, d, self.first.offset, self.end, self.blocks, self.stake]
+    }
+}
+
+/// The final list after a locator, in stretches.
+pub fn stretches(graph: &Graph, after: Option<Locator>) -> Vec<Stretch> {
+    let edges = graph.edges();
+    let mut stretches: Vec<Stretch> = Vec::new();
+    for (locator, finality) in graph.final_list().into_iter().filter(|(locator, _)| Some(*locator) > after) {
+        match stretches.last_mut() {
+            Some(last) if last.first.block == locator.block && last.end == locator.offset && !edges.contains(&locator) => {
+                last.end += 1
+            }
+            _ => stretches.push(Stretch {
+                first: locator,
+                end: locator.offset + 1,
+                blocks: finality.certifying.len() as u64,
+                stake: finality.stake,
+            }),
+        }
+    }
+    stretches
+}
+
+pub fn put_words(out: &mut [u8], words: &[u64]) {
+    for (i, word) in words.iter().enumerate() {
+        out[8 * i..8 * i + 8].copy_from_slice(&word.to_le_bytes());
+    }
+}

@@ -1,0 +1,11 @@
+//! A model of document 01, written from its text alone and as plainly as it reads: no part of it looks at the engine or at the
+//! Rust. Where the Rust has no answer (damaged records, broken memory, rejects, empty ranges) the engine is held to it.
+
+pub mod committee;
+pub mod feed;
+pub mod finality;
+pub mod lent;
+pub mod listing;
+pub mod record;
+pub mod store;
+pub mod table;

@@ -1,0 +1,215 @@
+//! 01, "Blocks": references, locators, statements and the block record, read and written.
+
+use std::fmt;
+
+/// A reference: author, round, digest; ordered by round, author, digest bytes.
+#[derive(Clone, Copy, PartialEq, Eq, Hash)]
+pub struct Reference {
+    pub author: u64,
+    pub round: u64,
+    pub digest: [u8; 32],
+}
+
+/// A locator: a reference and an offset, ordered so.
+#[derive(Clone, Copy, PartialEq, Eq, PartialOrd, Ord, Hash, Debug)]
+pub struct Locator {
+    pub block: Reference,
+    pub offset: u64,
+}
+
+#[derive(Clone, PartialEq, Eq, Debug)]
+pub enum Statement {
+    Share(Vec<u8>),
+    Accept(Locator),
+    Reject(Locator, Option<Locator>),
+    Range(Reference, u64, u64),
+}
+
+#[derive(Clone, PartialEq, Eq, Debug)]
+pub struct Block {
+    pub reference: Reference,
+    pub marked: bool,
+    pub includes: Vec<Reference>,
+    pub statements: Vec<Statement>,
+}
+
+pub const MAX_INCLUDES: usize = 256;
+pub const MAX_STATEMENTS: usize = 1024;
+
+impl PartialOrd for Reference {
+    fn partial_cmp(&self, other: &Self) -> Option<std::cmp::Ordering> {
+        Some(self.cmp(other))
+    }
+}
+
+impl Ord for Reference {
+    fn cmp(&self, other: &Self) -> std::cmp::Ordering {
+        (self.round, self.author, self.digest).cmp(&(other.round, other.author, other.digest))
+    }
+}
+
+/// Round, author and the digest without its closing zeros, in hex.
+impl fmt::Debug for Reference {
+    fn fmt(&self, f: &mut fmt::Formatter<'_>) -> fmt::Result {
+        let length = 32 - self.digest.iter().rev().take_while(|byte| **byte == 0).count();
+        write!(f, "round {} author {} digest ", self.round, self.author)?;
+        self.digest[..length].iter().try_for_each(|byte| write!(f, "{byte:02x}"))
+    }
+}
+
+impl Locator {
+    pub fn new(block: Reference, offset: u64) -> Locator {
+        Locator { block, offset }
+    }
+
+    /// As it stands in a record.
+    pub fn bytes(&self) -> [u8; 56] {
+        let mut out = Vec::new();
+        put_locator(&mut out, self);
+        out.try_into().unwrap()
+    }
+}
+
+impl Block {
+    /// Whether the statement at this index is a share.
+    pub fn shares(&self, offset: u64) -> bool {
+        offset < self.statements.len() as u64 && matches!(self.statements[offset as usize], Statement::Share(_))
+    }
+
+    /// The offsets of its shares, neighbouring ones in one range, as `shared_ranges` gives them.
+    pub fn shared_ranges(&self) -> Vec<(u64, u64)> {
+        let mut ranges: Vec<(u64, u64)> = Vec::new();
+        for offset in 0..self.statements.len() as u64 {
+            match ranges.last_mut() {
+                _ if !self.shares(offset) => {}
+                Some(last) if last.1 == offset => last.1 += 1,
+                _ => ranges.push((offset, offset + 1)),
+            }
+        }
+        ranges
+    }
+
+    pub fn encode(&self) -> Vec<u8> {
+        let mut out = Vec::new();
+        put_reference(&mut out, &self.reference);
+        out.push(self.marked as u8);
+        out.extend((self.includes.len() as u16).to_le_bytes());
+        out.extend((self.statements.len() as u16).to_le_bytes());
+        out.extend([0; 3]);
+        self.includes.iter().for_each(|include| put_reference(&mut out, include));
+        self.statements.iter().for_each(|statement| put_statement(&mut out, statement));
+        out
+    }
+
+    /// The block that a record holds; none where the record is malformed (20).
+    pub fn decode(bytes: &[u8]) -> Option<Block> {
+        let mut reader = Reader(bytes);
+        let reference = reader.reference()?;
+        let marked = reader.bit()?;
+        let (includes, statements) = (reader.number(2)? as usize, reader.number(2)? as usize);
+        if reader.take(3)? != [0; 3] || includes > MAX_INCLUDES || statements > MAX_STATEMENTS {
+            return None;
+        }
+        let includes = (0..includes).map(|_| reader.reference()).collect::<Option<_>>()?;
+        let statements = (0..statements).map(|_| reader.statement()).collect::<Option<_>>()?;
+        reader.0.is_empty().then_some(Block { reference, marked, includes, statements })
+    }
+}
+
+fn put_reference(out: &mut Vec<u8>, reference: &Reference) {
+    out.extend(reference.author.to_le_bytes());
+    out.extend(reference.round.to_le_bytes());
+    out.extend(reference.digest);
+}
+
+fn put_locator(out: &mut Vec<u8>, locator: &Locator) {
+    put_reference(out, &locator.block);
+    out.extend(locator.offset.to_le_bytes());
+}
+
+fn put_statement(out: &mut Vec<u8>, statement: &Statement) {
+    match statement {
+        Statement::Share(payload) => {
+            out.push(0);
+            out.extend((payload.len() as u16).to_le_bytes());
+            out.extend(payload);
+        }
+        Statement::Accept(locator) => {
+            out.push(1);
+            put_locator(out, locator);
+        }
+        Statement::Reject(locator, second) => {
+            out.push(2);
+            put_locator(out, locator);
+            out.push(second.is_some() as u8);
+            second.iter().for_each(|second| put_locator(out, second));
+        }
+        Statement::Range(reference, start, end) => {
+            out.push(3);
+            put_reference(out, reference);
+            out.extend(start.to_le_bytes());
+            out.extend(end.to_le_bytes());
+        }
+    }
+}
+
+/// The bytes that are still to be read.
+struct Reader<'a>(&'a [u8]);
+
+impl<'a> Reader<'a> {
+    fn take(&mut self, length: usize) -> Option<&'a [u8]> {
+        let (taken, rest) = self.0.split_at_checked(length)?;
+        self.0 = rest;
+        Some(taken)
+    }
+
+    fn number(&mut self, length: usize) -> Option<u64> {
+        Some(number(self.take(length)?))
+    }
+
+    fn bit(&mut self) -> Option<bool> {
+        match self.number(1)? {
+            0 => Some(false),
+            1 => Some(true),
+            _ => None,
+        }
+    }
+
+    fn reference(&mut self) -> Option<Reference> {
+        let (author, round) = (self.number(8)?, self.number(8)?);
+        Some(Reference { author, round, digest: self.take(32)?.try_into().unwrap() })
+    }
+
+    fn locator(&mut self) -> Option<Locator> {
+        Some(Locator { block: self.reference()?, offset: self.number(8)? })
+    }
+
+    fn statement(&mut self) -> Option<Statement> {
+        match self.number(1)? {
+            0 => {
+                let length = self.number(2)? as usize;
+                Some(Statement::Share(self.take(length)?.to_vec()))
+            }
+            1 => Some(Statement::Accept(self.locator()?)),
+            2 => {
+                let locator = self.locator()?;
+                let second = if self.bit()? { Some(self.locator()?) } else { None };
+                Some(Statement::Reject(locator, second))
+            }
+            3 => Some(Statement::Range(self.reference()?, self.number(8)?, self.number(8)?)),
+            _ => None,
+        }
+    }
+}
+
+/// A locator of 56 bytes; none of any other number of bytes.
+pub fn locator_of(bytes: &[u8]) -> Option<Locator> {
+    let mut reader = Reader(bytes);
+    let locator = reader.locator()?;
+    reader.0.is_empty().then_some(locator)
+}
+
+/// A number of up to 8 bytes, lowest first.
+pub fn number(bytes: &[u8]) -> u64 {
+    bytes.iter().rev().fold(0, |n, byte| n << 8 | *byte as u64)
+}

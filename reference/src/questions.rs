@@ -1,0 +1,146 @@
+//! The questions over a store and a table: payloads, pending locators, finality, the final list one by one and in bulk.
+
+use std::collections::BTreeSet;
+
+use crate::compare::{same, same_bytes, Outcome, Sides};
+use crate::engine;
+use crate::model::finality::{Finality, Graph};
+use crate::model::lent::{stretches, write_finality, write_stretches, MOST_STRETCHES, POSITION_BYTES, STRETCHES_BYTES};
+use crate::model::record::{number, Locator, Reference};
+use crate::rng::Rng;
+use crate::tally::Tally;
+
+/// Most locators asked about one by one: every question checks the whole store, so there are fewer over a long one.
+fn most_asked(sides: &Sides) -> usize {
+    (40_000 / sides.state.stores.used() as usize).clamp(1, 8)
+}
+
+pub fn ask(sides: &Sides, rng: &mut Rng, tally: &mut Tally) -> Outcome {
+    let graph = Graph::new(&sides.committee, &sides.state.stores);
+    let list = graph.final_list();
+    tally.finals += list.len() as u64;
+    tally.pending += sides.state.table.items.len() as u64;
+    if let Some(rust) = &sides.rust {
+        let right = list.iter().map(|(locator, finality)| (*locator, finality.certifying.clone())).collect();
+        same("the final list with its certifying blocks", "Rust", rust.final_list(), Ok(right))?;
+    }
+    let asked = locators(sides, &graph, rng);
+    for locator in &asked {
+        let finality = graph.finality(locator);
+        tally.not_finals += !finality.is_final as u64;
+        tally.questions += 5;
+        one(sides, locator, &finality)?;
+    }
+    asked_on(sides, &list, rng)?;
+    in_bulk(sides, &graph, rng)
+}
+
+/// Some of the locators that have votes, and some beside them.
+fn locators(sides: &Sides, graph: &Graph, rng: &mut Rng) -> BTreeSet<Locator> {
+    let voted: Vec<Locator> = graph.voted().into_iter().collect();
+    let mut asked = BTreeSet::new();
+    let most = most_asked(sides);
+    if voted.len() <= most {
+        asked.extend(&voted);
+    } else {
+        asked.extend((0..most).map(|_| *rng.pick(&voted)));
+    }
+    if !voted.is_empty() && (most > 1 || rng.once_in(4)) {
+        let beside = *rng.pick(&voted);
+        asked.insert(Locator { offset: beside.offset.saturating_add(1), ..beside });
+        asked.insert(Locator { offset: beside.offset.saturating_sub(1), ..beside });
+        asked.insert(Locator { offset: u64::MAX, ..beside });
+        let mut digest = beside.block.digest;
+        digest[rng.below(32) as usize] ^= 1;
+        asked.insert(Locator { block: Reference { digest, ..beside.block }, ..beside });
+    }
+    if !sides.state.stores.blocks.is_empty() {
+        let stored = rng.pick(&sides.state.stores.blocks);
+        asked.insert(Locator::new(stored.block.reference, rng.below(4)));
+    }
+    asked
+}
+
+/// A locator of a stored block, if there is one.
+pub fn some_locator(sides: &Sides, rng: &mut Rng) -> Locator {
+    let blocks = &sides.state.stores.blocks;
+    if blocks.is_empty() {
+        return Locator::new(Reference { author: 0, round: 0, digest: [0; 32] }, 0);
+    }
+    Locator::new(rng.pick(blocks).block.reference, rng.below(3))
+}
+
+/// Every question about one locator.
+fn one(sides: &Sides, locator: &Locator, finality: &Finality) -> Outcome {
+    let (lent, bytes) = (&sides.engine, locator.bytes());
+    let stores = &sides.state.stores;
+    let mut positions = vec![0x3c; POSITION_BYTES];
+    if let Some(got) = engine::finality(&lent.stakes, &lent.store, &mut positions, &bytes) {
+        let mut right = vec![0x3c; POSITION_BYTES];
+        let answer = write_finality(stores, finality, &mut right);
+        same(&format!("finality of {locator:?}"), "engine", got, Ok(answer))?;
+        same_bytes(&format!("positions of {locator:?}"), &positions, &right)?;
+    }
+    let payload = stores.payload(locator).ok_or(41);
+    if let Some(got) = engine::payload_length(&lent.stakes, &lent.store, &bytes) {
+        same(&format!("payload_length of {locator:?}"), "engine", got, payload.map(|payload| payload.1))?;
+    }
+    if let Some(got) = engine::payload_start(&lent.stakes, &lent.store, &bytes) {
+        same(&format!("payload_start of {locator:?}"), "engine", got, payload.map(|payload| payload.0))?;
+    }
+    let table = &sides.state.table;
+    let item = stores.get(&locator.block).and_then(|stored| table.find(stored.position, locator.offset));
+    let votes = item.map(|item| table.items[item].votes).ok_or(42);
+    if let Some(got) = engine::pending_stake(&lent.stakes, &lent.store, &lent.table, &bytes) {
+        same(&format!("pending_stake of {locator:?}"), "engine", got, votes.map(|votes| votes.stake))?;
+    }
+    if let Some(got) = engine::pending_voters(&lent.stakes, &lent.store, &lent.table, &bytes) {
+        let right = votes.map(|votes| votes.voters.count_ones() as u64);
+        same(&format!("pending_voters of {locator:?}"), "engine", got, right)?;
+    }
+    Ok(())
+}
+
+/// The next final locator, asked on until none (or a few times, from a random place, where the list is long).
+fn asked_on(sides: &Sides, list: &[(Locator, Finality)], rng: &mut Rng) -> Outcome {
+    let lent = &sides.engine;
+    let most = if list.len() > 100 { 1 } else { most_asked(sides) };
+    let long = list.len() > 3 * most;
+    let first = if long { rng.below(list.len() as u64) as usize } else { 0 };
+    let mut after = if first == 0 { Vec::new() } else { list[first - 1].0.bytes().to_vec() };
+    for right in
+        list.iter().map(|(locator, _)| Some(locator)).chain([None]).skip(first).take(if long { most } else { 3 * most + 1 })
+    {
+        let mut out = vec![0x77; 56];
+        let Some(got) = engine::next_final(&lent.stakes, &lent.store, &after, &mut out) else { return Ok(()) };
+        same("next_final", "engine", got, Ok(right.is_some() as u64))?;
+        same_bytes("next_final's locator", &out, &right.map_or([0x77; 56], |locator| locator.bytes()))?;
+        after = out;
+    }
+    Ok(())
+}
+
+/// The list in bulk, from the start and asked on until no more follow; and once from the middle of a stretch.
+fn in_bulk(sides: &Sides, graph: &Graph, rng: &mut Rng) -> Outcome {
+    let lent = &sides.engine;
+    let all = stretches(graph, None);
+    let mut after = None;
+    let mut middle = all.iter().rfind(|stretch| stretch.end - stretch.first.offset > 1).filter(|_| rng.once_in(4));
+    loop {
+        let rest = if after.is_none() { all.clone() } else { stretches(graph, after) };
+        let (mut right, mut out) = (vec![0x19; STRETCHES_BYTES], vec![0x19; STRETCHES_BYTES]);
+        let after_bytes = after.map_or(Vec::new(), |locator: Locator| locator.bytes().to_vec());
+        let Some(got) = engine::final_stretches(&lent.stakes, &lent.store, &after_bytes, &mut out) else { return Ok(()) };
+        same("final_stretches", "engine", got, Ok(write_stretches(&rest, &mut right)))?;
+        if out != right {
+            let words =
+                |bytes: &[u8]| bytes.chunks_exact(80).map(|c| c.chunks(8).map(number).collect()).collect::<Vec<Vec<_>>>();
+            same("stretches", "engine", words(&out), words(&right))?;
+        }
+        after = match (rest.get(MOST_STRETCHES), middle.take()) {
+            (Some(_), _) => Some(rest[MOST_STRETCHES - 1].last()),
+            (None, Some(stretch)) => Some(stretch.first),
+            (None, None) => return Ok(()),
+        };
+    }
+}

@@ -1,0 +1,52 @@
+//! What the lists of a run held: a reader sees that each refusal and each kind of event was met.
+
+use std::collections::BTreeMap;
+
+use crate::model::feed::{Event, Kind};
+
+#[derive(Default, Clone)]
+pub struct Tally {
+    pub lists: u64,
+    pub accepted: u64,
+    pub refused: BTreeMap<u64, u64>,
+    pub events: BTreeMap<Kind, u64>,
+    pub finals: u64,
+    pub not_finals: u64,
+    pub pending: u64,
+    pub questions: u64,
+    pub damaged: BTreeMap<u64, u64>,
+}
+
+impl Tally {
+    pub fn feed(&mut self, told: &Result<Vec<Event>, u64>) {
+        match told {
+            Err(number) => *self.refused.entry(*number).or_default() += 1,
+            Ok(events) => {
+                self.accepted += 1;
+                events.iter().for_each(|event| *self.events.entry(event.kind).or_default() += 1);
+            }
+        }
+    }
+
+    pub fn describe(&self) -> String {
+        let each = |counts: &BTreeMap<u64, u64>| {
+            counts.iter().map(|(number, count)| format!("{number}: {count}")).collect::<Vec<_>>().join(", ")
+        };
+        let kind = |kind: Kind| self.events.get(&kind).copied().unwrap_or(0);
+        format!(
+            "records accepted {}; refused {{{}}}\nevents: processed {}, late {}, unknown {}\n\
+             locators answered final {}, not final {}; pending items {}; questions {}\n\
+             answers over damaged memory (0: none refused) {{{}}}",
+            self.accepted,
+            each(&self.refused),
+            kind(Kind::Processed),
+            kind(Kind::Late),
+            kind(Kind::Unknown),
+            self.finals,
+            self.not_finals,
+            self.pending,
+            self.questions,
+            each(&self.damaged),
+        )
+    }
+}
