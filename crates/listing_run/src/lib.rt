@@ -1,7 +1,8 @@
 // The run of `listing` over an input that can be read: the committee, the records one by one, the final list, the counts.
 ghost use mathlib.Core.Path.{_≡_};
 ghost use Prim.Native.Nat.{_+_, _≤_, _<_};
-ghost use lib.ListN.{length};
+ghost use lib.ListN.{length, replicate};
+ghost use Rattle.listing_run.specs.Feeds.{engine, FedFrom, start};
 use committee::AuthorityIndex;
 use committee::NewCommittee;
 use committee::RoundNumber;
@@ -77,6 +78,7 @@ fn feed_record(
 ) -> Fed
     requires { ⌜ (done .at ≤ length (now out)) × (128 ≤ length (now out)) ⌝ }
     ensures { λ r. ⌜ (r .at ≤ length (now (out .entry))) × (length (now (out .exit)) ≡ length (now (out .entry))) ⌝ }
+    ensures { λ _. ⌜ FedFrom (now (stakes .entry)) (engine (now (store .entry)) (now (table .entry))) (now (store .exit)) (now (table .exit)) ⌝ }
 {
     let mut work = [0u64; 6145];
     let mut events = [0u64; 8192];
@@ -102,6 +104,7 @@ fn next_record(
 ) -> Fed
     requires { ⌜ (done .at ≤ length (now out)) × (128 ≤ length (now out)) ⌝ }
     ensures { λ r. ⌜ (r .at ≤ length (now (out .entry))) × (length (now (out .exit)) ≡ length (now (out .entry))) ⌝ }
+    ensures { λ _. ⌜ FedFrom (now (stakes .entry)) (engine (now (store .entry)) (now (table .entry))) (now (store .exit)) (now (table .exit)) ⌝ }
 {
     let mut rec = [0u8; 8192];
     let size = listing_io::read_record(fd, &mut rec);
@@ -122,6 +125,7 @@ fn next_record(
 fn feed_all(fd: i32, stakes: &[u64], store: &mut [u8], table: &mut [u64], out: &mut [u8]) -> Fed
     requires { ⌜ 128 ≤ length (now out) ⌝ }
     ensures { λ r. ⌜ (r .at ≤ length (now (out .entry))) × (length (now (out .exit)) ≡ length (now (out .entry))) ⌝ }
+    ensures { λ _. ⌜ FedFrom (now (stakes .entry)) (engine (now (store .entry)) (now (table .entry))) (now (store .exit)) (now (table .exit)) ⌝ }
 {
     let mut fed = Fed {
         at: 0,
@@ -139,6 +143,22 @@ fn feed_all(fd: i32, stakes: &[u64], store: &mut [u8], table: &mut [u64], out: &
         k += 1;
     }
     fed
+}
+
+// The same from a fresh store, which only differs from zeros by its used length, and a table of zeros.
+fn feed_from_start(
+    fd: i32,
+    stakes: &[u64],
+    store: &mut [u8],
+    table: &mut [u64],
+    out: &mut [u8],
+) -> Fed
+    requires { ⌜ ((now store ≡ replicate 65536 0) × (now table ≡ replicate 6145 0)) × (128 ≤ length (now out)) ⌝ }
+    ensures { λ r. ⌜ (r .at ≤ length (now (out .entry))) × (length (now (out .exit)) ≡ length (now (out .entry))) ⌝ }
+    ensures { λ _. ⌜ FedFrom (now (stakes .entry)) start (now (store .exit)) (now (table .exit)) ⌝ }
+{
+    store[4] = 16;
+    feed_all(fd, stakes, store, table, out)
 }
 
 // ---- the final list
@@ -265,10 +285,9 @@ fn pending_offsets(table: &[u64]) -> u64 {
 // Feeds all records from a fresh store and a table of zeros, then prints the final list and the counts.
 fn run(fd: i32, stakes: &[u64]) {
     let mut store = [0u8; 65536];
-    store[4] = 16;
     let mut table = [0u64; 6145];
     let mut out = [0u8; 65536];
-    let fed = feed_all(fd, stakes, &mut store, &mut table, &mut out);
+    let fed = feed_from_start(fd, stakes, &mut store, &mut table, &mut out);
     let listed = list_all(stakes, &store, &mut out, fed.at);
     let pending = pending_offsets(&table);
     listing_io::print_end(
