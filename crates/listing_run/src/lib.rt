@@ -1,8 +1,10 @@
 // The run of `listing` over an input that can be read: the committee, the records one by one, the final list, the counts.
 ghost use mathlib.Core.Path.{_≡_};
-ghost use Prim.Native.Nat.{_+_, _≤_, _<_};
+ghost use Prim.Native.Nat.{_+_, _%_, _^_, _≤_, _<_};
 ghost use lib.ListN.{length, replicate};
+ghost use Rattle.range_map.specs.Table.{HoldsItems, itemsOf};
 ghost use Rattle.listing_run.specs.Feeds.{engine, FedFrom, start};
+ghost use Rattle.listing_run.specs.Pending.{pendingOffsets};
 use committee::AuthorityIndex;
 use committee::NewCommittee;
 use committee::RoundNumber;
@@ -270,14 +272,18 @@ fn list_all(stakes: &[u64], store: &[u8], out: &mut [u8], from: usize) -> Listed
 
 // ---- the run
 
-// How many offsets are pending: those from start to end of each item, at the words 1 and 2 of its six. Past the items all words are zero.
-fn pending_offsets(table: &[u64]) -> u64 {
+// How many offsets are pending.
+fn pending_offsets(table: &[u64]) -> u64
+    requires { ⌜ HoldsItems (now table) ⌝ }
+    ensures { λ r. ⌜ r ≡ pendingOffsets (itemsOf (now (table .entry))) % 2 ^ 64 ⌝ }
+{
+    let n = range_map::item_count(table);
     let mut sum: u64 = 0;
-    let mut i = 1;
-    while i + 5 < table.len() {
-        let offsets = std::num::wrapping_sub_u64(table[i + 2], table[i + 1]);
-        sum = std::num::wrapping_add_u64(sum, offsets);
-        i += 6;
+    let mut k = 0;
+    while k < n {
+        let x = range_map::item_at(table, k);
+        sum = std::num::wrapping_add_u64(sum, x.end - x.start);
+        k += 1;
     }
     sum
 }

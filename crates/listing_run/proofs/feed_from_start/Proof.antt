@@ -7,31 +7,22 @@ use Rattle.listing_run.specs.Feeds.{start}
 use Rattle.listing_run.proofs.Feeds.{fed-start}
 use Rattle.listing_run.proofs.feed_from_start.Statement.{statement}
 use Rattle.listing_run.proofs.feed_from_start.Tie as tie
-use Rattle.listing_run.proofs.feed_from_start.Reads as reads
-use Rattle.listing_run.proofs.feed_from_start.Lts as lts
-use Rattle.listing_run.proofs.feed_all.Reads as feed-all-reads
 
--- src/lib.rt:160:5
 slice-write-store : tie.Need-slice-write-store
 slice-write-store c = omega (arith, ap length (c .before .before .before .before .pre .0 .0) ∙ length-replicate {A = ℕ} 65536 0)
 
--- src/lib.rt:161:5
 feed-all-requires : tie.Need-feed-all-requires
 feed-all-requires c κs = search needs
 
--- src/lib.rt:149:1
 same-length : tie.Need-same-length
 same-length c = c .before .before .before .before .before .before .feed-all .kept .1 .1 .0 ∙ simp length-set
 
--- src/lib.rt:149:1
 same-length-2 : tie.Need-same-length-2
 same-length-2 c = search needs
 
--- src/lib.rt:149:1
 same-length-3 : tie.Need-same-length-3
 same-length-3 c = search needs
 
--- src/lib.rt:149:1
 returns : tie.Need-returns
 unfolding start
 returns c =

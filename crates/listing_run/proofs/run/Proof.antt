@@ -1,6 +1,7 @@
 use mathlib.Core.Path.{refl}
 use native.Mathlib.Omega.{arith}
 use borrow.Author.Needs.{needs}
+use Rattle.listing_run.proofs.Feeds.{fed-holds}
 use Rattle.listing_run.proofs.run.Statement.{statement}
 use Rattle.listing_run.proofs.run.Tie as tie
 
@@ -31,7 +32,7 @@ slice-aggregate-pending-offsets : tie.Need-slice-aggregate-pending-offsets
 slice-aggregate-pending-offsets c = search needs
 
 pending-offsets-requires : tie.Need-pending-offsets-requires
-pending-offsets-requires c κs = search needs
+pending-offsets-requires c κs = fed-holds (c .before .before .before .before .before .before .before .before .feed-from-start .ensures .1)
 
 slice-aggregate-print-end : tie.Need-slice-aggregate-print-end
 slice-aggregate-print-end c = search needs
