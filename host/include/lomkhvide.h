@@ -55,6 +55,16 @@ uint64_t lomkhvide_finality(const uint8_t *stakes, size_t stakes_len, const uint
 uint64_t lomkhvide_next_final(const uint8_t *stakes, size_t stakes_len, const uint8_t *store, size_t store_len, const uint8_t *after,
                               size_t after_len, uint8_t *found, size_t found_len);
 
+/* The final list after a given locator, or from the start where `after` has no bytes, in stretches of neighbouring final locators of one
+ * block that have the same certifying blocks: 2 * number of stretches, at most 128, and 1 more where final locators follow them. Each is
+ * ten words: author, round, the digest in four words (each eight of its bytes, the first one highest), first offset, end offset
+ * (excluded), number of certifying blocks, their authors' stake. The bytes after them keep their content. Asked on after the last locator
+ * of the last stretch, until none follow, it gives every final locator in ascending order.
+ * Refused last: 40 `stretches` not of 1,280 words. */
+#define LOMKHVIDE_STRETCHES_LEN ((size_t)10240)
+uint64_t lomkhvide_final_stretches(const uint8_t *stakes, size_t stakes_len, const uint8_t *store, size_t store_len, const uint8_t *after,
+                                   size_t after_len, uint8_t *stretches, size_t stretches_len);
+
 /* The stake and the number of the voters of a pending locator. The pending table is 6,145 words; a fresh one is zeros.
  * Refused between 10 and 20: 11 a table not of 6,145 words or not in order. Refused last: 42 not pending. */
 #define LOMKHVIDE_TABLE_LEN ((size_t)49160)

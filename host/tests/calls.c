@@ -229,6 +229,31 @@ static void payloads(void) {
     memcpy(room, locator, 56);
     same("it is the share", memcmp(found, room, sizeof found), 0);
 
+    static uint8_t stretches[LOMKHVIDE_STRETCHES_LEN + 8], blank[LOMKHVIDE_STRETCHES_LEN + 8];
+    memset(stretches, 9, sizeof stretches);
+    memcpy(blank, stretches, sizeof stretches);
+    for (size_t n = 0; n < 58; n++) {
+        if (n != 0 && n != 56) {
+            same("stretches after bytes of any length", lomkhvide_final_stretches(one, 8, store, sizeof store, locator, n, stretches, 8), refused(20));
+        }
+    }
+    for (size_t n = 0; n < sizeof stretches; n += n < 64 ? 1 : 511) {
+        if (n != LOMKHVIDE_STRETCHES_LEN) {
+            same("stretches of any length", lomkhvide_final_stretches(one, 8, store, sizeof store, locator, 0, stretches, n), refused(40));
+        }
+    }
+    same("no committee", lomkhvide_final_stretches(one, 7, store, sizeof store, locator, 3, stretches, 3), refused(5));
+    same("no store", lomkhvide_final_stretches(one, 8, store, 15, locator, 3, stretches, 3), refused(10));
+    same("none after it", lomkhvide_final_stretches(one, 8, store, sizeof store, locator, 56, stretches, LOMKHVIDE_STRETCHES_LEN), 0);
+    same("nothing is written", memcmp(stretches, blank, sizeof stretches), 0);
+    same("one from the start", lomkhvide_final_stretches(one, 8, store, sizeof store, locator, 0, stretches, LOMKHVIDE_STRETCHES_LEN), 2);
+    /* author 0, round 1, a digest whose fourth byte is 2, offsets 0 to 1, one block, stake 1 */
+    const uint64_t words[10] = {0, 1, UINT64_C(2) << 32, 0, 0, 0, 0, 1, 1, 1};
+    for (int i = 0; i < 10; i++) {
+        put_word(blank + 8 * i, words[i]);
+    }
+    same("it is the share", memcmp(stretches, blank, sizeof stretches), 0);
+
     static uint8_t table[LOMKHVIDE_TABLE_LEN + 8], lent[LOMKHVIDE_TABLE_LEN + 8];
     same("nothing is pending", lomkhvide_pending_stake(one, 8, store, sizeof store, table, LOMKHVIDE_TABLE_LEN, locator, 56), refused(42));
     put_word(table, 1);

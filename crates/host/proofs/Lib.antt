@@ -7,3 +7,4 @@ pub mod Added
 pub mod Standings
 pub mod NextFinals
 pub mod Feeds
+pub mod Stretched

@@ -5,3 +5,4 @@ pub mod Add
 pub mod Pending
 pub mod NextFinal
 pub mod Feed
+pub mod Stretches

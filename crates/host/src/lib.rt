@@ -27,7 +27,9 @@ ghost use Rattle.host.specs.Feed.{fedWith, feedOf, feedCall};
 ghost use Rattle.host.specs.NextFinal.{afterOf, asAfter, askedNextFinal, nextFinalCall};
 ghost use Rattle.host.specs.Payload.{locatorOf, refusalBefore, asked, payloadLengthCall, payloadStartCall};
 ghost use Rattle.host.specs.Finality.{finalityNumber, askedFinality, finalityCall, numbersFit};
-ghost use Rattle.finalization_interpreter.specs.Answers.{asFinality};
+ghost use Rattle.finalization_interpreter.specs.Answers.{asFinality, asMaybe};
+ghost use Rattle.final_list.specs.Answers.{asStretches};
+ghost use Rattle.host.specs.Stretches.{stretchesNumber, stretchesIn, askedStretches, stretchesCall, countsFit};
 use aggregator::PendingAnswer;
 use block_store::PayloadLength;
 use block_store::PayloadPlace;
@@ -38,6 +40,7 @@ use committee::NewCommittee;
 use committee::Stake;
 use committee::StakeAggregator;
 use feeding::FeedAnswer;
+use final_list::StretchesAnswer;
 use finalization_interpreter::FinalityAnswer;
 use finalization_interpreter::MaybeLocator;
 use finalization_interpreter::NextFinalAnswer;
@@ -469,6 +472,59 @@ pub extern "C" fn lomkhvide_next_final(
     let mut held = [0u64; 128];
     let n = stakes_of(stakes, &mut held);
     next_final_of(&held[..n], store, after, found)
+}
+
+// ---- the final list in bulk
+
+// The question itself, with the stretches as words.
+fn stretches_words(
+    stakes: &[u64],
+    store: &[u8],
+    after: MaybeLocator,
+    out: &mut [u8],
+) -> StretchesAnswer
+    requires { ⌜ length (now out) ≡ 10240 ⌝ }
+    ensures asked { λ r. ⌜ (stretchesNumber (asStretches r) ≡ stretchesIn (now (stakes .entry)) (now (store .entry)) (asMaybe after) (now (out .entry)) .answer) × (now (out .exit) ≡ stretchesIn (now (stakes .entry)) (now (store .entry)) (asMaybe after) (now (out .entry)) .stretches) ⌝ }
+    ensures bounded { λ r. ⌜ countsFit r ⌝ }
+{
+    let mut words = [0u64; 1280];
+    words::words_of(out, &mut words);
+    let answer = final_list::final_stretches(stakes, store, &mut words, after);
+    words::bytes_of(&words, out);
+    answer
+}
+
+fn stretches_of(stakes: &[u64], store: &[u8], after: &[u8], out: &mut [u8]) -> u64
+    ensures { λ r. ⌜ (r ≡ encoded (askedStretches (now (stakes .entry)) (now (store .entry)) (afterOf (now (after .entry))) (now (out .entry)) .answer)) × (now (out .exit) ≡ askedStretches (now (stakes .entry)) (now (store .entry)) (afterOf (now (after .entry))) (now (out .entry)) .stretches) ⌝ }
+{
+    let After::Place(place) = after_of(after) else {
+        return REFUSED + refusal_before(20, stakes, store);
+    };
+    if out.len() != 10240 {
+        return REFUSED + refusal_before(40, stakes, store);
+    }
+    match stretches_words(stakes, store, place, out) {
+        StretchesAnswer::Last(count) => 2 * count,
+        StretchesAnswer::More(count) => 2 * count + 1,
+        StretchesAnswer::Refused(number) => REFUSED + number,
+    }
+}
+
+// The final list after a given locator, or from the start, in stretches of ten words: twice their number, and 1 more where a final locator
+// follows them.
+#[no_mangle]
+pub extern "C" fn lomkhvide_final_stretches(
+    stakes: &[u8],
+    store: &[u8],
+    after: &[u8],
+    out: &mut [u8],
+) -> u64
+    ensures { λ r. ⌜ r ≡ encoded (stretchesCall (now (stakes .entry)) (now (store .entry)) (now (after .entry)) (now (out .entry)) .answer) ⌝ }
+    ensures { λ r. ⌜ now (out .exit) ≡ stretchesCall (now (stakes .entry)) (now (store .entry)) (now (after .entry)) (now (out .entry)) .stretches ⌝ }
+{
+    let mut held = [0u64; 128];
+    let n = stakes_of(stakes, &mut held);
+    stretches_of(&held[..n], store, after, out)
 }
 
 // ---- feeding

@@ -23,6 +23,16 @@ mod calls {
             found: *mut u8,
             found_len: usize,
         ) -> u64;
+        pub fn lomkhvide_final_stretches(
+            stakes: *const u8,
+            stakes_len: usize,
+            store: *const u8,
+            store_len: usize,
+            after: *const u8,
+            after_len: usize,
+            stretches: *mut u8,
+            stretches_len: usize,
+        ) -> u64;
         pub fn lomkhvide_pending_stake(
             stakes: *const u8,
             stakes_len: usize,
@@ -168,6 +178,23 @@ pub struct Aggregator {
     pub stake: u64,
 }
 
+/// Neighbouring final locators of one block, from the first to an end offset (excluded), that have the same certifying blocks: their
+/// number, and the stake of their authors, each once.
+#[derive(Clone, Copy, Debug, PartialEq, Eq)]
+pub struct Stretch {
+    pub first: Locator,
+    pub end: u64,
+    pub blocks: u64,
+    pub stake: u64,
+}
+
+/// A part of the final list, and whether more follows.
+#[derive(Clone, Debug, PartialEq, Eq)]
+pub struct Stretches {
+    pub stretches: Vec<Stretch>,
+    pub more: bool,
+}
+
 /// The stake and the number of the voters of a pending locator.
 #[derive(Clone, Copy, Debug, PartialEq, Eq)]
 pub struct Pending {
@@ -284,6 +311,37 @@ impl Committee {
             )
         };
         Ok(if answer(word)? == 1 { Some(Locator(found)) } else { None })
+    }
+
+    /// The final list after a given locator, or from the start, up to 128 stretches of it; or 5, 10.
+    pub fn final_stretches(&self, store: &[u8], after: Option<&Locator>) -> Result<Stretches, Refused> {
+        let mut stretches = vec![0; 8 * 1280];
+        let stakes = &self.stakes;
+        let after: &[u8] = after.map_or(&[], |locator| &locator.0);
+        // The slices are lent for the call alone, and the one that it writes is this function's own.
+        let word = unsafe {
+            calls::lomkhvide_final_stretches(
+                stakes.as_ptr(),
+                stakes.len(),
+                store.as_ptr(),
+                store.len(),
+                after.as_ptr(),
+                after.len(),
+                stretches.as_mut_ptr(),
+                stretches.len(),
+            )
+        };
+        let number = answer(word)?;
+        let words = words_of(&stretches[..80 * (number / 2) as usize]);
+        let stretch = |words: &[u64]| {
+            let mut digest = [0; 32];
+            for (bytes, word) in digest.chunks_exact_mut(8).zip(&words[2..6]) {
+                bytes.copy_from_slice(&word.to_be_bytes());
+            }
+            let first = Locator::new(words[0], words[1], digest, words[6]);
+            Stretch { first, end: words[7], blocks: words[8], stake: words[9] }
+        };
+        Ok(Stretches { stretches: words.chunks_exact(10).map(stretch).collect(), more: number % 2 == 1 })
     }
 
     /// The stake and the number of voters of a pending locator; or 5, 10, 11, 42.
@@ -468,6 +526,11 @@ mod tests {
         }
         let shares: Vec<Locator> = (0..3).map(|offset| Locator::new(0, 1, digest, offset)).collect();
         assert_eq!(listed, shares);
+        let stretch = |offset| Stretch { first: shares[offset], end: offset as u64 + 1, blocks: 1, stake: committee.total_stake() };
+        let all = Stretches { stretches: (0..3).map(stretch).collect(), more: false };
+        assert_eq!(committee.final_stretches(&store, None), Ok(all));
+        let last = Stretches { stretches: vec![stretch(2)], more: false };
+        assert_eq!(committee.final_stretches(&store, Some(&shares[1])), Ok(last));
         let mut table = fresh_table();
         let pending = |table: &[u8], offset| committee.pending(&store, table, &Locator::new(0, 1, digest, offset));
         assert_eq!(pending(&table, 0), Err(Refused(42)));
