@@ -4,3 +4,4 @@ pub mod Locators
 pub mod Added
 pub mod Standings
 pub mod Feeds
+pub mod Kept
