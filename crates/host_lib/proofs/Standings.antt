@@ -3,24 +3,30 @@ use mathlib.Core.Path.{_≡_, refl, sym, _∙_}
 use mathlib.Core.Bool.{Bool, true, false}
 use mathlib.Core.List.{List, [], _∷_, _++_}
 use mathlib.Core.Option.{Option, none, some}
-use Prim.Native.Nat.{ℕ, _≤_}
+use Prim.Native.Nat.{ℕ, _≤_, _<_}
 use native.Mathlib.Decide.{ℕ-discrete}
 use native.Mathlib.Omega.{arith}
 use lib.Dec.{lit<}
 use lib.ListN.{length}
-use borrow.Author.Tests.{eq-eqb, ne-eqb}
-use Rattle.base.specs.Lists.{pick, allOf}
-use Rattle.base.specs.Checks.{_⇒_, refusal, passes, refused}
-use Rattle.base.proofs.Lists.{none-of, and}
-use Rattle.base.proofs.Refusals.{Numbered, refusal-first, refusal-then}
-use Rattle.committee.specs.Committee.{Committee}
+use borrow.Author.Tests.{eq-eqb, ne-eqb, eqb-true}
+use Rattle.base.specs.Lists.{pick, find, allOf, _∈_}
+use Rattle.base.specs.Checks.{_⇒_, refusal, passes, refused, answered}
+use Rattle.base.proofs.Tests.{and-right}
+use Rattle.base.proofs.Lists.{none-of, and, every-in, find-in}
+use Rattle.base.proofs.Refusals.{Numbered, passes-zero, refusal-first, refusal-then}
+use Rattle.committee.specs.Committee.{Committee, known}
+use Rattle.committee.specs.AuthoritySet.{members, stakeOf}
+use Rattle.committee.specs.StakeAggregator.{aggregatorInOrder}
+use Rattle.committee.proofs.Sums.{stake-most, total-most}
 use Rattle.types.specs.Reference.{TransactionLocator}
 use Rattle.words.specs.Words.{wordsIn, wordsOf}
 use Rattle.block_store.specs.Layout.{entries, positionOf, lookup}
 use Rattle.block_store.specs.Store.{recordsOf}
-use Rattle.range_map.specs.Items.{Item, itemAt}
+use Rattle.range_map.specs.Items.{Item, itemHolds, itemAt}
 use Rattle.range_map.specs.Table.{itemsOf}
-use Rattle.aggregator.specs.Pending.{pendingChecks, standingOf, pending}
+use Rattle.range_map.proofs.Order.{in-order}
+use Rattle.aggregator.specs.Pending.{Standing, pendingChecks, standingOf, pending}
+use Rattle.aggregator.proofs.Lending.{lying}
 use Rattle.host_lib.specs.Payload.{refusalBefore}
 use Rattle.host_lib.specs.Pending.{pendingIn, askedPending}
 use Rattle.host_lib.proofs.Numbers.{refusal-most}
@@ -72,3 +78,27 @@ pending-most c s t o n e = by (ℕ-discrete (length t) 49160)
         let f : refused (refusalBefore 11 c s) ≡ refused n = sym (pending-other c s t o h) ∙ e in
         let z : refusalBefore 11 c s ≡ n = cc in
         omega (arith, before-most 11 c s (omega arith))
+
+-- ---- an answered stake is below 2^63, so that its word is taken for no refusal
+
+item-fits : (c : Committee) (s t : List ℕ) (x : Item) → refusal (pendingChecks c s t) ≡ 0 → x ∈ itemsOf t → x .aggregator .stake < 9223372036854775808
+unfolding aggregatorInOrder
+item-fits c s t x z m =
+    let lies = lying c s t z in
+    let p = every-in (itemsOf t) x (in-order c (entries (recordsOf s)) t (lies .table) .items) m in
+    let e = eqb-true (x .aggregator .stake) (stakeOf c (x .aggregator .votes)) (and-right (allOf (known c) (members (x .aggregator .votes))) _ (p .votes)) in
+    omega (arith, e, stake-most c (x .aggregator .votes), total-most c (lies .committee))
+
+pub question-fits : (c : Committee) (s t : List ℕ) (l : TransactionLocator) (y : Standing) → pending c s t l ≡ answered y → y .stake < 9223372036854775808
+unfolding pending standingOf itemAt
+question-fits c s t l y e =
+    go (passes (pendingChecks c s t)) refl (find (itemHolds (positionOf (lookup (entries (recordsOf s)) (l .block))) (l .offset)) (itemsOf t)) refl e
+  where
+    go : (b : Bool) → passes (pendingChecks c s t) ≡ b → (o : Option Item)
+        → find (itemHolds (positionOf (lookup (entries (recordsOf s)) (l .block))) (l .offset)) (itemsOf t) ≡ o
+        → pick b (standingOf o) (refused (refusal (pendingChecks c s t))) ≡ answered y → y .stake < 9223372036854775808
+    go true p none f e = let z : _≡_ {A = ℕ} 0 1 = cc in absurd (omega arith)
+    go true p (some x) f e =
+        let z : x .aggregator .stake ≡ y .stake = cc in
+        omega (arith, z, item-fits c s t x (passes-zero (pendingChecks c s t) p) (find-in _ (itemsOf t) x f))
+    go false p o f e = let z : _≡_ {A = ℕ} 0 1 = cc in absurd (omega arith)
