@@ -25,6 +25,7 @@ marked =
       runs = λ r v w x l. refl;
       cut = refl;
       empty-range = refl;
+      never-joined = refl;
       sole-final = refl;
       sole-pending = refl;
       marked-not = refl;

@@ -79,6 +79,8 @@ pub record MarkedCards : Type 0 where
   -- "item 0..8, vote 3..5: 0..3, 3..5, 5..8; then 3..3 changes nothing"
   pub cut : voteOver four 1 16 3 5 (item 0 8 1 1 ∷ []) ≡ item 0 3 1 1 ∷ item 3 5 3 2 ∷ item 5 8 1 1 ∷ []
   pub empty-range : voteOver four 2 16 3 3 (item 0 3 1 1 ∷ item 3 5 3 2 ∷ item 5 8 1 1 ∷ []) ≡ item 0 3 1 1 ∷ item 3 5 3 2 ∷ item 5 8 1 1 ∷ []
+  -- "Wrong turns: .. joining items after a vote": three items that have the same votes stay three
+  pub never-joined : voteOver four 1 16 0 8 (item 0 3 1 1 ∷ item 3 5 3 2 ∷ item 5 8 1 1 ∷ []) ≡ item 0 3 3 2 ∷ item 3 5 3 2 ∷ item 5 8 3 2 ∷ []
   -- "sole owner shares: final, pending"
   pub sole-final : isFinal (1 ∷ []) (shared ∷ []) it ≡ true
   pub sole-pending : processBlock (1 ∷ []) (record { position = 16; bytes = []; block = shared } ∷ []) shared []

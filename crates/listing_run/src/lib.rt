@@ -1,7 +1,10 @@
 // The run of `listing` over an input that can be read: the committee, the records one by one, the final list, the counts.
 ghost use mathlib.Core.Path.{_≡_};
-ghost use Prim.Native.Nat.{_+_, _≤_, _<_};
-ghost use lib.ListN.{length};
+ghost use Prim.Native.Nat.{_+_, _%_, _^_, _≤_, _<_};
+ghost use lib.ListN.{length, replicate};
+ghost use Rattle.range_map.specs.Table.{HoldsItems, itemsOf};
+ghost use Rattle.listing_run.specs.Feeds.{engine, FedFrom, start};
+ghost use Rattle.listing_run.specs.Pending.{pendingOffsets};
 use committee::AuthorityIndex;
 use committee::NewCommittee;
 use committee::RoundNumber;
@@ -77,6 +80,7 @@ fn feed_record(
 ) -> Fed
     requires { ⌜ (done .at ≤ length (now out)) × (128 ≤ length (now out)) ⌝ }
     ensures { λ r. ⌜ (r .at ≤ length (now (out .entry))) × (length (now (out .exit)) ≡ length (now (out .entry))) ⌝ }
+    ensures { λ _. ⌜ FedFrom (now (stakes .entry)) (engine (now (store .entry)) (now (table .entry))) (now (store .exit)) (now (table .exit)) ⌝ }
 {
     let mut work = [0u64; 6145];
     let mut events = [0u64; 8192];
@@ -102,6 +106,7 @@ fn next_record(
 ) -> Fed
     requires { ⌜ (done .at ≤ length (now out)) × (128 ≤ length (now out)) ⌝ }
     ensures { λ r. ⌜ (r .at ≤ length (now (out .entry))) × (length (now (out .exit)) ≡ length (now (out .entry))) ⌝ }
+    ensures { λ _. ⌜ FedFrom (now (stakes .entry)) (engine (now (store .entry)) (now (table .entry))) (now (store .exit)) (now (table .exit)) ⌝ }
 {
     let mut rec = [0u8; 8192];
     let size = listing_io::read_record(fd, &mut rec);
@@ -122,6 +127,7 @@ fn next_record(
 fn feed_all(fd: i32, stakes: &[u64], store: &mut [u8], table: &mut [u64], out: &mut [u8]) -> Fed
     requires { ⌜ 128 ≤ length (now out) ⌝ }
     ensures { λ r. ⌜ (r .at ≤ length (now (out .entry))) × (length (now (out .exit)) ≡ length (now (out .entry))) ⌝ }
+    ensures { λ _. ⌜ FedFrom (now (stakes .entry)) (engine (now (store .entry)) (now (table .entry))) (now (store .exit)) (now (table .exit)) ⌝ }
 {
     let mut fed = Fed {
         at: 0,
@@ -139,6 +145,22 @@ fn feed_all(fd: i32, stakes: &[u64], store: &mut [u8], table: &mut [u64], out: &
         k += 1;
     }
     fed
+}
+
+// The same from a fresh store, which only differs from zeros by its used length, and a table of zeros.
+fn feed_from_start(
+    fd: i32,
+    stakes: &[u64],
+    store: &mut [u8],
+    table: &mut [u64],
+    out: &mut [u8],
+) -> Fed
+    requires { ⌜ ((now store ≡ replicate 65536 0) × (now table ≡ replicate 6145 0)) × (128 ≤ length (now out)) ⌝ }
+    ensures { λ r. ⌜ (r .at ≤ length (now (out .entry))) × (length (now (out .exit)) ≡ length (now (out .entry))) ⌝ }
+    ensures { λ _. ⌜ FedFrom (now (stakes .entry)) start (now (store .exit)) (now (table .exit)) ⌝ }
+{
+    store[4] = 16;
+    feed_all(fd, stakes, store, table, out)
 }
 
 // ---- the final list
@@ -250,14 +272,18 @@ fn list_all(stakes: &[u64], store: &[u8], out: &mut [u8], from: usize) -> Listed
 
 // ---- the run
 
-// How many offsets are pending: those from start to end of each item, at the words 1 and 2 of its six. Past the items all words are zero.
-fn pending_offsets(table: &[u64]) -> u64 {
+// How many offsets are pending.
+fn pending_offsets(table: &[u64]) -> u64
+    requires { ⌜ HoldsItems (now table) ⌝ }
+    ensures { λ r. ⌜ r ≡ pendingOffsets (itemsOf (now (table .entry))) % 2 ^ 64 ⌝ }
+{
+    let n = range_map::item_count(table);
     let mut sum: u64 = 0;
-    let mut i = 1;
-    while i + 5 < table.len() {
-        let offsets = std::num::wrapping_sub_u64(table[i + 2], table[i + 1]);
-        sum = std::num::wrapping_add_u64(sum, offsets);
-        i += 6;
+    let mut k = 0;
+    while k < n {
+        let x = range_map::item_at(table, k);
+        sum = std::num::wrapping_add_u64(sum, x.end - x.start);
+        k += 1;
     }
     sum
 }
@@ -265,10 +291,9 @@ fn pending_offsets(table: &[u64]) -> u64 {
 // Feeds all records from a fresh store and a table of zeros, then prints the final list and the counts.
 fn run(fd: i32, stakes: &[u64]) {
     let mut store = [0u8; 65536];
-    store[4] = 16;
     let mut table = [0u64; 6145];
     let mut out = [0u8; 65536];
-    let fed = feed_all(fd, stakes, &mut store, &mut table, &mut out);
+    let fed = feed_from_start(fd, stakes, &mut store, &mut table, &mut out);
     let listed = list_all(stakes, &store, &mut out, fed.at);
     let pending = pending_offsets(&table);
     listing_io::print_end(

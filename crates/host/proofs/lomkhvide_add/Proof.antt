@@ -1,6 +1,6 @@
-use Rattle.host.proofs.Added.{added-most}
-use Rattle.host.specs.Calls.{encoded}
-use Rattle.host.specs.Add.{flagged, addCall}
+use Rattle.host_lib.proofs.Added.{added-most}
+use Rattle.host_lib.specs.Calls.{encoded}
+use Rattle.host_lib.specs.Add.{flagged, addCall}
 use Rattle.committee.specs.Answers.{asAddAnswer}
 use native.Mathlib.Omega.{arith}
 use lib.ListN.{take}

@@ -1,6 +1,6 @@
-use Rattle.host.proofs.Feeds.{fed-most}
-use Rattle.host.specs.Calls.{encoded}
-use Rattle.host.specs.Feed.{feedCall}
+use Rattle.host_lib.proofs.Feeds.{fed-most}
+use Rattle.host_lib.specs.Calls.{encoded}
+use Rattle.host_lib.specs.Feed.{feedCall}
 use Rattle.feeding.specs.Answers.{asFeedAnswer}
 use native.Mathlib.Omega.{arith}
 use lib.ListN.{take}

@@ -1,4 +1,4 @@
-use Rattle.host.specs.Stretches.{stretchesCall}
+use Rattle.host_finals.specs.Stretches.{stretchesCall}
 use native.Mathlib.Omega.{arith}
 use lib.Seq.{length-take-le}
 use mathlib.Core.Path.{sym}

@@ -1,4 +1,4 @@
-use Rattle.host.specs.NextFinal.{nextFinalCall}
+use Rattle.host_finals.specs.NextFinal.{nextFinalCall}
 use native.Mathlib.Omega.{arith}
 use lib.Seq.{length-take-le}
 use mathlib.Core.Path.{sym}

@@ -5,9 +5,9 @@ use native.Mathlib.Omega.{arith}
 use borrow.Author.Needs.{needs}
 use Rattle.block_store.specs.Answers.{asPayloadLength}
 use Rattle.block_store.specs.Payload.{payloadLength}
-use Rattle.host.specs.Payload.{locatorOf, payloadLengthCall}
-use Rattle.host.specs.Calls.{encoded}
-use Rattle.host.proofs.Locators.{asked-most, length-most}
+use Rattle.host_lib.specs.Payload.{locatorOf, payloadLengthCall}
+use Rattle.host_lib.specs.Calls.{encoded}
+use Rattle.host_lib.proofs.Locators.{asked-most, length-most}
 use Rattle.host.proofs.lomkhvide_payload_length.Statement.{statement}
 use Rattle.host.proofs.lomkhvide_payload_length.Tie as tie
 

@@ -4,9 +4,9 @@ use lib.ListN.{take}
 use native.Mathlib.Omega.{arith}
 use borrow.Author.Needs.{needs}
 use Rattle.block_store.specs.Answers.{asPlace, payloadPlace}
-use Rattle.host.specs.Payload.{locatorOf, startOf, payloadStartCall}
-use Rattle.host.specs.Calls.{encoded}
-use Rattle.host.proofs.Locators.{asked-most, place-most}
+use Rattle.host_lib.specs.Payload.{locatorOf, startOf, payloadStartCall}
+use Rattle.host_lib.specs.Calls.{encoded}
+use Rattle.host_lib.proofs.Locators.{asked-most, place-most}
 use Rattle.host.proofs.lomkhvide_payload_start.Statement.{statement}
 use Rattle.host.proofs.lomkhvide_payload_start.Tie as tie
 

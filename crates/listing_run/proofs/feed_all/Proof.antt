@@ -1,4 +1,6 @@
 use borrow.Author.Needs.{needs}
+use Rattle.listing_run.specs.Feeds.{engine, FedFrom}
+use Rattle.listing_run.proofs.Feeds.{fed-none, fed-on}
 use mathlib.Core.Path.{_≡_, refl, sym, _∙_}
 use Prim.Native.Nat.{_≤_, _-_}
 use lib.ListN.{length}
@@ -8,13 +10,14 @@ use Rattle.listing_run.proofs.feed_all.Tie as tie
 
 abbrev Inv-loop : tie.InvT-loop
 Inv-loop fd stakes store₀ table₀ out₀ fed₀ k₀ store table out fed k =
-    ((fed .at ≤ length out₀) × (length out ≡ length out₀)) × ((length store ≡ length store₀) × (length table ≡ length table₀))
+    ((fed .at ≤ length out₀) × (length out ≡ length out₀))
+    × (((length store ≡ length store₀) × (length table ≡ length table₀)) × FedFrom stakes (engine store₀ table₀) store table)
 
 abbrev μ-loop : tie.MeasureT-loop
 μ-loop fd stakes store₀ table₀ out₀ fed₀ k₀ store table out fed k = 18446744073709551615 - k
 
 loop-holds : tie.Need-loop-holds Inv-loop μ-loop
-loop-holds c = ((omega arith, refl), (refl, refl))
+loop-holds c = ((omega arith, refl), ((refl, refl), fed-none _ _ _))
 
 next-record-requires : tie.Need-next-record-requires Inv-loop μ-loop
 next-record-requires c κs = search needs
@@ -29,7 +32,9 @@ same-length-3 : tie.Need-same-length-3 Inv-loop μ-loop
 same-length-3 c = search needs
 
 returns : tie.Need-returns Inv-loop μ-loop
-returns c = search needs
+returns c =
+    let fed = c .before .before .before .before .before .before .before in
+    (search needs, fed-on (fed .before .before .before .before .before .loop .inv .1 .1) (fed .next-record .ensures .1))
 
 add-k : tie.Need-add-k Inv-loop μ-loop
 add-k c = search needs
@@ -38,7 +43,9 @@ loop-less : tie.Need-loop-less Inv-loop μ-loop
 loop-less c = search needs
 
 loop-again : tie.Need-loop-again Inv-loop μ-loop
-loop-again c = search needs
+loop-again c =
+    let fed = c .before .before .before .before .before .before .before in
+    (search needs, (search needs, fed-on (fed .before .before .before .before .before .loop .inv .1 .1) (fed .next-record .ensures .1)))
 
 same-length-4 : tie.Need-same-length-4 Inv-loop μ-loop
 same-length-4 c = search needs
@@ -50,7 +57,7 @@ same-length-6 : tie.Need-same-length-6 Inv-loop μ-loop
 same-length-6 c = search needs
 
 returns-2 : tie.Need-returns-2 Inv-loop μ-loop
-returns-2 c = search needs
+returns-2 c = (search needs, c .before .loop .inv .1 .1)
 
 pub feed-all-spec : {M : Type 1} → statement M
 feed-all-spec =

@@ -2,6 +2,7 @@ use mathlib.Core.Path.{sym}
 use lib.Seq.{length-take-le}
 use native.Mathlib.Omega.{arith}
 use borrow.Author.Needs.{needs}
+use Rattle.listing_run.proofs.Feeds.{fed-one}
 use Rattle.listing_run.proofs.feed_record.Statement.{statement}
 use Rattle.listing_run.proofs.feed_record.Tie as tie
 
@@ -48,7 +49,9 @@ same-length-3 : tie.Need-same-length-3
 same-length-3 c = search needs
 
 returns : tie.Need-returns
-returns c = search needs
+returns c =
+    let fed = c .before .before .before .before .before .before .before .before .before .before .before .before .before .before .before .feed in
+    (search needs, fed-one _ _ _ (fed .ensures .1 .0) (fed .ensures .1 .1 .0))
 
 same-length-4 : tie.Need-same-length-4
 same-length-4 c = search needs
@@ -60,7 +63,9 @@ same-length-6 : tie.Need-same-length-6
 same-length-6 c = search needs
 
 returns-2 : tie.Need-returns-2
-returns-2 c = search needs
+returns-2 c =
+    let fed = c .before .before .before .before .before .before .before .before .before .before .before .before .before .feed in
+    (search needs, fed-one _ _ _ (fed .ensures .1 .0) (fed .ensures .1 .1 .0))
 
 pub feed-record-spec : {M : Type 1} → statement M
 feed-record-spec =

@@ -2,6 +2,7 @@ use mathlib.Core.Path.{sym}
 use lib.Seq.{length-take-le}
 use native.Mathlib.Omega.{arith}
 use borrow.Author.Needs.{needs}
+use Rattle.listing_run.proofs.Feeds.{fed-none}
 use Rattle.listing_run.proofs.next_record.Statement.{statement}
 use Rattle.listing_run.proofs.next_record.Tie as tie
 
@@ -39,13 +40,13 @@ feed-record-requires : tie.Need-feed-record-requires
 feed-record-requires c κs = search needs
 
 returns : tie.Need-returns
-returns c = search needs
+returns c = (search needs, fed-none _ _ _)
 
 same-length : tie.Need-same-length
 same-length c = search needs
 
 returns-2 : tie.Need-returns-2
-returns-2 c = search needs
+returns-2 c = (search needs, fed-none _ _ _)
 
 same-length-2 : tie.Need-same-length-2
 same-length-2 c = search needs
@@ -57,7 +58,7 @@ same-length-4 : tie.Need-same-length-4
 same-length-4 c = search needs
 
 returns-3 : tie.Need-returns-3
-returns-3 c = search needs
+returns-3 c = (search needs, c .before .before .before .before .before .before .feed-record .ensures .1)
 
 pub next-record-spec : {M : Type 1} → statement M
 next-record-spec =

@@ -1,0 +1,4 @@
+pub mod Finals
+pub mod Written
+pub mod NextFinals
+pub mod Stretched

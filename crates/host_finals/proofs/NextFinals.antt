@@ -1,0 +1,35 @@
+-- The next final locator of a host. Assumes nothing.
+use mathlib.Core.Path.{_≡_, refl}
+use mathlib.Core.List.{List}
+use mathlib.Core.Option.{Option, none, some}
+use Prim.Native.Nat.{ℕ, _≤_}
+use lib.ListN.{length}
+use borrow.Author.Tests.{eq-eqb, ne-eqb}
+use Rattle.base.specs.Lists.{allOf}
+use Rattle.base.specs.Checks.{Answer, refused}
+use Rattle.committee.specs.Committee.{Committee}
+use Rattle.types.specs.Reference.{TransactionLocator}
+use Rattle.finalization_interpreter.specs.NextFinal.{nextFinal, nextFinalChecks}
+use Rattle.host_lib.specs.Payload.{refusalBefore}
+use Rattle.host_finals.specs.NextFinal.{foundIn, askedNextFinal}
+use Rattle.host_lib.proofs.Numbers.{checked-most}
+
+pub next-most : (c : Committee) (s : List ℕ) (after : Option TransactionLocator) (n : ℕ) → nextFinal c s after ≡ refused n → n ≤ 10
+unfolding nextFinal nextFinalChecks allOf
+next-most c s after n e = checked-most 10 (nextFinalChecks c s) _ n refl e
+
+module _ (c : Committee) (s : List ℕ) (o : Option (Option TransactionLocator)) (out : List ℕ) where
+  pub next-malformed : o ≡ none → askedNextFinal c s o out ≡ record { answer = refused (refusalBefore 20 c s); found = out }
+  unfolding askedNextFinal
+  next-malformed e = rw e
+
+  pub next-unsized : (after : Option TransactionLocator) → o ≡ some after → (length out ≡ 56 → ⊥)
+      → askedNextFinal c s o out ≡ record { answer = refused (refusalBefore 40 c s); found = out }
+  unfolding askedNextFinal
+  next-unsized after e h = rw (e, ne-eqb (length out) 56 h)
+
+  -- a place and room for a locator: the engine's question
+  pub next-asked : (after : Option TransactionLocator) (a : Answer (Option TransactionLocator)) → o ≡ some after → length out ≡ 56 → nextFinal c s after ≡ a
+      → askedNextFinal c s o out ≡ foundIn out a
+  unfolding askedNextFinal
+  next-asked after a e h k = rw (e, eq-eqb (length out) 56 h, k)

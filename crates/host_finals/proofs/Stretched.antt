@@ -1,0 +1,78 @@
+-- The final list in bulk of a host. Assumes nothing.
+use mathlib.Core.Path.{_≡_, refl, sym, ap}
+use mathlib.Core.Bool.{Bool, true, false}
+use mathlib.Core.List.{List, _∷_}
+use mathlib.Core.Option.{Option, none, some}
+use Prim.Native.Nat.{ℕ, zero, suc, _≤_, _/_}
+use native.Mathlib.Omega.{arith}
+use lib.ListN.{length}
+use borrow.Author.Tests.{eq-eqb, ne-eqb}
+use Rattle.base.specs.Lists.{pick, allOf}
+use Rattle.base.specs.Le.{Bytes}
+use Rattle.base.specs.Checks.{refusal, passes, Answer, refused, answered, checked}
+use Rattle.committee.specs.Committee.{Committee}
+use Rattle.types.specs.Reference.{TransactionLocator}
+use Rattle.words.specs.Words.{wordsIn, wordsOf, bytesOf}
+use Rattle.finalization_interpreter.specs.Finality.{blocksOf}
+use Rattle.finalization_interpreter.specs.NextFinal.{leastFinal, nextFinalChecks}
+use Rattle.final_list.specs.Answers.{asStretches}
+use Rattle.final_list.specs.Stretches.{lastLocator, stretchAt, fromFound, stretches, Given, givenAfter, finalStretches}
+use Rattle.final_list.specs.declared.StretchesAnswer.{StretchesAnswer}
+use Rattle.final_list.specs.declared.StretchesAnswer.the-variants.{Last, More, Refused}
+use Rattle.host_lib.specs.Payload.{refusalBefore}
+use Rattle.host_finals.specs.Stretches.{stretchesNumber, stretchesIn, askedStretches, countsFit}
+use Rattle.host_lib.proofs.Numbers.{checked-most}
+
+-- no more stretches than asked for
+few-stretches : (c : Committee) (s : Bytes) (n : ℕ) (after : Option TransactionLocator) → length (stretches c s n after) ≤ n
+unfolding stretches fromFound
+few-stretches c s zero after = omega arith
+few-stretches c s (suc n) after = go (leastFinal c (blocksOf s) after) (few-stretches c s n)
+  where
+    go : (o : Option TransactionLocator) → ((b : Option TransactionLocator) → length (stretches c s n b) ≤ n)
+        → length (fromFound o λ l. stretchAt c s l ∷ stretches c s n (some (lastLocator (stretchAt c s l)))) ≤ suc n
+    go none h = omega arith
+    go (some l) h = omega (arith, h (some (lastLocator (stretchAt c s l))))
+
+-- so the answer leaves room for the word
+given-few : (c : Committee) (s ws : List ℕ) (after : Option TransactionLocator) (g : Given) → finalStretches c s ws after .answer ≡ answered g → g .stretches ≤ length ws / 10
+unfolding finalStretches checked givenAfter
+given-few c s ws after g e = by (passes (nextFinalChecks c s)) e
+  where
+    told : Given
+    told = givenAfter c s after (stretches c s (length ws / 10) after)
+
+    by : (t : Bool) → _≡_ {A = Answer Given} (pick t (answered told) (refused (refusal (nextFinalChecks c s)))) (answered g) → g .stretches ≤ length ws / 10
+    by true e = let z : told ≡ g = cc in omega (arith, ap (λ (x : Given). x .stretches) z, few-stretches c s (length ws / 10) after)
+    by false e = let z : _≡_ {A = ℕ} 0 1 = cc in absurd (omega arith)
+
+pub counts-fit : (c : Committee) (s ws : List ℕ) (after : Option TransactionLocator) (r : StretchesAnswer) → length ws ≡ 1280
+    → asStretches r ≡ finalStretches c s ws after .answer → countsFit r
+unfolding asStretches
+counts-fit c s ws after (Last n) h e = omega (arith, given-few c s ws after _ (sym e))
+counts-fit c s ws after (More n) h e = omega (arith, given-few c s ws after _ (sym e))
+counts-fit c s ws after (Refused n) h e = few-numbers n (sym e)
+  where
+    few-numbers : (n : ℕ) → finalStretches c s ws after .answer ≡ refused n → n ≤ 10
+    few-numbers n e = unfold finalStretches nextFinalChecks allOf in checked-most 10 (nextFinalChecks c s) _ n refl e
+
+-- as words
+pub stretches-in : (c : Committee) (s out : List ℕ) (after : Option TransactionLocator) → length out ≡ 10240
+    → stretchesIn c s after out
+    ≡ record { answer = stretchesNumber (finalStretches c s (wordsIn 1280 out) after .answer); stretches = bytesOf (finalStretches c s (wordsIn 1280 out) after .out) }
+unfolding stretchesIn wordsOf
+stretches-in c s out after h = rw h
+
+module _ (c : Committee) (s : List ℕ) (o : Option (Option TransactionLocator)) (out : List ℕ) where
+  pub stretches-malformed : o ≡ none → askedStretches c s o out ≡ record { answer = refused (refusalBefore 20 c s); stretches = out }
+  unfolding askedStretches
+  stretches-malformed e = rw e
+
+  pub stretches-unsized : (after : Option TransactionLocator) → o ≡ some after → (length out ≡ 10240 → ⊥)
+      → askedStretches c s o out ≡ record { answer = refused (refusalBefore 40 c s); stretches = out }
+  unfolding askedStretches
+  stretches-unsized after e h = rw (e, ne-eqb (length out) 10240 h)
+
+  pub stretches-asked : (after : Option TransactionLocator) → o ≡ some after → length out ≡ 10240 → askedStretches c s o out ≡ stretchesIn c s after out
+  unfolding askedStretches
+  stretches-asked after e h = rw (e, eq-eqb (length out) 10240 h)

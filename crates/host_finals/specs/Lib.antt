@@ -1,0 +1,3 @@
+pub mod Finality
+pub mod NextFinal
+pub mod Stretches

@@ -1,0 +1,50 @@
+-- The final list in bulk, asked for by a host. Assumes nothing: these are definitions.
+use Prim.Native.Nat.{ℕ, _+_, _*_, _≤_}
+use mathlib.Core.Option.{Option, none, some}
+use lib.Dec.{eqb}
+use lib.ListN.{length}
+use Rattle.base.specs.Lists.{pick}
+use Rattle.base.specs.Le.{Bytes}
+use Rattle.base.specs.Checks.{Answer, refused, answered}
+use Rattle.committee.specs.Committee.{Committee}
+use Rattle.types.specs.Reference.{TransactionLocator}
+use Rattle.words.specs.Words.{wordsOf, bytesOf}
+use Rattle.final_list.specs.declared.StretchesAnswer.{StretchesAnswer}
+use Rattle.final_list.specs.declared.StretchesAnswer.the-variants.{Last, More, Refused}
+use Rattle.final_list.specs.Stretches.{Given, finalStretches}
+use Rattle.host_lib.specs.Calls.{flag, committeeOf}
+use Rattle.host_lib.specs.Payload.{refusalBefore}
+use Rattle.host_finals.specs.NextFinal.{afterOf}
+
+-- what the question answers, and the bytes that it was lent for the stretches afterwards
+pub record StretchesCall : Type 0 where
+  pub answer : Answer ℕ
+  pub stretches : Bytes
+
+-- 2 · number of stretches, and 1 more where a final locator follows them
+unfoldable pub stretchesNumber : Answer Given → Answer ℕ
+stretchesNumber (answered g) = answered (2 * g .stretches + flag (g .more))
+stretchesNumber (refused n) = refused n
+
+-- the engine's question with room for 128 stretches of ten words
+unfoldable pub stretchesIn : Committee → Bytes → Option TransactionLocator → Bytes → StretchesCall
+stretchesIn c s after out =
+    record {
+      answer = stretchesNumber (finalStretches c s (wordsOf out) after .answer);
+      stretches = bytesOf (finalStretches c s (wordsOf out) after .out);
+    }
+
+-- 20 for bytes that are no place, then 40 for bytes that are not of that size
+unfoldable pub askedStretches : Committee → Bytes → Option (Option TransactionLocator) → Bytes → StretchesCall
+askedStretches c s none out = record { answer = refused (refusalBefore 20 c s); stretches = out }
+askedStretches c s (some after) out =
+    pick (eqb (length out) 10240) (stretchesIn c s after out) (record { answer = refused (refusalBefore 40 c s); stretches = out })
+
+unfoldable pub stretchesCall : Bytes → Bytes → Bytes → Bytes → StretchesCall
+stretchesCall stakes s after out = askedStretches (committeeOf stakes) s (afterOf after) out
+
+-- machinery for the contracts of private functions: counts and numbers that leave room for the answer's word
+abbrev pub countsFit : StretchesAnswer → Type 0
+countsFit (Last n) = n ≤ 128
+countsFit (More n) = n ≤ 128
+countsFit (Refused n) = n ≤ 10

@@ -1,0 +1,187 @@
+// What the host's calls about finality are made of, over byte slices.
+ghost use mathlib.Core.Path.{_≡_};
+ghost use Prim.Native.Nat.{_+_, _≤_};
+ghost use lib.ListN.{length};
+ghost use lib.Seq.{sets};
+ghost use Rattle.types.specs.Values.{beBytes, digestBytes, asLocator};
+ghost use Rattle.types.specs.Record.{locatorBytes};
+ghost use Rattle.host_lib.specs.Calls.{encoded};
+ghost use Rattle.host_finals.specs.NextFinal.{afterOf, asAfter, askedNextFinal};
+ghost use Rattle.host_lib.specs.Payload.{locatorOf, asked};
+ghost use Rattle.host_finals.specs.Finality.{finalityNumber, askedFinality, numbersFit};
+ghost use Rattle.finalization_interpreter.specs.Answers.{asFinality, asMaybe};
+ghost use Rattle.final_list.specs.Answers.{asStretches};
+ghost use Rattle.host_finals.specs.Stretches.{stretchesNumber, stretchesIn, askedStretches, countsFit};
+use final_list::StretchesAnswer;
+use finalization_interpreter::FinalityAnswer;
+use finalization_interpreter::MaybeLocator;
+use finalization_interpreter::NextFinalAnswer;
+use types::BlockDigest;
+use types::TransactionLocator;
+
+const REFUSED: u64 = 9223372036854775808;
+
+// ---- the finality question
+
+// The question itself, with the positions as words.
+fn finality_words(
+    stakes: &[u64],
+    store: &[u8],
+    positions: &mut [u8],
+    locator: &[u8],
+) -> FinalityAnswer
+    requires { ⌜ (length (now locator) ≡ 56) × (length (now positions) ≡ 8192) ⌝ }
+    ensures asked { λ r. ⌜ (finalityNumber (asFinality r) ≡ askedFinality (now (stakes .entry)) (now (store .entry)) (now (positions .entry)) (locatorOf (now (locator .entry))) .answer) × (now (positions .exit) ≡ askedFinality (now (stakes .entry)) (now (store .entry)) (now (positions .entry)) (locatorOf (now (locator .entry))) .positions) ⌝ }
+    ensures bounded { λ r. ⌜ numbersFit r ⌝ }
+{
+    let mut words = [0u64; 1024];
+    words::words_of(positions, &mut words);
+    let place = types::read_locator(locator, 0);
+    let answer = finalization_interpreter::finality(stakes, store, &mut words, place);
+    words::bytes_of(&words, positions);
+    answer
+}
+
+pub fn finality_of(
+    stakes: &[u64],
+    store: &[u8],
+    positions: &mut [u8],
+    locator: &[u8],
+) -> FinalityAnswer
+    ensures asked { λ r. ⌜ (finalityNumber (asFinality r) ≡ askedFinality (now (stakes .entry)) (now (store .entry)) (now (positions .entry)) (locatorOf (now (locator .entry))) .answer) × (now (positions .exit) ≡ askedFinality (now (stakes .entry)) (now (store .entry)) (now (positions .entry)) (locatorOf (now (locator .entry))) .positions) ⌝ }
+    ensures bounded { λ r. ⌜ numbersFit r ⌝ }
+{
+    if locator.len() != 56 {
+        return FinalityAnswer::Refused(host_lib::refusal_before(20, stakes, store));
+    }
+    if positions.len() != 8192 {
+        return FinalityAnswer::Refused(host_lib::refusal_before(40, stakes, store));
+    }
+    finality_words(stakes, store, positions, locator)
+}
+
+// ---- locators written
+
+// The two bytes of a number, the highest first.
+fn write_high_u16(s: &mut [u8], at: usize, v: u16)
+    requires { ⌜ at + 2 ≤ length (now s) ⌝ }
+    ensures { λ _. ⌜ now (s .exit) ≡ sets (now (s .entry)) at (beBytes 2 v) ⌝ }
+{
+    s[at] = (v / 256) as u8;
+    s[at + 1] = (v % 256) as u8;
+}
+
+// The four bytes of a number, the highest first.
+fn write_high_u32(s: &mut [u8], at: usize, v: u32)
+    requires { ⌜ at + 4 ≤ length (now s) ⌝ }
+    ensures { λ _. ⌜ now (s .exit) ≡ sets (now (s .entry)) at (beBytes 4 v) ⌝ }
+{
+    write_high_u16(s, at, (v / 65536) as u16);
+    write_high_u16(s, at + 2, (v % 65536) as u16);
+}
+
+// The eight bytes of a number, the highest first.
+fn write_high_u64(s: &mut [u8], at: usize, v: u64)
+    requires { ⌜ at + 8 ≤ length (now s) ⌝ }
+    ensures { λ _. ⌜ now (s .exit) ≡ sets (now (s .entry)) at (beBytes 8 v) ⌝ }
+{
+    write_high_u32(s, at, (v / 4294967296) as u32);
+    write_high_u32(s, at + 4, (v % 4294967296) as u32);
+}
+
+fn write_digest(s: &mut [u8], at: usize, digest: BlockDigest)
+    requires { ⌜ at + 32 ≤ length (now s) ⌝ }
+    ensures { λ _. ⌜ now (s .exit) ≡ sets (now (s .entry)) at (digestBytes digest) ⌝ }
+{
+    write_high_u64(s, at, digest.0);
+    write_high_u64(s, at + 8, digest.1);
+    write_high_u64(s, at + 16, digest.2);
+    write_high_u64(s, at + 24, digest.3);
+}
+
+fn write_locator(s: &mut [u8], locator: TransactionLocator)
+    requires { ⌜ length (now s) ≡ 56 ⌝ }
+    ensures { λ _. ⌜ now (s .exit) ≡ locatorBytes (asLocator locator) ⌝ }
+{
+    let block = locator.block;
+    let digest = block.digest;
+    base::write_u64(s, 0, block.authority.0);
+    base::write_u64(s, 8, block.round.0);
+    write_digest(s, 16, digest);
+    base::write_u64(s, 48, locator.offset);
+}
+
+// ---- the next final locator
+
+// Where a question goes on: after a locator, or from the start; or bytes that are neither.
+enum After {
+    Place(MaybeLocator),
+    Malformed,
+}
+
+fn after_of(bytes: &[u8]) -> After
+    ensures { λ r. ⌜ asAfter r ≡ afterOf (now (bytes .entry)) ⌝ }
+{
+    if bytes.len() == 0 {
+        return After::Place(MaybeLocator::Nothing);
+    }
+    if bytes.len() != 56 {
+        return After::Malformed;
+    }
+    After::Place(MaybeLocator::Locator(types::read_locator(bytes, 0)))
+}
+
+pub fn next_final_of(stakes: &[u64], store: &[u8], after: &[u8], found: &mut [u8]) -> u64
+    ensures { λ r. ⌜ (r ≡ encoded (askedNextFinal (now (stakes .entry)) (now (store .entry)) (afterOf (now (after .entry))) (now (found .entry)) .answer)) × (now (found .exit) ≡ askedNextFinal (now (stakes .entry)) (now (store .entry)) (afterOf (now (after .entry))) (now (found .entry)) .found) ⌝ }
+{
+    let After::Place(place) = after_of(after) else {
+        return REFUSED + host_lib::refusal_before(20, stakes, store);
+    };
+    if found.len() != 56 {
+        return REFUSED + host_lib::refusal_before(40, stakes, store);
+    }
+    match finalization_interpreter::next_final(stakes, store, place) {
+        NextFinalAnswer::Found(locator) => {
+            write_locator(found, locator);
+            1
+        }
+        NextFinalAnswer::NoneLeft => 0,
+        NextFinalAnswer::Refused(number) => REFUSED + number,
+    }
+}
+
+// ---- the final list in bulk
+
+// The question itself, with the stretches as words.
+fn stretches_words(
+    stakes: &[u64],
+    store: &[u8],
+    after: MaybeLocator,
+    out: &mut [u8],
+) -> StretchesAnswer
+    requires { ⌜ length (now out) ≡ 10240 ⌝ }
+    ensures asked { λ r. ⌜ (stretchesNumber (asStretches r) ≡ stretchesIn (now (stakes .entry)) (now (store .entry)) (asMaybe after) (now (out .entry)) .answer) × (now (out .exit) ≡ stretchesIn (now (stakes .entry)) (now (store .entry)) (asMaybe after) (now (out .entry)) .stretches) ⌝ }
+    ensures bounded { λ r. ⌜ countsFit r ⌝ }
+{
+    let mut words = [0u64; 1280];
+    words::words_of(out, &mut words);
+    let answer = final_list::final_stretches(stakes, store, &mut words, after);
+    words::bytes_of(&words, out);
+    answer
+}
+
+pub fn stretches_of(stakes: &[u64], store: &[u8], after: &[u8], out: &mut [u8]) -> u64
+    ensures { λ r. ⌜ (r ≡ encoded (askedStretches (now (stakes .entry)) (now (store .entry)) (afterOf (now (after .entry))) (now (out .entry)) .answer)) × (now (out .exit) ≡ askedStretches (now (stakes .entry)) (now (store .entry)) (afterOf (now (after .entry))) (now (out .entry)) .stretches) ⌝ }
+{
+    let After::Place(place) = after_of(after) else {
+        return REFUSED + host_lib::refusal_before(20, stakes, store);
+    };
+    if out.len() != 10240 {
+        return REFUSED + host_lib::refusal_before(40, stakes, store);
+    }
+    match stretches_words(stakes, store, place, out) {
+        StretchesAnswer::Last(count) => 2 * count,
+        StretchesAnswer::More(count) => 2 * count + 1,
+        StretchesAnswer::Refused(number) => REFUSED + number,
+    }
+}

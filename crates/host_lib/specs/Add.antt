@@ -1,0 +1,42 @@
+-- Adding a vote to an aggregator that a host holds. Assumes nothing: these are definitions.
+use Prim.Native.Nat.{ℕ}
+use mathlib.Core.Bool.{Bool, true}
+use mathlib.Core.List.{[], _∷_}
+use lib.Dec.{eqb}
+use lib.ListN.{length}
+use Rattle.base.specs.Lists.{pick}
+use Rattle.base.specs.Le.{Bytes, leAt}
+use Rattle.base.specs.Checks.{_⇒_, refusal, Answer, refused, answered}
+use Rattle.committee.specs.Committee.{AuthorityIndex, Committee, broken}
+use Rattle.committee.specs.StakeAggregator.{StakeAggregator, add}
+use Rattle.words.specs.Words.{bytesOf}
+use Rattle.host_lib.specs.Calls.{flag, committeeOf}
+
+-- an aggregator crosses as three words: the vote set's two, and the stake
+unfoldable pub aggregatorOf : Bytes → StakeAggregator
+aggregatorOf b = record { votes = record { low = leAt 8 b 0; high = leAt 8 b 8 }; stake = leAt 8 b 16 }
+
+unfoldable pub aggregatorBytes : StakeAggregator → Bytes
+aggregatorBytes g = bytesOf (g .votes .low ∷ g .votes .high ∷ g .stake ∷ [])
+
+unfoldable pub flagged : Answer Bool → Answer ℕ
+flagged (answered t) = answered (flag t)
+flagged (refused n) = refused n
+
+-- what adding answers, and the aggregator's bytes afterwards
+pub record AddCall : Type 0 where
+  pub answer : Answer ℕ
+  pub aggregator : Bytes
+
+-- 01: "it refuses, in this order and changing nothing: 5; 6 ..; 21"; bytes that are not three words are no aggregator, 6
+unfoldable pub addOf : Committee → Bytes → AuthorityIndex → AddCall
+addOf c b a =
+    pick (eqb (length b) 24)
+    (record {
+      answer = flagged (add c (aggregatorOf b) a .answer);
+      aggregator = aggregatorBytes (add c (aggregatorOf b) a .aggregator);
+    })
+    (record { answer = refused (refusal ((broken c ⇒ 5) ∷ (true ⇒ 6) ∷ [])); aggregator = b })
+
+unfoldable pub addCall : Bytes → Bytes → AuthorityIndex → AddCall
+addCall stakes b a = addOf (committeeOf stakes) b a

@@ -1,0 +1,5 @@
+pub mod Calls
+pub mod Payload
+pub mod Add
+pub mod Pending
+pub mod Feed

@@ -1,0 +1,244 @@
+// What the host's calls are made of: stakes, payloads, pending locators and feeding, over byte slices.
+ghost use mathlib.Core.Path.{_≡_};
+ghost use mathlib.Core.Bool.{true};
+ghost use mathlib.Core.List.{[], _∷_, _++_};
+ghost use Prim.Native.Nat.{_+_, _≤_};
+ghost use lib.Dec.{eqb};
+ghost use lib.ListN.{length, take};
+ghost use Rattle.base.specs.Lists.{anyOf};
+ghost use Rattle.base.specs.Checks.{_⇒_, refusal};
+ghost use Rattle.words.specs.Words.{wordsOf, bytesOf};
+ghost use Rattle.block_store.specs.Payload.{payloadLength};
+ghost use Rattle.block_store.specs.Answers.{asPayloadLength, asPlace, payloadPlace};
+ghost use Rattle.committee.specs.Committee.{broken};
+ghost use Rattle.committee.specs.Answers.{asAggregator, asAddAnswer};
+ghost use Rattle.aggregator.specs.Answers.{asPending};
+ghost use Rattle.aggregator.specs.Pending.{pendingChecks};
+ghost use Rattle.host_lib.specs.Calls.{flag, committeeOf};
+ghost use Rattle.host_lib.specs.Add.{aggregatorOf, aggregatorBytes, flagged, addOf};
+ghost use Rattle.host_lib.specs.Pending.{pendingIn, askedPending};
+ghost use Rattle.feeding.specs.Answers.{asFeedAnswer};
+ghost use Rattle.feeding.specs.Refusals.{earlyChecks};
+ghost use Rattle.host_lib.specs.Feed.{fedWith, feedOf};
+ghost use Rattle.host_lib.specs.Payload.{locatorOf, refusalBefore, asked};
+use aggregator::PendingAnswer;
+use block_store::PayloadLength;
+use block_store::PayloadPlace;
+use committee::AddAnswer;
+use committee::AuthorityIndex;
+use committee::AuthoritySet;
+use committee::NewCommittee;
+use committee::Stake;
+use committee::StakeAggregator;
+use feeding::FeedAnswer;
+
+// Whether one of the words is zero.
+pub fn has_zero_word(bytes: &[u8]) -> bool
+    ensures { λ r. ⌜ r ≡ anyOf (λ s. eqb s 0) (wordsOf (now (bytes .entry))) ⌝ }
+{
+    let n = bytes.len() / 8;
+    let mut i = 0;
+    while i < n {
+        if words::word_at(bytes, 8 * i) == 0 {
+            return true;
+        }
+        i += 1;
+    }
+    false
+}
+
+// Puts the stakes of a call in front and answers how many they are.
+pub fn stakes_of(bytes: &[u8], stakes: &mut [u64]) -> usize
+    requires { ⌜ length (now stakes) ≡ 128 ⌝ }
+    ensures { λ r. ⌜ (r ≤ 128) × (take r (now (stakes .exit)) ≡ committeeOf (now (bytes .entry))) ⌝ }
+{
+    if bytes.len() % 8 != 0 {
+        return 0;
+    }
+    let n = bytes.len() / 8;
+    if 128 < n {
+        return 0;
+    }
+    words::words_of(bytes, &mut stakes[..n]);
+    n
+}
+
+pub fn flag(test: bool) -> u64
+    ensures { λ r. ⌜ r ≡ flag test ⌝ }
+{
+    if test {
+        return 1;
+    }
+    0
+}
+
+// ---- adding a vote
+
+fn read_aggregator(bytes: &[u8]) -> StakeAggregator
+    requires { ⌜ length (now bytes) ≡ 24 ⌝ }
+    ensures { λ r. ⌜ asAggregator r ≡ aggregatorOf (now (bytes .entry)) ⌝ }
+{
+    let low = base::read_u64(bytes, 0);
+    let high = base::read_u64(bytes, 8);
+    let stake = Stake(base::read_u64(bytes, 16));
+    let votes = AuthoritySet { low, high };
+    StakeAggregator { votes, stake }
+}
+
+fn write_aggregator(bytes: &mut [u8], aggregator: StakeAggregator)
+    requires { ⌜ length (now bytes) ≡ 24 ⌝ }
+    ensures { λ _. ⌜ now (bytes .exit) ≡ aggregatorBytes (asAggregator aggregator) ⌝ }
+{
+    base::write_u64(bytes, 0, aggregator.votes.low);
+    base::write_u64(bytes, 8, aggregator.votes.high);
+    base::write_u64(bytes, 16, aggregator.stake.0);
+}
+
+// 5, or 6 for bytes that are no aggregator.
+fn no_aggregator(stakes: &[u64]) -> u64
+    ensures { λ r. ⌜ r ≡ refusal ((broken (now (stakes .entry)) ⇒ 5) ∷ (true ⇒ 6) ∷ []) ⌝ }
+{
+    let NewCommittee::Taken(_) = committee::new_committee(stakes) else {
+        return 5;
+    };
+    6
+}
+
+pub fn add_of(stakes: &[u64], aggregator: &mut [u8], voter: u64) -> AddAnswer
+    ensures { λ r. ⌜ (flagged (asAddAnswer r) ≡ addOf (now (stakes .entry)) (now (aggregator .entry)) voter .answer) × (now (aggregator .exit) ≡ addOf (now (stakes .entry)) (now (aggregator .entry)) voter .aggregator) ⌝ }
+{
+    if aggregator.len() != 24 {
+        return AddAnswer::Refused(no_aggregator(stakes));
+    }
+    let held = read_aggregator(aggregator);
+    let added = held.add(stakes, AuthorityIndex(voter));
+    let next = added.aggregator;
+    write_aggregator(aggregator, next);
+    added.answer
+}
+
+// ---- questions about a payload
+
+// The number of a refusal that applies in any case: 5 and 10 come first.
+pub fn refusal_before(number: u64, stakes: &[u64], store: &[u8]) -> u64
+    ensures { λ r. ⌜ r ≡ refusalBefore number (now (stakes .entry)) (now (store .entry)) ⌝ }
+{
+    let NewCommittee::Taken(_) = committee::new_committee(stakes) else {
+        return 5;
+    };
+    if !block_store::in_order(stakes, store) {
+        return 10;
+    }
+    number
+}
+
+pub fn payload_length(stakes: &[u64], store: &[u8], locator: &[u8]) -> PayloadLength
+    ensures { λ r. ⌜ asPayloadLength r ≡ asked (now (stakes .entry)) (now (store .entry)) (payloadLength (now (stakes .entry)) (now (store .entry))) (locatorOf (now (locator .entry))) ⌝ }
+{
+    if locator.len() != 56 {
+        return PayloadLength::Refused(refusal_before(20, stakes, store));
+    }
+    block_store::payload_length(stakes, store, types::read_locator(locator, 0))
+}
+
+pub fn payload_place(stakes: &[u64], store: &[u8], locator: &[u8]) -> PayloadPlace
+    ensures { λ r. ⌜ asPlace r ≡ asked (now (stakes .entry)) (now (store .entry)) (payloadPlace (now (stakes .entry)) (now (store .entry))) (locatorOf (now (locator .entry))) ⌝ }
+{
+    if locator.len() != 56 {
+        return PayloadPlace::Refused(refusal_before(20, stakes, store));
+    }
+    block_store::find_payload(stakes, store, types::read_locator(locator, 0))
+}
+
+// ---- the pending question
+
+// 20 for bytes that are no locator, after 5, 10, 11.
+fn no_locator(stakes: &[u64], store: &[u8], table: &[u64]) -> u64
+    ensures { λ r. ⌜ r ≡ refusal (pendingChecks (now (stakes .entry)) (now (store .entry)) (now (table .entry)) ++ ((true ⇒ 20) ∷ [])) ⌝ }
+{
+    let refusal = aggregator::lent_refusal(stakes, store, table);
+    if refusal != 0 {
+        return refusal;
+    }
+    20
+}
+
+fn pending_in(stakes: &[u64], store: &[u8], table: &[u64], locator: &[u8]) -> PendingAnswer
+    ensures { λ r. ⌜ asPending r ≡ pendingIn (now (stakes .entry)) (now (store .entry)) (now (table .entry)) (locatorOf (now (locator .entry))) ⌝ }
+{
+    if locator.len() != 56 {
+        return PendingAnswer::Refused(no_locator(stakes, store, table));
+    }
+    aggregator::pending(stakes, store, table, types::read_locator(locator, 0))
+}
+
+pub fn pending_of(stakes: &[u64], store: &[u8], table: &[u8], locator: &[u8]) -> PendingAnswer
+    ensures { λ r. ⌜ asPending r ≡ askedPending (now (stakes .entry)) (now (store .entry)) (now (table .entry)) (locatorOf (now (locator .entry))) ⌝ }
+{
+    if table.len() != 49160 {
+        return PendingAnswer::Refused(refusal_before(11, stakes, store));
+    }
+    let mut words = [0u64; 6145];
+    words::words_of(table, &mut words);
+    pending_in(stakes, store, &words, locator)
+}
+
+// ---- feeding
+
+// 15 for events of another size, after 5, 10, 11, 20 to 30.
+fn no_events(stakes: &[u64], store: &[u8], table: &[u64], rec: &[u8]) -> u64
+    ensures { λ r. ⌜ r ≡ refusal (earlyChecks (now (stakes .entry)) (now (store .entry)) (now (table .entry)) (now (rec .entry)) ++ ((true ⇒ 15) ∷ [])) ⌝ }
+{
+    let early = feeding::early_refusal(stakes, store, table, rec);
+    if early != 0 {
+        return early;
+    }
+    15
+}
+
+// Feeds a record with the events as bytes and a work slice of its own.
+fn feed_words(
+    stakes: &[u64],
+    store: &mut [u8],
+    table: &mut [u64],
+    events: &mut [u8],
+    rec: &[u8],
+) -> FeedAnswer
+    requires { ⌜ (length (now table) ≡ 6145) × (length (now events) ≡ 65536) ⌝ }
+    ensures { λ r. ⌜ asFeedAnswer r ≡ fedWith (now (stakes .entry)) (now (store .entry)) (now (table .entry)) (wordsOf (now (events .entry))) (now (rec .entry)) .answer ⌝ }
+    ensures { λ r. ⌜ now (store .exit) ≡ fedWith (now (stakes .entry)) (now (store .entry)) (now (table .entry)) (wordsOf (now (events .entry))) (now (rec .entry)) .store ⌝ }
+    ensures { λ r. ⌜ now (table .exit) ≡ fedWith (now (stakes .entry)) (now (store .entry)) (now (table .entry)) (wordsOf (now (events .entry))) (now (rec .entry)) .table ⌝ }
+    ensures { λ r. ⌜ now (events .exit) ≡ bytesOf (fedWith (now (stakes .entry)) (now (store .entry)) (now (table .entry)) (wordsOf (now (events .entry))) (now (rec .entry)) .events) ⌝ }
+{
+    let mut work = [0u64; 6145];
+    let mut words = [0u64; 8192];
+    words::words_of(events, &mut words);
+    let answer = feeding::feed(stakes, store, table, &mut work, &mut words, rec);
+    words::bytes_of(&words, events);
+    answer
+}
+
+pub fn feed_of(
+    stakes: &[u64],
+    store: &mut [u8],
+    table: &mut [u8],
+    events: &mut [u8],
+    rec: &[u8],
+) -> FeedAnswer
+    ensures { λ r. ⌜ asFeedAnswer r ≡ feedOf (now (stakes .entry)) (now (store .entry)) (now (table .entry)) (now (events .entry)) (now (rec .entry)) .answer ⌝ }
+    ensures { λ r. ⌜ now (store .exit) ≡ feedOf (now (stakes .entry)) (now (store .entry)) (now (table .entry)) (now (events .entry)) (now (rec .entry)) .store ⌝ }
+    ensures { λ r. ⌜ now (table .exit) ≡ feedOf (now (stakes .entry)) (now (store .entry)) (now (table .entry)) (now (events .entry)) (now (rec .entry)) .table ⌝ }
+    ensures { λ r. ⌜ now (events .exit) ≡ feedOf (now (stakes .entry)) (now (store .entry)) (now (table .entry)) (now (events .entry)) (now (rec .entry)) .events ⌝ }
+{
+    if table.len() != 49160 {
+        return FeedAnswer::Refused(refusal_before(11, stakes, store));
+    }
+    let mut words = [0u64; 6145];
+    words::words_of(table, &mut words);
+    if events.len() != 65536 {
+        return FeedAnswer::Refused(no_events(stakes, store, &words, rec));
+    }
+    let answer = feed_words(stakes, store, &mut words, events, rec);
+    words::bytes_of(&words, table);
+    answer
+}
