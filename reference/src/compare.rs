@@ -103,9 +103,8 @@ pub fn set(list: &List) -> Result<Option<Sides>, String> {
     let stakes = list.stake_bytes();
     let committee = Committee::new(&list.stakes);
     let right = committee.as_ref().map(|committee| committee.total).map_err(|number| *number);
-    if let Some(got) = engine::new_committee(&stakes) {
-        same("new_committee", "engine", got, right)?;
-    }
+    let got = engine::new_committee(&stakes);
+    same("new_committee", "engine", got, right)?;
     let rust = RustSide::new(&list.stakes);
     if mysticeti::PRESENT {
         let got = rust.as_ref().map(|_| ()).map_err(|text| committee_refusal(text));
@@ -132,20 +131,17 @@ fn points(sides: &Sides, rng: &mut Rng) -> Outcome {
     for _ in 0..4 {
         let (total, stake) = (rng.word() >> rng.below(64), rng.word() >> rng.below(64));
         for stake in [stake, total, (2 * total as u128 / 3) as u64 + rng.below(2), total / 3 + rng.below(2)] {
-            if let Some(got) = engine::is_quorum(total, stake).zip(engine::is_valid(total, stake)) {
-                let right = (is_quorum(total, stake), is_valid(total, stake));
-                same(&format!("is_quorum, is_valid of stake {stake} in {total}"), "engine", got, right)?;
-            }
+            let got = (engine::is_quorum(total, stake), engine::is_valid(total, stake));
+            let right = (is_quorum(total, stake), is_valid(total, stake));
+            same(&format!("is_quorum, is_valid of stake {stake} in {total}"), "engine", got, right)?;
         }
     }
     for stake in stakes {
         let what = format!("of stake {stake} in {total}");
-        if let Some(got) = engine::is_quorum(total, stake) {
-            same(&format!("is_quorum {what}"), "engine", got, is_quorum(total, stake))?;
-        }
-        if let Some(got) = engine::is_valid(total, stake) {
-            same(&format!("is_valid {what}"), "engine", got, is_valid(total, stake))?;
-        }
+        let got = engine::is_quorum(total, stake);
+        same(&format!("is_quorum {what}"), "engine", got, is_quorum(total, stake))?;
+        let got = engine::is_valid(total, stake);
+        same(&format!("is_valid {what}"), "engine", got, is_valid(total, stake))?;
         if let Some(rust) = &sides.rust {
             same(&format!("is_quorum {what}"), "Rust", rust.is_quorum(stake), is_quorum(total, stake))?;
             same(&format!("is_valid {what}"), "Rust", rust.is_valid(stake), is_valid(total, stake))?;
@@ -164,10 +160,9 @@ fn adds(sides: &Sides, rng: &mut Rng) -> Outcome {
     for voter in &voters {
         let answer = lent::add(stakes, &mut right, *voter);
         answers.push(answer == Ok(1));
-        if let Some(told) = engine::add(stakes, &mut got, *voter) {
-            same(&format!("add of voter {voter}"), "engine", told, answer)?;
-            same_bytes("aggregator", &got, &right)?;
-        }
+        let told = engine::add(stakes, &mut got, *voter);
+        same(&format!("add of voter {voter}"), "engine", told, answer)?;
+        same_bytes("aggregator", &got, &right)?;
     }
     if let Some(rust) = &sides.rust {
         let set =
@@ -183,10 +178,9 @@ fn adds(sides: &Sides, rng: &mut Rng) -> Outcome {
         }
         let mut lent = broken.clone();
         let answer = lent::add(stakes, &mut broken, voter);
-        if let Some(told) = engine::add(stakes, &mut lent, voter) {
-            same(&format!("add of voter {voter} to {right:?}"), "engine", told, answer)?;
-            same_bytes("aggregator", &lent, &broken)?;
-        }
+        let told = engine::add(stakes, &mut lent, voter);
+        same(&format!("add of voter {voter} to {right:?}"), "engine", told, answer)?;
+        same_bytes("aggregator", &lent, &broken)?;
     }
     Ok(())
 }
@@ -209,10 +203,7 @@ impl Sides {
 
     fn feed_engine(&mut self, record: &[u8], told: &Result<Vec<Event>, u64>) -> Outcome {
         let Memory { stakes, store, table, events } = &mut self.engine;
-        let Some(got) = engine::feed(stakes, store, table, events, record) else {
-            self.engine = self.right.clone();
-            return Ok(());
-        };
+        let got = engine::feed(stakes, store, table, events, record);
         same("feed", "engine", got, told.as_ref().map(|told| told.len() as u64).map_err(|number| *number))?;
         self.engine.same("after feeding", &self.right)
     }

@@ -60,46 +60,38 @@ pub fn every_call(memory: &Memory, record: &[u8], locator: &[u8], tally: &mut Ta
     let fed = lent::feed(stakes, &mut right.store, &mut right.table, &mut right.events, record);
     *tally.damaged.entry(fed.err().unwrap_or(0)).or_default() += 1;
     let mut got = memory.clone();
-    if let Some(told) = engine::feed(stakes, &mut got.store, &mut got.table, &mut got.events, record) {
-        same("feed over damaged memory", "engine", told, fed)?;
-        got.same("after feeding over damaged memory", &right)?;
-    }
+    let told = engine::feed(stakes, &mut got.store, &mut got.table, &mut got.events, record);
+    same("feed over damaged memory", "engine", told, fed)?;
+    got.same("after feeding over damaged memory", &right)?;
     let votes = lent::pending(stakes, store, table, locator);
-    if let Some(told) = engine::pending_stake(stakes, store, table, locator) {
-        same("pending_stake over damaged memory", "engine", told, votes.map(|votes| votes.stake))?;
-    }
-    if let Some(told) = engine::pending_voters(stakes, store, table, locator) {
-        same("pending_voters over damaged memory", "engine", told, votes.map(|votes| votes.voters.count_ones() as u64))?;
-    }
+    let told = engine::pending_stake(stakes, store, table, locator);
+    same("pending_stake over damaged memory", "engine", told, votes.map(|votes| votes.stake))?;
+    let told = engine::pending_voters(stakes, store, table, locator);
+    same("pending_voters over damaged memory", "engine", told, votes.map(|votes| votes.voters.count_ones() as u64))?;
     questions_of_store(stakes, store, locator)
 }
 
 /// The questions that need no table.
 fn questions_of_store(stakes: &[u8], store: &[u8], locator: &[u8]) -> Outcome {
     let payload = lent::payload(stakes, store, locator);
-    if let Some(told) = engine::payload_length(stakes, store, locator) {
-        same("payload_length over damaged memory", "engine", told, payload.map(|payload| payload.1))?;
-    }
-    if let Some(told) = engine::payload_start(stakes, store, locator) {
-        same("payload_start over damaged memory", "engine", told, payload.map(|payload| payload.0))?;
-    }
+    let told = engine::payload_length(stakes, store, locator);
+    same("payload_length over damaged memory", "engine", told, payload.map(|payload| payload.1))?;
+    let told = engine::payload_start(stakes, store, locator);
+    same("payload_start over damaged memory", "engine", told, payload.map(|payload| payload.0))?;
     let (mut right, mut got) = (vec![0x3c; lent::POSITION_BYTES], vec![0x3c; lent::POSITION_BYTES]);
     let answer = lent::finality(stakes, store, &mut right, locator);
-    if let Some(told) = engine::finality(stakes, store, &mut got, locator) {
-        same("finality over damaged memory", "engine", told, answer)?;
-        same_bytes("positions over damaged memory", &got, &right)?;
-    }
+    let told = engine::finality(stakes, store, &mut got, locator);
+    same("finality over damaged memory", "engine", told, answer)?;
+    same_bytes("positions over damaged memory", &got, &right)?;
     let (mut right, mut got) = (vec![0x3c; 56], vec![0x3c; 56]);
     let answer = lent::next_final(stakes, store, locator, &mut right);
-    if let Some(told) = engine::next_final(stakes, store, locator, &mut got) {
-        same("next_final over damaged memory", "engine", told, answer)?;
-        same_bytes("next_final's locator over damaged memory", &got, &right)?;
-    }
+    let told = engine::next_final(stakes, store, locator, &mut got);
+    same("next_final over damaged memory", "engine", told, answer)?;
+    same_bytes("next_final's locator over damaged memory", &got, &right)?;
     let (mut right, mut got) = (vec![0x3c; lent::STRETCHES_BYTES], vec![0x3c; lent::STRETCHES_BYTES]);
     let answer = lent::final_stretches(stakes, store, locator, &mut right);
-    if let Some(told) = engine::final_stretches(stakes, store, locator, &mut got) {
-        same("final_stretches over damaged memory", "engine", told, answer)?;
-        same_bytes("stretches over damaged memory", &got, &right)?;
-    }
+    let told = engine::final_stretches(stakes, store, locator, &mut got);
+    same("final_stretches over damaged memory", "engine", told, answer)?;
+    same_bytes("stretches over damaged memory", &got, &right)?;
     Ok(())
 }

@@ -7,7 +7,7 @@ use std::time::{Duration, Instant};
 use reference::compare::compare;
 use reference::list::List;
 use reference::tally::Tally;
-use reference::{engine, exhaustive, generate, program, shrink};
+use reference::{exhaustive, generate, program, shrink};
 
 fn main() {
     let words: Vec<String> = std::env::args().skip(1).collect();
@@ -45,13 +45,10 @@ fn list(seed: u64, n: u64) -> List {
 }
 
 fn sides() {
-    let (there, missing) = engine::calls();
-    println!("engine: {}", if there.is_empty() { "not linked".into() } else { there.join(", ") });
-    if !missing.is_empty() {
-        println!("calls not in the archive, hence not compared: {}", missing.join(", "));
-    }
-    if !mysticeti::PRESENT {
-        println!("the Rust's files are not there: nothing is compared with the Rust, only with the model of 01");
+    if mysticeti::PRESENT {
+        println!("the engine, the Rust and the model of 01");
+    } else {
+        println!("the engine and the model of 01; the Rust's files are not there, so nothing is compared with the Rust");
     }
 }
 

@@ -75,29 +75,24 @@ fn one(sides: &Sides, locator: &Locator, finality: &Finality) -> Outcome {
     let (lent, bytes) = (&sides.engine, locator.bytes());
     let stores = &sides.state.stores;
     let mut positions = vec![0x3c; POSITION_BYTES];
-    if let Some(got) = engine::finality(&lent.stakes, &lent.store, &mut positions, &bytes) {
-        let mut right = vec![0x3c; POSITION_BYTES];
-        let answer = write_finality(stores, finality, &mut right);
-        same(&format!("finality of {locator:?}"), "engine", got, Ok(answer))?;
-        same_bytes(&format!("positions of {locator:?}"), &positions, &right)?;
-    }
+    let got = engine::finality(&lent.stakes, &lent.store, &mut positions, &bytes);
+    let mut right = vec![0x3c; POSITION_BYTES];
+    let answer = write_finality(stores, finality, &mut right);
+    same(&format!("finality of {locator:?}"), "engine", got, Ok(answer))?;
+    same_bytes(&format!("positions of {locator:?}"), &positions, &right)?;
     let payload = stores.payload(locator).ok_or(41);
-    if let Some(got) = engine::payload_length(&lent.stakes, &lent.store, &bytes) {
-        same(&format!("payload_length of {locator:?}"), "engine", got, payload.map(|payload| payload.1))?;
-    }
-    if let Some(got) = engine::payload_start(&lent.stakes, &lent.store, &bytes) {
-        same(&format!("payload_start of {locator:?}"), "engine", got, payload.map(|payload| payload.0))?;
-    }
+    let got = engine::payload_length(&lent.stakes, &lent.store, &bytes);
+    same(&format!("payload_length of {locator:?}"), "engine", got, payload.map(|payload| payload.1))?;
+    let got = engine::payload_start(&lent.stakes, &lent.store, &bytes);
+    same(&format!("payload_start of {locator:?}"), "engine", got, payload.map(|payload| payload.0))?;
     let table = &sides.state.table;
     let item = stores.get(&locator.block).and_then(|stored| table.find(stored.position, locator.offset));
     let votes = item.map(|item| table.items[item].votes).ok_or(42);
-    if let Some(got) = engine::pending_stake(&lent.stakes, &lent.store, &lent.table, &bytes) {
-        same(&format!("pending_stake of {locator:?}"), "engine", got, votes.map(|votes| votes.stake))?;
-    }
-    if let Some(got) = engine::pending_voters(&lent.stakes, &lent.store, &lent.table, &bytes) {
-        let right = votes.map(|votes| votes.voters.count_ones() as u64);
-        same(&format!("pending_voters of {locator:?}"), "engine", got, right)?;
-    }
+    let got = engine::pending_stake(&lent.stakes, &lent.store, &lent.table, &bytes);
+    same(&format!("pending_stake of {locator:?}"), "engine", got, votes.map(|votes| votes.stake))?;
+    let got = engine::pending_voters(&lent.stakes, &lent.store, &lent.table, &bytes);
+    let right = votes.map(|votes| votes.voters.count_ones() as u64);
+    same(&format!("pending_voters of {locator:?}"), "engine", got, right)?;
     Ok(())
 }
 
@@ -112,7 +107,7 @@ fn asked_on(sides: &Sides, list: &[(Locator, Finality)], rng: &mut Rng) -> Outco
         list.iter().map(|(locator, _)| Some(locator)).chain([None]).skip(first).take(if long { most } else { 3 * most + 1 })
     {
         let mut out = vec![0x77; 56];
-        let Some(got) = engine::next_final(&lent.stakes, &lent.store, &after, &mut out) else { return Ok(()) };
+        let got = engine::next_final(&lent.stakes, &lent.store, &after, &mut out);
         same("next_final", "engine", got, Ok(right.is_some() as u64))?;
         same_bytes("next_final's locator", &out, &right.map_or([0x77; 56], |locator| locator.bytes()))?;
         after = out;
@@ -130,7 +125,7 @@ fn in_bulk(sides: &Sides, graph: &Graph, rng: &mut Rng) -> Outcome {
         let rest = if after.is_none() { all.clone() } else { stretches(graph, after) };
         let (mut right, mut out) = (vec![0x19; STRETCHES_BYTES], vec![0x19; STRETCHES_BYTES]);
         let after_bytes = after.map_or(Vec::new(), |locator: Locator| locator.bytes().to_vec());
-        let Some(got) = engine::final_stretches(&lent.stakes, &lent.store, &after_bytes, &mut out) else { return Ok(()) };
+        let got = engine::final_stretches(&lent.stakes, &lent.store, &after_bytes, &mut out);
         same("final_stretches", "engine", got, Ok(write_stretches(&rest, &mut right)))?;
         if out != right {
             let words =

@@ -31,18 +31,13 @@ fn table() {
     for (name, blocks) in
         [("course run", course), ("100 blocks", graphs::generated(100)), ("1,000 blocks", graphs::generated(1000))]
     {
-        let fed = fed(&blocks);
-        let finals = fed.as_ref().and_then(asked_on).unwrap_or(0);
-        assert!(
-            fed.as_ref().and_then(final_list).is_none_or(|count| count == finals),
-            "the list in bulk is as long as asked on"
-        );
+        let memory = fed(&blocks);
+        let finals = asked_on(&memory);
+        assert_eq!(final_list(&memory), finals, "the list in bulk is as long as asked on");
         let rust = rust_final(&blocks, finals);
-        let engine = fed.as_ref().filter(|memory| final_list(memory).is_some()).map(|memory| least(|| final_list(memory)));
-        row(&format!("final list in bulk, {name} ({finals} final)"), engine, rust);
-        let engine = fed.as_ref().map(|memory| least(|| asked_on(memory)));
-        row(&format!("final list asked on, {name}"), engine, rust);
-        let engine = fed.as_ref().map(|_| least(|| feed_all(&blocks)));
+        row(&format!("final list in bulk, {name} ({finals} final)"), least(|| final_list(&memory)), rust);
+        row(&format!("final list asked on, {name}"), least(|| asked_on(&memory)), rust);
+        let engine = least(|| fed(&blocks));
         row(&format!("feeding, {name}"), engine, rust_feed(&blocks));
         row(&format!("the same, the Rust with `verify` and its store, {name}"), engine, rust_feed_checked(&blocks));
     }
@@ -61,10 +56,9 @@ fn time(seconds: f64) -> String {
     }
 }
 
-fn row(name: &str, engine: Option<f64>, rust: Option<f64>) {
-    let shown = |seconds: Option<f64>| seconds.map_or("-".into(), time);
-    let ratio = engine.zip(rust).map_or("-".into(), |(engine, rust)| format!("{:.2}", engine / rust));
-    println!("| {name} | {} | {} | {ratio} |", shown(engine), shown(rust));
+fn row(name: &str, engine: f64, rust: Option<f64>) {
+    let ratio = rust.map_or("-".into(), |rust| format!("{:.2}", engine / rust));
+    println!("| {name} | {} | {} | {ratio} |", time(engine), rust.map_or("-".into(), time));
 }
 
 /// The time that this process has had on a processor, in seconds: what else runs on the machine is not counted.
@@ -99,46 +93,35 @@ fn lent(blocks: &[Block]) -> (Memory, Vec<Vec<u8>>) {
 }
 
 /// Feeds every block to the engine, from fresh.
-fn fed(blocks: &[Block]) -> Option<Memory> {
+fn fed(blocks: &[Block]) -> Memory {
     let (mut memory, records) = lent(blocks);
-    feed_records(&mut memory, &records)?;
-    Some(memory)
-}
-
-fn feed_records(memory: &mut Memory, records: &[Vec<u8>]) -> Option<()> {
-    for record in records {
-        let Memory { stakes, store, table, events } = memory;
-        engine::feed(stakes, store, table, events, record)?.expect("each record is accepted");
+    for record in &records {
+        let Memory { stakes, store, table, events } = &mut memory;
+        engine::feed(stakes, store, table, events, record).expect("each record is accepted");
     }
-    Some(())
-}
-
-fn feed_all(blocks: &[Block]) -> u64 {
-    let memory = fed(blocks).unwrap();
-    memory.store[8] as u64
+    memory
 }
 
 /// The final list by the next final locator, asked on until none: the number of its locators.
-fn asked_on(memory: &Memory) -> Option<u64> {
+fn asked_on(memory: &Memory) -> u64 {
     let (mut after, mut out, mut count) = (Vec::new(), vec![0; 56], 0);
-    while engine::next_final(&memory.stakes, &memory.store, &after, &mut out)? == Ok(1) {
+    while engine::next_final(&memory.stakes, &memory.store, &after, &mut out) == Ok(1) {
         after = out.clone();
         count += 1;
     }
-    Some(count)
+    count
 }
 
 /// The whole final list in bulk: the number of its locators.
-fn final_list(memory: &Memory) -> Option<u64> {
+fn final_list(memory: &Memory) -> u64 {
     let (mut after, mut out, mut count) = (Vec::new(), vec![0; 128 * STRETCH_BYTES], 0);
     loop {
-        let answer = engine::final_stretches(&memory.stakes, &memory.store, &after, &mut out)?;
-        let answer = answer.expect("a store in order");
+        let answer = engine::final_stretches(&memory.stakes, &memory.store, &after, &mut out).expect("a store in order");
         for stretch in out.chunks(STRETCH_BYTES).take(answer as usize / 2) {
             count += number(&stretch[56..64]) - number(&stretch[48..56]);
         }
         if answer % 2 == 0 {
-            return Some(count);
+            return count;
         }
         let last: Vec<u64> = out[out.len() - STRETCH_BYTES..].chunks(8).map(number).collect();
         let digest: Vec<u8> = last[2..6].iter().flat_map(|word| word.to_be_bytes()).collect();
@@ -190,7 +173,7 @@ fn rust_feed_checked(_blocks: &[Block]) -> Option<f64> {
 
 /// The check of a store of 1,000 blocks, by a question that is refused right after it, beside one pass over its bytes.
 fn check() {
-    let Some(memory) = fed(&graphs::generated(1000)) else { return };
+    let memory = fed(&graphs::generated(1000));
     let used = number(&memory.store[4..8]) as usize;
     let locator = [0; 3];
     let check = least(|| engine::payload_length(&memory.stakes, &memory.store, &locator));
@@ -248,9 +231,9 @@ fn peak_memory() {
 fn memory_of(side: &str) {
     let blocks = graphs::generated(1000);
     match side {
-        "engine" => drop(fed(&blocks).map(|memory| final_list(&memory))),
+        "engine" => assert!(final_list(&fed(&blocks)) > 0),
         #[cfg(has_rust)]
-        "rust" => drop((rust_once(&blocks), 0)),
+        "rust" => assert!(rust_once(&blocks) > 0),
         _ => {}
     }
     println!("{}", high_water("/proc/self/status").unwrap_or(0));
