@@ -337,7 +337,16 @@ fn final_start(
         let MaybeLocator::Locator(locator) = start else {
             return NextStretch::Nothing;
         };
-        let found = final_walk::certifiers_of(stakes, total, store, order, votes, m, places, locator);
+        let found = final_walk::certifiers_of(
+            stakes,
+            total,
+            store,
+            order,
+            votes,
+            m,
+            places,
+            locator,
+        );
         if committee::is_quorum(total, committee::stake_of(stakes, found.authors)) {
             return NextStretch::At(FoundFinal { locator, found });
         }

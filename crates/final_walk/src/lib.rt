@@ -148,7 +148,14 @@ pub fn table_votes(stakes: &[u64], store: &[u8], order: &[u64], votes: &mut [u64
 // ---- the places of includes
 
 // Writes the places of the includes of the block at a place.
-fn note_includes(store: &[u8], order: &[u64], k: usize, count: usize, places: &mut [u64], from: usize)
+fn note_includes(
+    store: &[u8],
+    order: &[u64],
+    k: usize,
+    count: usize,
+    places: &mut [u64],
+    from: usize,
+)
     requires { ⌜ (SortedStore (now store) (now order) × (k < length (now order))) × ((count ≡ length (blockAtPlace (now store) (now order) k .includes)) × (from + count ≤ length (now places))) ⌝ }
     ensures { λ _. ⌜ Noted (now (store .entry)) (now (order .entry)) k from count (now (places .entry)) (now (places .exit)) ⌝ }
 {

@@ -1,48 +1,55 @@
+use borrow.Author.Needs.{needs}
+use Prim.Native.Nat.{ℕ, _-_, _≤_, _<_, _+_}
+use mathlib.Core.Path.{_≡_, refl, sym, ap, _∙_}
+use mathlib.Core.List.{List, [], _∷_, map}
+use native.Mathlib.Omega.{arith}
+use Rattle.base.specs.Lists.{keep}
+use Rattle.types.specs.Reference.{TransactionLocator, TransactionLocatorRange}
+use Rattle.finalization_interpreter.specs.NextFinal.{isAfter, leastLocator}
+use Rattle.finalization_interpreter.specs.Answers.{asMaybe}
+use Rattle.finalization_interpreter.specs.Walk.{startOf, lesserOf}
+use Rattle.final_list.specs.Step.{tableRanges}
+use Rattle.final_list.proofs.Tables.{startsFrom, first-range, starts-on, starts-end}
 use Rattle.final_list.proofs.table_start.Statement.{statement}
 use Rattle.final_list.proofs.table_start.Tie as tie
-use Rattle.final_list.proofs.table_start.Reads as reads
-use Rattle.final_list.proofs.table_start.Lts as lts
-use Rattle.final_list.proofs.start_of.Reads as start-of-reads
-use Rattle.final_walk.proofs.read_vote.Reads as read-vote-reads
-use Rattle.finalization_interpreter.proofs.lesser.Reads as lesser-reads
 
 abbrev Inv-loop : tie.InvT-loop
-Inv-loop votes m last least₀ i₀ least i = ?
+Inv-loop votes m last least₀ i₀ least i = (i ≤ m) × (lesserOf (asMaybe least) (startsFrom (isAfter (asMaybe last)) votes m i) ≡ leastLocator (keep (isAfter (asMaybe last)) (map startOf (tableRanges votes m))))
 
 abbrev μ-loop : tie.MeasureT-loop
-μ-loop votes m last least₀ i₀ least i = ?
+μ-loop votes m last least₀ i₀ least i = m - i
 
--- src/lib.rt:312:5
 loop-holds : tie.Need-loop-holds Inv-loop μ-loop
-loop-holds c = ?
+unfolding asMaybe lesserOf
+loop-holds c = let a = c .before .args in
+    (omega arith, ap (λ (qs : List TransactionLocatorRange). leastLocator (keep (isAfter (asMaybe (a .last))) (map startOf qs))) (first-range (a .votes .now) (a .m)))
 
--- src/lib.rt:313:13
 read-vote-requires : tie.Need-read-vote-requires Inv-loop μ-loop
-read-vote-requires c κs = ?
+read-vote-requires c κs = omega (arith, c .loop-test .taken, c .before .before .before .pre)
 
--- src/lib.rt:314:63
 start-of-requires : tie.Need-start-of-requires Inv-loop μ-loop
-start-of-requires c κs = ?
+start-of-requires c κs = search needs
 
--- src/lib.rt:314:9
 lesser-requires : tie.Need-lesser-requires Inv-loop μ-loop
-lesser-requires c κs = ?
+lesser-requires c κs = search needs
 
--- src/lib.rt:315:9
 add-i : tie.Need-add-i Inv-loop μ-loop
-add-i c = ?
+add-i c = omega (arith, c .before .before .before .loop-test .taken)
 
--- src/lib.rt:312:5
 loop-less : tie.Need-loop-less Inv-loop μ-loop
-loop-less c = ?
+loop-less c = omega (arith, c .before .before .before .loop-test .taken)
 
--- src/lib.rt:312:5
 loop-again : tie.Need-loop-again Inv-loop μ-loop
-loop-again c = ?
+loop-again c = let a = c .before .before .before .before .before .before .args in
+    let g = c .before .before .before .before .loop in
+    let p = isAfter (asMaybe (a .last)) in
+    let e = c .lesser .ensures ∙ ap (λ (l : TransactionLocator). lesserOf (asMaybe (g .least)) (leastLocator (keep p (l ∷ [])))) (c .before .start-of .ensures ∙ ap startOf (c .before .before .read-vote .ensures)) in
+    (omega (arith, c .before .before .before .loop-test .taken), sym (starts-on p (a .votes .now) (a .m) (g .i) (asMaybe (g .least)) (asMaybe (c .lesser .result)) (c .before .before .before .loop-test .taken) e) ∙ g .inv .1)
 
--- src/lib.rt:306:1
 returns : tie.Need-returns Inv-loop μ-loop
-returns c = ?
+returns c = let a = c .before .before .before .args in
+    let g = c .before .loop in
+    sym (starts-end (isAfter (asMaybe (a .last))) (a .votes .now) (a .m) (g .i) (asMaybe (g .least)) (omega (arith, c .loop-test .left))) ∙ g .inv .1
 
 pub table-start-spec : {M : Type 1} → statement M
 table-start-spec =

@@ -54,10 +54,11 @@ table-record-requires c κs = let a = c .before .before .before .before .before 
     let g = c .before .before .before .before .before .loop in
     let o = c .before .before .before .before .before .before .before .before .before .before .pre in
     let h = c .before .before .before .before .loop-test .taken in
-    let bytes = bytes-of (a .store .now) (λ j l. omega (arith, c .before .before .before .before .before .before .before .before .shared-slice-known2 .given j)) in
-    (rw (record-part (a .store .now) (getD (a .order .now) (g .k) 0) (c .before .before .record-end .result) (c .before .before .record-end .ensures))
-    (entry-room (a .store .now) _ (place-entry (a .store .now) (a .order .now) (some-committee o) (g .k) h) .formed, λ q m. span-end (a .stakes .now) (a .store .now) bytes (o .inOrder) _ (place-stored (a .store .now) (a .order .now) (some-committee o) (g .k) h) q m),
-    g .inv .1 .1 .room)
+    let bytes = bytes-of (a .store .now) (λ j l. omega (arith, c .before .before .before .before .before .before .before .before .shared-slice-known2 .given j)) in (
+      rw (record-part (a .store .now) (getD (a .order .now) (g .k) 0) (c .before .before .record-end .result) (c .before .before .record-end .ensures))
+          (entry-room (a .store .now) _ (place-entry (a .store .now) (a .order .now) (some-committee o) (g .k) h) .formed, λ q m. span-end (a .stakes .now) (a .store .now) bytes (o .inOrder) _ (place-stored (a .store .now) (a .order .now) (some-committee o) (g .k) h) q m),
+      g .inv .1 .1 .room,
+    )
 
 enum-known-tabled : tie.Need-enum-known-tabled Inv-loop μ-loop
 enum-known-tabled c = search needs

@@ -63,9 +63,10 @@ gather-requires c κs = let a = c .before .before .before .before .before .befor
     let g = c .before .before .before .before .loop in
     let h = c .before .before .before .loop-test .taken in
     let p = c .before .before .before .before .before .before .before .before .before .before .before .before .before .before .pre .1 .1 in
-    let n = c .before .include-count-at .ensures in
-    (omega (arith, before-room (a .store .now) (a .order .now) (g .k) (length (a .order .now)) h, p .room, g .inv .0 .at, n),
-    λ j m. rw (g .inv .0 .at) (let x = p .placed (g .k) h j (omega (arith, n, m)) in omega (arith, x .0, g .inv .0 .long, c .before .before .before .before .before .before .before .before .before .before .before .before .before .before .pre .0 .1)))
+    let n = c .before .include-count-at .ensures in (
+      omega (arith, before-room (a .store .now) (a .order .now) (g .k) (length (a .order .now)) h, p .room, g .inv .0 .at, n),
+      λ j m. rw (g .inv .0 .at) (let x = p .placed (g .k) h j (omega (arith, n, m)) in omega (arith, x .0, g .inv .0 .long, c .before .before .before .before .before .before .before .before .before .before .before .before .before .before .pre .0 .1)),
+    )
 
 mul-with-own : tie.Need-mul-with-own Inv-loop μ-loop
 mul-with-own c = omega (arith, c .before .before .before .before .loop-test .taken, c .before .before .before .before .before .before .before .before .before .before .before .before .before .before .before .pre .0 .1)
@@ -113,9 +114,10 @@ loop-again c = let a = c .before .before .before .before .before .before .before
     let voters-are : (l : TransactionLocator) → Owned (a .store .now) (a .order .now) l (a .own .now) → c .before .before .before .before .before .before .with-own .result ≡ votersAt (a .store .now) (a .order .now) l (g .k) =
     λ l w. v ∙ all-voters (a .store .now) (a .order .now) o l (g .memo) (a .places .now) (g .k) h (g .inv .1 l w .voted) (c .before .before .before .before .before .before .before .before .before .before .before .before .before .before .before .before .before .before .before .before .before .before .before .pre .1 .1) (a .own .now) w (g .i) _ (g .inv .0 .at) n in
     let q = sym (c .before .certifies-at .ensures) ∙ not-true _ (c .if1 .taken) in
-    rw (c .before .before .before .before .note-voters .ensures)
-    (going-more (a .stakes .now) (a .store .now) (a .order .now) (g .memo) (g .blocks) (g .checked) (g .i) (g .k) (g .inv .0) h (c .before .before .before .before .before .before .with-own .result) (c .before .before .check .result) (z .1) _ n (g .blocks) (omega (arith, g .inv .0 .few)),
-    λ l w. walking-no (a .stakes .now) (a .store .now) l (a .order .now) (g .memo) (g .authors) (g .blocks) (g .k) (g .inv .1 l w) h (omega (arith, h, g .inv .0 .long, c .before .before .before .before .before .before .before .before .before .before .before .before .before .before .before .before .before .before .before .before .before .before .before .pre .0 .1)) (c .before .before .before .before .before .before .with-own .result) (voters-are l w) (c .before .before .check .result) (z .0) (z .1) q)
+    rw (c .before .before .before .before .note-voters .ensures) (
+      going-more (a .stakes .now) (a .store .now) (a .order .now) (g .memo) (g .blocks) (g .checked) (g .i) (g .k) (g .inv .0) h (c .before .before .before .before .before .before .with-own .result) (c .before .before .check .result) (z .1) _ n (g .blocks) (omega (arith, g .inv .0 .few)),
+      λ l w. walking-no (a .stakes .now) (a .store .now) l (a .order .now) (g .memo) (g .authors) (g .blocks) (g .k) (g .inv .1 l w) h (omega (arith, h, g .inv .0 .long, c .before .before .before .before .before .before .before .before .before .before .before .before .before .before .before .before .before .before .before .before .before .before .before .pre .0 .1)) (c .before .before .before .before .before .before .with-own .result) (voters-are l w) (c .before .before .check .result) (z .0) (z .1) q,
+    )
 
 add-blocks : tie.Need-add-blocks Inv-loop μ-loop
 add-blocks c = omega (arith, c .before .before .before .before .before .before .before .before .before .before .before .before .before .loop .inv .0 .few, c .before .before .before .before .before .before .before .before .before .before .before .before .loop-test .taken, c .before .before .before .before .before .before .before .before .before .before .before .before .before .before .before .before .before .before .before .before .before .before .before .pre .0 .1)
@@ -142,9 +144,10 @@ loop-again-2 c = let a = c .before .before .before .before .before .before .befo
     let voters-are : (l : TransactionLocator) → Owned (a .store .now) (a .order .now) l (a .own .now) → c .before .before .before .before .before .before .before .before .with-own .result ≡ votersAt (a .store .now) (a .order .now) l (g .k) =
     λ l w. v ∙ all-voters (a .store .now) (a .order .now) o l (g .memo) (a .places .now) (g .k) h (g .inv .1 l w .voted) (c .before .before .before .before .before .before .before .before .before .before .before .before .before .before .before .before .before .before .before .before .before .before .before .before .before .pre .1 .1) (a .own .now) w (g .i) _ (g .inv .0 .at) n in
     let q = sym (c .before .before .before .certifies-at .ensures) ∙ not-false _ (c .before .before .if1 .left) in
-    rw (c .before .before .before .before .before .before .note-voters .ensures, c .insert .ensures, ap (λ r. r .authority) (c .before .reference-at .ensures))
-    (going-more (a .stakes .now) (a .store .now) (a .order .now) (g .memo) (g .blocks) (g .checked) (g .i) (g .k) (g .inv .0) h (c .before .before .before .before .before .before .before .before .with-own .result) (c .before .before .before .before .check .result) (z .1) _ n (g .blocks + 1) (omega (arith, g .inv .0 .few)),
-    λ l w. walking-yes (a .stakes .now) (a .store .now) l (a .order .now) (g .memo) (g .authors) (g .blocks) (g .k) (g .inv .1 l w) h (omega (arith, h, g .inv .0 .long, c .before .before .before .before .before .before .before .before .before .before .before .before .before .before .before .before .before .before .before .before .before .before .before .before .before .pre .0 .1)) (c .before .before .before .before .before .before .before .before .with-own .result) (voters-are l w) (c .before .before .before .before .check .result) (z .0) (z .1) q (place-author (c .before .before .before .before .before .before .before .before .before .before .before .before .before .before .before .before .before .before .before .before .before .before .before .before .before .args .store .now) (c .before .before .before .before .before .before .before .before .before .before .before .before .before .before .before .before .before .before .before .before .before .before .before .before .before .args .order .now) (some-committee (c .before .before .before .before .before .before .before .before .before .before .before .before .before .before .before .before .before .before .before .before .before .before .before .before .before .pre .0 .0 .0)) (c .before .before .before .before .before .before .before .before .before .before .before .before .before .before .before .loop .k) (c .before .before .before .before .before .before .before .before .before .before .before .before .before .before .loop-test .taken)))
+    rw (c .before .before .before .before .before .before .note-voters .ensures, c .insert .ensures, ap (λ r. r .authority) (c .before .reference-at .ensures)) (
+      going-more (a .stakes .now) (a .store .now) (a .order .now) (g .memo) (g .blocks) (g .checked) (g .i) (g .k) (g .inv .0) h (c .before .before .before .before .before .before .before .before .with-own .result) (c .before .before .before .before .check .result) (z .1) _ n (g .blocks + 1) (omega (arith, g .inv .0 .few)),
+      λ l w. walking-yes (a .stakes .now) (a .store .now) l (a .order .now) (g .memo) (g .authors) (g .blocks) (g .k) (g .inv .1 l w) h (omega (arith, h, g .inv .0 .long, c .before .before .before .before .before .before .before .before .before .before .before .before .before .before .before .before .before .before .before .before .before .before .before .before .before .pre .0 .1)) (c .before .before .before .before .before .before .before .before .with-own .result) (voters-are l w) (c .before .before .before .before .check .result) (z .0) (z .1) q (place-author (c .before .before .before .before .before .before .before .before .before .before .before .before .before .before .before .before .before .before .before .before .before .before .before .before .before .args .store .now) (c .before .before .before .before .before .before .before .before .before .before .before .before .before .before .before .before .before .before .before .before .before .before .before .before .before .args .order .now) (some-committee (c .before .before .before .before .before .before .before .before .before .before .before .before .before .before .before .before .before .before .before .before .before .before .before .before .before .pre .0 .0 .0)) (c .before .before .before .before .before .before .before .before .before .before .before .before .before .before .before .loop .k) (c .before .before .before .before .before .before .before .before .before .before .before .before .before .before .loop-test .taken)),
+    )
 
 returns : tie.Need-returns Inv-loop μ-loop
 unfolding CertifyMarked Certify
