@@ -1,17 +1,21 @@
 // The final list in bulk: stretches of final locators that have the same certifying blocks.
 use committee::NewCommittee;
 use committee::Stake;
+use final_walk::Tabling;
+use finalization_interpreter::Certifiers;
 use finalization_interpreter::MaybeLocator;
 use types::BaseStatement;
 use types::BlockReference;
 use types::TransactionLocator;
 use types::TransactionLocatorRange;
 ghost use mathlib.Core.Path.{_≡_};
-ghost use mathlib.Core.Bool.{true, false};
+ghost use mathlib.Core.Bool.{true, false, _&&_};
 ghost use mathlib.Core.List.{map};
+ghost use mathlib.Core.Option.{none};
 ghost use Prim.Native.Nat.{_+_, _*_, _/_, _≤_, _<_};
 ghost use lib.ListN.{length};
 ghost use lib.Seq.{sets};
+ghost use Rattle.base.specs.Lists.{keep};
 ghost use Rattle.base.specs.Le.{Bytes};
 ghost use Rattle.base.specs.Checks.{answered};
 ghost use Rattle.committee.specs.Committee.{totalStake};
@@ -19,12 +23,16 @@ ghost use Rattle.types.specs.Reference.{locator as newLocator, oneRange};
 ghost use Rattle.types.specs.Block.{spans};
 ghost use Rattle.types.specs.Record.{wellFormed, blockIn};
 ghost use Rattle.types.specs.Values.{asReference, asLocator, asRange, asStatement};
+ghost use Rattle.finalization_interpreter.specs.Voters.{isFinal};
 ghost use Rattle.finalization_interpreter.specs.Finality.{blocksOf};
+ghost use Rattle.finalization_interpreter.specs.NextFinal.{isAfter, leastLocator, candidates, leastFinal};
 ghost use Rattle.finalization_interpreter.specs.Answers.{asMaybe};
-ghost use Rattle.finalization_interpreter.specs.Walk.{spanOf, Sorted, SortedStore};
+ghost use Rattle.finalization_interpreter.specs.Walk.{spanOf, startOf, Sorted, SortedStore};
+ghost use Rattle.final_walk.specs.Table.{Tabled};
+ghost use Rattle.final_walk.specs.Places.{Placed};
 ghost use Rattle.final_list.specs.Stretches.{edgesOf, edges, nearer, nearest, stretchEnd, stretchAt, stretches, referenceWords, stretchWords, givenAfter, wordsAfter, finalStretches};
 ghost use Rattle.final_list.specs.Answers.{asStretches};
-ghost use Rattle.final_list.specs.Step.{edgesIn, stretchOf};
+ghost use Rattle.final_list.specs.Step.{edgesIn, tableRanges, asNext, FoundRight, stretchOf};
 ghost use Rattle.final_list.specs.Claims.{Claims};
 
 // ---- where a stretch ends
@@ -254,6 +262,197 @@ fn fill_stretches(
     }
 }
 
+// ---- the same by tables of the votes and of the places of includes, which are read once for a call
+
+// A final locator, and its certifying blocks.
+struct FoundFinal {
+    locator: TransactionLocator,
+    found: Certifiers,
+}
+
+enum NextStretch {
+    At(FoundFinal),
+    Nothing,
+}
+
+// Where the stretch of a locator ends, by the table of votes.
+fn table_end(votes: &[u64], m: usize, locator: TransactionLocator) -> u64
+    requires { ⌜ 9 * m ≤ length (now votes) ⌝ }
+    ensures { λ r. ⌜ r ≡ nearest (locator .offset) 0 (edgesIn (asReference (locator .block)) (tableRanges (now (votes .entry)) m)) ⌝ }
+{
+    let block = locator.block;
+    let mut near: u64 = 0;
+    let mut i: usize = 0;
+    while i < m {
+        let range = final_walk::read_vote(votes, i);
+        near = range_edges(block, locator.offset, near, range);
+        i += 1;
+    }
+    near
+}
+
+// Where a range begins.
+fn start_of(range: TransactionLocatorRange) -> TransactionLocator
+    ensures { λ r. ⌜ asLocator r ≡ startOf (asRange range) ⌝ }
+{
+    let block = range.block;
+    TransactionLocator {
+        block,
+        offset: range.offset_start_inclusive,
+    }
+}
+
+// The least locator after the given one at which a vote of the table begins.
+fn table_start(votes: &[u64], m: usize, last: MaybeLocator) -> MaybeLocator
+    requires { ⌜ 9 * m ≤ length (now votes) ⌝ }
+    ensures { λ r. ⌜ asMaybe r ≡ leastLocator (keep (isAfter (asMaybe last)) (map startOf (tableRanges (now (votes .entry)) m))) ⌝ }
+{
+    let mut least = MaybeLocator::Nothing;
+    let mut i: usize = 0;
+    while i < m {
+        let range = final_walk::read_vote(votes, i);
+        least = finalization_interpreter::lesser(least, last, start_of(range));
+        i += 1;
+    }
+    least
+}
+
+// The least final locator after the given one among those at which a vote begins.
+fn final_start(
+    stakes: &[u64],
+    total: Stake,
+    store: &[u8],
+    order: &[u64],
+    votes: &[u64],
+    m: usize,
+    places: &[u64],
+    after: MaybeLocator,
+) -> NextStretch
+    requires { ⌜ ((Sorted (now stakes) (now store) (now order) × (total .0 ≡ totalStake (now stakes))) × (length (now order) ≤ 1024)) × (Tabled (now store) (now order) (now votes) (length (now order)) m × Placed (now store) (now order) (now places) (length (now order))) ⌝ }
+    ensures { λ r. ⌜ (asNext r ≡ leastLocator (keep (λ l. isAfter (asMaybe after) l && isFinal (now (stakes .entry)) (blocksOf (now (store .entry))) l) (candidates (blocksOf (now (store .entry))) none))) × FoundRight (now (stakes .entry)) (now (store .entry)) r ⌝ }
+{
+    let mut last = after;
+    loop {
+        let start = table_start(votes, m, last);
+        let MaybeLocator::Locator(locator) = start else {
+            return NextStretch::Nothing;
+        };
+        let found = final_walk::certifiers_of(
+            stakes,
+            total,
+            store,
+            order,
+            votes,
+            m,
+            places,
+            locator,
+        );
+        if committee::is_quorum(total, committee::stake_of(stakes, found.authors)) {
+            return NextStretch::At(FoundFinal { locator, found });
+        }
+        last = start;
+    }
+}
+
+// The least final locator after the given one.
+fn final_after(
+    stakes: &[u64],
+    total: Stake,
+    store: &[u8],
+    order: &[u64],
+    votes: &[u64],
+    m: usize,
+    places: &[u64],
+    after: MaybeLocator,
+) -> NextStretch
+    requires { ⌜ ((Sorted (now stakes) (now store) (now order) × (total .0 ≡ totalStake (now stakes))) × (length (now order) ≤ 1024)) × (Tabled (now store) (now order) (now votes) (length (now order)) m × Placed (now store) (now order) (now places) (length (now order))) ⌝ }
+    ensures { λ r. ⌜ (asNext r ≡ leastFinal (now (stakes .entry)) (blocksOf (now (store .entry))) (asMaybe after)) × FoundRight (now (stakes .entry)) (now (store .entry)) r ⌝ }
+{
+    let MaybeLocator::Locator(given) = after else {
+        return final_start(stakes, total, store, order, votes, m, places, after);
+    };
+    if given.offset == 18446744073709551615 {
+        // No offset follows, so only a later block can have the next one.
+        return final_start(stakes, total, store, order, votes, m, places, after);
+    }
+    let block = given.block;
+    let locator = TransactionLocator {
+        block,
+        offset: given.offset + 1,
+    };
+    let found = final_walk::certifiers_of(stakes, total, store, order, votes, m, places, locator);
+    if committee::is_quorum(total, committee::stake_of(stakes, found.authors)) {
+        return NextStretch::At(FoundFinal { locator, found });
+    }
+    final_start(stakes, total, store, order, votes, m, places, after)
+}
+
+// Writes stretches until the slice is full or no final locator follows.
+fn fill_by_tables(
+    stakes: &[u64],
+    total: Stake,
+    store: &[u8],
+    order: &[u64],
+    votes: &[u64],
+    m: usize,
+    places: &[u64],
+    out: &mut [u64],
+    after: MaybeLocator,
+) -> StretchesAnswer
+    requires { ⌜ ((Sorted (now stakes) (now store) (now order) × (total .0 ≡ totalStake (now stakes))) × (length (now order) ≤ 1024)) × (Tabled (now store) (now order) (now votes) (length (now order)) m × Placed (now store) (now order) (now places) (length (now order))) ⌝ }
+    ensures { λ r. ⌜ asStretches r ≡ answered (givenAfter (now (stakes .entry)) (now (store .entry)) (asMaybe after) (stretches (now (stakes .entry)) (now (store .entry)) (length (now (out .entry)) / 10) (asMaybe after))) ⌝ }
+    ensures { λ r. ⌜ now (out .exit) ≡ wordsAfter (stretches (now (stakes .entry)) (now (store .entry)) (length (now (out .entry)) / 10) (asMaybe after)) (now (out .entry)) ⌝ }
+{
+    let room = out.len() / 10;
+    let mut n: usize = 0;
+    let mut last = after;
+    loop {
+        let next = final_after(stakes, total, store, order, votes, m, places, last);
+        let NextStretch::At(at) = next else {
+            return StretchesAnswer::Last(n as u64);
+        };
+        if n == room {
+            return StretchesAnswer::More(n as u64);
+        }
+        let locator = at.locator;
+        let found = at.found;
+        let stake = committee::stake_of(stakes, found.authors);
+        let end = table_end(votes, m, locator);
+        write_stretch(out, n, locator, end, found.blocks as u64, stake);
+        let block = locator.block;
+        last = MaybeLocator::Locator(TransactionLocator {
+            block,
+            offset: end - 1,
+        });
+        n += 1;
+    }
+}
+
+// By the tables where they fit, else block by block.
+fn fill(
+    stakes: &[u64],
+    total: Stake,
+    store: &[u8],
+    order: &[u64],
+    out: &mut [u64],
+    after: MaybeLocator,
+) -> StretchesAnswer
+    requires { ⌜ (Sorted (now stakes) (now store) (now order) × (total .0 ≡ totalStake (now stakes))) × (length (now order) ≤ 1024) ⌝ }
+    ensures { λ r. ⌜ asStretches r ≡ answered (givenAfter (now (stakes .entry)) (now (store .entry)) (asMaybe after) (stretches (now (stakes .entry)) (now (store .entry)) (length (now (out .entry)) / 10) (asMaybe after))) ⌝ }
+    ensures { λ r. ⌜ now (out .exit) ≡ wordsAfter (stretches (now (stakes .entry)) (now (store .entry)) (length (now (out .entry)) / 10) (asMaybe after)) (now (out .entry)) ⌝ }
+{
+    let mut votes = [0u64; 36864];
+    let tabled = final_walk::table_votes(stakes, store, order, &mut votes);
+    let Tabling::Now(m) = tabled else {
+        return fill_stretches(stakes, total, store, order, out, after);
+    };
+    let mut places = [0u64; 8192];
+    if !final_walk::note_places(store, order, &mut places) {
+        return fill_stretches(stakes, total, store, order, out, after);
+    }
+    fill_by_tables(stakes, total, store, order, &votes, m, &places, out, after)
+}
+
 // The final list from the start or after a given locator on, as many stretches as the slice holds, ten words each: author, round, the
 // digest in four words with the first byte highest, first offset, end offset (excluded), number of certifying blocks, their authors'
 // stake. The words past them stay. The store is checked once for the call.
@@ -274,7 +473,7 @@ pub fn final_stretches(
     }
     let mut order = [0u64; 1024];
     let count = finalization_interpreter::sorted_positions(store, &mut order);
-    fill_stretches(stakes, total, store, &order[..count], out, after)
+    fill(stakes, total, store, &order[..count], out, after)
 }
 
 // The stretches are what the single questions, asked on, would give.

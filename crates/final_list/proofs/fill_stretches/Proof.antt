@@ -15,7 +15,7 @@ use Rattle.final_list.specs.Stretches.{lastLocator, stretchAt, Given}
 use Rattle.final_list.specs.Answers.{asStretches}
 use Rattle.final_list.specs.Step.{Filled}
 use Rattle.final_list.proofs.Alike.{final-before-end}
-use Rattle.final_list.proofs.Ends.{final-offset}
+use Rattle.final_walk.proofs.Ends.{final-offset}
 use Rattle.final_list.proofs.Filling.{found-final, stretches-none, stretches-full, fill-start, fill-more, fill-words, given-last, given-more}
 use Rattle.final_list.proofs.fill_stretches.Statement.{statement}
 use Rattle.final_list.proofs.fill_stretches.Tie as tie

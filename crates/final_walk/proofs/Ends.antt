@@ -58,7 +58,7 @@ module _ (c : Committee) (s : Bytes) (bytes : AllBytes s) (o : storeInOrder c s 
   vote-end b m (reject l other) k f q e = absurd (Option·none-ne-some q e)
   vote-end b m (voteRange r) k f q e = rw (← Option·some-injective _ _ e) (omega (arith, f .end))
 
-  span-end : (b : Block) → b ∈ blocksOf s → (q : TransactionLocatorRange) → q ∈ spans b → q .end ≤ 18446744073709551615
+  pub span-end : (b : Block) → b ∈ blocksOf s → (q : TransactionLocatorRange) → q ∈ spans b → q .end ≤ 18446744073709551615
   unfolding spans oneRange newRange locator
   span-end b m q i = go (block-fits s bytes b m) (span-of (b .reference) 0 (b .statements) q i)
     where

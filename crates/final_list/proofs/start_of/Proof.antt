@@ -1,0 +1,13 @@
+use mathlib.Core.Path.{refl}
+use Rattle.types.specs.Reference.{locator, newRange}
+use Rattle.types.specs.Values.{asLocator, asRange}
+use Rattle.finalization_interpreter.specs.Walk.{startOf}
+use Rattle.final_list.proofs.start_of.Statement.{statement}
+use Rattle.final_list.proofs.start_of.Tie as tie
+
+returns : tie.Need-returns
+unfolding asLocator asRange startOf locator newRange
+returns c = refl
+
+pub start-of-spec : {M : Type 1} → statement M
+start-of-spec = tie.close (tie.spec returns)

@@ -1,0 +1,4 @@
+pub mod Ends
+pub mod Table
+pub mod Marks
+pub mod Walking

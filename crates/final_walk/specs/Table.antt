@@ -1,0 +1,86 @@
+-- Machinery for the contracts of inner functions: the votes of the stored blocks in a table of nine words each. Assumes nothing: these are definitions.
+use Prim.Native.Nat.{ℕ, _+_, _*_, _≤_, _<_}
+use mathlib.Core.Path.{_≡_}
+use mathlib.Core.Logic.{_⊎_}
+use mathlib.Core.List.{List, [], _∷_}
+use lib.ListN.{length, getD, drop}
+use Rattle.base.specs.Lists.{_∈_}
+use Rattle.base.specs.Le.{Bytes}
+use Rattle.types.specs.Reference.{TransactionLocatorRange, newRange}
+use Rattle.types.specs.Block.{Block, spansFrom, spans}
+use Rattle.types.specs.Values.{digestBytes}
+use Rattle.types.specs.declared.TransactionLocatorRange as ranges
+use Rattle.finalization_interpreter.specs.Walk.{blockAtPlace}
+use Rattle.final_walk.specs.declared.Vote.{Vote}
+use Rattle.final_walk.specs.declared.Vote.the-variants.{Range, Nothing}
+use Rattle.final_walk.specs.declared.Tabling.{Tabling}
+use Rattle.final_walk.specs.declared.Tabling.the-variants.{Now, Full}
+use Rattle.types.specs.Values.{asRange}
+
+-- the place of the voting block in ascending reference order, the six words of the voted reference, start and end
+unfoldable pub voteWords : ℕ → ranges.TransactionLocatorRange → List ℕ
+voteWords k q =
+    k
+    ∷ q .block .authority .0
+    ∷ q .block .round .0
+    ∷ q .block .digest .0
+    ∷ q .block .digest .1
+    ∷ q .block .digest .2
+    ∷ q .block .digest .3
+    ∷ q .«offset_start_inclusive»
+    ∷ q .«offset_end_exclusive»
+    ∷ []
+
+unfoldable pub placeAt : List ℕ → ℕ → ℕ
+placeAt t i = getD t (9 * i) 0
+
+unfoldable pub rangeAt : List ℕ → ℕ → TransactionLocatorRange
+rangeAt t i =
+    newRange
+    (record {
+      authority = getD t (9 * i + 1) 0;
+      round = getD t (9 * i + 2) 0;
+      digest = digestBytes (record { 0 = getD t (9 * i + 3) 0; 1 = getD t (9 * i + 4) 0; 2 = getD t (9 * i + 5) 0; 3 = getD t (9 * i + 6) 0 });
+    })
+    (getD t (9 * i + 7) 0)
+    (getD t (9 * i + 8) 0)
+
+-- the ranges that a statement votes for
+unfoldable pub votedBy : Vote → List TransactionLocatorRange
+votedBy (Range q) = asRange q ∷ []
+votedBy Nothing = []
+
+-- no vote reaches past the last offset
+unfoldable pub EndsFit : List TransactionLocatorRange → Type 0
+EndsFit qs = (q : TransactionLocatorRange) → q ∈ qs → q .end ≤ 18446744073709551615
+
+-- a vote of the block at place k among those of the table from the first to m
+pub record Held (t : List ℕ) (first m k : ℕ) (q : TransactionLocatorRange) : Type 0 where
+  pub index : ℕ
+  pub from : first ≤ index
+  pub below : index < m
+  pub place : placeAt t index ≡ k
+  pub range : rangeAt t index ≡ q
+
+-- the votes of a block's statements up to index i, put into the table from first on
+pub record Recorded (b : Block) (k : ℕ) (t₀ t : List ℕ) (first m i : ℕ) : Type 0 where
+  pub grown : first ≤ m
+  pub long : length t ≡ length t₀
+  pub room : 9 * m ≤ length t
+  pub kept : (j : ℕ) → j < first → (placeAt t j ≡ placeAt t₀ j) × (rangeAt t j ≡ rangeAt t₀ j)
+  pub sound : (j : ℕ) → first ≤ j → j < m → (placeAt t j ≡ k) × (rangeAt t j ∈ spans b)
+  pub complete : (q : TransactionLocatorRange) → q ∈ spans b → (q ∈ spansFrom (b .reference) i (drop i (b .statements))) ⊎ Held t first m k q
+
+unfoldable pub RecordedBy : Block → ℕ → List ℕ → List ℕ → ℕ → Tabling → Type 0
+RecordedBy b k t₀ t first Full = Unit {0}
+RecordedBy b k t₀ t first (Now m) = Recorded b k t₀ t first m (length (b .statements))
+
+-- the votes of the blocks at the first n places are the first m of the table
+pub record Tabled (s : Bytes) (order t : List ℕ) (n m : ℕ) : Type 0 where
+  pub room : 9 * m ≤ length t
+  pub sound : (j : ℕ) → j < m → (placeAt t j < n) × (rangeAt t j ∈ spans (blockAtPlace s order (placeAt t j)))
+  pub complete : (k : ℕ) → k < n → (q : TransactionLocatorRange) → q ∈ spans (blockAtPlace s order k) → Held t 0 m k q
+
+unfoldable pub TabledBy : Bytes → List ℕ → List ℕ → Tabling → Type 0
+TabledBy s order t Full = Unit {0}
+TabledBy s order t (Now m) = Tabled s order t (length order) m
