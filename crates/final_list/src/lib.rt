@@ -412,7 +412,7 @@ fn fill_by_tables(
             return StretchesAnswer::Last(n as u64);
         };
         if n == room {
-            return StretchesAnswer::More(n as u64);
+            return StretchesAnswer::More(n as u64); // the slice is full
         }
         let locator = at.locator;
         let found = at.found;
@@ -422,14 +422,14 @@ fn fill_by_tables(
         let block = locator.block;
         last = MaybeLocator::Locator(TransactionLocator {
             block,
-            offset: end - 1,
+            offset: end - 1, // the last one written
         });
         n += 1;
     }
 }
 
-// By the tables where they fit, else block by block.
-fn fill(
+// The same with tables of 4,096 votes and 8,192 includes. Where they do not fit, the blocks are read anew for each locator.
+fn fill_large(
     stakes: &[u64],
     total: Stake,
     store: &[u8],
@@ -449,6 +449,32 @@ fn fill(
     let mut places = [0u64; 8192];
     if !final_walk::note_places(store, order, &mut places) {
         return fill_stretches(stakes, total, store, order, out, after);
+    }
+    fill_by_tables(stakes, total, store, order, &votes, m, &places, out, after)
+}
+
+// Writes stretches until the slice is full or no final locator follows, by tables of 128 votes and 256 includes: zeroing more would cost a
+// small store more than the question.
+fn fill(
+    stakes: &[u64],
+    total: Stake,
+    store: &[u8],
+    order: &[u64],
+    out: &mut [u64],
+    after: MaybeLocator,
+) -> StretchesAnswer
+    requires { ⌜ (Sorted (now stakes) (now store) (now order) × (total .0 ≡ totalStake (now stakes))) × (length (now order) ≤ 1024) ⌝ }
+    ensures { λ r. ⌜ asStretches r ≡ answered (givenAfter (now (stakes .entry)) (now (store .entry)) (asMaybe after) (stretches (now (stakes .entry)) (now (store .entry)) (length (now (out .entry)) / 10) (asMaybe after))) ⌝ }
+    ensures { λ r. ⌜ now (out .exit) ≡ wordsAfter (stretches (now (stakes .entry)) (now (store .entry)) (length (now (out .entry)) / 10) (asMaybe after)) (now (out .entry)) ⌝ }
+{
+    let mut votes = [0u64; 1152];
+    let tabled = final_walk::table_votes(stakes, store, order, &mut votes);
+    let Tabling::Now(m) = tabled else {
+        return fill_large(stakes, total, store, order, out, after);
+    };
+    let mut places = [0u64; 256];
+    if !final_walk::note_places(store, order, &mut places) {
+        return fill_large(stakes, total, store, order, out, after);
     }
     fill_by_tables(stakes, total, store, order, &votes, m, &places, out, after)
 }

@@ -17,8 +17,8 @@ enum-known-tabled c = search needs
 enum-told : tie.Need-enum-told
 enum-told c = search needs
 
-fill-stretches-requires : tie.Need-fill-stretches-requires
-fill-stretches-requires c κs = search needs
+fill-large-requires : tie.Need-fill-large-requires
+fill-large-requires c κs = search needs
 
 same-length : tie.Need-same-length
 same-length c = search needs
@@ -32,8 +32,8 @@ slice-aggregate-note-places c = search needs
 note-places-requires : tie.Need-note-places-requires
 note-places-requires c κs = some-committee (c .before .before .before .before .before .before .before .before .before .before .before .pre .0 .0)
 
-fill-stretches-requires-2 : tie.Need-fill-stretches-requires-2
-fill-stretches-requires-2 c κs = search needs
+fill-large-requires-2 : tie.Need-fill-large-requires-2
+fill-large-requires-2 c κs = search needs
 
 same-length-2 : tie.Need-same-length-2
 same-length-2 c = search needs
@@ -65,12 +65,12 @@ fill-spec =
     table-votes-requires
     enum-known-tabled
     enum-told
-    fill-stretches-requires
+    fill-large-requires
     same-length
     returns
     slice-aggregate-note-places
     note-places-requires
-    fill-stretches-requires-2
+    fill-large-requires-2
     same-length-2
     returns-2
     slice-aggregate-fill-by-tables
