@@ -1,5 +1,5 @@
-//! A model of document 01, written from its text alone and as plainly as it reads: no part of it looks at the engine or at the
-//! Rust. Where the Rust has no answer (damaged records, broken memory, rejects, empty ranges) the engine is held to it.
+//! A model of document 01, written from its text and as plainly as it reads (`lent`, the host's calls over bytes, from lomkhvide.h):
+//! no part of it looks at the code of the engine or of the Rust. Where the Rust has no answer (damaged records, broken memory, rejects, empty ranges) the engine is held to it.
 
 pub mod committee;
 pub mod feed;
