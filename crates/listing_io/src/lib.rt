@@ -68,14 +68,14 @@ pub fn read_record(fd: i32, rec: &mut [u8]) -> Size
 }
 
 // Writes out what the buffer holds.
-pub fn flush(out: &[u8], at: usize)
+fn flush(out: &[u8], at: usize)
     requires { ⌜ at ≤ length (now out) ⌝ }
 {
     io::write_all(STDOUT_FILENO, &out[..at]);
 }
 
 // Where the next line goes: at the front, after writing out what the buffer holds, where it has no room for a line any more.
-pub fn room(out: &[u8], at: usize) -> usize
+fn room(out: &[u8], at: usize) -> usize
     requires { ⌜ (at ≤ length (now out)) × (128 ≤ length (now out)) ⌝ }
     ensures { λ r. ⌜ r + 128 ≤ length (now (out .entry)) ⌝ }
 {
