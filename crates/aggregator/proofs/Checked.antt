@@ -15,10 +15,10 @@ use Rattle.base.specs.Le.{Bytes}
 use Rattle.base.proofs.Tests.{fails, not-both}
 use Rattle.base.proofs.Places.{every-place, places-every, pairs-places}
 use Rattle.base.proofs.Lists.{append-nil, find-passes, find-in, every-in, every-all, all-every}
-use Rattle.types.specs.Block.{Block}
-use Rattle.types.specs.Record.{blockIn}
-use Rattle.types.specs.Cursor.{cursorAt}
-use Rattle.types.specs.declared.StatementCursor.{StatementCursor}
+use Rattle.blocks.specs.Block.{Block}
+use Rattle.blocks.specs.Record.{blockIn}
+use Rattle.block_record.specs.Cursor.{cursorAt}
+use Rattle.block_record.specs.declared.StatementCursor.{StatementCursor}
 use Rattle.block_store.specs.Layout.{Entry, entries, usedBy}
 use Rattle.block_store.specs.Store.{recordsOf}
 use Rattle.block_store.specs.Entry.{readable, isEntry, recordAt, blockAt}

@@ -14,10 +14,10 @@ use Rattle.base.specs.Lists.{pick}
 use Rattle.base.proofs.Lists.{append-nil, Every}
 use Rattle.base.proofs.Tests.{not-both}
 use Rattle.committee.specs.Committee.{AuthorityIndex, Committee, known}
-use Rattle.types.specs.Reference.{TransactionLocatorRange}
-use Rattle.types.specs.Block.{Statement, votedRange, countedOffsets}
-use Rattle.types.specs.Record.{noStatement}
-use Rattle.types.proofs.Walk.{offsetsCounted, counted-on}
+use Rattle.blocks.specs.Reference.{TransactionLocatorRange}
+use Rattle.blocks.specs.Block.{Statement, votedRange, countedOffsets}
+use Rattle.blocks.specs.Record.{noStatement}
+use Rattle.shared_ranges.proofs.Walk.{offsetsCounted, counted-on}
 use Rattle.block_store.specs.Layout.{Entry}
 use Rattle.range_map.specs.Items.{Item}
 use Rattle.range_map.specs.Table.{tableOf, itemsOf, room, tableInOrder}

@@ -15,9 +15,9 @@ use Rattle.base.proofs.Members.{in-empty, in-cases, in-append, flatten-in, map-
 use Rattle.base.proofs.Lists.{Every, every-in, find-passes, find-every, find-in}
 use Rattle.committee.specs.Committee.{AuthorityIndex, Committee, known}
 use Rattle.committee.specs.StakeAggregator.{hasQuorum}
-use Rattle.types.specs.Reference.{BlockReference, TransactionLocatorRange, sameReference, offsets}
-use Rattle.types.specs.Block.{Statement, author, isShareAt, votedRange}
-use Rattle.types.proofs.References.{reference-same}
+use Rattle.blocks.specs.Reference.{BlockReference, TransactionLocatorRange, sameReference, offsets}
+use Rattle.blocks.specs.Block.{Statement, author, isShareAt, votedRange}
+use Rattle.blocks.proofs.References.{reference-same}
 use Rattle.block_store.specs.Layout.{Record, Entry, referenceOf, entries, positionOf, lookup}
 use Rattle.block_store.specs.Store.{recordsOf}
 use Rattle.block_store.proofs.Visit.{one-position}

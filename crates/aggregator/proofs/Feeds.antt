@@ -14,10 +14,10 @@ use Rattle.base.specs.Checks.{_⇒_, refusal, passes}
 use Rattle.base.proofs.Lists.{none-of, and, every-append, every-in}
 use Rattle.base.proofs.Refusals.{Numbered, zero-passes, refusal-first, refusal-then}
 use Rattle.committee.specs.Committee.{Committee}
-use Rattle.types.specs.Reference.{BlockReference}
-use Rattle.types.specs.Block.{Block, eventRoom}
-use Rattle.types.specs.Record.{wellFormed, blockIn}
-use Rattle.types.specs.Verify.{headChecks, includeChecks, statementChecks, bodyChecks}
+use Rattle.blocks.specs.Reference.{BlockReference}
+use Rattle.blocks.specs.Block.{Block, eventRoom}
+use Rattle.blocks.specs.Record.{wellFormed, blockIn}
+use Rattle.blocks.specs.Verify.{headChecks, includeChecks, statementChecks, bodyChecks}
 use Rattle.threshold_clock.proofs.Checking.{includes-numbered, statements-numbered}
 use Rattle.block_store.specs.Layout.{Record, Entry, entries, positionOf, lookup}
 use Rattle.block_store.specs.Accept.{isStored, firstMissing, blockChecks}

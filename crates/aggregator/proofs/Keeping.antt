@@ -13,7 +13,7 @@ use Rattle.base.specs.Checks.{refusal, passes}
 use Rattle.base.proofs.Lists.{none-of, no-pairs}
 use Rattle.base.proofs.Checks.{passes-first, passes-others, passes-left, passes-right}
 use Rattle.committee.specs.Committee.{Committee}
-use Rattle.types.specs.Block.{eventRoom}
+use Rattle.blocks.specs.Block.{eventRoom}
 use Rattle.block_store.specs.Layout.{Record, Entry, readRecord, usedBy, entries}
 use Rattle.block_store.specs.Accept.{blockChecks}
 use Rattle.block_store.specs.Store.{recordsOf, storeInOrder, storeFull}

@@ -16,7 +16,7 @@ use Rattle.base.proofs.Checks.{passes-first, passes-others}
 use Rattle.base.proofs.Refusals.{zero-passes, passes-zero}
 use Rattle.committee.specs.Committee.{Committee, broken}
 use Rattle.committee.specs.AuthoritySet.{numberOfVoters}
-use Rattle.types.specs.Reference.{TransactionLocator}
+use Rattle.blocks.specs.Reference.{TransactionLocator}
 use Rattle.block_store.specs.Layout.{entries, positionOf, lookup}
 use Rattle.block_store.specs.Store.{recordsOf, storeInOrder}
 use Rattle.block_store.specs.Entry.{readable, chained, laidOut}

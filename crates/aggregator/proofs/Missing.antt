@@ -10,9 +10,9 @@ use Rattle.base.specs.Lists.{pick, find, holds, _∈_}
 use Rattle.base.specs.Le.{Bytes}
 use Rattle.base.proofs.Members.{in-cases}
 use Rattle.base.proofs.Lists.{every-in}
-use Rattle.types.specs.Reference.{BlockReference, sameReference}
-use Rattle.types.specs.Block.{isShareAt}
-use Rattle.types.specs.Record.{blockIn}
+use Rattle.blocks.specs.Reference.{BlockReference, sameReference}
+use Rattle.blocks.specs.Block.{isShareAt}
+use Rattle.blocks.specs.Record.{blockIn}
 use Rattle.types.specs.Values.{orderOf, referenceOrder}
 use Rattle.types.specs.declared.Ordering.{Ordering}
 use Rattle.types.specs.declared.Ordering.the-variants.{Less, Equal, Greater}

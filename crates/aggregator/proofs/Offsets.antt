@@ -9,11 +9,11 @@ use lib.ListN.{length, getD, getElem?}
 use Rattle.base.specs.Lists.{allOf, holds, countFrom}
 use Rattle.base.proofs.Tests.{fails, not-both}
 use Rattle.base.proofs.Lists.{every-all, all-every, every-countFrom, countFrom-every}
-use Rattle.types.specs.Block.{Statement, Block, isShare, isShareAt}
-use Rattle.types.specs.Record.{noStatement}
-use Rattle.types.specs.Cursor.{cursorAt}
-use Rattle.types.specs.declared.StatementCursor.{StatementCursor}
-use Rattle.types.proofs.Walk.{placed-index, placed}
+use Rattle.blocks.specs.Block.{Statement, Block, isShare, isShareAt}
+use Rattle.blocks.specs.Record.{noStatement}
+use Rattle.block_record.specs.Cursor.{cursorAt}
+use Rattle.block_record.specs.declared.StatementCursor.{StatementCursor}
+use Rattle.shared_ranges.proofs.Walk.{placed-index, placed}
 use Rattle.range_map.specs.Table.{sharesIn}
 use Rattle.aggregator.specs.Step.{Placed}
 

@@ -16,10 +16,10 @@ use Rattle.base.proofs.Checks.{passes-others, passes-left, passes-right}
 use Rattle.base.proofs.Tests.{not-both}
 use Rattle.base.proofs.Lists.{Every, every, every-all, pairs-pairwise}
 use Rattle.committee.specs.Committee.{AuthorityIndex, Committee, Stake, totalStake}
-use Rattle.types.specs.Reference.{TransactionLocatorRange}
-use Rattle.types.specs.Verify.{headChecks, includeChecks, statementChecks, bodyChecks}
-use Rattle.types.specs.Block.{Statement, Block, author, votedRange, sharedRanges}
-use Rattle.types.specs.Record.{blockIn}
+use Rattle.blocks.specs.Reference.{TransactionLocatorRange}
+use Rattle.blocks.specs.Verify.{headChecks, includeChecks, statementChecks, bodyChecks}
+use Rattle.blocks.specs.Block.{Statement, Block, author, votedRange, sharedRanges}
+use Rattle.blocks.specs.Record.{blockIn}
 use Rattle.block_store.specs.Layout.{Record, Entry, entries, usedBy, positionOf, lookup}
 use Rattle.block_store.specs.Store.{recordsOf, recordIn}
 use Rattle.block_store.specs.Accept.{blockChecks}

@@ -11,8 +11,8 @@ use Rattle.base.proofs.Lists.{Every, length-flatten, length-countFrom}
 use Rattle.base.proofs.Orders.{same-refl}
 use Rattle.committee.specs.Committee.{AuthorityIndex, Committee, known}
 use Rattle.committee.specs.StakeAggregator.{hasQuorum}
-use Rattle.types.specs.Reference.{BlockReference, sameReference, TransactionLocatorRange, offsets}
-use Rattle.types.specs.Block.{Statement, Block, author, votedRange, countedOffsets, eventRoom}
+use Rattle.blocks.specs.Reference.{BlockReference, sameReference, TransactionLocatorRange, offsets}
+use Rattle.blocks.specs.Block.{Statement, Block, author, votedRange, countedOffsets, eventRoom}
 use Rattle.block_store.specs.Layout.{Entry, positionOf, lookup}
 use Rattle.range_map.specs.Items.{Item, itemAt, voteOver}
 use Rattle.range_map.proofs.Items.{Ordered, ordered-voteOver, ordered-afterLeaving}

@@ -16,10 +16,10 @@ use Rattle.base.proofs.Lists.{Every, every, every-in, find-passes, find-in, kee
 use Rattle.committee.specs.Committee.{AuthorityIndex, Committee, broken}
 use Rattle.committee.specs.AuthoritySet.{numberOfVoters}
 use Rattle.committee.specs.StakeAggregator.{StakeAggregator, noVotes, counted, hasQuorum}
-use Rattle.types.specs.Reference.{BlockReference, TransactionLocator, TransactionLocatorRange, sameReference, within, offsets, covers}
-use Rattle.types.specs.Block.{author, isShareAt}
-use Rattle.types.proofs.Ranges.{within-yes, within-no, within-true}
-use Rattle.types.proofs.References.{reference-same, same-reference}
+use Rattle.blocks.specs.Reference.{BlockReference, TransactionLocator, TransactionLocatorRange, sameReference, within, offsets, covers}
+use Rattle.blocks.specs.Block.{author, isShareAt}
+use Rattle.blocks.proofs.Ranges.{within-yes, within-no, within-true}
+use Rattle.blocks.proofs.References.{reference-same, same-reference}
 use Rattle.block_store.specs.Layout.{Record, Entry, referenceOf, usedBy, entries, positionOf, lookup}
 use Rattle.block_store.specs.Store.{recordsOf}
 use Rattle.block_store.proofs.Store.{entries-below, entries-within}

@@ -16,14 +16,15 @@ use Rattle.base.proofs.Lists.{Every, every}
 use Rattle.committee.specs.Committee.{AuthorityIndex, Committee, Stake, totalStake}
 use Rattle.base.specs.Checks.{passes}
 use Rattle.base.proofs.Checks.{passes-first}
-use Rattle.types.specs.Reference.{TransactionLocatorRange, locator, offsets}
-use Rattle.types.specs.Verify.{statementChecks}
-use Rattle.types.specs.Values.{asLocator, asStatement}
+use Rattle.blocks.specs.Reference.{TransactionLocatorRange, locator, offsets}
+use Rattle.blocks.specs.Verify.{statementChecks}
+use Rattle.types.specs.Values.{asLocator}
+use Rattle.block_record.specs.Values.{asStatement}
 use Rattle.types.specs.declared.TransactionLocator.{TransactionLocator}
-use Rattle.types.specs.declared.BaseStatement.{BaseStatement}
-use Rattle.types.specs.declared.BaseStatement.the-variants.{Accept}
-use Rattle.types.specs.Block.{author}
-use Rattle.types.specs.Record.{blockIn}
+use Rattle.block_record.specs.declared.BaseStatement.{BaseStatement}
+use Rattle.block_record.specs.declared.BaseStatement.the-variants.{Accept}
+use Rattle.blocks.specs.Block.{author}
+use Rattle.blocks.specs.Record.{blockIn}
 use Rattle.block_store.specs.Layout.{Entry, positionOf, lookup}
 use Rattle.range_map.specs.Items.{Item, itemAt, bothCuts, voteOver, stays, afterLeaving}
 use Rattle.range_map.specs.Table.{HoldsItems, tableOf, itemsOf, room, tableInOrder, tableFormed}

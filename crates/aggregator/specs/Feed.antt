@@ -9,7 +9,7 @@ use Rattle.base.specs.Lists.{pick}
 use Rattle.base.specs.Le.{Bytes}
 use Rattle.base.specs.Checks.{Check, _⇒_, refusal, passes, Answer, refused, answered}
 use Rattle.committee.specs.Committee.{Committee, broken}
-use Rattle.types.specs.Block.{eventRoom}
+use Rattle.blocks.specs.Block.{eventRoom}
 use Rattle.block_store.specs.Layout.{Record, readRecord, entries}
 use Rattle.block_store.specs.Accept.{blockChecks}
 use Rattle.block_store.specs.Store.{recordsOf, storeInOrder, storeFull, storeHolding}

@@ -6,8 +6,8 @@ use lib.ListN.{length}
 use Rattle.base.specs.Lists.{pick, holds}
 use Rattle.committee.specs.Committee.{AuthorityIndex, Committee}
 use Rattle.committee.specs.StakeAggregator.{hasQuorum}
-use Rattle.types.specs.Reference.{BlockReference, TransactionLocatorRange, offsets}
-use Rattle.types.specs.Block.{Statement, Block, author, isShareAt, votedRange, sharedRanges}
+use Rattle.blocks.specs.Reference.{BlockReference, TransactionLocatorRange, offsets}
+use Rattle.blocks.specs.Block.{Statement, Block, author, isShareAt, votedRange, sharedRanges}
 use Rattle.block_store.specs.Layout.{Entry, positionOf, lookup}
 use Rattle.range_map.specs.Items.{Item, itemAt, bothCuts, voteOver, afterLeaving, register}
 

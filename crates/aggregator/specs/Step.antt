@@ -14,12 +14,12 @@ use Rattle.base.specs.Le.{Bytes}
 use Rattle.base.specs.Checks.{Check, _⇒_, passes, Answer}
 use Rattle.committee.specs.Committee.{Committee, Stake, totalStake, broken, known, quorumOf}
 use Rattle.committee.specs.AuthoritySet.{member}
-use Rattle.types.specs.Reference.{BlockReference, TransactionLocator, TransactionLocatorRange}
-use Rattle.types.specs.Block.{Block, author, eventRoom}
-use Rattle.types.specs.Record.{wellFormed, blockIn}
-use Rattle.types.specs.Cursor.{cursorAt}
+use Rattle.blocks.specs.Reference.{BlockReference, TransactionLocator, TransactionLocatorRange}
+use Rattle.blocks.specs.Block.{Block, author, eventRoom}
+use Rattle.blocks.specs.Record.{wellFormed, blockIn}
+use Rattle.block_record.specs.Cursor.{cursorAt}
 use Rattle.types.specs.Values.{asRange}
-use Rattle.types.specs.declared.StatementCursor.{StatementCursor}
+use Rattle.block_record.specs.declared.StatementCursor.{StatementCursor}
 use Rattle.block_store.specs.Layout.{Entry, entries, usedBy, positionOf, lookup}
 use Rattle.block_store.specs.Store.{recordsOf, recordIn, storeFull}
 use Rattle.block_store.specs.Accept.{blockChecks}

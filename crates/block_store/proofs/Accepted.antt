@@ -9,10 +9,10 @@ use Rattle.base.proofs.Tests.{and-left, and-right, not-both, fails}
 use Rattle.base.proofs.Members.{any-in, in-any, map-in, in-map, in-right}
 use Rattle.base.proofs.Checks.{passes-none}
 use Rattle.committee.specs.Committee.{Committee, known}
-use Rattle.types.specs.Reference.{BlockReference, sameReference}
-use Rattle.types.specs.Block.{Block, author}
-use Rattle.types.specs.Verify.{headChecks, bodyChecks}
-use Rattle.types.proofs.References.{reference-same, same-reference}
+use Rattle.blocks.specs.Reference.{BlockReference, sameReference}
+use Rattle.blocks.specs.Block.{Block, author}
+use Rattle.blocks.specs.Verify.{headChecks, bodyChecks}
+use Rattle.blocks.proofs.References.{reference-same, same-reference}
 use Rattle.block_store.specs.Layout.{Record}
 use Rattle.block_store.specs.Accept.{isStored, blockChecks, allAccepted}
 use Rattle.block_store.proofs.Stored.{WellStored, fresh, stored}

@@ -12,10 +12,10 @@ use Rattle.base.proofs.Tests.{fails, not-both, and-left}
 use Rattle.base.proofs.Lists.{append-nil, every-in, with-later}
 use Rattle.base.proofs.Refusals.{passes-zero}
 use Rattle.committee.specs.Committee.{Committee}
-use Rattle.types.specs.Reference.{BlockReference}
-use Rattle.types.specs.Block.{Block}
-use Rattle.types.specs.Verify.{headChecks, bodyChecks}
-use Rattle.types.proofs.References.{same-reference}
+use Rattle.blocks.specs.Reference.{BlockReference}
+use Rattle.blocks.specs.Block.{Block}
+use Rattle.blocks.specs.Verify.{headChecks, bodyChecks}
+use Rattle.blocks.proofs.References.{same-reference}
 use Rattle.threshold_clock.proofs.Checking.{head-passes, body-passes}
 use Rattle.block_store.specs.Layout.{Record, usedBy, Entry, referenceOf, entries}
 use Rattle.block_store.specs.Accept.{isStored, blockChecks, allAccepted}

@@ -11,11 +11,11 @@ use Rattle.base.specs.Lists.{isNone, _∈_, here}
 use Rattle.base.specs.Le.{Bytes, leAt}
 use Rattle.base.proofs.Lists.{Every, none-of, and, every, every-in, every-append, with-later}
 use Rattle.base.proofs.Members.{in-append, in-right}
-use Rattle.types.specs.Reference.{BlockReference, referenceBefore}
-use Rattle.types.specs.Block.{Block}
+use Rattle.blocks.specs.Reference.{BlockReference, referenceBefore}
+use Rattle.blocks.specs.Block.{Block}
 use Rattle.types.specs.Values.{referenceOrder}
 use Rattle.types.specs.declared.Ordering.the-variants.{Less, Equal, Greater}
-use Rattle.types.proofs.References.{reference-irrefl, reference-trans}
+use Rattle.blocks.proofs.References.{reference-irrefl, reference-trans}
 use Rattle.block_store.specs.Layout.{Entry, referenceOf, entries, positionOf, firstPosition, ascending, lookup}
 use Rattle.block_store.specs.Store.{blockCount, recordsOf}
 use Rattle.block_store.specs.Entry.{blockAt, laidOut, isEntry}

@@ -17,9 +17,9 @@ use Rattle.base.proofs.Lists.{Every, none-of, every-in, with-later}
 use Rattle.base.proofs.Members.{in-append, in-right, in-left}
 use Rattle.base.proofs.Covered.{Around, around}
 use Rattle.base.proofs.Le.{AllBytes, length-leBytes, sets-append}
-use Rattle.types.specs.Reference.{BlockReference, sameReference, referenceBefore}
-use Rattle.types.specs.Record.{blockIn}
-use Rattle.types.proofs.References.{reference-irrefl, reference-same}
+use Rattle.blocks.specs.Reference.{BlockReference, sameReference, referenceBefore}
+use Rattle.blocks.specs.Record.{blockIn}
+use Rattle.blocks.proofs.References.{reference-irrefl, reference-same}
 use Rattle.block_store.specs.Layout.{Record, usedBy, Entry, referenceOf, entries, positionOf, firstPosition, nextPosition, entryBytes, bodyBytes, layout, ascending}
 use Rattle.block_store.specs.Store.{usedLength, blockCount, recordsOf, recordIn, storeFull, storeHolding}
 use Rattle.block_store.specs.Entry.{laidOut}

@@ -9,8 +9,8 @@ use Rattle.base.specs.Checks.{passes}
 use Rattle.base.proofs.Tests.{fails, and-left, and-right, neither-left, neither-right}
 use Rattle.base.proofs.Lists.{Every, none-of, and, every, every-keep, Pairs, no-pairs, with-later}
 use Rattle.committee.specs.Committee.{Committee}
-use Rattle.types.specs.Reference.{BlockReference, sameReference, referenceBefore}
-use Rattle.types.proofs.References.{reference-irrefl, reference-trans, reference-asymmetric, reference-other, differ-other}
+use Rattle.blocks.specs.Reference.{BlockReference, sameReference, referenceBefore}
+use Rattle.blocks.proofs.References.{reference-irrefl, reference-trans, reference-asymmetric, reference-other, differ-other}
 use Rattle.block_store.specs.Layout.{Record, Entry, referenceOf, entries, lesser, least, positionOf, firstPosition, nextPosition, placed, ascending}
 use Rattle.block_store.specs.Step.{first}
 use Rattle.block_store.proofs.Accepted.{accepted-new}

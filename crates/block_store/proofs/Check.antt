@@ -18,7 +18,7 @@ use Rattle.base.proofs.Le.{AllBytes, bytes-left, length-leBytes, leBytes-leNumb
 use Rattle.base.proofs.Read.{part}
 use Rattle.base.proofs.Parts.{PartOf, part-taken, part-complete, part-left, part-right, part-part, part-at, part-same}
 use Rattle.committee.specs.Committee.{Committee}
-use Rattle.types.specs.Reference.{sameReference, referenceBefore}
+use Rattle.blocks.specs.Reference.{sameReference, referenceBefore}
 use Rattle.block_store.specs.Layout.{Record, usedBy, Entry, referenceOf, entries, lesser, least, positionOf, firstPosition, nextPosition, entryBytes, bodyBytes, headerBytes, layout}
 use Rattle.block_store.specs.Accept.{allAccepted}
 use Rattle.block_store.specs.Store.{usedLength, blockCount, readEntries, recordsRead, recordsOf, allowedLength, storeInOrder}

@@ -12,7 +12,7 @@ use Rattle.base.specs.Lists.{pick, keep, _∈_, here, there}
 use Rattle.base.specs.Le.{Bytes}
 use Rattle.base.proofs.Tests.{fails, not-both}
 use Rattle.base.proofs.Members.{in-empty, in-cases, in-keep, keep-in}
-use Rattle.types.proofs.References.{reference-trans}
+use Rattle.blocks.proofs.References.{reference-trans}
 use Rattle.block_store.specs.Layout.{Entry, referenceOf, lesser, least, positionOf, nextPosition, usedBy, layout}
 use Rattle.block_store.specs.Store.{allowedLength, storeHolding}
 use Rattle.block_store.specs.Claims.{NextOf, next, last, ChainMeant, FreshInOrder, AcceptingKeepsOrder}

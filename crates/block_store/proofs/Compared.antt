@@ -4,10 +4,10 @@ use mathlib.Core.Bool.{Bool, true, false}
 use Prim.Native.Nat.{ℕ}
 use native.Mathlib.Omega.{arith}
 use Rattle.base.specs.Lists.{pick}
-use Rattle.types.specs.Reference.{BlockReference, sameReference, referenceBefore}
+use Rattle.blocks.specs.Reference.{BlockReference, sameReference, referenceBefore}
 use Rattle.types.specs.Values.{orderOf, referenceOrder}
 use Rattle.types.specs.declared.Ordering.the-variants.{Less, Equal, Greater}
-use Rattle.types.proofs.References.{reference-same, reference-other}
+use Rattle.blocks.proofs.References.{reference-same, reference-other}
 
 less-not-equal : Less ≡ Equal → ⊥
 less-not-equal h = let z : _≡_ {A = ℕ} 0 1 = cc in omega arith

@@ -7,9 +7,9 @@ use Rattle.base.specs.Le.{Bytes}
 use Rattle.base.specs.Checks.{passes}
 use Rattle.base.proofs.Members.{map-in, in-map}
 use Rattle.committee.specs.Committee.{Committee}
-use Rattle.types.specs.Block.{Block}
-use Rattle.types.specs.Record.{wellFormed, blockIn}
-use Rattle.types.proofs.Shape.{block-of}
+use Rattle.blocks.specs.Block.{Block}
+use Rattle.blocks.specs.Record.{wellFormed, blockIn}
+use Rattle.block_record.proofs.Shape.{block-of}
 use Rattle.block_store.specs.Layout.{Record, readRecord}
 use Rattle.block_store.specs.Accept.{blockChecks}
 use Rattle.block_store.specs.Store.{recordsOf, recordIn, storeInOrder, storeFull}

@@ -17,16 +17,16 @@ use Rattle.base.proofs.Lists.{every-in}
 use Rattle.base.proofs.Checks.{passes-none}
 use Rattle.base.proofs.Le.{AllBytes}
 use Rattle.committee.specs.Committee.{Committee, broken}
-use Rattle.types.specs.Reference.{TransactionLocator}
-use Rattle.types.specs.Block.{Statement, share, accept, reject, voteRange, Block}
-use Rattle.types.specs.Record.{wellFormed, blockIn, noStatement, statementStart}
-use Rattle.types.specs.Values.{asStatement}
-use Rattle.types.specs.Cursor.{cursorAt, payloadBetween}
-use Rattle.types.specs.declared.StatementCursor.{StatementCursor}
-use Rattle.types.specs.declared.NextStatement.{NextStatement}
-use Rattle.types.specs.declared.BaseStatement.{BaseStatement}
-use Rattle.types.specs.declared.BaseStatement.the-variants.{Share, Accept, Reject, RejectFor, VoteRange}
-use Rattle.types.proofs.Statements.{start-inside}
+use Rattle.blocks.specs.Reference.{TransactionLocator}
+use Rattle.blocks.specs.Block.{Statement, share, accept, reject, voteRange, Block}
+use Rattle.blocks.specs.Record.{wellFormed, blockIn, noStatement, statementStart}
+use Rattle.block_record.specs.Values.{asStatement}
+use Rattle.block_record.specs.Cursor.{cursorAt, payloadBetween}
+use Rattle.block_record.specs.declared.StatementCursor.{StatementCursor}
+use Rattle.block_record.specs.declared.NextStatement.{NextStatement}
+use Rattle.block_record.specs.declared.BaseStatement.{BaseStatement}
+use Rattle.block_record.specs.declared.BaseStatement.the-variants.{Share, Accept, Reject, RejectFor, VoteRange}
+use Rattle.block_record.proofs.Statements.{start-inside}
 use Rattle.block_store.specs.Layout.{Entry, entries, positionOf, lookup}
 use Rattle.block_store.specs.Store.{recordsOf, storeInOrder}
 use Rattle.block_store.specs.Entry.{blockAt, laidOut, isEntry}

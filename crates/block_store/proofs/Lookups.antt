@@ -17,11 +17,11 @@ use Rattle.base.proofs.Lists.{every-in, find-in, find-passes, holds-some, with-
 use Rattle.base.proofs.Loops.{ltb-same}
 use Rattle.base.proofs.Passing.{passes-append, not-any}
 use Rattle.committee.specs.Committee.{Committee}
-use Rattle.types.specs.Reference.{BlockReference, sameReference}
-use Rattle.types.specs.Block.{Block}
-use Rattle.types.specs.Record.{noReference}
-use Rattle.types.specs.Verify.{headChecks, bodyChecks}
-use Rattle.types.proofs.References.{reference-same, same-reference}
+use Rattle.blocks.specs.Reference.{BlockReference, sameReference}
+use Rattle.blocks.specs.Block.{Block}
+use Rattle.blocks.specs.Record.{noReference}
+use Rattle.blocks.specs.Verify.{headChecks, bodyChecks}
+use Rattle.blocks.proofs.References.{reference-same, same-reference}
 use Rattle.block_store.specs.Layout.{Record, usedBy, Entry, referenceOf, entries, positionOf, lookup}
 use Rattle.block_store.specs.Accept.{isStored, firstMissing, blockChecks, allAccepted}
 use Rattle.block_store.specs.Entry.{positions}

@@ -11,14 +11,14 @@ use lib.Dec.{ltb, eqb}
 use lib.ListN.{length, take, drop, set, length-drop, length-append}
 use lib.Seq.{take-suc-set, length-take-le}
 use borrow.Author.Tests.{lt-ltb, eq-eqb, ne-eqb, eqb-true}
-use Rattle.types.specs.Record.{wellFormed, blockIn}
+use Rattle.blocks.specs.Record.{wellFormed, blockIn}
 use Rattle.base.specs.Lists.{pairwise, isNone, _∈_, here, there}
 use Rattle.base.specs.Le.{Bytes, leAt}
 use Rattle.base.proofs.Tests.{fails, not-both, same-test, or-right, and-left, and-right}
 use Rattle.base.proofs.Lists.{Every, none-of, and, every, every-in, every-append, Pairs, no-pairs, with-later, pairs-append, pairs-pairwise}
 use Rattle.base.proofs.Members.{in-empty, in-cases, in-append, in-left, in-right, any-in, in-any}
-use Rattle.types.specs.Reference.{BlockReference, referenceBefore}
-use Rattle.types.proofs.Shape.{block-of}
+use Rattle.blocks.specs.Reference.{BlockReference, referenceBefore}
+use Rattle.block_record.proofs.Shape.{block-of}
 use Rattle.block_store.specs.Layout.{Record, usedBy, Entry, entries, positionOf, ascending}
 use Rattle.block_store.specs.Store.{usedLength, blockCount, recordsOf}
 use Rattle.block_store.specs.Entry.{headerRight, positions, isIn, sortedPositions, readable, chained, isEntry, noneOrEntry, follows, recordAt, blockAt}

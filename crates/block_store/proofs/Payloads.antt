@@ -12,10 +12,10 @@ use Rattle.base.proofs.Lists.{Every, none-of, and, find-in, find-every}
 use Rattle.base.proofs.Le.{AllBytes, length-leBytes}
 use Rattle.base.proofs.Parts.{PartOf, part-taken, part-complete, part-left, part-right, part-part, part-at, part-same}
 use Rattle.committee.specs.Committee.{Committee}
-use Rattle.types.specs.Reference.{TransactionLocator, sameReference}
-use Rattle.types.specs.Block.{Statement, share, Block}
-use Rattle.types.specs.Record.{referenceBytes, statementBytes, blockBytes, statementStart}
-use Rattle.types.proofs.Records.{BlockFits, blockBytes-blockOf, blockOf-fits, length-reference, length-includes}
+use Rattle.blocks.specs.Reference.{TransactionLocator, sameReference}
+use Rattle.blocks.specs.Block.{Statement, share, Block}
+use Rattle.blocks.specs.Record.{referenceBytes, statementBytes, blockBytes, statementStart}
+use Rattle.blocks.proofs.Records.{BlockFits, blockBytes-blockOf, blockOf-fits, length-reference, length-includes}
 use Rattle.block_store.specs.Layout.{Record, Entry, referenceOf, entries, nextPosition, entryBytes, bodyBytes, headerBytes, layout, lookup}
 use Rattle.block_store.specs.Store.{usedLength, recordsOf, storeInOrder}
 use Rattle.block_store.specs.Payload.{shareStretch, payloadOf, payloadAt, stretchOf}

@@ -12,9 +12,9 @@ use Rattle.base.proofs.Tests.{and-left, and-right}
 use Rattle.base.proofs.Lists.{Every, every-in}
 use Rattle.base.proofs.Narrowed.{Narrowed, narrowed-all}
 use Rattle.base.proofs.Places.{in-place, places-every, pairs-places}
-use Rattle.types.specs.Reference.{BlockReference, referenceBefore}
-use Rattle.types.specs.Record.{noBlock}
-use Rattle.types.proofs.References.{reference-irrefl}
+use Rattle.blocks.specs.Reference.{BlockReference, referenceBefore}
+use Rattle.blocks.specs.Record.{noBlock}
+use Rattle.blocks.proofs.References.{reference-irrefl}
 use Rattle.block_store.specs.Layout.{Entry, referenceOf, entries, positionOf, ascending, lookup}
 use Rattle.block_store.specs.Store.{recordsOf}
 use Rattle.block_store.specs.Entry.{blockAt, sortedPositions, readable, laidOut, isEntry}

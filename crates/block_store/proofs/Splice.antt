@@ -12,7 +12,7 @@ use Rattle.base.specs.Le.{leBytes}
 use Rattle.base.proofs.Lists.{Every, none-of, and, every, every-in, every-append, Pairs, no-pairs, with-later}
 use Rattle.base.proofs.Le.{length-leBytes}
 use Rattle.block_store.specs.Layout.{Record, usedBy, Entry, referenceOf, placed, ascending, entries, nextPosition, entryBytes, bodyBytes}
-use Rattle.types.specs.Reference.{referenceBefore}
+use Rattle.blocks.specs.Reference.{referenceBefore}
 use Rattle.block_store.proofs.Chain.{Distinct, placed-every, ascending-every, next-last, next-lower, next-higher}
 use Rattle.block_store.proofs.Store.{length-body, entries-below, Within, entries-within}
 

@@ -19,8 +19,8 @@ use Rattle.base.proofs.Lists.{Every, none-of, and, every}
 use Rattle.base.proofs.Le.{AllBytes, bytes-right, length-leBytes, leNumber-leBytes}
 use Rattle.base.proofs.Read.{part, items-reads, number-of, number-reads, bind-some, Back, give-back, fail-back, bind-back, map-back, Items, items-back, Number, number-back}
 use Rattle.committee.specs.Committee.{Committee}
-use Rattle.types.specs.Block.{Block}
-use Rattle.types.specs.Record.{blockOf}
+use Rattle.blocks.specs.Block.{Block}
+use Rattle.blocks.specs.Record.{blockOf}
 use Rattle.block_store.specs.Layout.{Record, readRecord, usedBy, Entry, entries, firstPosition, nextPosition, entryBytes, bodyBytes, headerBytes, layout}
 use Rattle.block_store.specs.Accept.{blockChecks, allAccepted}
 use Rattle.block_store.specs.Store.{usedLength, blockCount, giveRecord, readEntry, readEntries, recordsRead, recordsOf, allowedLength, storeInOrder, storeFull, storeHolding}

@@ -13,8 +13,8 @@ use Rattle.base.proofs.Tests.{fails, not-both}
 use Rattle.base.proofs.Lists.{Every, none-of, and, every, every-in, Pairs, no-pairs, with-later}
 use Rattle.base.proofs.Members.{in-empty, in-cases, in-first}
 use Rattle.base.proofs.Covered.{covered}
-use Rattle.types.specs.Reference.{sameReference}
-use Rattle.types.proofs.References.{reference-irrefl, reference-asymmetric, reference-trans, reference-same}
+use Rattle.blocks.specs.Reference.{sameReference}
+use Rattle.blocks.proofs.References.{reference-irrefl, reference-asymmetric, reference-trans, reference-same}
 use Rattle.block_store.specs.Layout.{Record, Entry, referenceOf, entries, positionOf, firstPosition, nextPosition, placed, ascending}
 use Rattle.block_store.proofs.Store.{entries-within}
 use Rattle.block_store.specs.Step.{first}

@@ -17,7 +17,7 @@ use Rattle.base.specs.Read.{Part, give, fail, onward, _>>=_, items, number}
 use Rattle.base.proofs.Lists.{Every, none-of, and}
 use Rattle.base.proofs.Read.{part, bind-some}
 use Rattle.base.proofs.Fixed.{items-at, number-at}
-use Rattle.types.specs.Record.{blockOf}
+use Rattle.blocks.specs.Record.{blockOf}
 use Rattle.block_store.specs.Layout.{Record, readRecord, usedBy, entries}
 use Rattle.block_store.specs.Store.{giveRecord, readEntry, readEntries}
 use Rattle.block_store.proofs.Store.{right-block, readRecord-some, readRecord-bytes, giveRecord-some}

@@ -5,9 +5,9 @@ use mathlib.Core.List.{List, [], _∷_, _++_}
 use Rattle.base.specs.Lists.{pick, anyOf}
 use Rattle.base.specs.Checks.{Check, _⇒_, passes}
 use Rattle.committee.specs.Committee.{Committee}
-use Rattle.types.specs.Reference.{BlockReference, sameReference}
-use Rattle.types.specs.Block.{Block}
-use Rattle.types.specs.Verify.{headChecks, bodyChecks}
+use Rattle.blocks.specs.Reference.{BlockReference, sameReference}
+use Rattle.blocks.specs.Block.{Block}
+use Rattle.blocks.specs.Verify.{headChecks, bodyChecks}
 use Rattle.block_store.specs.Layout.{Record}
 
 -- a block of that reference is among the records

@@ -6,7 +6,7 @@ use lib.Dec.{leb}
 use Rattle.base.specs.Le.{Bytes}
 use Rattle.base.specs.Checks.{Answer, refused, answered, checked}
 use Rattle.committee.specs.Committee.{Committee}
-use Rattle.types.specs.Reference.{TransactionLocator}
+use Rattle.blocks.specs.Reference.{TransactionLocator}
 use Rattle.block_store.specs.Payload.{Stretch, payloadAt, payloadChecks}
 use Rattle.block_store.specs.declared.SharePlace.{SharePlace}
 use Rattle.block_store.specs.declared.SharePlace.the-variants.{Payload, NoShare}

@@ -6,7 +6,7 @@ use lib.Dec.{ltb, eqb}
 use Rattle.base.specs.Lists.{pick, holds}
 use Rattle.base.specs.Checks.{passes}
 use Rattle.committee.specs.Committee.{Committee}
-use Rattle.types.specs.Reference.{BlockReference}
+use Rattle.blocks.specs.Reference.{BlockReference}
 use Rattle.block_store.specs.Layout.{Record, usedBy, Entry, lookup}
 use Rattle.block_store.specs.Accept.{blockChecks}
 

@@ -8,9 +8,9 @@ use lib.ListN.{length, take, drop}
 use Rattle.base.specs.Lists.{anyOf, allOf, pairwise}
 use Rattle.base.specs.Le.{Bytes, leAt}
 use Rattle.base.specs.Read.{Part}
-use Rattle.types.specs.Reference.{sameReference, referenceBefore}
-use Rattle.types.specs.Block.{Block}
-use Rattle.types.specs.Record.{blockIn}
+use Rattle.blocks.specs.Reference.{sameReference, referenceBefore}
+use Rattle.blocks.specs.Block.{Block}
+use Rattle.blocks.specs.Record.{blockIn}
 use Rattle.block_store.specs.Layout.{Record, usedBy, Entry, referenceOf, entries, firstPosition, nextPosition, ascending}
 use Rattle.block_store.specs.Store.{usedLength, blockCount, readEntries, recordsOf, allowedLength}
 

@@ -6,9 +6,9 @@ use mathlib.Core.Option.{Option, none, some, Option·map}
 use lib.ListN.{length, replicate}
 use Rattle.base.specs.Lists.{pick, keep, find}
 use Rattle.base.specs.Le.{Bytes, leBytes}
-use Rattle.types.specs.Reference.{BlockReference, sameReference, referenceBefore}
-use Rattle.types.specs.Block.{Block}
-use Rattle.types.specs.Record.{blockOf}
+use Rattle.blocks.specs.Reference.{BlockReference, sameReference, referenceBefore}
+use Rattle.blocks.specs.Block.{Block}
+use Rattle.blocks.specs.Record.{blockOf}
 
 -- a well-formed record, with the block that it says
 pub record Record : Type 0 where

@@ -8,9 +8,9 @@ use Rattle.base.specs.Lists.{pick, isNone}
 use Rattle.base.specs.Le.{Bytes}
 use Rattle.base.specs.Checks.{Check, _⇒_, passes, Answer, checked}
 use Rattle.committee.specs.Committee.{Committee, broken}
-use Rattle.types.specs.Reference.{TransactionLocator}
-use Rattle.types.specs.Block.{Statement, share, accept, reject, voteRange}
-use Rattle.types.specs.Record.{statementStart}
+use Rattle.blocks.specs.Reference.{TransactionLocator}
+use Rattle.blocks.specs.Block.{Statement, share, accept, reject, voteRange}
+use Rattle.blocks.specs.Record.{statementStart}
 use Rattle.block_store.specs.Layout.{Entry, entries, lookup}
 use Rattle.block_store.specs.Store.{recordsOf, storeInOrder}
 

@@ -6,7 +6,7 @@ use mathlib.Core.List.{List, [], _∷_, _++_}
 use mathlib.Core.Option.{Option, none, some}
 use Rattle.base.specs.Lists.{_∈_}
 use Rattle.base.specs.Le.{Bytes}
-use Rattle.types.specs.Reference.{BlockReference, referenceBefore}
+use Rattle.blocks.specs.Reference.{BlockReference, referenceBefore}
 use Rattle.block_store.specs.Layout.{Entry, referenceOf, entries, positionOf, ascending}
 use Rattle.block_store.specs.Store.{recordsOf}
 

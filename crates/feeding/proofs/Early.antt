@@ -7,7 +7,7 @@ use Rattle.base.specs.Le.{Bytes}
 use Rattle.base.specs.Checks.{refusal}
 use Rattle.base.proofs.Refusals.{refusal-first, refusal-then}
 use Rattle.committee.specs.Committee.{Committee}
-use Rattle.types.specs.Record.{wellFormed, blockIn}
+use Rattle.blocks.specs.Record.{wellFormed, blockIn}
 use Rattle.block_store.specs.Layout.{readRecord}
 use Rattle.block_store.specs.Accept.{blockChecks}
 use Rattle.block_store.specs.Store.{recordsOf, recordIn}

@@ -15,7 +15,7 @@ use Rattle.base.proofs.Tests.{not-both, fails}
 use Rattle.base.proofs.Checks.{passes-first, passes-others, passes-left, passes-right}
 use Rattle.base.proofs.Passing.{passes-append}
 use Rattle.committee.specs.Committee.{Committee, broken}
-use Rattle.types.specs.Block.{eventRoom}
+use Rattle.blocks.specs.Block.{eventRoom}
 use Rattle.block_store.specs.Layout.{Record, readRecord, layout}
 use Rattle.block_store.specs.Accept.{blockChecks}
 use Rattle.block_store.specs.Store.{recordsOf, storeFull, storeHolding}

@@ -18,9 +18,9 @@ use Rattle.base.proofs.Lists.{none-of, and, every-append}
 use Rattle.base.proofs.Checks.{passes-first, passes-others, passes-left, passes-right}
 use Rattle.base.proofs.Refusals.{Numbered, zero-passes, passes-zero, refusal-first, refusal-then}
 use Rattle.committee.specs.Committee.{Committee}
-use Rattle.types.specs.Block.{Block, eventRoom}
-use Rattle.types.specs.Record.{blockOf, wellFormed, blockIn}
-use Rattle.types.proofs.Shape.{block-of}
+use Rattle.blocks.specs.Block.{Block, eventRoom}
+use Rattle.blocks.specs.Record.{blockOf, wellFormed, blockIn}
+use Rattle.block_record.proofs.Shape.{block-of}
 use Rattle.block_store.specs.Layout.{Record, readRecord, entries}
 use Rattle.block_store.specs.Accept.{blockChecks}
 use Rattle.block_store.specs.Store.{recordsOf, recordIn, storeFull, storeHolding}

@@ -8,7 +8,7 @@ use lib.ListN.{length, drop}
 use Rattle.base.specs.Le.{Bytes}
 use Rattle.base.specs.Checks.{Check, passes, refused, answered}
 use Rattle.committee.specs.Committee.{Committee, broken}
-use Rattle.types.specs.Block.{eventRoom}
+use Rattle.blocks.specs.Block.{eventRoom}
 use Rattle.block_store.specs.Layout.{Record, readRecord, entries, usedBy}
 use Rattle.block_store.specs.Accept.{blockChecks}
 use Rattle.block_store.specs.Store.{recordsOf, storeInOrder, storeFull}

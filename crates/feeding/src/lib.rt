@@ -53,7 +53,7 @@ pub fn early_refusal(stakes: &[u64], store: &[u8], table: &[u64], rec: &[u8]) ->
     if lent != 0 {
         return lent;
     }
-    if !types::well_formed(rec) {
+    if !block_record::well_formed(rec) {
         return 20;
     }
     aggregator::block_refusal(stakes, store, rec)

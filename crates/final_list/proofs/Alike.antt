@@ -13,8 +13,8 @@ use Rattle.base.proofs.Tests.{same-test}
 use Rattle.base.proofs.Members.{map-in, countFrom-in}
 use Rattle.committee.specs.Committee.{Committee, isQuorum}
 use Rattle.committee.specs.AuthoritySet.{setOf, stakeOf}
-use Rattle.types.specs.Reference.{TransactionLocator, TransactionLocatorRange, locator, newRange, offsets, locators}
-use Rattle.types.specs.Block.{Block, author, spans}
+use Rattle.blocks.specs.Reference.{TransactionLocator, TransactionLocatorRange, locator, newRange, offsets, locators}
+use Rattle.blocks.specs.Block.{Block, author, spans}
 use Rattle.block_store.specs.Layout.{entries, ascending}
 use Rattle.block_store.specs.Store.{recordsOf}
 use Rattle.finalization_interpreter.specs.Voters.{votesFor, certifies, certifiers, isFinal}

@@ -13,7 +13,7 @@ use Rattle.base.specs.Checks.{Answer, answered}
 use Rattle.base.proofs.Tests.{not-both}
 use Rattle.base.proofs.Members.{in-empty, in-cases}
 use Rattle.committee.specs.Committee.{Committee, broken}
-use Rattle.types.specs.Reference.{BlockReference, TransactionLocator, locator, newRange, offsets, locators}
+use Rattle.blocks.specs.Reference.{BlockReference, TransactionLocator, locator, newRange, offsets, locators}
 use Rattle.block_store.specs.Store.{storeInOrder}
 use Rattle.finalization_interpreter.specs.Voters.{isFinal}
 use Rattle.finalization_interpreter.specs.Finality.{blocksOf}

@@ -16,10 +16,10 @@ use Rattle.base.specs.Le.{Bytes}
 use Rattle.base.proofs.Lists.{append-nil}
 use Rattle.base.proofs.Members.{in-empty, in-cases, in-first, in-map, map-in, in-flatten, flatten-in}
 use Rattle.committee.specs.Committee.{Committee}
-use Rattle.types.specs.Reference.{BlockReference, TransactionLocator, TransactionLocatorRange, locator, sameReference}
-use Rattle.types.specs.Block.{Block, spans, spansFrom}
-use Rattle.types.specs.Record.{noStatement}
-use Rattle.types.proofs.References.{same-reference}
+use Rattle.blocks.specs.Reference.{BlockReference, TransactionLocator, TransactionLocatorRange, locator, sameReference}
+use Rattle.blocks.specs.Block.{Block, spans, spansFrom}
+use Rattle.blocks.specs.Record.{noStatement}
+use Rattle.blocks.proofs.References.{same-reference}
 use Rattle.block_store.specs.Entry.{blockAt}
 use Rattle.finalization_interpreter.specs.Finality.{blocksOf}
 use Rattle.finalization_interpreter.specs.Walk.{spanOf, Sorted}

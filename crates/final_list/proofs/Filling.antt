@@ -13,8 +13,8 @@ use Rattle.base.specs.Le.{Bytes}
 use Rattle.base.proofs.Lists.{append-nil}
 use Rattle.committee.specs.Committee.{Committee, Stake}
 use Rattle.committee.specs.AuthoritySet.{setOf, stakeOf}
-use Rattle.types.specs.Reference.{TransactionLocator}
-use Rattle.types.specs.Block.{Block, author}
+use Rattle.blocks.specs.Reference.{TransactionLocator}
+use Rattle.blocks.specs.Block.{Block, author}
 use Rattle.finalization_interpreter.specs.Voters.{certifiers, isFinal}
 use Rattle.finalization_interpreter.specs.Finality.{blocksOf, certifyingPositions}
 use Rattle.finalization_interpreter.specs.NextFinal.{LeastFinal, least, nothing, leastFinal}

@@ -12,8 +12,8 @@ use Rattle.base.specs.Le.{Bytes}
 use Rattle.base.proofs.Lists.{keep-append}
 use Rattle.base.proofs.Members.{in-empty, in-map, map-in, in-flatten, flatten-in, in-keep, keep-in, in-countFrom, countFrom-in}
 use Rattle.committee.specs.Committee.{Committee}
-use Rattle.types.specs.Reference.{BlockReference, TransactionLocator, TransactionLocatorRange, locator}
-use Rattle.types.specs.Block.{Block, spans}
+use Rattle.blocks.specs.Reference.{BlockReference, TransactionLocator, TransactionLocatorRange, locator}
+use Rattle.blocks.specs.Block.{Block, spans}
 use Rattle.block_store.specs.Entry.{blockAt}
 use Rattle.finalization_interpreter.specs.Finality.{blocksOf}
 use Rattle.finalization_interpreter.specs.NextFinal.{justAfter, candidates, leastLocator}

@@ -10,8 +10,8 @@ use Rattle.base.specs.Lists.{_∈_}
 use Rattle.base.specs.Le.{Bytes}
 use Rattle.committee.specs.Committee.{Committee, broken}
 use Rattle.committee.specs.AuthoritySet.{setOf, stakeOf}
-use Rattle.types.specs.Reference.{TransactionLocator, locator}
-use Rattle.types.specs.Block.{author}
+use Rattle.blocks.specs.Reference.{TransactionLocator, locator}
+use Rattle.blocks.specs.Block.{author}
 use Rattle.block_store.specs.Store.{storeInOrder}
 use Rattle.finalization_interpreter.specs.Voters.{certifiers, isFinal}
 use Rattle.finalization_interpreter.specs.Finality.{blocksOf, certifyingPositions}

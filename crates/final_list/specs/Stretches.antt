@@ -10,8 +10,8 @@ use Rattle.base.specs.Le.{Bytes, leNumber}
 use Rattle.base.specs.Checks.{passes, Answer, checked}
 use Rattle.committee.specs.Committee.{Committee, Stake}
 use Rattle.committee.specs.AuthoritySet.{setOf, stakeOf}
-use Rattle.types.specs.Reference.{BlockReference, TransactionLocator, TransactionLocatorRange, locator, newRange, sameReference, locators}
-use Rattle.types.specs.Block.{Block, author, spans}
+use Rattle.blocks.specs.Reference.{BlockReference, TransactionLocator, TransactionLocatorRange, locator, newRange, sameReference, locators}
+use Rattle.blocks.specs.Block.{Block, author, spans}
 use Rattle.finalization_interpreter.specs.Voters.{certifiers}
 use Rattle.finalization_interpreter.specs.Finality.{blocksOf, certifyingPositions}
 use Rattle.finalization_interpreter.specs.NextFinal.{leastFinal, nextFinalChecks}

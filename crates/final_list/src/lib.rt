@@ -1,10 +1,10 @@
 // The final list in bulk: stretches of final locators that have the same certifying blocks.
+use block_record::BaseStatement;
 use committee::NewCommittee;
 use committee::Stake;
 use final_walk::Tabling;
 use finalization_interpreter::Certifiers;
 use finalization_interpreter::MaybeLocator;
-use types::BaseStatement;
 use types::BlockReference;
 use types::TransactionLocator;
 use types::TransactionLocatorRange;
@@ -19,10 +19,11 @@ ghost use Rattle.base.specs.Lists.{keep};
 ghost use Rattle.base.specs.Le.{Bytes};
 ghost use Rattle.base.specs.Checks.{answered};
 ghost use Rattle.committee.specs.Committee.{totalStake};
-ghost use Rattle.types.specs.Reference.{locator as newLocator, oneRange};
-ghost use Rattle.types.specs.Block.{spans};
-ghost use Rattle.types.specs.Record.{wellFormed, blockIn};
-ghost use Rattle.types.specs.Values.{asReference, asLocator, asRange, asStatement};
+ghost use Rattle.blocks.specs.Reference.{locator as newLocator, oneRange};
+ghost use Rattle.blocks.specs.Block.{spans};
+ghost use Rattle.blocks.specs.Record.{wellFormed, blockIn};
+ghost use Rattle.types.specs.Values.{asReference, asLocator, asRange};
+ghost use Rattle.block_record.specs.Values.{asStatement};
 ghost use Rattle.finalization_interpreter.specs.Voters.{isFinal};
 ghost use Rattle.finalization_interpreter.specs.Finality.{blocksOf};
 ghost use Rattle.finalization_interpreter.specs.NextFinal.{isAfter, leastLocator, candidates, leastFinal};
@@ -115,12 +116,12 @@ fn record_edges(rec: &[u8], block: BlockReference, offset: u64, best: u64) -> u6
     requires { ⌜ (wellFormed (now rec) ≡ true) × (offset < 18446744073709551615) ⌝ }
     ensures { λ r. ⌜ r ≡ nearest offset best (edgesIn (asReference block) (spans (blockIn (now (rec .entry))))) ⌝ }
 {
-    let count = types::statement_count(rec);
-    let of = types::reference(rec);
-    let mut cursor = types::first_statement(rec);
+    let count = block_record::statement_count(rec);
+    let of = block_record::reference(rec);
+    let mut cursor = block_record::first_statement(rec);
     let mut near = best;
     while cursor.index < count {
-        let next = types::next_statement(rec, cursor);
+        let next = block_record::next_statement(rec, cursor);
         let statement = next.statement;
         near = statement_edges(block, offset, near, of, cursor.index as u64, statement);
         cursor = next.next;

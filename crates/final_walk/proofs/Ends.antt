@@ -17,11 +17,11 @@ use Rattle.base.proofs.Lists.{every-in}
 use Rattle.base.proofs.Members.{in-empty, in-left, in-right, in-flatten, in-map}
 use Rattle.base.proofs.Checks.{passes-none}
 use Rattle.committee.specs.Committee.{Committee}
-use Rattle.types.specs.Reference.{TransactionLocator, TransactionLocatorRange, locator, newRange, oneRange}
-use Rattle.types.specs.Block.{Statement, share, accept, reject, voteRange, Block, votedRange, spans}
-use Rattle.types.specs.Verify.{headChecks, includeChecks, statementChecks, bodyChecks}
-use Rattle.types.proofs.Spans.{Span, ofShare, ofVote, span-of}
-use Rattle.types.proofs.Records.{StatementFits, BlockFits}
+use Rattle.blocks.specs.Reference.{TransactionLocator, TransactionLocatorRange, locator, newRange, oneRange}
+use Rattle.blocks.specs.Block.{Statement, share, accept, reject, voteRange, Block, votedRange, spans}
+use Rattle.blocks.specs.Verify.{headChecks, includeChecks, statementChecks, bodyChecks}
+use Rattle.blocks.proofs.Spans.{Span, ofShare, ofVote, span-of}
+use Rattle.blocks.proofs.Records.{StatementFits, BlockFits}
 use Rattle.block_store.specs.Layout.{Record}
 use Rattle.block_store.specs.Store.{recordsOf, storeInOrder}
 use Rattle.block_store.specs.Accept.{blockChecks, allAccepted}

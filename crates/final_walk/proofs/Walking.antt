@@ -17,9 +17,9 @@ use Rattle.base.proofs.Members.{any-in, in-any}
 use Rattle.committee.specs.Committee.{Committee, isQuorum}
 use Rattle.committee.specs.AuthoritySet.{AuthoritySet, nobody, inserted, united, stakeOf}
 use Rattle.committee.proofs.Words.{united-assoc, united-nobody}
-use Rattle.types.specs.Reference.{BlockReference, TransactionLocator, TransactionLocatorRange, covers}
-use Rattle.types.specs.Block.{Block, author, spans}
-use Rattle.types.specs.Record.{noReference}
+use Rattle.blocks.specs.Reference.{BlockReference, TransactionLocator, TransactionLocatorRange, covers}
+use Rattle.blocks.specs.Block.{Block, author, spans}
+use Rattle.blocks.specs.Record.{noReference}
 use Rattle.block_store.specs.Entry.{blockAt}
 use Rattle.finalization_interpreter.specs.Voters.{votesFor, ownVote, unions, voters, certifies}
 use Rattle.finalization_interpreter.specs.Finality.{blocksOf}

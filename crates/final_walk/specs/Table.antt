@@ -6,8 +6,8 @@ use mathlib.Core.List.{List, [], _∷_}
 use lib.ListN.{length, getD, drop}
 use Rattle.base.specs.Lists.{_∈_}
 use Rattle.base.specs.Le.{Bytes}
-use Rattle.types.specs.Reference.{TransactionLocatorRange, newRange}
-use Rattle.types.specs.Block.{Block, spansFrom, spans}
+use Rattle.blocks.specs.Reference.{TransactionLocatorRange, newRange}
+use Rattle.blocks.specs.Block.{Block, spansFrom, spans}
 use Rattle.types.specs.Values.{digestBytes}
 use Rattle.types.specs.declared.TransactionLocatorRange as ranges
 use Rattle.finalization_interpreter.specs.Walk.{blockAtPlace}

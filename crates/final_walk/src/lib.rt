@@ -1,11 +1,11 @@
 // Finality of one locator after another: the votes and the includes of a store read once, then a walk over words.
+use block_record::BaseStatement;
 use committee::AuthorityIndex;
 use committee::AuthoritySet;
 use committee::RoundNumber;
 use committee::Stake;
 use finalization_interpreter::Certifiers;
 use finalization_interpreter::MaybeLocator;
-use types::BaseStatement;
 use types::BlockDigest;
 use types::BlockReference;
 use types::TransactionLocator;
@@ -20,9 +20,10 @@ ghost use Rattle.base.specs.Lists.{pick};
 ghost use Rattle.base.specs.Le.{Bytes};
 ghost use Rattle.committee.specs.Committee.{broken, totalStake};
 ghost use Rattle.committee.specs.AuthoritySet.{nobody, inserted, united};
-ghost use Rattle.types.specs.Block.{author, spans};
-ghost use Rattle.types.specs.Record.{wellFormed, blockIn};
-ghost use Rattle.types.specs.Values.{asReference, asLocator, asRange, asStatement};
+ghost use Rattle.blocks.specs.Block.{author, spans};
+ghost use Rattle.blocks.specs.Record.{wellFormed, blockIn};
+ghost use Rattle.types.specs.Values.{asReference, asLocator, asRange};
+ghost use Rattle.block_record.specs.Values.{asStatement};
 ghost use Rattle.block_store.specs.Entry.{blockAt, isEntry};
 ghost use Rattle.finalization_interpreter.specs.Walk.{spanOf, Sorted, SortedStore, blockAtPlace};
 ghost use Rattle.final_walk.specs.Table.{voteWords, placeAt, rangeAt, votedBy, EndsFit, RecordedBy, Tabled, TabledBy};
@@ -103,12 +104,12 @@ fn table_record(rec: &[u8], k: usize, votes: &mut [u64], m: usize) -> Tabling
     requires { ⌜ ((wellFormed (now rec) ≡ true) × EndsFit (spans (blockIn (now rec)))) × (9 * m ≤ length (now votes)) ⌝ }
     ensures { λ r. ⌜ RecordedBy (blockIn (now (rec .entry))) k (now (votes .entry)) (now (votes .exit)) m r ⌝ }
 {
-    let count = types::statement_count(rec);
-    let block = types::reference(rec);
-    let mut cursor = types::first_statement(rec);
+    let count = block_record::statement_count(rec);
+    let block = block_record::reference(rec);
+    let mut cursor = block_record::first_statement(rec);
     let mut n = m;
     while cursor.index < count {
-        let next = types::next_statement(rec, cursor);
+        let next = block_record::next_statement(rec, cursor);
         let statement = next.statement;
         let vote = vote_of(block, cursor.index as u64, statement);
         cursor = next.next;

@@ -11,7 +11,7 @@ use lib.Seq.{drop-cons, take-suc, take-suc-set, take-length, length-take-le}
 use Rattle.base.specs.Le.{Bytes, leAt}
 use Rattle.base.proofs.Lists.{every-in}
 use Rattle.base.proofs.Places.{in-place}
-use Rattle.types.specs.Record.{noBlock}
+use Rattle.blocks.specs.Record.{noBlock}
 use Rattle.block_store.specs.Layout.{Entry, entries, positionOf, firstPosition, ascending}
 use Rattle.block_store.specs.Store.{blockCount, recordsOf}
 use Rattle.block_store.specs.Entry.{sortedPositions, laidOut, isEntry}

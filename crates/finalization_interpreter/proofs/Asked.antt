@@ -10,9 +10,9 @@ use Rattle.base.specs.Checks.{refusal, passes, Answer, refused, answered, check
 use Rattle.base.proofs.Tests.{not-both}
 use Rattle.base.proofs.Members.{in-empty, in-cases}
 use Rattle.committee.specs.Committee.{Committee, broken}
-use Rattle.types.specs.Reference.{TransactionLocator, locatorBefore}
-use Rattle.types.specs.Block.{Block}
-use Rattle.types.proofs.References.{locator-irrefl, locator-trans}
+use Rattle.blocks.specs.Reference.{TransactionLocator, locatorBefore}
+use Rattle.blocks.specs.Block.{Block}
+use Rattle.blocks.proofs.References.{locator-irrefl, locator-trans}
 use Rattle.block_store.specs.Store.{recordsOf, storeInOrder}
 use Rattle.block_store.proofs.Stored.{WellStored}
 use Rattle.block_store.proofs.Store.{in-order}

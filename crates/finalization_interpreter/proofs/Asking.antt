@@ -11,8 +11,8 @@ use Rattle.base.specs.Le.{Bytes}
 use Rattle.base.specs.Checks.{refusal, passes, refused, answered, checked}
 use Rattle.committee.specs.Committee.{Stake, Committee, totalStake, broken, quorumOf, isQuorum}
 use Rattle.committee.specs.AuthoritySet.{AuthoritySet, setOf, stakeOf}
-use Rattle.types.specs.Reference.{TransactionLocator}
-use Rattle.types.specs.Block.{author}
+use Rattle.blocks.specs.Reference.{TransactionLocator}
+use Rattle.blocks.specs.Block.{author}
 use Rattle.block_store.specs.Store.{recordsOf, storeInOrder}
 use Rattle.finalization_interpreter.specs.Voters.{certifiers, isFinal}
 use Rattle.finalization_interpreter.specs.Finality.{blocksOf, certifyingPositions, Asked, finalityChecks, finality}

@@ -12,9 +12,9 @@ use Rattle.base.specs.Lists.{anyOf, keep, _∈_, here}
 use Rattle.base.proofs.Tests.{and-both, and-left, and-right, fails, not-both, holds-or-not}
 use Rattle.base.proofs.Members.{in-left, in-right, in-flatten, in-map, any-in, in-any, in-keep, keep-in}
 use Rattle.committee.specs.Committee.{Committee}
-use Rattle.types.specs.Reference.{BlockReference, TransactionLocator, TransactionLocatorRange, locator, sameLocator, referenceBefore, locatorBefore}
-use Rattle.types.specs.Block.{Block, spans}
-use Rattle.types.proofs.References.{locator-same, same-locator, Precedes, byBlock, byOffset, precedes, is-before}
+use Rattle.blocks.specs.Reference.{BlockReference, TransactionLocator, TransactionLocatorRange, locator, sameLocator, referenceBefore, locatorBefore}
+use Rattle.blocks.specs.Block.{Block, spans}
+use Rattle.blocks.proofs.References.{locator-same, same-locator, Precedes, byBlock, byOffset, precedes, is-before}
 use Rattle.finalization_interpreter.specs.Voters.{votesFor, isFinal}
 use Rattle.finalization_interpreter.specs.NextFinal.{isAfter, LeastFinal, least, nothing, justAfter, candidates, leastFinal}
 use Rattle.finalization_interpreter.proofs.Votes.{Covered, spanned, is-spanned}

@@ -18,8 +18,8 @@ use Rattle.committee.specs.Committee.{AuthorityIndex, Committee, isQuorum}
 use Rattle.committee.specs.AuthoritySet.{AuthoritySet, nobody, member, inserted, setOf, stakeOf}
 use Rattle.committee.proofs.Words.{Small, small-nobody, small-inserted, set-ext}
 use Rattle.committee.proofs.Votes.{member-nobody, member-inserted, member-setOf}
-use Rattle.types.specs.Reference.{TransactionLocator}
-use Rattle.types.specs.Block.{Block, author}
+use Rattle.blocks.specs.Reference.{TransactionLocator}
+use Rattle.blocks.specs.Block.{Block, author}
 use Rattle.block_store.specs.Layout.{Record, usedBy, Entry, entries, ascending}
 use Rattle.block_store.specs.Store.{recordsOf}
 use Rattle.block_store.specs.Entry.{blockAt, sortedPositions, laidOut}

@@ -8,8 +8,8 @@ use Rattle.base.specs.Lists.{pick, keep, _∈_, here, there}
 use Rattle.base.specs.Le.{Bytes}
 use Rattle.base.proofs.Lists.{Every, none-of, and, every-in, pairs-keep}
 use Rattle.committee.specs.Committee.{Committee}
-use Rattle.types.specs.Reference.{TransactionLocator, referenceBefore}
-use Rattle.types.specs.Block.{Block}
+use Rattle.blocks.specs.Reference.{TransactionLocator, referenceBefore}
+use Rattle.blocks.specs.Block.{Block}
 use Rattle.block_store.specs.Layout.{Record, Entry, referenceOf, usedBy, entries, placed, ascending}
 use Rattle.block_store.specs.Store.{recordsOf, storeInOrder}
 use Rattle.block_store.proofs.Store.{in-order}

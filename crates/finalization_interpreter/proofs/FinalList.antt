@@ -10,9 +10,9 @@ use Rattle.base.specs.Lists.{pick, keep, countFrom, _∈_, here, there}
 use Rattle.base.proofs.Tests.{not-both, holds-or-not}
 use Rattle.base.proofs.Members.{in-empty, in-cases, in-first, in-flatten, in-map, in-keep, keep-in}
 use Rattle.committee.specs.Committee.{Committee}
-use Rattle.types.specs.Reference.{TransactionLocator, TransactionLocatorRange, locator, sameLocator, locatorBefore, offsets, locators}
-use Rattle.types.specs.Block.{Block, spans}
-use Rattle.types.proofs.References.{locator-same, same-locator, locator-irrefl, locator-trans, locator-total}
+use Rattle.blocks.specs.Reference.{TransactionLocator, TransactionLocatorRange, locator, sameLocator, locatorBefore, offsets, locators}
+use Rattle.blocks.specs.Block.{Block, spans}
+use Rattle.blocks.proofs.References.{locator-same, same-locator, locator-irrefl, locator-trans, locator-total}
 use Rattle.block_store.proofs.Stored.{WellStored}
 use Rattle.finalization_interpreter.specs.Voters.{votesFor, isFinal}
 use Rattle.finalization_interpreter.specs.NextFinal.{placedLocator, ascendingLocators, finalList}

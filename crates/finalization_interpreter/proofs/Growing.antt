@@ -15,8 +15,8 @@ use Rattle.committee.specs.Committee.{AuthorityIndex, Committee, Stake, totalSt
 use Rattle.committee.specs.AuthoritySet.{AuthoritySet, nobody, member, inserted, united, setOf, stakeOf}
 use Rattle.committee.proofs.Votes.{member-nobody, member-united, member-setOf}
 use Rattle.committee.proofs.Quorums.{stake-mono, counted-quorum, quorum-member}
-use Rattle.types.specs.Reference.{BlockReference, TransactionLocator, sameReference}
-use Rattle.types.specs.Block.{Block, author}
+use Rattle.blocks.specs.Reference.{BlockReference, TransactionLocator, sameReference}
+use Rattle.blocks.specs.Block.{Block, author}
 use Rattle.finalization_interpreter.specs.Voters.{votesFor, ownVote, unions, voters, certifies, certifiers, isFinal}
 use Rattle.finalization_interpreter.proofs.Voters.{member-unions}
 

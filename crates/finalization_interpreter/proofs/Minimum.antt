@@ -9,10 +9,10 @@ use lib.ListN.{length, getD, drop}
 use Rattle.base.specs.Lists.{pick, keep}
 use Rattle.base.proofs.Tests.{fails, not-both}
 use Rattle.base.proofs.Lists.{keep-append}
-use Rattle.types.specs.Reference.{TransactionLocator, TransactionLocatorRange, locatorBefore}
-use Rattle.types.specs.Block.{Block, spansFrom, spans}
-use Rattle.types.specs.Record.{noStatement}
-use Rattle.types.proofs.References.{locator-trans, locator-total}
+use Rattle.blocks.specs.Reference.{TransactionLocator, TransactionLocatorRange, locatorBefore}
+use Rattle.blocks.specs.Block.{Block, spansFrom, spans}
+use Rattle.blocks.specs.Record.{noStatement}
+use Rattle.blocks.proofs.References.{locator-trans, locator-total}
 use Rattle.finalization_interpreter.specs.NextFinal.{lesserLocator, leastLocator}
 use Rattle.finalization_interpreter.specs.Walk.{spanOf, startOf, lesserOf}
 use Rattle.finalization_interpreter.proofs.Reading.{spans-on, spans-end}

@@ -15,11 +15,11 @@ use Rattle.base.proofs.Tests.{and-left, fails, not-both}
 use Rattle.base.proofs.Lists.{Every, none-of, and, every-in}
 use Rattle.base.proofs.Members.{in-cases, keep-in, map-in}
 use Rattle.committee.specs.Committee.{Committee, broken}
-use Rattle.types.specs.Reference.{TransactionLocator, TransactionLocatorRange, locator, newRange, oneRange, locatorBefore}
-use Rattle.types.specs.Block.{Statement, share, accept, reject, voteRange, Block, isShare, votedRange, spans}
-use Rattle.types.proofs.References.{reference-irrefl, reference-asymmetric, Precedes, byBlock, byOffset, precedes, is-before, locator-irrefl}
-use Rattle.types.proofs.Spans.{Span, ofShare, ofVote, span-of}
-use Rattle.types.proofs.Records.{StatementFits, BlockFits, blockOf-fits}
+use Rattle.blocks.specs.Reference.{TransactionLocator, TransactionLocatorRange, locator, newRange, oneRange, locatorBefore}
+use Rattle.blocks.specs.Block.{Statement, share, accept, reject, voteRange, Block, isShare, votedRange, spans}
+use Rattle.blocks.proofs.References.{reference-irrefl, reference-asymmetric, Precedes, byBlock, byOffset, precedes, is-before, locator-irrefl}
+use Rattle.blocks.proofs.Spans.{Span, ofShare, ofVote, span-of}
+use Rattle.blocks.proofs.Records.{StatementFits, BlockFits, blockOf-fits}
 use Rattle.block_store.specs.Layout.{Record}
 use Rattle.block_store.specs.Store.{recordsOf, storeInOrder}
 use Rattle.block_store.proofs.Store.{Right, right-block, recordsOf-right, recordsOf-bytes}

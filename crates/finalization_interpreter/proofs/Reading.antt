@@ -12,9 +12,9 @@ use lib.Seq.{drop-cons}
 use borrow.Author.Tests.{le-leb, lt-leb, leb-true, lt-ltb, ltb-true, eqb-true, eq-eqb}
 use Rattle.base.specs.Lists.{pick, anyOf}
 use Rattle.base.proofs.Tests.{same-test, and-both, and-left, and-right}
-use Rattle.types.specs.Reference.{BlockReference, TransactionLocator, TransactionLocatorRange, locator, newRange, oneRange, within, sameReference, covers}
-use Rattle.types.specs.Block.{Statement, share, accept, reject, voteRange, Block, isShare, votedRange, spansFrom, spans}
-use Rattle.types.specs.Record.{noStatement}
+use Rattle.blocks.specs.Reference.{BlockReference, TransactionLocator, TransactionLocatorRange, locator, newRange, oneRange, within, sameReference, covers}
+use Rattle.blocks.specs.Block.{Statement, share, accept, reject, voteRange, Block, isShare, votedRange, spansFrom, spans}
+use Rattle.blocks.specs.Record.{noStatement}
 use Rattle.finalization_interpreter.specs.Voters.{votesFor}
 use Rattle.finalization_interpreter.specs.Walk.{spanOf, statementVotes}
 

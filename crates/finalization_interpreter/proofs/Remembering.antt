@@ -11,8 +11,8 @@ use lib.Seq.{drop-cons, getD-set-same, getD-set-other}
 use Rattle.base.specs.Le.{Bytes}
 use Rattle.committee.specs.AuthoritySet.{AuthoritySet, nobody, united}
 use Rattle.committee.proofs.Words.{united-assoc, united-nobody}
-use Rattle.types.specs.Reference.{BlockReference, TransactionLocator}
-use Rattle.types.specs.Record.{noReference}
+use Rattle.blocks.specs.Reference.{BlockReference, TransactionLocator}
+use Rattle.blocks.specs.Record.{noReference}
 use Rattle.finalization_interpreter.specs.Voters.{unions}
 use Rattle.finalization_interpreter.specs.Walk.{votersAt, remembered, noted, Remembers}
 

@@ -20,11 +20,11 @@ use Rattle.base.proofs.Checks.{passes-none}
 use Rattle.base.proofs.Places.{in-place}
 use Rattle.committee.specs.Committee.{Committee}
 use Rattle.committee.specs.AuthoritySet.{nobody, inserted, united}
-use Rattle.types.specs.Reference.{BlockReference, TransactionLocator, referenceKey, sameReference, referenceBefore}
-use Rattle.types.specs.Block.{Block, author, round}
-use Rattle.types.specs.Record.{noReference}
-use Rattle.types.proofs.References.{same-reference}
-use Rattle.types.specs.Verify.{headChecks, includeChecks, bodyChecks}
+use Rattle.blocks.specs.Reference.{BlockReference, TransactionLocator, referenceKey, sameReference, referenceBefore}
+use Rattle.blocks.specs.Block.{Block, author, round}
+use Rattle.blocks.specs.Record.{noReference}
+use Rattle.blocks.proofs.References.{same-reference}
+use Rattle.blocks.specs.Verify.{headChecks, includeChecks, bodyChecks}
 use Rattle.block_store.specs.Layout.{Record, Entry, entries, positionOf, lookup}
 use Rattle.block_store.specs.Store.{recordsOf}
 use Rattle.block_store.specs.Accept.{isStored, blockChecks, allAccepted}

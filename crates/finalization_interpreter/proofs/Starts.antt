@@ -14,9 +14,9 @@ use Rattle.base.specs.Le.{Bytes}
 use Rattle.base.proofs.Tests.{and-both, and-left, and-right, fails, not-both, holds-or-not}
 use Rattle.base.proofs.Members.{in-empty, in-keep, keep-in, in-map, map-in, in-flatten, flatten-in}
 use Rattle.committee.specs.Committee.{Committee}
-use Rattle.types.specs.Reference.{TransactionLocator, TransactionLocatorRange, locator, locatorBefore}
-use Rattle.types.specs.Block.{Block, spans}
-use Rattle.types.proofs.References.{locator-irrefl, locator-trans, locator-total}
+use Rattle.blocks.specs.Reference.{TransactionLocator, TransactionLocatorRange, locator, locatorBefore}
+use Rattle.blocks.specs.Block.{Block, spans}
+use Rattle.blocks.proofs.References.{locator-irrefl, locator-trans, locator-total}
 use Rattle.block_store.specs.Entry.{blockAt}
 use Rattle.finalization_interpreter.specs.Voters.{isFinal}
 use Rattle.finalization_interpreter.specs.Finality.{blocksOf}

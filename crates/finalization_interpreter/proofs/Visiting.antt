@@ -5,7 +5,7 @@ use Prim.Native.Nat.{ℕ, _≤_}
 use lib.ListN.{length, drop}
 use Rattle.base.specs.Le.{Bytes}
 use Rattle.committee.specs.AuthoritySet.{AuthoritySet, united}
-use Rattle.types.specs.Reference.{TransactionLocator}
+use Rattle.blocks.specs.Reference.{TransactionLocator}
 use Rattle.finalization_interpreter.specs.Voters.{unions, voters}
 use Rattle.finalization_interpreter.specs.Finality.{blocksOf}
 use Rattle.finalization_interpreter.specs.Walk.{blockAtPlace, Remembers}

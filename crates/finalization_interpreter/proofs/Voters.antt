@@ -12,9 +12,9 @@ use Rattle.committee.specs.Committee.{AuthorityIndex}
 use Rattle.committee.specs.AuthoritySet.{AuthoritySet, nobody, member, inserted, united}
 use Rattle.committee.proofs.Words.{Small, small-nobody, small-united, small-inserted, set-ext}
 use Rattle.committee.proofs.Votes.{member-nobody, member-united, member-inserted}
-use Rattle.types.specs.Reference.{BlockReference, TransactionLocator, sameReference}
-use Rattle.types.specs.Block.{Block, author}
-use Rattle.types.proofs.References.{reference-refl, other-reference}
+use Rattle.blocks.specs.Reference.{BlockReference, TransactionLocator, sameReference}
+use Rattle.blocks.specs.Block.{Block, author}
+use Rattle.blocks.proofs.References.{reference-refl, other-reference}
 use Rattle.finalization_interpreter.specs.Voters.{votesFor, ownVote, unions, voters}
 use Rattle.finalization_interpreter.specs.Ancestry.{Ancestor, itself, included, VotesFor, Voter}
 use Rattle.block_store.proofs.Stored.{WellStored, fresh, stored, is-older, include-stored}

@@ -10,10 +10,10 @@ use borrow.Author.Tests.{le-leb, leb-true, lt-ltb, ltb-true}
 use Rattle.base.specs.Lists.{holds, _∈_}
 use Rattle.base.proofs.Tests.{and-both, and-left, and-right}
 use Rattle.base.proofs.Members.{any-in, in-any}
-use Rattle.types.specs.Reference.{TransactionLocator, TransactionLocatorRange, locator, sameReference, newRange, oneRange, within, covers}
-use Rattle.types.specs.Block.{Statement, share, accept, reject, voteRange, Block, isShare, isShareAt, votedRange, spans}
-use Rattle.types.proofs.References.{reference-same, same-reference}
-use Rattle.types.proofs.Spans.{Span, ofShare, ofVote, share-span, vote-span, span-of}
+use Rattle.blocks.specs.Reference.{TransactionLocator, TransactionLocatorRange, locator, sameReference, newRange, oneRange, within, covers}
+use Rattle.blocks.specs.Block.{Statement, share, accept, reject, voteRange, Block, isShare, isShareAt, votedRange, spans}
+use Rattle.blocks.proofs.References.{reference-same, same-reference}
+use Rattle.blocks.proofs.Spans.{Span, ofShare, ofVote, share-span, vote-span, span-of}
 use Rattle.finalization_interpreter.specs.Voters.{votesFor}
 use Rattle.finalization_interpreter.specs.Ancestry.{VoteIn, byAccept, byRange, VotesFor, byShare, byVote}
 

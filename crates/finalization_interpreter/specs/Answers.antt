@@ -4,7 +4,7 @@ use mathlib.Core.Option.{Option, none, some}
 use Rattle.base.specs.Checks.{Answer, refused, answered}
 use Rattle.finalization_interpreter.specs.declared.FinalityAnswer.{FinalityAnswer}
 use Rattle.finalization_interpreter.specs.declared.FinalityAnswer.the-variants.{Final, NotFinal, Refused}
-use Rattle.types.specs.Reference.{TransactionLocator}
+use Rattle.blocks.specs.Reference.{TransactionLocator}
 use Rattle.types.specs.Values.{asLocator}
 use Rattle.finalization_interpreter.specs.declared.MaybeLocator.{MaybeLocator}
 use Rattle.finalization_interpreter.specs.declared.MaybeLocator.the-variants.{Locator, Nothing}

@@ -8,8 +8,8 @@ use Rattle.base.specs.Lists.{pick, keep}
 use Rattle.base.specs.Le.{Bytes}
 use Rattle.base.specs.Checks.{Check, _⇒_, passes, Answer, checked}
 use Rattle.committee.specs.Committee.{Committee, broken}
-use Rattle.types.specs.Reference.{TransactionLocator}
-use Rattle.types.specs.Block.{Block}
+use Rattle.blocks.specs.Reference.{TransactionLocator}
+use Rattle.blocks.specs.Block.{Block}
 use Rattle.block_store.specs.Layout.{entries, ascending}
 use Rattle.block_store.specs.Store.{recordsOf, storeInOrder}
 use Rattle.finalization_interpreter.specs.Voters.{certifies, isFinal}

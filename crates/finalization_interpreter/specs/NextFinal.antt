@@ -8,8 +8,8 @@ use Rattle.base.specs.Lists.{pick, keep}
 use Rattle.base.specs.Le.{Bytes}
 use Rattle.base.specs.Checks.{Check, _⇒_, Answer, answered, checked}
 use Rattle.committee.specs.Committee.{Committee, broken}
-use Rattle.types.specs.Reference.{TransactionLocator, locator, sameLocator, locatorBefore, locators}
-use Rattle.types.specs.Block.{Block, spans}
+use Rattle.blocks.specs.Reference.{TransactionLocator, locator, sameLocator, locatorBefore, locators}
+use Rattle.blocks.specs.Block.{Block, spans}
 use Rattle.block_store.specs.Store.{storeInOrder}
 use Rattle.finalization_interpreter.specs.Voters.{isFinal}
 use Rattle.finalization_interpreter.specs.Finality.{blocksOf}

@@ -4,8 +4,8 @@ use mathlib.Core.List.{List, [], _∷_, map}
 use Rattle.base.specs.Lists.{pick, anyOf, keep}
 use Rattle.committee.specs.Committee.{Committee, isQuorum}
 use Rattle.committee.specs.AuthoritySet.{AuthoritySet, nobody, inserted, united, setOf, stakeOf}
-use Rattle.types.specs.Reference.{BlockReference, TransactionLocator, sameReference, covers}
-use Rattle.types.specs.Block.{Block, author, spans}
+use Rattle.blocks.specs.Reference.{BlockReference, TransactionLocator, sameReference, covers}
+use Rattle.blocks.specs.Block.{Block, author, spans}
 
 -- 01: "with the share, an accept or a range covering it"
 unfoldable pub votesFor : Block → TransactionLocator → Bool

@@ -9,8 +9,8 @@ use Rattle.base.specs.Lists.{pick, anyOf}
 use Rattle.base.specs.Le.{Bytes}
 use Rattle.committee.specs.Committee.{Committee, broken}
 use Rattle.committee.specs.AuthoritySet.{AuthoritySet}
-use Rattle.types.specs.Reference.{BlockReference, TransactionLocator, TransactionLocatorRange, locator, oneRange, covers}
-use Rattle.types.specs.Block.{Statement, Block, isShare, votedRange}
+use Rattle.blocks.specs.Reference.{BlockReference, TransactionLocator, TransactionLocatorRange, locator, oneRange, covers}
+use Rattle.blocks.specs.Block.{Statement, Block, isShare, votedRange}
 use Rattle.block_store.specs.Store.{recordsOf, storeInOrder}
 use Rattle.block_store.specs.Entry.{blockAt, laidOut, sortedPositions}
 use Rattle.finalization_interpreter.specs.Voters.{voters}

@@ -10,7 +10,7 @@ use borrow.Author.Tests.{eq-eqb, ne-eqb}
 use Rattle.base.specs.Lists.{pick, allOf}
 use Rattle.base.specs.Checks.{refusal, passes, Answer, refused, answered, checked}
 use Rattle.committee.specs.Committee.{Committee}
-use Rattle.types.specs.Reference.{TransactionLocator}
+use Rattle.blocks.specs.Reference.{TransactionLocator}
 use Rattle.base.proofs.Le.{AllBytes}
 use Rattle.words.proofs.Words.{bytesOf-wordsIn}
 use Rattle.words.specs.Words.{wordsIn, wordsOf, bytesOf}

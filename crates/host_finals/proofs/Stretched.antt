@@ -11,7 +11,7 @@ use Rattle.base.specs.Lists.{pick, allOf}
 use Rattle.base.specs.Le.{Bytes}
 use Rattle.base.specs.Checks.{refusal, passes, Answer, refused, answered, checked}
 use Rattle.committee.specs.Committee.{Committee}
-use Rattle.types.specs.Reference.{TransactionLocator}
+use Rattle.blocks.specs.Reference.{TransactionLocator}
 use Rattle.words.specs.Words.{wordsIn, wordsOf, bytesOf}
 use Rattle.finalization_interpreter.specs.Finality.{blocksOf}
 use Rattle.finalization_interpreter.specs.NextFinal.{leastFinal, nextFinalChecks}

@@ -15,8 +15,8 @@ use Rattle.base.specs.Checks.{Check, _⇒_, refusal, passes, Answer, refused}
 use Rattle.base.proofs.Lists.{Every, none-of, and, every, every-one, every-append, every-flatten}
 use Rattle.base.proofs.Refusals.{Numbered, refusal-first, refusal-then}
 use Rattle.committee.specs.Committee.{Committee}
-use Rattle.types.specs.Block.{Block, Statement, share, accept, reject, voteRange}
-use Rattle.types.specs.Verify.{headChecks, includeChecks, statementChecks, bodyChecks}
+use Rattle.blocks.specs.Block.{Block, Statement, share, accept, reject, voteRange}
+use Rattle.blocks.specs.Verify.{headChecks, includeChecks, statementChecks, bodyChecks}
 use Rattle.block_store.specs.Layout.{Record, readRecord}
 use Rattle.block_store.specs.Accept.{blockChecks}
 use Rattle.block_store.specs.Store.{recordsOf}

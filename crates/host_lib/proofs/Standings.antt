@@ -18,7 +18,7 @@ use Rattle.committee.specs.Committee.{Committee, known}
 use Rattle.committee.specs.AuthoritySet.{members, stakeOf}
 use Rattle.committee.specs.StakeAggregator.{aggregatorInOrder}
 use Rattle.committee.proofs.Sums.{stake-most, total-most}
-use Rattle.types.specs.Reference.{TransactionLocator}
+use Rattle.blocks.specs.Reference.{TransactionLocator}
 use Rattle.words.specs.Words.{wordsIn, wordsOf}
 use Rattle.block_store.specs.Layout.{entries, positionOf, lookup}
 use Rattle.block_store.specs.Store.{recordsOf}

@@ -7,8 +7,8 @@ use Rattle.base.specs.Le.{Bytes}
 use Rattle.base.specs.Read.{complete}
 use Rattle.base.specs.Checks.{Check, _⇒_, refusal, Answer, refused, answered}
 use Rattle.committee.specs.Committee.{Committee, broken}
-use Rattle.types.specs.Reference.{TransactionLocator}
-use Rattle.types.specs.Record.{readLocator}
+use Rattle.blocks.specs.Reference.{TransactionLocator}
+use Rattle.blocks.specs.Record.{readLocator}
 use Rattle.block_store.specs.Store.{storeInOrder}
 use Rattle.block_store.specs.Payload.{Stretch, payloadLength}
 use Rattle.block_store.specs.Answers.{payloadPlace}

@@ -16,9 +16,9 @@ use Rattle.base.proofs.Tests.{and-both}
 use Rattle.base.proofs.Members.{in-all, in-map, map-in}
 use Rattle.base.proofs.Lists.{every-in}
 use Rattle.committee.specs.Committee.{Committee, broken}
-use Rattle.types.specs.Reference.{TransactionLocator, locatorBefore}
-use Rattle.types.specs.Block.{Block}
-use Rattle.types.specs.Record.{blockOf}
+use Rattle.blocks.specs.Reference.{TransactionLocator, locatorBefore}
+use Rattle.blocks.specs.Block.{Block}
+use Rattle.blocks.specs.Record.{blockOf}
 use Rattle.block_store.specs.Layout.{Record}
 use Rattle.block_store.specs.Store.{recordsOf}
 use Rattle.block_store.proofs.Store.{in-order, recordsOf-right, right-block}

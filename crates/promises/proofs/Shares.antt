@@ -17,9 +17,9 @@ use Rattle.committee.specs.Committee.{Committee, broken}
 use Rattle.committee.specs.AuthoritySet.{numberOfVoters}
 use Rattle.committee.specs.StakeAggregator.{noVotes, counted}
 use Rattle.committee.proofs.Tallies.{Counting, counts-first}
-use Rattle.types.specs.Reference.{TransactionLocator, sameReference}
-use Rattle.types.specs.Block.{Block, author, isShareAt}
-use Rattle.types.proofs.References.{reference-same}
+use Rattle.blocks.specs.Reference.{TransactionLocator, sameReference}
+use Rattle.blocks.specs.Block.{Block, author, isShareAt}
+use Rattle.blocks.proofs.References.{reference-same}
 use Rattle.block_store.specs.Layout.{Record, readRecord, Entry, usedBy, entries, lookup}
 use Rattle.block_store.specs.Accept.{isStored}
 use Rattle.block_store.specs.Store.{recordsOf}

@@ -14,9 +14,9 @@ use Rattle.base.proofs.Members.{in-empty, in-left, in-right, in-append, in-map,
 use Rattle.committee.specs.Committee.{AuthorityIndex, Committee, broken}
 use Rattle.committee.specs.Quorum.{HoldQuorum}
 use Rattle.committee.proofs.Quorums.{quorum-mono, quorum-member}
-use Rattle.types.specs.Reference.{TransactionLocator, sameReference, newRange, oneRange, covers}
-use Rattle.types.specs.Block.{Statement, Block, author, isShareAt, votedRange}
-use Rattle.types.proofs.References.{reference-same, same-reference}
+use Rattle.blocks.specs.Reference.{TransactionLocator, sameReference, newRange, oneRange, covers}
+use Rattle.blocks.specs.Block.{Statement, Block, author, isShareAt, votedRange}
+use Rattle.blocks.proofs.References.{reference-same, same-reference}
 use Rattle.block_store.proofs.Stored.{WellStored, one-reference}
 use Rattle.finalization_interpreter.specs.Ancestry.{Ancestor, itself, included, VoteIn, byAccept, byRange, VotesFor, byShare, byVote, Voter, Certificate, Final}
 use Rattle.finalization_interpreter.proofs.Asked.{in-order-stored}

@@ -9,8 +9,8 @@ use lib.ListN.{getElem?}
 use Rattle.base.specs.Lists.{pick, keep, holds}
 use Rattle.committee.specs.Committee.{AuthorityIndex, Committee, known}
 use Rattle.committee.specs.StakeAggregator.{StakeAggregator, counted, hasQuorum}
-use Rattle.types.specs.Reference.{BlockReference, TransactionLocator, TransactionLocatorRange, sameReference, covers}
-use Rattle.types.specs.Block.{Statement, Block, votedRange}
+use Rattle.blocks.specs.Reference.{BlockReference, TransactionLocator, TransactionLocatorRange, sameReference, covers}
+use Rattle.blocks.specs.Block.{Statement, Block, votedRange}
 use Rattle.block_store.specs.Layout.{Record, Entry, entries, lookup}
 use Rattle.range_map.proofs.Items.{heldAt}
 use Rattle.aggregator.specs.ProcessBlock.{Event, Processing, vote, votes}

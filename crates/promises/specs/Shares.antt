@@ -9,8 +9,8 @@ use lib.ListN.{length, getElem?}
 use Rattle.base.specs.Lists.{pick, anyOf, holds, sumOf, _∈_, Once}
 use Rattle.committee.specs.Committee.{AuthorityIndex, Committee, getStake}
 use Rattle.committee.specs.Quorum.{HoldQuorum}
-use Rattle.types.specs.Reference.{BlockReference, TransactionLocator, sameReference, covers}
-use Rattle.types.specs.Block.{Statement, Block, author, isShareAt, votedRange}
+use Rattle.blocks.specs.Reference.{BlockReference, TransactionLocator, sameReference, covers}
+use Rattle.blocks.specs.Block.{Statement, Block, author, isShareAt, votedRange}
 use Rattle.aggregator.specs.ProcessBlock.{Event}
 use Rattle.aggregator.specs.Pending.{Standing}
 use Rattle.promises.specs.Feeds.{Accepted}

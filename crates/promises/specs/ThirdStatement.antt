@@ -9,8 +9,8 @@ use Rattle.base.specs.Lists.{pairwise, _∈_}
 use Rattle.base.specs.Le.{Bytes}
 use Rattle.base.specs.Checks.{refused, answered}
 use Rattle.committee.specs.Committee.{Committee, broken}
-use Rattle.types.specs.Reference.{TransactionLocator, locatorBefore}
-use Rattle.types.specs.Block.{Block}
+use Rattle.blocks.specs.Reference.{TransactionLocator, locatorBefore}
+use Rattle.blocks.specs.Block.{Block}
 use Rattle.aggregator.specs.Pending.{Standing, pending}
 use Rattle.finalization_interpreter.specs.Ancestry.{VoteIn, Final}
 use Rattle.finalization_interpreter.specs.Finality.{finality}

@@ -12,7 +12,7 @@ use borrow.Author.Tests.{lt-ltb, ltb-true, eqb-true, eq-eqb}
 use Rattle.base.proofs.Tests.{and-left, and-right, fails}
 use Rattle.base.proofs.Places.{every-place, pairs-places}
 use Rattle.base.proofs.Index.{find-at, find-no}
-use Rattle.types.proofs.Ranges.{within-yes}
+use Rattle.blocks.proofs.Ranges.{within-yes}
 use Rattle.range_map.specs.declared.Found.{Found}
 use Rattle.range_map.specs.declared.Found.the-variants.{At, Nothing}
 use Rattle.range_map.specs.Items.{Item, noItem, itemHolds, itemAt, fallsInside}

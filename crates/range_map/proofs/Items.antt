@@ -15,10 +15,10 @@ use Rattle.base.proofs.Tests.{and-left, and-right}
 use Rattle.base.proofs.Lists.{Every, none-of, and, every, every-one, every-keep, every-map, every-flatten, Pairs, no-pairs, with-later, pairs-keep, pairs-map, pairs-flatten}
 use Rattle.committee.specs.Committee.{AuthorityIndex, Committee, totalStake, isQuorum}
 use Rattle.committee.specs.StakeAggregator.{StakeAggregator, noVotes, counted, hasQuorum}
-use Rattle.types.specs.Reference.{TransactionLocatorRange, within}
-use Rattle.types.specs.Block.{Block, isShareAt, sharedRanges}
-use Rattle.types.proofs.Ranges.{within-yes, within-no, within-true, within-parts}
-use Rattle.types.proofs.Runs.{shared-cover}
+use Rattle.blocks.specs.Reference.{TransactionLocatorRange, within}
+use Rattle.blocks.specs.Block.{Block, isShareAt, sharedRanges}
+use Rattle.blocks.proofs.Ranges.{within-yes, within-no, within-true, within-parts}
+use Rattle.blocks.proofs.Runs.{shared-cover}
 use Rattle.range_map.specs.Items.{Item, itemBefore, itemHolds, itemAt, fallsInside, frontOf, backOf, cutItem, cutAt, bothCuts, itemWithin, votedItem, voteOver, stays, afterLeaving, firstVote, registered, register}
 
 -- ---- the view by locator

@@ -10,7 +10,7 @@ use Rattle.base.proofs.Lists.{append-nil, Every, none-of, and, every, every-app
 use Rattle.committee.specs.Committee.{AuthorityIndex, Committee, known}
 use Rattle.committee.specs.StakeAggregator.{noVotes, aggregatorInOrder}
 use Rattle.committee.proofs.Aggregators.{counted-in-order, noVotes-order}
-use Rattle.types.specs.Reference.{TransactionLocatorRange}
+use Rattle.blocks.specs.Reference.{TransactionLocatorRange}
 use Rattle.range_map.specs.Items.{Item, itemBefore, cutAt, bothCuts, itemWithin, votedItem, voteOver, stays, afterLeaving, firstVote, registered, register}
 use Rattle.range_map.specs.Table.{tableOf, itemsOf, tableFormed}
 use Rattle.range_map.proofs.Items.{Ordered, ordered-voteOver, ordered-afterLeaving}

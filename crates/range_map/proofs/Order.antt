@@ -17,9 +17,9 @@ use Rattle.committee.specs.Committee.{AuthorityIndex, Committee, known}
 use Rattle.committee.specs.AuthoritySet.{member}
 use Rattle.committee.specs.StakeAggregator.{noVotes, aggregatorInOrder}
 use Rattle.committee.proofs.Aggregators.{counted-in-order, counted-member, counted-keeps, noVotes-order}
-use Rattle.types.specs.Reference.{TransactionLocatorRange}
-use Rattle.types.specs.Block.{Block, author, isShareAt, sharedRanges}
-use Rattle.types.proofs.Runs.{SharedRun, shared-runs, shared-below}
+use Rattle.blocks.specs.Reference.{TransactionLocatorRange}
+use Rattle.blocks.specs.Block.{Block, author, isShareAt, sharedRanges}
+use Rattle.blocks.proofs.Runs.{SharedRun, shared-runs, shared-below}
 use Rattle.block_store.specs.Layout.{Entry}
 use Rattle.range_map.specs.Items.{Item, itemBefore, itemFull, cutAt, bothCuts, itemWithin, votedItem, voteOver, afterLeaving, firstVote, registered, register}
 use Rattle.range_map.specs.Table.{tableOf, itemsOf, room, sharesIn, itemSuits, itemStored, itemInOrder, tableInOrder}

@@ -7,7 +7,7 @@ use lib.Dec.{ltb, leb, eqb}
 use Rattle.base.specs.Lists.{pick, find, keep}
 use Rattle.committee.specs.Committee.{AuthorityIndex, Stake, Committee, totalStake, quorumOf}
 use Rattle.committee.specs.StakeAggregator.{StakeAggregator, noVotes, counted}
-use Rattle.types.specs.Reference.{TransactionLocatorRange, within}
+use Rattle.blocks.specs.Reference.{TransactionLocatorRange, within}
 
 -- 01: "entry position, start, end, votes low, votes high, stake"
 pub record Item : Type 0 where

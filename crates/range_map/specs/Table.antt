@@ -11,7 +11,7 @@ use Rattle.base.specs.Read.{Part, Read, give, _>>=_, items, repeated}
 use Rattle.committee.specs.Committee.{Committee}
 use Rattle.committee.specs.AuthoritySet.{member}
 use Rattle.committee.specs.StakeAggregator.{aggregatorInOrder}
-use Rattle.types.specs.Block.{Block, author, isShareAt}
+use Rattle.blocks.specs.Block.{Block, author, isShareAt}
 use Rattle.block_store.specs.Layout.{Entry}
 use Rattle.range_map.specs.Items.{Item, itemBefore, itemFull}
 

@@ -1,7 +1,7 @@
 use mathlib.Core.Path.{_≡_, sym, ap, _∙_}
 use borrow.Author.Tests.{not-true, not-false}
 use Rattle.committee.specs.AuthoritySet.{member}
-use Rattle.types.specs.Reference.{BlockReference}
+use Rattle.blocks.specs.Reference.{BlockReference}
 use Rattle.types.specs.Values.{asReference}
 use Rattle.block_store.proofs.Loops.{refuses}
 use Rattle.range_map.specs.Answers.{asItem}

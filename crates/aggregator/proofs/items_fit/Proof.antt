@@ -5,7 +5,7 @@ use native.Mathlib.Omega.{arith}
 use lib.Dec.{leb}
 use lib.ListN.{length, length-take}
 use Rattle.base.proofs.Tests.{not-both}
-use Rattle.types.specs.Record.{blockIn}
+use Rattle.blocks.specs.Record.{blockIn}
 use Rattle.range_map.specs.Table.{itemsOf, room}
 use Rattle.aggregator.specs.ProcessBlock.{processBlock}
 use Rattle.aggregator.specs.Step.{withNew, Feeding}

@@ -2,8 +2,8 @@ use mathlib.Core.Path.{_≡_, sym, ap, _∙_}
 use native.Mathlib.Omega.{arith}
 use Rattle.base.specs.Lists.{pick}
 use Rattle.base.specs.Le.{Bytes}
-use Rattle.types.specs.Block.{isShareAt}
-use Rattle.types.specs.Record.{blockIn}
+use Rattle.blocks.specs.Block.{isShareAt}
+use Rattle.blocks.specs.Record.{blockIn}
 use Rattle.block_store.specs.Store.{usedLength}
 use Rattle.block_store.specs.Entry.{blockAt}
 use Rattle.block_store.proofs.Check.{is-readable}

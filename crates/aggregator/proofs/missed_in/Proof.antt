@@ -4,8 +4,8 @@ use mathlib.Core.Bool.{Bool}
 use Prim.Native.Nat.{_-_}
 use native.Mathlib.Omega.{arith}
 use Rattle.base.specs.Lists.{pick}
-use Rattle.types.specs.Block.{isShareAt}
-use Rattle.types.specs.Record.{blockIn}
+use Rattle.blocks.specs.Block.{isShareAt}
+use Rattle.blocks.specs.Record.{blockIn}
 use Rattle.aggregator.specs.Step.{Placed}
 use Rattle.aggregator.proofs.Offsets.{placed-first, placed-later}
 use Rattle.aggregator.proofs.Telling.{Telling, telling-start, telling-long, telling-on, telling-end}

@@ -1,11 +1,11 @@
 use mathlib.Core.Path.{_≡_, sym, ap, _∙_}
 use Prim.Native.Nat.{_-_, _<_}
 use lib.ListN.{length}
-use Rattle.types.proofs.Walk.{placed-index}
-use Rattle.types.specs.Block.{isShare}
+use Rattle.shared_ranges.proofs.Walk.{placed-index}
+use Rattle.blocks.specs.Block.{isShare}
 use native.Mathlib.Omega.{arith}
 use borrow.Author.Needs.{needs}
-use Rattle.types.specs.Record.{blockIn}
+use Rattle.blocks.specs.Record.{blockIn}
 use Rattle.aggregator.specs.Step.{Placed}
 use Rattle.aggregator.proofs.Offsets.{share-there, share-past, placed-next}
 use Rattle.aggregator.proofs.share_at.Statement.{statement}

@@ -2,7 +2,7 @@ use mathlib.Core.Path.{sym, _∙_}
 use Prim.Native.Nat.{_-_}
 use borrow.Author.Needs.{needs}
 use borrow.Author.Tests.{not-true, not-false}
-use Rattle.types.specs.Record.{blockIn}
+use Rattle.blocks.specs.Record.{blockIn}
 use Rattle.block_store.proofs.Loops.{refuses}
 use Rattle.aggregator.proofs.Offsets.{Sharing, sharing-start, sharing-on, sharing-no, sharing-all}
 use Rattle.aggregator.proofs.shares_in.Statement.{statement}

@@ -1,5 +1,5 @@
 use mathlib.Core.Path.{_≡_, sym, ap, _∙_}
-use Rattle.types.specs.Reference.{locator}
+use Rattle.blocks.specs.Reference.{locator}
 use Rattle.types.specs.Values.{asLocator}
 use Rattle.range_map.specs.Answers.{asItem}
 use Rattle.aggregator.specs.Answers.{asPending}

@@ -1,6 +1,6 @@
 use mathlib.Core.Path.{_≡_, sym, ap, _∙_}
 use native.Mathlib.Omega.{arith}
-use Rattle.types.specs.Reference.{BlockReference}
+use Rattle.blocks.specs.Reference.{BlockReference}
 use Rattle.types.specs.Values.{asReference, referenceOrder}
 use Rattle.block_store.specs.Store.{usedLength}
 use Rattle.block_store.proofs.Check.{is-readable}

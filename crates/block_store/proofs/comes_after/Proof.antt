@@ -2,9 +2,9 @@ use borrow.Author.Needs.{needs}
 use mathlib.Core.Path.{sym, _∙_}
 use mathlib.Core.Bool.{true, false}
 use borrow.Author.Tests.{eq-eqb}
-use Rattle.types.specs.Reference.{BlockReference, referenceBefore}
+use Rattle.blocks.specs.Reference.{BlockReference, referenceBefore}
 use Rattle.base.proofs.Tests.{fails}
-use Rattle.types.proofs.References.{reference-irrefl, reference-asymmetric}
+use Rattle.blocks.proofs.References.{reference-irrefl, reference-asymmetric}
 use Rattle.types.specs.Values.{asReference}
 use Rattle.block_store.specs.Entry.{follows}
 use Rattle.block_store.proofs.Compared.{compared-less, compared-equal, compared-greater}

@@ -5,7 +5,7 @@ use native.Mathlib.Omega.{arith}
 use lib.ListN.{length, length-set}
 use borrow.Author.Tests.{not-true, not-false}
 use Rattle.base.proofs.Tests.{not-both}
-use Rattle.types.specs.Record.{wellFormed}
+use Rattle.blocks.specs.Record.{wellFormed}
 use Rattle.block_store.specs.Store.{blockCount, usedLength}
 use Rattle.block_store.proofs.Check.{header-right}
 use Rattle.block_store.proofs.Loops.{formed-at, record-part, refuses, walking-done, Walking, walking-start, walking-on, walking-stop}

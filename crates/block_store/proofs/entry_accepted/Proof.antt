@@ -4,8 +4,8 @@ use native.Mathlib.Omega.{arith}
 use Rattle.base.specs.Lists.{allOf}
 use Rattle.base.specs.Le.{Bytes}
 use Rattle.base.specs.Checks.{refusal}
-use Rattle.types.specs.Record.{blockIn}
-use Rattle.types.specs.Verify.{headChecks, bodyChecks}
+use Rattle.blocks.specs.Record.{blockIn}
+use Rattle.blocks.specs.Verify.{headChecks, bodyChecks}
 use Rattle.block_store.specs.Layout.{entries}
 use Rattle.block_store.specs.Store.{recordsOf}
 use Rattle.block_store.specs.Entry.{blockAt}

@@ -5,9 +5,9 @@ use mathlib.Core.Bool.{true}
 use native.Mathlib.Omega.{arith}
 use lib.ListN.{length}
 use Rattle.base.proofs.Narrowed.{Narrowed, narrowed-start, narrowed-up, narrowed-down}
-use Rattle.types.specs.Reference.{BlockReference, referenceBefore}
+use Rattle.blocks.specs.Reference.{BlockReference, referenceBefore}
 use Rattle.types.specs.Values.{asReference}
-use Rattle.types.proofs.References.{reference-trans}
+use Rattle.blocks.proofs.References.{reference-trans}
 use Rattle.block_store.proofs.Compared.{compared-less, compared-equal, compared-greater}
 use Rattle.block_store.proofs.Search.{referenceIn, order-entry, order-rises, found-there, found-nowhere}
 use Rattle.block_store.proofs.find_ordered.Statement.{statement}

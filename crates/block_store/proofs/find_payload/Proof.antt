@@ -7,8 +7,8 @@ use borrow.Author.Tests.{not-true, not-false, le-leb, leb-true}
 use Rattle.base.specs.Le.{Bytes}
 use Rattle.committee.specs.Answers.{asNewCommittee}
 use Rattle.committee.proofs.Answers.{taken-sound, broken-sound}
-use Rattle.types.specs.Reference.{locator}
-use Rattle.types.specs.Record.{blockIn, statementStart}
+use Rattle.blocks.specs.Reference.{locator}
+use Rattle.blocks.specs.Record.{blockIn, statementStart}
 use Rattle.types.specs.Values.{asLocator}
 use Rattle.block_store.specs.Entry.{blockAt}
 use Rattle.block_store.specs.Payload.{shareStretch}

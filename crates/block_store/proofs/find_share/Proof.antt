@@ -2,10 +2,10 @@ use borrow.Author.Needs.{needs}
 use Prim.Native.Nat.{ℕ, _≤_, _-_, _+_}
 use mathlib.Core.Path.{_≡_, refl, sym, ap, _∙_}
 use native.Mathlib.Omega.{arith}
-use Rattle.types.specs.Record.{blockIn}
+use Rattle.blocks.specs.Record.{blockIn}
 use Rattle.base.proofs.Le.{bytes-of}
-use Rattle.types.specs.Cursor.{cursorAt}
-use Rattle.types.specs.declared.StatementCursor.{StatementCursor}
+use Rattle.block_record.specs.Cursor.{cursorAt}
+use Rattle.block_record.specs.declared.StatementCursor.{StatementCursor}
 use Rattle.block_store.specs.Answers.{shareWithin}
 use Rattle.block_store.proofs.Located.{share-past, shareTold, share-found}
 use Rattle.block_store.proofs.find_share.Statement.{statement}

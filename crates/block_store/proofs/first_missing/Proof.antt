@@ -5,8 +5,8 @@ use mathlib.Core.List.{List}
 use native.Mathlib.Omega.{arith}
 use native.Mathlib.Nat.{zero-add}
 use lib.ListN.{drop}
-use Rattle.types.specs.Reference.{BlockReference}
-use Rattle.types.specs.Record.{blockIn}
+use Rattle.blocks.specs.Reference.{BlockReference}
+use Rattle.blocks.specs.Record.{blockIn}
 use Rattle.types.specs.Values.{asReference}
 use Rattle.block_store.specs.Layout.{Record, entries, lookup}
 use Rattle.block_store.specs.Store.{blockCount, recordsOf}

@@ -6,8 +6,8 @@ use mathlib.Core.Bool.{Bool}
 use native.Mathlib.Omega.{arith}
 use lib.ListN.{drop, getD}
 use Rattle.base.specs.Lists.{allOf}
-use Rattle.types.specs.Record.{blockIn, noReference}
-use Rattle.types.specs.Reference.{BlockReference}
+use Rattle.blocks.specs.Record.{blockIn, noReference}
+use Rattle.blocks.specs.Reference.{BlockReference}
 use Rattle.block_store.specs.Layout.{Record, entries, positionOf, lookup}
 use Rattle.block_store.specs.Store.{recordsOf}
 use Rattle.block_store.specs.Check.{storedBefore}

@@ -2,7 +2,7 @@ use borrow.Author.Needs.{needs}
 use mathlib.Core.Path.{ap, _∙_}
 use native.Mathlib.Omega.{arith}
 use Rattle.base.specs.Le.{Bytes}
-use Rattle.types.specs.Record.{blockIn}
+use Rattle.blocks.specs.Record.{blockIn}
 use Rattle.block_store.specs.Entry.{blockAt}
 use Rattle.block_store.proofs.Loops.{entry-room, record-part}
 use Rattle.block_store.proofs.reference_at.Statement.{statement}

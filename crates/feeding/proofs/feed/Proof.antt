@@ -3,7 +3,7 @@ use Prim.Native.Nat.{ℕ}
 use native.Mathlib.Omega.{arith}
 use lib.ListN.{length}
 use borrow.Author.Tests.{not-true, not-false}
-use Rattle.types.specs.Record.{blockIn}
+use Rattle.blocks.specs.Record.{blockIn}
 use Rattle.block_store.specs.Layout.{readRecord}
 use Rattle.block_store.specs.Store.{recordsOf, recordIn}
 use Rattle.block_store.proofs.Accepted.{accepted-new}

@@ -6,7 +6,7 @@ use native.Mathlib.Omega.{arith}
 use lib.ListN.{length}
 use Rattle.base.specs.Checks.{Answer, answered}
 use Rattle.committee.specs.AuthoritySet.{stakeOf}
-use Rattle.types.specs.Reference.{locator}
+use Rattle.blocks.specs.Reference.{locator}
 use Rattle.types.specs.Values.{asLocator}
 use Rattle.finalization_interpreter.specs.Finality.{blocksOf}
 use Rattle.finalization_interpreter.specs.NextFinal.{leastFinal}

@@ -4,9 +4,9 @@ use mathlib.Core.Path.{_≡_, refl, sym, ap, _∙_}
 use native.Mathlib.Omega.{arith}
 use lib.ListN.{length, getD, drop}
 use Rattle.base.specs.Le.{Bytes}
-use Rattle.types.specs.Reference.{locator}
-use Rattle.types.specs.Block.{spans}
-use Rattle.types.specs.Record.{blockIn}
+use Rattle.blocks.specs.Reference.{locator}
+use Rattle.blocks.specs.Block.{spans}
+use Rattle.blocks.specs.Record.{blockIn}
 use Rattle.types.specs.Values.{asReference, asLocator}
 use Rattle.block_store.specs.Entry.{blockAt}
 use Rattle.block_store.proofs.Loops.{entry-room, record-part}

@@ -4,7 +4,7 @@ use mathlib.Core.Path.{_≡_, refl, sym, ap, _∙_}
 use mathlib.Core.List.{List, [], _∷_, map}
 use native.Mathlib.Omega.{arith}
 use Rattle.base.specs.Lists.{keep}
-use Rattle.types.specs.Reference.{TransactionLocator, TransactionLocatorRange}
+use Rattle.blocks.specs.Reference.{TransactionLocator, TransactionLocatorRange}
 use Rattle.finalization_interpreter.specs.NextFinal.{isAfter, leastLocator}
 use Rattle.finalization_interpreter.specs.Answers.{asMaybe}
 use Rattle.finalization_interpreter.specs.Walk.{startOf, lesserOf}

@@ -8,8 +8,8 @@ use borrow.Author.Tests.{not-true, not-false}
 use Rattle.base.specs.Lists.{pick}
 use Rattle.committee.specs.Committee.{isQuorum}
 use Rattle.committee.specs.AuthoritySet.{nobody, inserted, united}
-use Rattle.types.specs.Reference.{TransactionLocator}
-use Rattle.types.specs.Block.{author}
+use Rattle.blocks.specs.Reference.{TransactionLocator}
+use Rattle.blocks.specs.Block.{author}
 use Rattle.types.specs.Values.{asReference}
 use Rattle.block_store.specs.Entry.{blockAt}
 use Rattle.finalization_interpreter.specs.Walk.{blockAtPlace, votersAt}

@@ -1,8 +1,8 @@
 use lib.ListN.{getD}
 use borrow.Author.Tests.{eqb-true}
 use Rattle.committee.specs.AuthoritySet.{AuthoritySet, united}
-use Rattle.types.specs.Reference.{BlockReference}
-use Rattle.types.specs.Record.{noReference}
+use Rattle.blocks.specs.Reference.{BlockReference}
+use Rattle.blocks.specs.Record.{noReference}
 use Rattle.types.specs.Values.{asReference}
 use Rattle.finalization_interpreter.specs.Voters.{unions, voters}
 use Rattle.finalization_interpreter.specs.Finality.{blocksOf}

@@ -7,7 +7,7 @@ use native.Mathlib.Omega.{arith}
 use lib.ListN.{length, getD, length-append, length-drop, length-set}
 use borrow.Author.Tests.{not-true, not-false}
 use Rattle.types.specs.Values.{asReference, asLocator}
-use Rattle.types.specs.Block.{author}
+use Rattle.blocks.specs.Block.{author}
 use Rattle.block_store.specs.Entry.{blockAt}
 use Rattle.finalization_interpreter.specs.Voters.{certifies}
 use Rattle.finalization_interpreter.specs.Finality.{blocksOf}

@@ -4,7 +4,7 @@ use native.Mathlib.Omega.{arith}
 use Rattle.finalization_interpreter.proofs.Reading.{covers-other, covers-early, covers-from}
 use mathlib.Core.Path.{sym, _∙_}
 use Rattle.types.specs.Values.{asReference, asLocator, asRange}
-use Rattle.types.specs.Reference.{newRange, locator}
+use Rattle.blocks.specs.Reference.{newRange, locator}
 use borrow.Author.Needs.{needs}
 use Rattle.finalization_interpreter.proofs.covers.Statement.{statement}
 use Rattle.finalization_interpreter.proofs.covers.Tie as tie

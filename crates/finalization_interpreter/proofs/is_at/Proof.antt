@@ -1,7 +1,7 @@
 use borrow.Author.Tests.{not-true, not-false}
 use mathlib.Core.Path.{sym, _∙_}
 use Rattle.types.specs.Values.{asReference, asLocator}
-use Rattle.types.specs.Reference.{oneRange, newRange, locator}
+use Rattle.blocks.specs.Reference.{oneRange, newRange, locator}
 use Rattle.finalization_interpreter.proofs.Reading.{covers-one, covers-other}
 use borrow.Author.Needs.{needs}
 use Rattle.finalization_interpreter.proofs.is_at.Statement.{statement}

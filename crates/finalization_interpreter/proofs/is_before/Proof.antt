@@ -1,7 +1,7 @@
 use mathlib.Core.Path.{sym, _∙_}
 use Rattle.types.specs.Values.{asLocator, locatorOrder}
-use Rattle.types.specs.Reference.{sameLocator, locatorBefore}
-use Rattle.types.proofs.References.{locator-irrefl, locator-same}
+use Rattle.blocks.specs.Reference.{sameLocator, locatorBefore}
+use Rattle.blocks.proofs.References.{locator-irrefl, locator-same}
 use Rattle.base.proofs.Tests.{fails}
 use Rattle.finalization_interpreter.proofs.Compared.{order-less, order-equal, order-greater}
 use borrow.Author.Needs.{needs}

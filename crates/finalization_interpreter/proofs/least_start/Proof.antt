@@ -6,8 +6,8 @@ use native.Mathlib.Omega.{arith}
 use lib.ListN.{length, getD, drop}
 use Rattle.base.specs.Lists.{keep}
 use Rattle.base.specs.Le.{Bytes}
-use Rattle.types.specs.Block.{spans}
-use Rattle.types.specs.Record.{blockIn}
+use Rattle.blocks.specs.Block.{spans}
+use Rattle.blocks.specs.Record.{blockIn}
 use Rattle.block_store.specs.Entry.{blockAt}
 use Rattle.block_store.proofs.Loops.{entry-room, record-part}
 use Rattle.finalization_interpreter.specs.NextFinal.{isAfter, leastLocator}

@@ -5,10 +5,11 @@ use mathlib.Core.List.{map, Option·toList}
 use native.Mathlib.Omega.{arith}
 use lib.ListN.{length, getD}
 use Rattle.base.specs.Lists.{keep}
-use Rattle.types.specs.Block.{spans}
-use Rattle.types.specs.Record.{blockIn, noStatement}
-use Rattle.types.specs.Values.{asReference, asLocator, asStatement}
-use Rattle.types.specs.Cursor.{cursorAt}
+use Rattle.blocks.specs.Block.{spans}
+use Rattle.blocks.specs.Record.{blockIn, noStatement}
+use Rattle.types.specs.Values.{asReference, asLocator}
+use Rattle.block_record.specs.Values.{asStatement}
+use Rattle.block_record.specs.Cursor.{cursorAt}
 use Rattle.finalization_interpreter.specs.NextFinal.{isAfter, leastLocator}
 use Rattle.finalization_interpreter.specs.Answers.{asMaybe}
 use Rattle.finalization_interpreter.specs.Walk.{spanOf, startOf, lesserOf}

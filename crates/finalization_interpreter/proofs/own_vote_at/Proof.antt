@@ -4,7 +4,7 @@ use native.Mathlib.Omega.{arith}
 use borrow.Author.Tests.{not-true, not-false}
 use Rattle.base.specs.Le.{Bytes}
 use Rattle.committee.specs.AuthoritySet.{inserted, nobody}
-use Rattle.types.specs.Record.{blockIn}
+use Rattle.blocks.specs.Record.{blockIn}
 use Rattle.types.specs.Values.{asReference, asLocator}
 use Rattle.block_store.specs.Entry.{blockAt}
 use Rattle.block_store.proofs.Loops.{entry-room, record-part}

@@ -1,6 +1,6 @@
 use mathlib.Core.Path.{sym, _∙_}
 use Rattle.types.specs.Values.{asReference, referenceOrder}
-use Rattle.types.specs.Reference.{sameReference, referenceBefore}
+use Rattle.blocks.specs.Reference.{sameReference, referenceBefore}
 use Rattle.finalization_interpreter.proofs.Compared.{order-less, order-equal, order-greater}
 use borrow.Author.Needs.{needs}
 use Rattle.finalization_interpreter.proofs.same_reference.Statement.{statement}

@@ -1,8 +1,9 @@
 use mathlib.Core.Path.{refl}
 use mathlib.Core.List.{Option·toList}
-use Rattle.types.specs.Block.{isShare, votedRange}
-use Rattle.types.specs.Reference.{locator, oneRange, newRange}
-use Rattle.types.specs.Values.{asReference, asLocator, asRange, asStatement}
+use Rattle.blocks.specs.Block.{isShare, votedRange}
+use Rattle.blocks.specs.Reference.{locator, oneRange, newRange}
+use Rattle.types.specs.Values.{asReference, asLocator, asRange}
+use Rattle.block_record.specs.Values.{asStatement}
 use Rattle.finalization_interpreter.specs.Answers.{asMaybe}
 use Rattle.finalization_interpreter.specs.Walk.{spanOf, startOf}
 use borrow.Author.Needs.{needs}

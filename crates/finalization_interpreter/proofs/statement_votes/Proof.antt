@@ -1,10 +1,11 @@
 use lib.ListN.{take, drop}
-use Rattle.types.specs.Reference.{locator, oneRange}
-use Rattle.types.specs.Block.{Statement, share, accept, reject, voteRange}
+use Rattle.blocks.specs.Reference.{locator, oneRange}
+use Rattle.blocks.specs.Block.{Statement, share, accept, reject, voteRange}
 use mathlib.Core.Path.{_≡_, sym, ap, _∙_}
-use Rattle.types.specs.Block.{Statement}
-use Rattle.types.specs.Values.{asReference, asLocator, asRange, asStatement}
-use Rattle.types.specs.Reference.{locator}
+use Rattle.blocks.specs.Block.{Statement}
+use Rattle.types.specs.Values.{asReference, asLocator, asRange}
+use Rattle.block_record.specs.Values.{asStatement}
+use Rattle.blocks.specs.Reference.{locator}
 use Rattle.finalization_interpreter.specs.Walk.{statementVotes}
 use Rattle.finalization_interpreter.proofs.Reading.{votes-share, votes-accept, votes-reject, votes-range}
 use borrow.Author.Needs.{needs}

@@ -1,17 +1,17 @@
 use Prim.Native.Nat.{_<_}
 use mathlib.Core.Bool.{true, false}
 use lib.ListN.{getD}
-use Rattle.types.specs.Record.{noStatement}
-use Rattle.types.specs.Values.{asStatement}
+use Rattle.blocks.specs.Record.{noStatement}
+use Rattle.block_record.specs.Values.{asStatement}
 use Rattle.finalization_interpreter.specs.Walk.{statementVotes}
 use borrow.Author.Needs.{needs}
 use mathlib.Core.Path.{_≡_, refl, sym, _∙_}
 use Prim.Native.Nat.{_-_, _≤_}
 use native.Mathlib.Omega.{arith}
 use lib.ListN.{length}
-use Rattle.types.specs.Record.{blockIn}
+use Rattle.blocks.specs.Record.{blockIn}
 use Rattle.types.specs.Values.{asLocator}
-use Rattle.types.specs.Cursor.{cursorAt}
+use Rattle.block_record.specs.Cursor.{cursorAt}
 use Rattle.finalization_interpreter.specs.Voters.{votesFor}
 use Rattle.finalization_interpreter.proofs.Reading.{votesFrom, votes-start, votes-found, votes-passed, votes-end}
 use Rattle.finalization_interpreter.proofs.votes_for.Statement.{statement}
