@@ -19,12 +19,12 @@ use Rattle.blocks.specs.Block.{Block}
 use Rattle.blocks.specs.Record.{blockIn}
 use Rattle.block_record.specs.Cursor.{cursorAt}
 use Rattle.block_record.specs.declared.StatementCursor.{StatementCursor}
-use Rattle.block_store.specs.Layout.{Entry, entries, usedBy}
-use Rattle.block_store.specs.Store.{recordsOf}
-use Rattle.block_store.specs.Entry.{readable, isEntry, recordAt, blockAt}
-use Rattle.block_store.proofs.Store.{entries-below, entries-within}
-use Rattle.block_store.proofs.Loops.{EntryAt, entry-at, is-entry, entry-room, block-at}
-use Rattle.block_store.proofs.Visit.{one-position}
+use Rattle.store_layout.specs.Layout.{Entry, entries, usedBy}
+use Rattle.store_layout.specs.Store.{recordsOf}
+use Rattle.store_order.specs.Entry.{readable, isEntry, recordAt, blockAt}
+use Rattle.store_layout.proofs.Store.{entries-below, entries-within}
+use Rattle.store_order.proofs.Loops.{EntryAt, entry-at, is-entry, entry-room, block-at}
+use Rattle.store_order.proofs.Visit.{one-position}
 use Rattle.range_map.specs.Items.{Item, noItem, itemBefore}
 use Rattle.range_map.specs.Table.{itemsOf, itemSuits, itemStored, tableStored}
 use Rattle.range_map.proofs.Items.{Ordered, before-facts}

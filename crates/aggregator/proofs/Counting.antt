@@ -18,7 +18,7 @@ use Rattle.blocks.specs.Reference.{TransactionLocatorRange}
 use Rattle.blocks.specs.Block.{Statement, votedRange, countedOffsets}
 use Rattle.blocks.specs.Record.{noStatement}
 use Rattle.shared_ranges.proofs.Walk.{offsetsCounted, counted-on}
-use Rattle.block_store.specs.Layout.{Entry}
+use Rattle.store_layout.specs.Layout.{Entry}
 use Rattle.range_map.specs.Items.{Item}
 use Rattle.range_map.specs.Table.{tableOf, itemsOf, room, tableInOrder}
 use Rattle.range_map.proofs.Items.{Ordered}

@@ -9,13 +9,13 @@ use lib.ListN.{length}
 use Rattle.base.specs.Lists.{_∈_, here, there}
 use Rattle.base.specs.Le.{Bytes, leAt}
 use Rattle.base.proofs.Lists.{every-in}
-use Rattle.block_store.specs.Layout.{Record, usedBy, Entry, entries}
-use Rattle.block_store.specs.Store.{recordsOf, usedLength}
-use Rattle.block_store.specs.Entry.{isEntry, readable}
-use Rattle.block_store.proofs.Check.{is-readable}
-use Rattle.block_store.proofs.Store.{entries-below}
-use Rattle.block_store.proofs.Loops.{EntryAt, entry-at, is-entry}
-use Rattle.block_store.proofs.Lookups.{Split, split-at-entry}
+use Rattle.store_layout.specs.Layout.{Record, usedBy, Entry, entries}
+use Rattle.store_layout.specs.Store.{recordsOf, usedLength}
+use Rattle.store_order.specs.Entry.{isEntry, readable}
+use Rattle.store_order.proofs.Check.{is-readable}
+use Rattle.store_layout.proofs.Store.{entries-below}
+use Rattle.store_order.proofs.Loops.{EntryAt, entry-at, is-entry}
+use Rattle.store_order.proofs.Lookups.{Split, split-at-entry}
 use Rattle.aggregator.specs.Step.{OnEntry, Passed}
 
 used-grows : (newer older : List Record) → usedBy older ≤ usedBy (newer ++ older)

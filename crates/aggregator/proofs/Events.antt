@@ -18,11 +18,11 @@ use Rattle.committee.specs.StakeAggregator.{hasQuorum}
 use Rattle.blocks.specs.Reference.{BlockReference, TransactionLocatorRange, sameReference, offsets}
 use Rattle.blocks.specs.Block.{Statement, author, isShareAt, votedRange}
 use Rattle.blocks.proofs.References.{reference-same}
-use Rattle.block_store.specs.Layout.{Record, Entry, referenceOf, entries, positionOf, lookup}
-use Rattle.block_store.specs.Store.{recordsOf}
-use Rattle.block_store.proofs.Visit.{one-position}
-use Rattle.block_store.proofs.Accepted.{known-author}
-use Rattle.block_store.proofs.Store.{entries-within}
+use Rattle.store_layout.specs.Layout.{Record, Entry, referenceOf, entries, positionOf, lookup}
+use Rattle.store_layout.specs.Store.{recordsOf}
+use Rattle.store_order.proofs.Visit.{one-position}
+use Rattle.store_layout.proofs.Accepted.{known-author}
+use Rattle.store_layout.proofs.Store.{entries-within}
 use Rattle.range_map.specs.Items.{Item, itemHolds, itemAt, voteOver}
 use Rattle.range_map.specs.Table.{itemsOf}
 use Rattle.range_map.proofs.Items.{holds-facts}

@@ -19,11 +19,11 @@ use Rattle.blocks.specs.Block.{Block, eventRoom}
 use Rattle.blocks.specs.Record.{wellFormed, blockIn}
 use Rattle.blocks.specs.Verify.{headChecks, includeChecks, statementChecks, bodyChecks}
 use Rattle.threshold_clock.proofs.Checking.{includes-numbered, statements-numbered}
-use Rattle.block_store.specs.Layout.{Record, Entry, entries, positionOf, lookup}
-use Rattle.block_store.specs.Accept.{isStored, firstMissing, blockChecks}
-use Rattle.block_store.specs.Store.{recordsOf, recordIn, storeFull}
-use Rattle.block_store.proofs.Lookups.{lookup-stored, lookup-in, missing-test}
-use Rattle.block_store.proofs.Store.{entries-within}
+use Rattle.store_layout.specs.Layout.{Record, Entry, entries, positionOf, lookup}
+use Rattle.store_layout.specs.Accept.{isStored, firstMissing, blockChecks}
+use Rattle.store_layout.specs.Store.{recordsOf, recordIn, storeFull}
+use Rattle.store_order.proofs.Lookups.{lookup-stored, lookup-in, missing-test}
+use Rattle.store_layout.proofs.Store.{entries-within}
 use Rattle.aggregator.specs.Step.{acceptChecks}
 
 -- ---- 21 to 30

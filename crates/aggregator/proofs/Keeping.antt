@@ -14,11 +14,11 @@ use Rattle.base.proofs.Lists.{none-of, no-pairs}
 use Rattle.base.proofs.Checks.{passes-first, passes-others, passes-left, passes-right}
 use Rattle.committee.specs.Committee.{Committee}
 use Rattle.blocks.specs.Block.{eventRoom}
-use Rattle.block_store.specs.Layout.{Record, Entry, readRecord, usedBy, entries}
-use Rattle.block_store.specs.Accept.{blockChecks}
-use Rattle.block_store.specs.Store.{recordsOf, storeInOrder, storeFull}
-use Rattle.block_store.proofs.Accepted.{known-author}
-use Rattle.block_store.proofs.Store.{Right, readRecord-some, Holding, accepting, entries-below}
+use Rattle.store_layout.specs.Layout.{Record, Entry, readRecord, usedBy, entries}
+use Rattle.store_layout.specs.Accept.{blockChecks}
+use Rattle.store_layout.specs.Store.{recordsOf, storeInOrder, storeFull}
+use Rattle.store_layout.proofs.Accepted.{known-author}
+use Rattle.store_layout.proofs.Store.{Right, readRecord-some, Holding, accepting, entries-below}
 use Rattle.range_map.specs.Table.{tableOf, itemsOf, tableInOrder, room}
 use Rattle.range_map.proofs.Table.{length-tableOf}
 use Rattle.range_map.proofs.Order.{InOrder, in-order, order-tableOf, room-fits}

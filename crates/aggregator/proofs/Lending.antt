@@ -17,10 +17,10 @@ use Rattle.base.proofs.Refusals.{zero-passes, passes-zero}
 use Rattle.committee.specs.Committee.{Committee, broken}
 use Rattle.committee.specs.AuthoritySet.{numberOfVoters}
 use Rattle.blocks.specs.Reference.{TransactionLocator}
-use Rattle.block_store.specs.Layout.{entries, positionOf, lookup}
-use Rattle.block_store.specs.Store.{recordsOf, storeInOrder}
-use Rattle.block_store.specs.Entry.{readable, chained, laidOut}
-use Rattle.block_store.proofs.Check.{order-checked}
+use Rattle.store_layout.specs.Layout.{entries, positionOf, lookup}
+use Rattle.store_layout.specs.Store.{recordsOf, storeInOrder}
+use Rattle.store_order.specs.Entry.{readable, chained, laidOut}
+use Rattle.store_order.proofs.Check.{order-checked}
 use Rattle.range_map.specs.Items.{Item, noItem, itemHolds, itemAt}
 use Rattle.range_map.specs.Table.{HoldsItems, itemsOf, tableInOrder}
 use Rattle.range_map.specs.Answers.{FoundBy, atIndex, nowhere, foundItem}

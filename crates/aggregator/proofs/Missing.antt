@@ -16,14 +16,14 @@ use Rattle.blocks.specs.Record.{blockIn}
 use Rattle.types.specs.Values.{orderOf, referenceOrder}
 use Rattle.types.specs.declared.Ordering.{Ordering}
 use Rattle.types.specs.declared.Ordering.the-variants.{Less, Equal, Greater}
-use Rattle.block_store.specs.Layout.{Record, usedBy, Entry, entries, positionOf, lookup}
-use Rattle.block_store.specs.Store.{recordsOf, recordIn}
-use Rattle.block_store.specs.Entry.{readable, isEntry, blockAt}
-use Rattle.block_store.proofs.Store.{entries-below, entries-within}
-use Rattle.block_store.proofs.Loops.{EntryAt, entry-at, is-entry, block-at}
-use Rattle.block_store.proofs.Lookups.{lookup-in}
-use Rattle.block_store.proofs.Visit.{one-position}
-use Rattle.block_store.proofs.Compared.{compared-equal}
+use Rattle.store_layout.specs.Layout.{Record, usedBy, Entry, entries, positionOf, lookup}
+use Rattle.store_layout.specs.Store.{recordsOf, recordIn}
+use Rattle.store_order.specs.Entry.{readable, isEntry, blockAt}
+use Rattle.store_layout.proofs.Store.{entries-below, entries-within}
+use Rattle.store_order.proofs.Loops.{EntryAt, entry-at, is-entry, block-at}
+use Rattle.store_order.proofs.Lookups.{lookup-in}
+use Rattle.store_order.proofs.Visit.{one-position}
+use Rattle.store_order.proofs.Compared.{compared-equal}
 use Rattle.aggregator.specs.ProcessBlock.{missed}
 use Rattle.aggregator.specs.Step.{withNew}
 use Rattle.aggregator.proofs.ProcessBlock.{lookup-new}

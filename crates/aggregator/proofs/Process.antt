@@ -20,11 +20,11 @@ use Rattle.blocks.specs.Reference.{TransactionLocatorRange}
 use Rattle.blocks.specs.Verify.{headChecks, includeChecks, statementChecks, bodyChecks}
 use Rattle.blocks.specs.Block.{Statement, Block, author, votedRange, sharedRanges}
 use Rattle.blocks.specs.Record.{blockIn}
-use Rattle.block_store.specs.Layout.{Record, Entry, entries, usedBy, positionOf, lookup}
-use Rattle.block_store.specs.Store.{recordsOf, recordIn}
-use Rattle.block_store.specs.Accept.{blockChecks}
-use Rattle.block_store.proofs.Accepted.{known-author}
-use Rattle.block_store.proofs.Store.{entries-below}
+use Rattle.store_layout.specs.Layout.{Record, Entry, entries, usedBy, positionOf, lookup}
+use Rattle.store_layout.specs.Store.{recordsOf, recordIn}
+use Rattle.store_layout.specs.Accept.{blockChecks}
+use Rattle.store_layout.proofs.Accepted.{known-author}
+use Rattle.store_layout.proofs.Store.{entries-below}
 use Rattle.range_map.specs.Items.{Item, itemBefore, itemFull, register}
 use Rattle.range_map.specs.Table.{tableOf, itemsOf, room, tableInOrder}
 use Rattle.range_map.proofs.Order.{Pending, InOrder, in-order, order-tableOf, room-fits}

@@ -13,7 +13,7 @@ use Rattle.committee.specs.Committee.{AuthorityIndex, Committee, known}
 use Rattle.committee.specs.StakeAggregator.{hasQuorum}
 use Rattle.blocks.specs.Reference.{BlockReference, sameReference, TransactionLocatorRange, offsets}
 use Rattle.blocks.specs.Block.{Statement, Block, author, votedRange, countedOffsets, eventRoom}
-use Rattle.block_store.specs.Layout.{Entry, positionOf, lookup}
+use Rattle.store_layout.specs.Layout.{Entry, positionOf, lookup}
 use Rattle.range_map.specs.Items.{Item, itemAt, voteOver}
 use Rattle.range_map.proofs.Items.{Ordered, ordered-voteOver, ordered-afterLeaving}
 use Rattle.range_map.proofs.Order.{Pending, pending-voteOver, pending-afterLeaving, pending-register, ordered-register, length-voteOver, length-afterLeaving}

@@ -14,7 +14,7 @@ use Rattle.base.proofs.Lists.{length-flatten, length-countFrom, countFrom-add}
 use Rattle.committee.specs.Committee.{Committee, Stake, totalStake, isQuorum, quorumOf}
 use Rattle.committee.specs.StakeAggregator.{hasQuorum}
 use Rattle.blocks.specs.Reference.{BlockReference}
-use Rattle.block_store.specs.Layout.{Entry}
+use Rattle.store_layout.specs.Layout.{Entry}
 use Rattle.range_map.specs.Items.{Item, itemAt}
 use Rattle.aggregator.specs.ProcessBlock.{Event, eventWords, missed, eventOf}
 use Rattle.aggregator.specs.Step.{eventsBy, wordsOf, toldAt, eventsBetween, SameItem, StatedAt, told}

@@ -20,16 +20,16 @@ use Rattle.blocks.specs.Reference.{BlockReference, TransactionLocator, Transact
 use Rattle.blocks.specs.Block.{author, isShareAt}
 use Rattle.blocks.proofs.Ranges.{within-yes, within-no, within-true}
 use Rattle.blocks.proofs.References.{reference-same, same-reference}
-use Rattle.block_store.specs.Layout.{Record, Entry, referenceOf, usedBy, entries, positionOf, lookup}
-use Rattle.block_store.specs.Store.{recordsOf}
-use Rattle.block_store.proofs.Store.{entries-below, entries-within}
+use Rattle.store_layout.specs.Layout.{Record, Entry, referenceOf, usedBy, entries, positionOf, lookup}
+use Rattle.store_layout.specs.Store.{recordsOf}
+use Rattle.store_layout.proofs.Store.{entries-below, entries-within}
 use Rattle.range_map.specs.Items.{Item, itemAt, voteOver}
 use Rattle.range_map.specs.Table.{itemsOf}
 use Rattle.range_map.proofs.Items.{Ordered, heldAt, unless, held-voteOver, held-afterVote, held-register}
 use Rattle.range_map.proofs.Order.{Pending, pending-position}
 use Rattle.aggregator.specs.ProcessBlock.{Event, missed, eventOf, Processing, vote, registering}
 use Rattle.aggregator.specs.Pending.{pendingChecks, standingOf, pending}
-use Rattle.block_store.proofs.Visit.{one-position}
+use Rattle.store_order.proofs.Visit.{one-position}
 use Rattle.aggregator.proofs.Keeping.{State}
 use Rattle.aggregator.proofs.ProcessBlock.{lookup-new}
 

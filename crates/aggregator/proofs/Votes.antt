@@ -25,7 +25,7 @@ use Rattle.block_record.specs.declared.BaseStatement.{BaseStatement}
 use Rattle.block_record.specs.declared.BaseStatement.the-variants.{Accept}
 use Rattle.blocks.specs.Block.{author}
 use Rattle.blocks.specs.Record.{blockIn}
-use Rattle.block_store.specs.Layout.{Entry, positionOf, lookup}
+use Rattle.store_layout.specs.Layout.{Entry, positionOf, lookup}
 use Rattle.range_map.specs.Items.{Item, itemAt, bothCuts, voteOver, stays, afterLeaving}
 use Rattle.range_map.specs.Table.{HoldsItems, tableOf, itemsOf, room, tableInOrder, tableFormed}
 use Rattle.range_map.proofs.Items.{ordered-voteOver}

@@ -10,9 +10,9 @@ use Rattle.base.specs.Le.{Bytes}
 use Rattle.base.specs.Checks.{Check, _⇒_, refusal, passes, Answer, refused, answered}
 use Rattle.committee.specs.Committee.{Committee, broken}
 use Rattle.blocks.specs.Block.{eventRoom}
-use Rattle.block_store.specs.Layout.{Record, readRecord, entries}
-use Rattle.block_store.specs.Accept.{blockChecks}
-use Rattle.block_store.specs.Store.{recordsOf, storeInOrder, storeFull, storeHolding}
+use Rattle.store_layout.specs.Layout.{Record, readRecord, entries}
+use Rattle.store_layout.specs.Accept.{blockChecks}
+use Rattle.store_layout.specs.Store.{recordsOf, storeInOrder, storeFull, storeHolding}
 use Rattle.range_map.specs.Table.{tableOf, itemsOf, tableInOrder, room}
 use Rattle.aggregator.specs.ProcessBlock.{eventWords, Processing, processBlock}
 

@@ -20,10 +20,10 @@ use Rattle.blocks.specs.Record.{wellFormed, blockIn}
 use Rattle.block_record.specs.Cursor.{cursorAt}
 use Rattle.types.specs.Values.{asRange}
 use Rattle.block_record.specs.declared.StatementCursor.{StatementCursor}
-use Rattle.block_store.specs.Layout.{Entry, entries, usedBy, positionOf, lookup}
-use Rattle.block_store.specs.Store.{recordsOf, recordIn, storeFull}
-use Rattle.block_store.specs.Accept.{blockChecks}
-use Rattle.block_store.specs.Entry.{blockAt, isEntry, laidOut}
+use Rattle.store_layout.specs.Layout.{Entry, entries, usedBy, positionOf, lookup}
+use Rattle.store_layout.specs.Store.{recordsOf, recordIn, storeFull}
+use Rattle.store_layout.specs.Accept.{blockChecks}
+use Rattle.store_order.specs.Entry.{blockAt, isEntry, laidOut}
 use Rattle.range_map.specs.Items.{Item, itemBefore, itemFull, itemAt}
 use Rattle.range_map.specs.Table.{tableOf, itemsOf, room, sharesIn, tableInOrder}
 use Rattle.aggregator.specs.ProcessBlock.{Event, eventWords, missed, Processing}

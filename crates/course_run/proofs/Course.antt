@@ -10,7 +10,7 @@ use Rattle.committee.specs.Committee.{Committee}
 use Rattle.blocks.specs.Reference.{BlockReference, TransactionLocator}
 use Rattle.blocks.specs.Block.{Statement, share, accept}
 use Rattle.blocks.specs.Record.{blockBytes}
-use Rattle.block_store.specs.Payload.{payload}
+use Rattle.store_layout.specs.Payload.{payload}
 use Rattle.aggregator.specs.Pending.{pending}
 use Rattle.finalization_interpreter.specs.Finality.{finality, blocksOf}
 use Rattle.finalization_interpreter.specs.NextFinal.{nextFinal, finalList}

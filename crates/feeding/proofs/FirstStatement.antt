@@ -16,10 +16,10 @@ use Rattle.base.proofs.Checks.{passes-first, passes-others, passes-left, passes
 use Rattle.base.proofs.Passing.{passes-append}
 use Rattle.committee.specs.Committee.{Committee, broken}
 use Rattle.blocks.specs.Block.{eventRoom}
-use Rattle.block_store.specs.Layout.{Record, readRecord, layout}
-use Rattle.block_store.specs.Accept.{blockChecks}
-use Rattle.block_store.specs.Store.{recordsOf, storeFull, storeHolding}
-use Rattle.block_store.proofs.Store.{length-layout, readRecord-some, Holding, accepting}
+use Rattle.store_layout.specs.Layout.{Record, readRecord, layout}
+use Rattle.store_layout.specs.Accept.{blockChecks}
+use Rattle.store_layout.specs.Store.{recordsOf, storeFull, storeHolding}
+use Rattle.store_layout.proofs.Store.{length-layout, readRecord-some, Holding, accepting}
 use Rattle.range_map.specs.Table.{room}
 use Rattle.range_map.proofs.Table.{itemsOf-tableOf}
 use Rattle.aggregator.specs.Feed.{Lent, processed, lentChecks, recordChecks, feedChecks, refusedFeed, acceptedFeed, feedRecord, feed}

@@ -21,10 +21,10 @@ use Rattle.committee.specs.Committee.{Committee}
 use Rattle.blocks.specs.Block.{Block, eventRoom}
 use Rattle.blocks.specs.Record.{blockOf, wellFormed, blockIn}
 use Rattle.block_record.proofs.Shape.{block-of}
-use Rattle.block_store.specs.Layout.{Record, readRecord, entries}
-use Rattle.block_store.specs.Accept.{blockChecks}
-use Rattle.block_store.specs.Store.{recordsOf, recordIn, storeFull, storeHolding}
-use Rattle.block_store.specs.Entry.{laidOut}
+use Rattle.store_layout.specs.Layout.{Record, readRecord, entries}
+use Rattle.store_layout.specs.Accept.{blockChecks}
+use Rattle.store_layout.specs.Store.{recordsOf, recordIn, storeFull, storeHolding}
+use Rattle.store_order.specs.Entry.{laidOut}
 use Rattle.range_map.specs.Table.{itemsOf, room}
 use Rattle.aggregator.specs.Pending.{pendingChecks}
 use Rattle.aggregator.specs.Feed.{Lent, processed, lentChecks, recordChecks, feedChecks, refusedFeed, acceptedFeed, feedRecord, feed}

@@ -9,9 +9,9 @@ use Rattle.base.specs.Le.{Bytes}
 use Rattle.base.specs.Checks.{Check, passes, refused, answered}
 use Rattle.committee.specs.Committee.{Committee, broken}
 use Rattle.blocks.specs.Block.{eventRoom}
-use Rattle.block_store.specs.Layout.{Record, readRecord, entries, usedBy}
-use Rattle.block_store.specs.Accept.{blockChecks}
-use Rattle.block_store.specs.Store.{recordsOf, storeInOrder, storeFull}
+use Rattle.store_layout.specs.Layout.{Record, readRecord, entries, usedBy}
+use Rattle.store_layout.specs.Accept.{blockChecks}
+use Rattle.store_layout.specs.Store.{recordsOf, storeInOrder, storeFull}
 use Rattle.range_map.specs.Table.{itemsOf, tableInOrder, room}
 use Rattle.aggregator.specs.ProcessBlock.{eventWords}
 use Rattle.aggregator.specs.Feed.{Lent, Fed, processed, feedChecks, feed}

@@ -15,8 +15,8 @@ use Rattle.committee.specs.Committee.{Committee, isQuorum}
 use Rattle.committee.specs.AuthoritySet.{setOf, stakeOf}
 use Rattle.blocks.specs.Reference.{TransactionLocator, TransactionLocatorRange, locator, newRange, offsets, locators}
 use Rattle.blocks.specs.Block.{Block, author, spans}
-use Rattle.block_store.specs.Layout.{entries, ascending}
-use Rattle.block_store.specs.Store.{recordsOf}
+use Rattle.store_layout.specs.Layout.{entries, ascending}
+use Rattle.store_layout.specs.Store.{recordsOf}
 use Rattle.finalization_interpreter.specs.Voters.{votesFor, certifies, certifiers, isFinal}
 use Rattle.finalization_interpreter.specs.Finality.{blocksOf, certifyingPositions}
 use Rattle.finalization_interpreter.proofs.Votes.{Covered, Spanned, spanned, is-spanned}

@@ -10,7 +10,7 @@ use Rattle.base.specs.Le.{Bytes}
 use Rattle.base.specs.Checks.{refusal, passes, Answer, refused, answered, checked}
 use Rattle.committee.specs.Committee.{Committee, broken}
 use Rattle.blocks.specs.Reference.{TransactionLocator}
-use Rattle.block_store.specs.Store.{storeInOrder}
+use Rattle.store_layout.specs.Store.{storeInOrder}
 use Rattle.finalization_interpreter.specs.NextFinal.{nextFinalChecks}
 use Rattle.final_list.specs.Stretches.{stretches, Given, givenAfter, wordsAfter, finalStretches}
 

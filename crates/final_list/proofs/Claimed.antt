@@ -14,7 +14,7 @@ use Rattle.base.proofs.Tests.{not-both}
 use Rattle.base.proofs.Members.{in-empty, in-cases}
 use Rattle.committee.specs.Committee.{Committee, broken}
 use Rattle.blocks.specs.Reference.{BlockReference, TransactionLocator, locator, newRange, offsets, locators}
-use Rattle.block_store.specs.Store.{storeInOrder}
+use Rattle.store_layout.specs.Store.{storeInOrder}
 use Rattle.finalization_interpreter.specs.Voters.{isFinal}
 use Rattle.finalization_interpreter.specs.Finality.{blocksOf}
 use Rattle.finalization_interpreter.specs.NextFinal.{leastFinal, nextFinal, AskedOn, done, onward}

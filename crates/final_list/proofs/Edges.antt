@@ -20,7 +20,7 @@ use Rattle.blocks.specs.Reference.{BlockReference, TransactionLocator, Transact
 use Rattle.blocks.specs.Block.{Block, spans, spansFrom}
 use Rattle.blocks.specs.Record.{noStatement}
 use Rattle.blocks.proofs.References.{same-reference}
-use Rattle.block_store.specs.Entry.{blockAt}
+use Rattle.store_order.specs.Entry.{blockAt}
 use Rattle.finalization_interpreter.specs.Finality.{blocksOf}
 use Rattle.finalization_interpreter.specs.Walk.{spanOf, Sorted}
 use Rattle.finalization_interpreter.proofs.Reading.{spans-on, spans-end}

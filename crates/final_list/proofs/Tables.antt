@@ -14,7 +14,7 @@ use Rattle.base.proofs.Members.{in-empty, in-map, map-in, in-flatten, flatten-i
 use Rattle.committee.specs.Committee.{Committee}
 use Rattle.blocks.specs.Reference.{BlockReference, TransactionLocator, TransactionLocatorRange, locator}
 use Rattle.blocks.specs.Block.{Block, spans}
-use Rattle.block_store.specs.Entry.{blockAt}
+use Rattle.store_order.specs.Entry.{blockAt}
 use Rattle.finalization_interpreter.specs.Finality.{blocksOf}
 use Rattle.finalization_interpreter.specs.NextFinal.{justAfter, candidates, leastLocator}
 use Rattle.finalization_interpreter.specs.Walk.{Sorted, blockAtPlace, startOf, lesserOf}

@@ -12,7 +12,7 @@ use Rattle.committee.specs.Committee.{Committee, broken}
 use Rattle.committee.specs.AuthoritySet.{setOf, stakeOf}
 use Rattle.blocks.specs.Reference.{TransactionLocator, locator}
 use Rattle.blocks.specs.Block.{author}
-use Rattle.block_store.specs.Store.{storeInOrder}
+use Rattle.store_layout.specs.Store.{storeInOrder}
 use Rattle.finalization_interpreter.specs.Voters.{certifiers, isFinal}
 use Rattle.finalization_interpreter.specs.Finality.{blocksOf, certifyingPositions}
 use Rattle.finalization_interpreter.specs.NextFinal.{AskedOn}

@@ -140,7 +140,7 @@ fn stretch_end(store: &[u8], order: &[u64], locator: TransactionLocator) -> u64
     while k < order.len() {
         let at = order[k] as usize;
         let from = at + 8;
-        let end = block_store::record_end(store, at);
+        let end = store_order::record_end(store, at);
         near = record_edges(&store[from..end], block, locator.offset, near);
         k += 1;
     }
@@ -495,7 +495,7 @@ pub fn final_stretches(
     let NewCommittee::Taken(total) = committee::new_committee(stakes) else {
         return StretchesAnswer::Refused(5);
     };
-    if !block_store::in_order(stakes, store) {
+    if !store_order::in_order(stakes, store) {
         return StretchesAnswer::Refused(10);
     }
     let mut order = [0u64; 1024];

@@ -22,11 +22,11 @@ use Rattle.blocks.specs.Block.{Statement, share, accept, reject, voteRange, Blo
 use Rattle.blocks.specs.Verify.{headChecks, includeChecks, statementChecks, bodyChecks}
 use Rattle.blocks.proofs.Spans.{Span, ofShare, ofVote, span-of}
 use Rattle.blocks.proofs.Records.{StatementFits, BlockFits}
-use Rattle.block_store.specs.Layout.{Record}
-use Rattle.block_store.specs.Store.{recordsOf, storeInOrder}
-use Rattle.block_store.specs.Accept.{blockChecks, allAccepted}
-use Rattle.block_store.proofs.Store.{in-order}
-use Rattle.block_store.proofs.Accepted.{blocks}
+use Rattle.store_layout.specs.Layout.{Record}
+use Rattle.store_layout.specs.Store.{recordsOf, storeInOrder}
+use Rattle.store_layout.specs.Accept.{blockChecks, allAccepted}
+use Rattle.store_layout.proofs.Store.{in-order}
+use Rattle.store_layout.proofs.Accepted.{blocks}
 use Rattle.finalization_interpreter.specs.Voters.{isFinal}
 use Rattle.finalization_interpreter.specs.Finality.{blocksOf}
 use Rattle.finalization_interpreter.proofs.Votes.{spanned}

@@ -20,7 +20,7 @@ use Rattle.committee.proofs.Words.{united-assoc, united-nobody}
 use Rattle.blocks.specs.Reference.{BlockReference, TransactionLocator, TransactionLocatorRange, covers}
 use Rattle.blocks.specs.Block.{Block, author, spans}
 use Rattle.blocks.specs.Record.{noReference}
-use Rattle.block_store.specs.Entry.{blockAt}
+use Rattle.store_order.specs.Entry.{blockAt}
 use Rattle.finalization_interpreter.specs.Voters.{votesFor, ownVote, unions, voters, certifies}
 use Rattle.finalization_interpreter.specs.Finality.{blocksOf}
 use Rattle.finalization_interpreter.specs.Walk.{SortedStore, blockAtPlace, votersAt}

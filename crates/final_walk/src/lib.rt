@@ -24,7 +24,7 @@ ghost use Rattle.blocks.specs.Block.{author, spans};
 ghost use Rattle.blocks.specs.Record.{wellFormed, blockIn};
 ghost use Rattle.types.specs.Values.{asReference, asLocator, asRange};
 ghost use Rattle.block_record.specs.Values.{asStatement};
-ghost use Rattle.block_store.specs.Entry.{blockAt, isEntry};
+ghost use Rattle.store_order.specs.Entry.{blockAt, isEntry};
 ghost use Rattle.finalization_interpreter.specs.Walk.{spanOf, Sorted, SortedStore, blockAtPlace};
 ghost use Rattle.final_walk.specs.Table.{voteWords, placeAt, rangeAt, votedBy, EndsFit, RecordedBy, Tabled, TabledBy};
 ghost use Rattle.final_walk.specs.Places.{Noted, Placed, withVoters, gathered, Sure, Marks, Certify, CertifyMarked};
@@ -135,7 +135,7 @@ pub fn table_votes(stakes: &[u64], store: &[u8], order: &[u64], votes: &mut [u64
     while k < order.len() {
         let at = order[k] as usize;
         let from = at + 8;
-        let end = block_store::record_end(store, at);
+        let end = store_order::record_end(store, at);
         let tabled = table_record(&store[from..end], k, votes, m);
         let Tabling::Now(n) = tabled else {
             return Tabling::Full;
@@ -235,7 +235,7 @@ fn with_own(store: &[u8], at: usize, mark: u64, below: AuthoritySet) -> Authorit
     if mark != 1 {
         return finalization_interpreter::union(AuthoritySet::new(), below);
     }
-    let block = block_store::reference_at(store, at);
+    let block = store_order::reference_at(store, at);
     let own = AuthoritySet::new().insert(block.authority);
     finalization_interpreter::union(own, below)
 }
@@ -310,7 +310,7 @@ fn walk(
             continue;
         }
         blocks += 1;
-        let block = block_store::reference_at(store, at);
+        let block = store_order::reference_at(store, at);
         authors = authors.insert(block.authority);
     }
     Certifiers { blocks, authors }

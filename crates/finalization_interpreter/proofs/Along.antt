@@ -12,13 +12,13 @@ use Rattle.base.specs.Le.{Bytes, leAt}
 use Rattle.base.proofs.Lists.{every-in}
 use Rattle.base.proofs.Places.{in-place}
 use Rattle.blocks.specs.Record.{noBlock}
-use Rattle.block_store.specs.Layout.{Entry, entries, positionOf, firstPosition, ascending}
-use Rattle.block_store.specs.Store.{blockCount, recordsOf}
-use Rattle.block_store.specs.Entry.{sortedPositions, laidOut, isEntry}
-use Rattle.block_store.specs.Step.{first}
-use Rattle.block_store.proofs.Chain.{least-first, next-after}
-use Rattle.block_store.proofs.Search.{LaidOut, laid-out, order-entry}
-use Rattle.block_store.proofs.Visit.{ascending-in, length-ascending, length-entries}
+use Rattle.store_layout.specs.Layout.{Entry, entries, positionOf, firstPosition, ascending}
+use Rattle.store_layout.specs.Store.{blockCount, recordsOf}
+use Rattle.store_order.specs.Entry.{sortedPositions, laidOut, isEntry}
+use Rattle.store_layout.specs.Step.{first}
+use Rattle.store_layout.proofs.Chain.{least-first, next-after}
+use Rattle.store_order.proofs.Search.{LaidOut, laid-out, order-entry}
+use Rattle.store_order.proofs.Visit.{ascending-in, length-ascending, length-entries}
 
 first-place : (ys : List Entry) → positionOf (first ys) ≡ getD (map (λ e. e .position) ys) 0 0
 unfolding positionOf first

@@ -13,10 +13,10 @@ use Rattle.committee.specs.Committee.{Committee, broken}
 use Rattle.blocks.specs.Reference.{TransactionLocator, locatorBefore}
 use Rattle.blocks.specs.Block.{Block}
 use Rattle.blocks.proofs.References.{locator-irrefl, locator-trans}
-use Rattle.block_store.specs.Store.{recordsOf, storeInOrder}
-use Rattle.block_store.proofs.Stored.{WellStored}
-use Rattle.block_store.proofs.Store.{in-order}
-use Rattle.block_store.proofs.Accepted.{accepted-stored}
+use Rattle.store_layout.specs.Store.{recordsOf, storeInOrder}
+use Rattle.store_layout.proofs.Stored.{WellStored}
+use Rattle.store_layout.proofs.Store.{in-order}
+use Rattle.store_layout.proofs.Accepted.{accepted-stored}
 use Rattle.finalization_interpreter.specs.Voters.{isFinal}
 use Rattle.finalization_interpreter.specs.Finality.{blocksOf}
 use Rattle.finalization_interpreter.specs.NextFinal.{isAfter, LeastFinal, least, nothing, leastFinal, nextFinalChecks, nextFinal, AskedOn, done, onward, FinalList, finalList}

@@ -13,7 +13,7 @@ use Rattle.committee.specs.Committee.{Stake, Committee, totalStake, broken, quo
 use Rattle.committee.specs.AuthoritySet.{AuthoritySet, setOf, stakeOf}
 use Rattle.blocks.specs.Reference.{TransactionLocator}
 use Rattle.blocks.specs.Block.{author}
-use Rattle.block_store.specs.Store.{recordsOf, storeInOrder}
+use Rattle.store_layout.specs.Store.{recordsOf, storeInOrder}
 use Rattle.finalization_interpreter.specs.Voters.{certifiers, isFinal}
 use Rattle.finalization_interpreter.specs.Finality.{blocksOf, certifyingPositions, Asked, finalityChecks, finality}
 

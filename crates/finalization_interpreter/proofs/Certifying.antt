@@ -10,11 +10,11 @@ use Rattle.base.proofs.Lists.{Every, none-of, and, every-in, pairs-keep}
 use Rattle.committee.specs.Committee.{Committee}
 use Rattle.blocks.specs.Reference.{TransactionLocator, referenceBefore}
 use Rattle.blocks.specs.Block.{Block}
-use Rattle.block_store.specs.Layout.{Record, Entry, referenceOf, usedBy, entries, placed, ascending}
-use Rattle.block_store.specs.Store.{recordsOf, storeInOrder}
-use Rattle.block_store.proofs.Store.{in-order}
-use Rattle.block_store.proofs.Chain.{Ascending, ascending-every, ascending-ascends, distinct}
-use Rattle.block_store.proofs.Accepted.{blocks}
+use Rattle.store_layout.specs.Layout.{Record, Entry, referenceOf, usedBy, entries, placed, ascending}
+use Rattle.store_layout.specs.Store.{recordsOf, storeInOrder}
+use Rattle.store_layout.proofs.Store.{in-order}
+use Rattle.store_layout.proofs.Chain.{Ascending, ascending-every, ascending-ascends, distinct}
+use Rattle.store_layout.proofs.Accepted.{blocks}
 use Rattle.finalization_interpreter.specs.Voters.{certifies, certifiers}
 use Rattle.finalization_interpreter.specs.Finality.{blocksOf, certifyingPositions}
 

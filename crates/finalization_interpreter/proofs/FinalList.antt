@@ -13,7 +13,7 @@ use Rattle.committee.specs.Committee.{Committee}
 use Rattle.blocks.specs.Reference.{TransactionLocator, TransactionLocatorRange, locator, sameLocator, locatorBefore, offsets, locators}
 use Rattle.blocks.specs.Block.{Block, spans}
 use Rattle.blocks.proofs.References.{locator-same, same-locator, locator-irrefl, locator-trans, locator-total}
-use Rattle.block_store.proofs.Stored.{WellStored}
+use Rattle.store_layout.proofs.Stored.{WellStored}
 use Rattle.finalization_interpreter.specs.Voters.{votesFor, isFinal}
 use Rattle.finalization_interpreter.specs.NextFinal.{placedLocator, ascendingLocators, finalList}
 use Rattle.finalization_interpreter.proofs.Votes.{Covered, spanned}

@@ -20,9 +20,9 @@ use Rattle.blocks.specs.Block.{Statement, share, accept, reject, voteRange, Blo
 use Rattle.blocks.proofs.References.{reference-irrefl, reference-asymmetric, Precedes, byBlock, byOffset, precedes, is-before, locator-irrefl}
 use Rattle.blocks.proofs.Spans.{Span, ofShare, ofVote, span-of}
 use Rattle.blocks.proofs.Records.{StatementFits, BlockFits, blockOf-fits}
-use Rattle.block_store.specs.Layout.{Record}
-use Rattle.block_store.specs.Store.{recordsOf, storeInOrder}
-use Rattle.block_store.proofs.Store.{Right, right-block, recordsOf-right, recordsOf-bytes}
+use Rattle.store_layout.specs.Layout.{Record}
+use Rattle.store_layout.specs.Store.{recordsOf, storeInOrder}
+use Rattle.store_layout.proofs.Store.{Right, right-block, recordsOf-right, recordsOf-bytes}
 use Rattle.finalization_interpreter.specs.Voters.{isFinal}
 use Rattle.finalization_interpreter.specs.Finality.{blocksOf}
 use Rattle.finalization_interpreter.specs.NextFinal.{isAfter, justAfter, candidates, lesserLocator, leastLocator, leastFinal, nextFinalChecks, nextFinal}

@@ -25,16 +25,16 @@ use Rattle.blocks.specs.Block.{Block, author, round}
 use Rattle.blocks.specs.Record.{noReference}
 use Rattle.blocks.proofs.References.{same-reference}
 use Rattle.blocks.specs.Verify.{headChecks, includeChecks, bodyChecks}
-use Rattle.block_store.specs.Layout.{Record, Entry, entries, positionOf, lookup}
-use Rattle.block_store.specs.Store.{recordsOf}
-use Rattle.block_store.specs.Accept.{isStored, blockChecks, allAccepted}
-use Rattle.block_store.specs.Entry.{blockAt, isEntry}
-use Rattle.block_store.proofs.Stored.{WellStored, include-stored}
-use Rattle.block_store.proofs.Accepted.{blocks}
-use Rattle.block_store.proofs.Store.{in-order, entries-within}
-use Rattle.block_store.proofs.Loops.{EntryAt, entry-at, block-of-entry}
-use Rattle.block_store.proofs.Lookups.{lookup-in, lookup-stored}
-use Rattle.block_store.proofs.Search.{referenceIn, order-entry, order-rises}
+use Rattle.store_layout.specs.Layout.{Record, Entry, entries, positionOf, lookup}
+use Rattle.store_layout.specs.Store.{recordsOf}
+use Rattle.store_layout.specs.Accept.{isStored, blockChecks, allAccepted}
+use Rattle.store_order.specs.Entry.{blockAt, isEntry}
+use Rattle.store_layout.proofs.Stored.{WellStored, include-stored}
+use Rattle.store_layout.proofs.Accepted.{blocks}
+use Rattle.store_layout.proofs.Store.{in-order, entries-within}
+use Rattle.store_order.proofs.Loops.{EntryAt, entry-at, block-of-entry}
+use Rattle.store_order.proofs.Lookups.{lookup-in, lookup-stored}
+use Rattle.store_order.proofs.Search.{referenceIn, order-entry, order-rises}
 use Rattle.finalization_interpreter.specs.Voters.{votesFor, ownVote, unions, voters}
 use Rattle.finalization_interpreter.specs.Finality.{blocksOf}
 use Rattle.finalization_interpreter.specs.Claims.{Stored}

@@ -17,7 +17,7 @@ use Rattle.committee.specs.Committee.{Committee}
 use Rattle.blocks.specs.Reference.{TransactionLocator, TransactionLocatorRange, locator, locatorBefore}
 use Rattle.blocks.specs.Block.{Block, spans}
 use Rattle.blocks.proofs.References.{locator-irrefl, locator-trans, locator-total}
-use Rattle.block_store.specs.Entry.{blockAt}
+use Rattle.store_order.specs.Entry.{blockAt}
 use Rattle.finalization_interpreter.specs.Voters.{isFinal}
 use Rattle.finalization_interpreter.specs.Finality.{blocksOf}
 use Rattle.finalization_interpreter.specs.NextFinal.{isAfter, justAfter, candidates, leastLocator}

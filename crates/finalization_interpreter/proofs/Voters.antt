@@ -17,7 +17,7 @@ use Rattle.blocks.specs.Block.{Block, author}
 use Rattle.blocks.proofs.References.{reference-refl, other-reference}
 use Rattle.finalization_interpreter.specs.Voters.{votesFor, ownVote, unions, voters}
 use Rattle.finalization_interpreter.specs.Ancestry.{Ancestor, itself, included, VotesFor, Voter}
-use Rattle.block_store.proofs.Stored.{WellStored, fresh, stored, is-older, include-stored}
+use Rattle.store_layout.proofs.Stored.{WellStored, fresh, stored, is-older, include-stored}
 use Rattle.finalization_interpreter.proofs.Ancestors.{ancestor-grows, ancestor-older, descendant-stored, ancestor-kept, ancestor-only}
 use Rattle.finalization_interpreter.proofs.Votes.{votes-for, for-votes}
 

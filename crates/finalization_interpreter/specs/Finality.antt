@@ -10,8 +10,8 @@ use Rattle.base.specs.Checks.{Check, _⇒_, passes, Answer, checked}
 use Rattle.committee.specs.Committee.{Committee, broken}
 use Rattle.blocks.specs.Reference.{TransactionLocator}
 use Rattle.blocks.specs.Block.{Block}
-use Rattle.block_store.specs.Layout.{entries, ascending}
-use Rattle.block_store.specs.Store.{recordsOf, storeInOrder}
+use Rattle.store_layout.specs.Layout.{entries, ascending}
+use Rattle.store_layout.specs.Store.{recordsOf, storeInOrder}
 use Rattle.finalization_interpreter.specs.Voters.{certifies, isFinal}
 
 -- the stored blocks, the newest first

@@ -10,7 +10,7 @@ use Rattle.base.specs.Checks.{Check, _⇒_, Answer, answered, checked}
 use Rattle.committee.specs.Committee.{Committee, broken}
 use Rattle.blocks.specs.Reference.{TransactionLocator, locator, sameLocator, locatorBefore, locators}
 use Rattle.blocks.specs.Block.{Block, spans}
-use Rattle.block_store.specs.Store.{storeInOrder}
+use Rattle.store_layout.specs.Store.{storeInOrder}
 use Rattle.finalization_interpreter.specs.Voters.{isFinal}
 use Rattle.finalization_interpreter.specs.Finality.{blocksOf}
 

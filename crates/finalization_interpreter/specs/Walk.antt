@@ -11,8 +11,8 @@ use Rattle.committee.specs.Committee.{Committee, broken}
 use Rattle.committee.specs.AuthoritySet.{AuthoritySet}
 use Rattle.blocks.specs.Reference.{BlockReference, TransactionLocator, TransactionLocatorRange, locator, oneRange, covers}
 use Rattle.blocks.specs.Block.{Statement, Block, isShare, votedRange}
-use Rattle.block_store.specs.Store.{recordsOf, storeInOrder}
-use Rattle.block_store.specs.Entry.{blockAt, laidOut, sortedPositions}
+use Rattle.store_layout.specs.Store.{recordsOf, storeInOrder}
+use Rattle.store_order.specs.Entry.{blockAt, laidOut, sortedPositions}
 use Rattle.finalization_interpreter.specs.Voters.{voters}
 use Rattle.finalization_interpreter.specs.Finality.{blocksOf}
 use Rattle.finalization_interpreter.specs.NextFinal.{lesserLocator}

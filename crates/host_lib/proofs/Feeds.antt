@@ -17,9 +17,9 @@ use Rattle.base.proofs.Refusals.{Numbered, refusal-first, refusal-then}
 use Rattle.committee.specs.Committee.{Committee}
 use Rattle.blocks.specs.Block.{Block, Statement, share, accept, reject, voteRange}
 use Rattle.blocks.specs.Verify.{headChecks, includeChecks, statementChecks, bodyChecks}
-use Rattle.block_store.specs.Layout.{Record, readRecord}
-use Rattle.block_store.specs.Accept.{blockChecks}
-use Rattle.block_store.specs.Store.{recordsOf}
+use Rattle.store_layout.specs.Layout.{Record, readRecord}
+use Rattle.store_layout.specs.Accept.{blockChecks}
+use Rattle.store_layout.specs.Store.{recordsOf}
 use Rattle.words.specs.Words.{wordsIn, wordsOf}
 use Rattle.aggregator.specs.Pending.{pendingChecks}
 use Rattle.aggregator.specs.Feed.{Lent, lentOf, processed, lentChecks, recordChecks, feedChecks, refusedFeed, acceptedFeed, feedRecord, feed}

@@ -17,9 +17,9 @@ use Rattle.blocks.specs.Reference.{TransactionLocator}
 use Rattle.blocks.specs.Record.{readLocator}
 use Rattle.types.specs.Step.{locatorAt}
 use Rattle.block_record.proofs.Steps.{fixed-locator, locator-value}
-use Rattle.block_store.specs.Store.{storeInOrder}
-use Rattle.block_store.specs.Payload.{payloadChecks, payloadLength}
-use Rattle.block_store.specs.Answers.{payloadPlace}
+use Rattle.store_layout.specs.Store.{storeInOrder}
+use Rattle.store_layout.specs.Payload.{payloadChecks, payloadLength}
+use Rattle.payload.specs.Answers.{payloadPlace}
 use Rattle.host_lib.specs.Payload.{locatorOf, storeChecks, refusalBefore, asked}
 use Rattle.host_lib.proofs.Numbers.{refusal-most, checked-most}
 

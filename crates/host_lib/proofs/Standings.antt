@@ -20,8 +20,8 @@ use Rattle.committee.specs.StakeAggregator.{aggregatorInOrder}
 use Rattle.committee.proofs.Sums.{stake-most, total-most}
 use Rattle.blocks.specs.Reference.{TransactionLocator}
 use Rattle.words.specs.Words.{wordsIn, wordsOf}
-use Rattle.block_store.specs.Layout.{entries, positionOf, lookup}
-use Rattle.block_store.specs.Store.{recordsOf}
+use Rattle.store_layout.specs.Layout.{entries, positionOf, lookup}
+use Rattle.store_layout.specs.Store.{recordsOf}
 use Rattle.range_map.specs.Items.{Item, itemHolds, itemAt}
 use Rattle.range_map.specs.Table.{itemsOf}
 use Rattle.range_map.proofs.Order.{in-order}

@@ -16,7 +16,7 @@ use Rattle.committee.specs.Committee.{Committee}
 use Rattle.blocks.specs.Reference.{BlockReference, TransactionLocator, sameReference}
 use Rattle.blocks.specs.Block.{Block}
 use Rattle.blocks.proofs.References.{reference-same, same-reference}
-use Rattle.block_store.specs.Layout.{Record, readRecord, Entry, entries}
+use Rattle.store_layout.specs.Layout.{Record, readRecord, Entry, entries}
 use Rattle.aggregator.specs.ProcessBlock.{Event}
 use Rattle.aggregator.specs.Feed.{Lent, processed, feedChecks, feed}
 use Rattle.aggregator.proofs.Events.{Shared, Source, processed-source}

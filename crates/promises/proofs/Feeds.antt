@@ -9,7 +9,7 @@ use Rattle.base.specs.Lists.{pick}
 use Rattle.base.specs.Le.{Bytes}
 use Rattle.base.specs.Checks.{refusal, passes}
 use Rattle.committee.specs.Committee.{Committee}
-use Rattle.block_store.specs.Layout.{Record, readRecord}
+use Rattle.store_layout.specs.Layout.{Record, readRecord}
 use Rattle.aggregator.specs.ProcessBlock.{Event, eventWords}
 use Rattle.aggregator.specs.Feed.{Lent, Fed, processed, feedChecks, refusedFeed, acceptedFeed, feedRecord, feed}
 use Rattle.promises.specs.Feeds.{Accepted, eventsIn, acceptedIn}

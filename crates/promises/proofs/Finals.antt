@@ -19,9 +19,9 @@ use Rattle.committee.specs.Committee.{Committee, broken}
 use Rattle.blocks.specs.Reference.{TransactionLocator, locatorBefore}
 use Rattle.blocks.specs.Block.{Block}
 use Rattle.blocks.specs.Record.{blockOf}
-use Rattle.block_store.specs.Layout.{Record}
-use Rattle.block_store.specs.Store.{recordsOf}
-use Rattle.block_store.proofs.Store.{in-order, recordsOf-right, right-block}
+use Rattle.store_layout.specs.Layout.{Record}
+use Rattle.store_layout.specs.Store.{recordsOf}
+use Rattle.store_layout.proofs.Store.{in-order, recordsOf-right, right-block}
 use Rattle.finalization_interpreter.specs.Ancestry.{Final}
 use Rattle.finalization_interpreter.specs.Voters.{isFinal}
 use Rattle.finalization_interpreter.specs.Finality.{blocksOf, certifyingPositions, finalityChecks, finality}

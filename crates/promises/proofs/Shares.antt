@@ -20,11 +20,11 @@ use Rattle.committee.proofs.Tallies.{Counting, counts-first}
 use Rattle.blocks.specs.Reference.{TransactionLocator, sameReference}
 use Rattle.blocks.specs.Block.{Block, author, isShareAt}
 use Rattle.blocks.proofs.References.{reference-same}
-use Rattle.block_store.specs.Layout.{Record, readRecord, Entry, usedBy, entries, lookup}
-use Rattle.block_store.specs.Accept.{isStored}
-use Rattle.block_store.specs.Store.{recordsOf}
-use Rattle.block_store.proofs.Accepted.{known-author, accepted-new}
-use Rattle.block_store.proofs.Store.{readRecord-some, Holding, accepting}
+use Rattle.store_layout.specs.Layout.{Record, readRecord, Entry, usedBy, entries, lookup}
+use Rattle.store_layout.specs.Accept.{isStored}
+use Rattle.store_layout.specs.Store.{recordsOf}
+use Rattle.store_layout.proofs.Accepted.{known-author, accepted-new}
+use Rattle.store_layout.proofs.Store.{readRecord-some, Holding, accepting}
 use Rattle.range_map.specs.Items.{Item, itemAt}
 use Rattle.range_map.specs.Table.{itemsOf}
 use Rattle.range_map.proofs.Items.{heldAt}

@@ -17,7 +17,7 @@ use Rattle.committee.proofs.Quorums.{quorum-mono, quorum-member}
 use Rattle.blocks.specs.Reference.{TransactionLocator, sameReference, newRange, oneRange, covers}
 use Rattle.blocks.specs.Block.{Statement, Block, author, isShareAt, votedRange}
 use Rattle.blocks.proofs.References.{reference-same, same-reference}
-use Rattle.block_store.proofs.Stored.{WellStored, one-reference}
+use Rattle.store_layout.proofs.Stored.{WellStored, one-reference}
 use Rattle.finalization_interpreter.specs.Ancestry.{Ancestor, itself, included, VoteIn, byAccept, byRange, VotesFor, byShare, byVote, Voter, Certificate, Final}
 use Rattle.finalization_interpreter.proofs.Asked.{in-order-stored}
 use Rattle.finalization_interpreter.proofs.Votes.{covered, is-covered, statement-vote}

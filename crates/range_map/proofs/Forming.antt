@@ -19,7 +19,7 @@ use Rattle.base.proofs.Places.{pairs-places}
 use Rattle.base.proofs.Index.{any-no, any-at, all-yes, all-at, all-and, at-pairs}
 use Rattle.committee.specs.Committee.{Committee}
 use Rattle.committee.specs.StakeAggregator.{aggregatorInOrder}
-use Rattle.block_store.specs.Layout.{Entry}
+use Rattle.store_layout.specs.Layout.{Entry}
 use Rattle.range_map.specs.Items.{Item, noItem, itemBefore, itemFull}
 use Rattle.range_map.specs.Table.{tableOf, itemsOf, Laid, itemStored, itemInOrder, tableInOrder, tableFormed, tableStored, itemFrom}
 use Rattle.range_map.specs.Step.{slot, standsAt}

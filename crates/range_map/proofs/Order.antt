@@ -20,7 +20,7 @@ use Rattle.committee.proofs.Aggregators.{counted-in-order, counted-member, coun
 use Rattle.blocks.specs.Reference.{TransactionLocatorRange}
 use Rattle.blocks.specs.Block.{Block, author, isShareAt, sharedRanges}
 use Rattle.blocks.proofs.Runs.{SharedRun, shared-runs, shared-below}
-use Rattle.block_store.specs.Layout.{Entry}
+use Rattle.store_layout.specs.Layout.{Entry}
 use Rattle.range_map.specs.Items.{Item, itemBefore, itemFull, cutAt, bothCuts, itemWithin, votedItem, voteOver, afterLeaving, firstVote, registered, register}
 use Rattle.range_map.specs.Table.{tableOf, itemsOf, room, sharesIn, itemSuits, itemStored, itemInOrder, tableInOrder}
 use Rattle.range_map.proofs.Items.{Ordered, before-from, Piece, every-cut}

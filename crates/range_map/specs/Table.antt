@@ -12,7 +12,7 @@ use Rattle.committee.specs.Committee.{Committee}
 use Rattle.committee.specs.AuthoritySet.{member}
 use Rattle.committee.specs.StakeAggregator.{aggregatorInOrder}
 use Rattle.blocks.specs.Block.{Block, author, isShareAt}
-use Rattle.block_store.specs.Layout.{Entry}
+use Rattle.store_layout.specs.Layout.{Entry}
 use Rattle.range_map.specs.Items.{Item, itemBefore, itemFull}
 
 -- 01: "six words an item: entry position, start, end, votes low, votes high, stake"

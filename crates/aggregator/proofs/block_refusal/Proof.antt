@@ -1,8 +1,8 @@
 use mathlib.Core.Path.{_≡_, sym, ap, _∙_}
 use native.Mathlib.Omega.{arith}
 use Rattle.blocks.specs.Reference.{BlockReference}
-use Rattle.block_store.specs.Layout.{entries, positionOf, lookup}
-use Rattle.block_store.specs.Store.{recordsOf}
+use Rattle.store_layout.specs.Layout.{entries, positionOf, lookup}
+use Rattle.store_layout.specs.Store.{recordsOf}
 use Rattle.aggregator.proofs.Feeds.{is-stored, not-stored, block-head, block-stored, block-body, block-missing, block-none}
 use borrow.Author.Needs.{needs}
 use Rattle.aggregator.proofs.block_refusal.Statement.{statement}

@@ -2,8 +2,8 @@ use mathlib.Core.Logic.{inl, inr}
 use Prim.Native.Nat.{_-_}
 use native.Mathlib.Omega.{arith}
 use borrow.Author.Needs.{needs}
-use Rattle.block_store.specs.Store.{usedLength}
-use Rattle.block_store.proofs.Check.{is-readable}
+use Rattle.store_layout.specs.Store.{usedLength}
+use Rattle.store_order.proofs.Check.{is-readable}
 use Rattle.aggregator.specs.Step.{OnEntry, Passed}
 use Rattle.aggregator.proofs.Entries.{entry-next, passed-next, inner, ended}
 use Rattle.aggregator.proofs.entry_from.Statement.{statement}

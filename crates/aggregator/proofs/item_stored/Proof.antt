@@ -1,10 +1,10 @@
 use Rattle.aggregator.proofs.Checked.{part-place, part-stored, part-walked}
-use Rattle.block_store.specs.Store.{usedLength}
+use Rattle.store_layout.specs.Store.{usedLength}
 use Rattle.aggregator.proofs.Entries.{stands-on}
 use mathlib.Core.Path.{_≡_, sym, ap, _∙_}
 use native.Mathlib.Omega.{arith}
-use Rattle.block_store.proofs.Check.{is-readable}
-use Rattle.block_store.proofs.Loops.{entry-room, record-part, refuses}
+use Rattle.store_order.proofs.Check.{is-readable}
+use Rattle.store_order.proofs.Loops.{entry-room, record-part, refuses}
 use Rattle.range_map.specs.Answers.{asItem}
 use Rattle.aggregator.proofs.Checked.{not-there, not-past}
 use borrow.Author.Needs.{needs}

@@ -3,7 +3,7 @@ use borrow.Author.Tests.{not-true, not-false}
 use Rattle.committee.specs.AuthoritySet.{member}
 use Rattle.blocks.specs.Reference.{BlockReference}
 use Rattle.types.specs.Values.{asReference}
-use Rattle.block_store.proofs.Loops.{refuses}
+use Rattle.store_order.proofs.Loops.{refuses}
 use Rattle.range_map.specs.Answers.{asItem}
 use Rattle.aggregator.specs.Step.{suits}
 use borrow.Author.Needs.{needs}

@@ -4,10 +4,10 @@ use Rattle.base.specs.Lists.{pick}
 use Rattle.base.specs.Le.{Bytes}
 use Rattle.blocks.specs.Block.{isShareAt}
 use Rattle.blocks.specs.Record.{blockIn}
-use Rattle.block_store.specs.Store.{usedLength}
-use Rattle.block_store.specs.Entry.{blockAt}
-use Rattle.block_store.proofs.Check.{is-readable}
-use Rattle.block_store.proofs.Loops.{entry-room, record-part}
+use Rattle.store_layout.specs.Store.{usedLength}
+use Rattle.store_order.specs.Entry.{blockAt}
+use Rattle.store_order.proofs.Check.{is-readable}
+use Rattle.store_order.proofs.Loops.{entry-room, record-part}
 use Rattle.aggregator.proofs.Lending.{laid-readable}
 use Rattle.aggregator.proofs.Missing.{missed-unknown, missed-own, stored-at, missed-stored}
 use Rattle.aggregator.proofs.Telling.{retold}

@@ -2,8 +2,8 @@ use mathlib.Core.Path.{_≡_, sym, ap, _∙_}
 use native.Mathlib.Omega.{arith}
 use Rattle.blocks.specs.Reference.{BlockReference}
 use Rattle.types.specs.Values.{asReference, referenceOrder}
-use Rattle.block_store.specs.Store.{usedLength}
-use Rattle.block_store.proofs.Check.{is-readable}
+use Rattle.store_layout.specs.Store.{usedLength}
+use Rattle.store_order.proofs.Check.{is-readable}
 use Rattle.aggregator.proofs.Lending.{laid-readable}
 use Rattle.aggregator.proofs.Missing.{position-own, position-less, position-greater}
 use borrow.Author.Needs.{needs}

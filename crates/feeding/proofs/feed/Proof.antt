@@ -4,9 +4,9 @@ use native.Mathlib.Omega.{arith}
 use lib.ListN.{length}
 use borrow.Author.Tests.{not-true, not-false}
 use Rattle.blocks.specs.Record.{blockIn}
-use Rattle.block_store.specs.Layout.{readRecord}
-use Rattle.block_store.specs.Store.{recordsOf, recordIn}
-use Rattle.block_store.proofs.Accepted.{accepted-new}
+use Rattle.store_layout.specs.Layout.{readRecord}
+use Rattle.store_layout.specs.Store.{recordsOf, recordIn}
+use Rattle.store_layout.proofs.Accepted.{accepted-new}
 use Rattle.aggregator.specs.Feed.{Lent, lentOf, processed}
 use Rattle.aggregator.proofs.Lending.{lying}
 use Rattle.feeding.specs.Answers.{asFeedAnswer}

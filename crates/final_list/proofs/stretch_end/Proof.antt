@@ -8,8 +8,8 @@ use Rattle.blocks.specs.Reference.{locator}
 use Rattle.blocks.specs.Block.{spans}
 use Rattle.blocks.specs.Record.{blockIn}
 use Rattle.types.specs.Values.{asReference, asLocator}
-use Rattle.block_store.specs.Entry.{blockAt}
-use Rattle.block_store.proofs.Loops.{entry-room, record-part}
+use Rattle.store_order.specs.Entry.{blockAt}
+use Rattle.store_order.proofs.Loops.{entry-room, record-part}
 use Rattle.finalization_interpreter.specs.Walk.{SortedStore}
 use Rattle.finalization_interpreter.proofs.Sorting.{place-entry}
 use Rattle.final_list.specs.Stretches.{nearest, stretchEnd}

@@ -11,7 +11,7 @@ use Rattle.committee.specs.AuthoritySet.{nobody, inserted, united}
 use Rattle.blocks.specs.Reference.{TransactionLocator}
 use Rattle.blocks.specs.Block.{author}
 use Rattle.types.specs.Values.{asReference}
-use Rattle.block_store.specs.Entry.{blockAt}
+use Rattle.store_order.specs.Entry.{blockAt}
 use Rattle.finalization_interpreter.specs.Walk.{blockAtPlace, votersAt}
 use Rattle.finalization_interpreter.proofs.Sorting.{some-committee, place-entry, place-author}
 use Rattle.finalization_interpreter.proofs.Certify.{found, found-all, authors-all}

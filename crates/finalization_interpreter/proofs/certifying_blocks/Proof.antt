@@ -8,7 +8,7 @@ use lib.ListN.{length, getD, length-append, length-drop, length-set}
 use borrow.Author.Tests.{not-true, not-false}
 use Rattle.types.specs.Values.{asReference, asLocator}
 use Rattle.blocks.specs.Block.{author}
-use Rattle.block_store.specs.Entry.{blockAt}
+use Rattle.store_order.specs.Entry.{blockAt}
 use Rattle.finalization_interpreter.specs.Voters.{certifies}
 use Rattle.finalization_interpreter.specs.Finality.{blocksOf}
 use Rattle.finalization_interpreter.specs.Walk.{votersAt, blockAtPlace}

@@ -8,8 +8,8 @@ use Rattle.base.specs.Lists.{keep}
 use Rattle.base.specs.Le.{Bytes}
 use Rattle.blocks.specs.Block.{spans}
 use Rattle.blocks.specs.Record.{blockIn}
-use Rattle.block_store.specs.Entry.{blockAt}
-use Rattle.block_store.proofs.Loops.{entry-room, record-part}
+use Rattle.store_order.specs.Entry.{blockAt}
+use Rattle.store_order.proofs.Loops.{entry-room, record-part}
 use Rattle.finalization_interpreter.specs.NextFinal.{isAfter, leastLocator}
 use Rattle.finalization_interpreter.specs.Answers.{asMaybe}
 use Rattle.finalization_interpreter.specs.Walk.{SortedStore, startOf, lesserOf}

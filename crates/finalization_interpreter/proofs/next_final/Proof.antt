@@ -6,8 +6,8 @@ use lib.ListN.{length}
 use borrow.Author.Tests.{not-true, not-false}
 use Rattle.committee.specs.Answers.{asNewCommittee}
 use Rattle.committee.proofs.Answers.{taken-sound, broken-sound}
-use Rattle.block_store.specs.Store.{storeInOrder}
-use Rattle.block_store.proofs.Check.{order-laid}
+use Rattle.store_layout.specs.Store.{storeInOrder}
+use Rattle.store_order.proofs.Check.{order-laid}
 use Rattle.finalization_interpreter.specs.Answers.{asMaybe, asNextFinal}
 use Rattle.finalization_interpreter.proofs.Along.{sorted-count}
 use Rattle.finalization_interpreter.proofs.Onward.{next-broken, next-disordered, next-answered}

@@ -6,8 +6,8 @@ use Rattle.base.specs.Le.{Bytes}
 use Rattle.committee.specs.AuthoritySet.{inserted, nobody}
 use Rattle.blocks.specs.Record.{blockIn}
 use Rattle.types.specs.Values.{asReference, asLocator}
-use Rattle.block_store.specs.Entry.{blockAt}
-use Rattle.block_store.proofs.Loops.{entry-room, record-part}
+use Rattle.store_order.specs.Entry.{blockAt}
+use Rattle.store_order.proofs.Loops.{entry-room, record-part}
 use Rattle.finalization_interpreter.specs.Voters.{votesFor}
 use Rattle.finalization_interpreter.proofs.Sorting.{own-yes, own-no}
 use borrow.Author.Needs.{needs}

@@ -8,11 +8,11 @@ use Rattle.base.proofs.Narrowed.{Narrowed, narrowed-start, narrowed-up, narrowe
 use Rattle.blocks.specs.Reference.{BlockReference, referenceBefore}
 use Rattle.types.specs.Values.{asReference}
 use Rattle.blocks.proofs.References.{reference-trans}
-use Rattle.block_store.proofs.Compared.{compared-less, compared-equal, compared-greater}
-use Rattle.block_store.proofs.Search.{referenceIn, order-entry, order-rises, found-nowhere}
+use Rattle.store_order.proofs.Compared.{compared-less, compared-equal, compared-greater}
+use Rattle.store_order.proofs.Search.{referenceIn, order-entry, order-rises, found-nowhere}
 use Rattle.finalization_interpreter.specs.Walk.{SortedStore, blockAtPlace}
 use Rattle.finalization_interpreter.proofs.Sorting.{stored-somewhere}
-use Rattle.block_store.specs.Store.{recordsOf}
+use Rattle.store_layout.specs.Store.{recordsOf}
 use Rattle.finalization_interpreter.proofs.place_of.Statement.{statement}
 use Rattle.finalization_interpreter.proofs.place_of.Tie as tie
 

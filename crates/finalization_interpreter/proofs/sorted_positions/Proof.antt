@@ -3,10 +3,10 @@ use Prim.Native.Nat.{_-_, _<_, _≤_}
 use mathlib.Core.Path.{_≡_, refl, sym, ap, _∙_}
 use native.Mathlib.Omega.{arith}
 use lib.ListN.{length, take}
-use Rattle.block_store.specs.Store.{blockCount, recordsOf}
-use Rattle.block_store.specs.Entry.{sortedPositions}
-use Rattle.block_store.proofs.Loops.{entry-room}
-use Rattle.block_store.proofs.Search.{laid-out}
+use Rattle.store_layout.specs.Store.{blockCount, recordsOf}
+use Rattle.store_order.specs.Entry.{sortedPositions}
+use Rattle.store_order.proofs.Loops.{entry-room}
+use Rattle.store_order.proofs.Search.{laid-out}
 use Rattle.finalization_interpreter.proofs.Along.{block-count, sorted-count, chain-first, sorted-entry, Walked, walked-step, walked-end}
 use Rattle.finalization_interpreter.proofs.sorted_positions.Statement.{statement}
 use Rattle.finalization_interpreter.proofs.sorted_positions.Tie as tie
