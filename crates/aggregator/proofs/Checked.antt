@@ -25,9 +25,9 @@ use Rattle.store_order.specs.Entry.{readable, isEntry, recordAt, blockAt}
 use Rattle.store_layout.proofs.Store.{entries-below, entries-within}
 use Rattle.store_order.proofs.Loops.{EntryAt, entry-at, is-entry, entry-room, block-at}
 use Rattle.store_order.proofs.Visit.{one-position}
-use Rattle.range_map.specs.Items.{Item, noItem, itemBefore}
-use Rattle.range_map.specs.Table.{itemsOf, itemSuits, itemStored, tableStored}
-use Rattle.range_map.proofs.Items.{Ordered, before-facts}
+use Rattle.pending_items.specs.Items.{Item, noItem, itemBefore}
+use Rattle.pending_items.specs.Table.{itemsOf, itemSuits, itemStored, tableStored}
+use Rattle.pending_items.proofs.Items.{Ordered, before-facts}
 use Rattle.aggregator.specs.Step.{Placed, OnEntry, Passed, EntryFrom, Ahead, WalkedTo, suits}
 use Rattle.aggregator.specs.declared.Walk.{Walk}
 use Rattle.aggregator.proofs.Entries.{stands-next}

@@ -19,12 +19,12 @@ use Rattle.blocks.specs.Block.{Statement, votedRange, countedOffsets}
 use Rattle.blocks.specs.Record.{noStatement}
 use Rattle.shared_ranges.proofs.Walk.{offsetsCounted, counted-on}
 use Rattle.store_layout.specs.Layout.{Entry}
-use Rattle.range_map.specs.Items.{Item}
-use Rattle.range_map.specs.Table.{tableOf, itemsOf, room, tableInOrder}
-use Rattle.range_map.proofs.Items.{Ordered}
-use Rattle.range_map.proofs.Slots.{table-holding}
-use Rattle.range_map.proofs.Order.{Pending, InOrder, in-order, order-tableOf, room-fits}
-use Rattle.range_map.proofs.Table.{itemsOf-tableOf, length-tableOf}
+use Rattle.pending_items.specs.Items.{Item}
+use Rattle.pending_items.specs.Table.{tableOf, itemsOf, room, tableInOrder}
+use Rattle.pending_items.proofs.Items.{Ordered}
+use Rattle.table_words.proofs.Slots.{table-holding}
+use Rattle.pending_items.proofs.Order.{Pending, InOrder, in-order, order-tableOf, room-fits}
+use Rattle.pending_items.proofs.Table.{itemsOf-tableOf, length-tableOf}
 use Rattle.aggregator.specs.ProcessBlock.{Event, Processing, vote, votes}
 use Rattle.aggregator.specs.Step.{StatedAt, told, startingWith, VotesCounted}
 use Rattle.aggregator.specs.declared.Processed.{Processed}

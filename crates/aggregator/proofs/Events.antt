@@ -23,10 +23,10 @@ use Rattle.store_layout.specs.Store.{recordsOf}
 use Rattle.store_order.proofs.Visit.{one-position}
 use Rattle.store_layout.proofs.Accepted.{known-author}
 use Rattle.store_layout.proofs.Store.{entries-within}
-use Rattle.range_map.specs.Items.{Item, itemHolds, itemAt, voteOver}
-use Rattle.range_map.specs.Table.{itemsOf}
-use Rattle.range_map.proofs.Items.{holds-facts}
-use Rattle.range_map.proofs.Order.{Pending, pending-voteOver}
+use Rattle.pending_items.specs.Items.{Item, itemHolds, itemAt, voteOver}
+use Rattle.pending_items.specs.Table.{itemsOf}
+use Rattle.pending_items.proofs.Items.{holds-facts}
+use Rattle.pending_items.proofs.Order.{Pending, pending-voteOver}
 use Rattle.aggregator.specs.ProcessBlock.{Event, missed, eventOf, Processing, vote, votes, registering, processBlock}
 use Rattle.aggregator.specs.Feed.{Lent, processed, feedChecks}
 use Rattle.aggregator.proofs.Keeping.{passed, sound-registering, lent-state}

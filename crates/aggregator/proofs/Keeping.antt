@@ -19,9 +19,9 @@ use Rattle.store_layout.specs.Accept.{blockChecks}
 use Rattle.store_layout.specs.Store.{recordsOf, storeInOrder, storeFull}
 use Rattle.store_layout.proofs.Accepted.{known-author}
 use Rattle.store_layout.proofs.Store.{Right, readRecord-some, Holding, accepting, entries-below}
-use Rattle.range_map.specs.Table.{tableOf, itemsOf, tableInOrder, room}
-use Rattle.range_map.proofs.Table.{length-tableOf}
-use Rattle.range_map.proofs.Order.{InOrder, in-order, order-tableOf, room-fits}
+use Rattle.pending_items.specs.Table.{tableOf, itemsOf, tableInOrder, room}
+use Rattle.pending_items.proofs.Table.{length-tableOf}
+use Rattle.pending_items.proofs.Order.{InOrder, in-order, order-tableOf, room-fits}
 use Rattle.aggregator.specs.ProcessBlock.{Event, eventWords, registering}
 use Rattle.aggregator.specs.Feed.{Lent, Fed, processed, lentChecks, recordChecks, feedChecks, refusedFeed, acceptedFeed, feedRecord, feed}
 use Rattle.aggregator.proofs.ProcessBlock.{Sound, sound-registered, sound-processBlock, events-processBlock}

@@ -21,15 +21,15 @@ use Rattle.store_layout.specs.Layout.{entries, positionOf, lookup}
 use Rattle.store_layout.specs.Store.{recordsOf, storeInOrder}
 use Rattle.store_order.specs.Entry.{readable, chained, laidOut}
 use Rattle.store_order.proofs.Check.{order-checked}
-use Rattle.range_map.specs.Items.{Item, noItem, itemHolds, itemAt}
-use Rattle.range_map.specs.Table.{HoldsItems, itemsOf, tableInOrder}
-use Rattle.range_map.specs.Answers.{FoundBy, atIndex, nowhere, foundItem}
-use Rattle.range_map.specs.declared.Found.{Found}
-use Rattle.range_map.specs.declared.Found.the-variants.{At, Nothing}
-use Rattle.range_map.proofs.Items.{Ordered}
-use Rattle.range_map.proofs.Halves.{holds-ordered}
-use Rattle.range_map.proofs.Finds.{found-item}
-use Rattle.range_map.proofs.Forming.{order-parts}
+use Rattle.pending_items.specs.Items.{Item, noItem, itemHolds, itemAt}
+use Rattle.pending_items.specs.Table.{HoldsItems, itemsOf, tableInOrder}
+use Rattle.table_words.specs.Answers.{FoundBy, atIndex, nowhere, foundItem}
+use Rattle.table_words.specs.declared.Found.{Found}
+use Rattle.table_words.specs.declared.Found.the-variants.{At, Nothing}
+use Rattle.pending_items.proofs.Items.{Ordered}
+use Rattle.table_words.proofs.Halves.{holds-ordered}
+use Rattle.table_words.proofs.Finds.{found-item}
+use Rattle.table_order.proofs.Forming.{order-parts}
 use Rattle.range_map.proofs.Voting.{formed}
 use Rattle.aggregator.specs.Pending.{Standing, pendingChecks, standingOf, pending}
 use Rattle.aggregator.specs.Step.{standingAt}

@@ -14,7 +14,7 @@ use Rattle.blocks.specs.Record.{noStatement}
 use Rattle.block_record.specs.Cursor.{cursorAt}
 use Rattle.block_record.specs.declared.StatementCursor.{StatementCursor}
 use Rattle.shared_ranges.proofs.Walk.{placed-index, placed}
-use Rattle.range_map.specs.Table.{sharesIn}
+use Rattle.pending_items.specs.Table.{sharesIn}
 use Rattle.aggregator.specs.Step.{Placed}
 
 at-index : (ss : List Statement) (o : ℕ) → o < length ss → holds isShare (getElem? ss o) ≡ isShare (getD ss o noStatement)

@@ -25,10 +25,10 @@ use Rattle.store_layout.specs.Store.{recordsOf, recordIn}
 use Rattle.store_layout.specs.Accept.{blockChecks}
 use Rattle.store_layout.proofs.Accepted.{known-author}
 use Rattle.store_layout.proofs.Store.{entries-below}
-use Rattle.range_map.specs.Items.{Item, itemBefore, itemFull, register}
-use Rattle.range_map.specs.Table.{tableOf, itemsOf, room, tableInOrder}
-use Rattle.range_map.proofs.Order.{Pending, InOrder, in-order, order-tableOf, room-fits}
-use Rattle.range_map.proofs.Table.{itemsOf-tableOf, length-tableOf}
+use Rattle.pending_items.specs.Items.{Item, itemBefore, itemFull, register}
+use Rattle.pending_items.specs.Table.{tableOf, itemsOf, room, tableInOrder}
+use Rattle.pending_items.proofs.Order.{Pending, InOrder, in-order, order-tableOf, room-fits}
+use Rattle.pending_items.proofs.Table.{itemsOf-tableOf, length-tableOf}
 use Rattle.aggregator.specs.ProcessBlock.{Event, Processing, vote, votes, registering, processBlock}
 use Rattle.aggregator.specs.Step.{withNew, startingWith, told, StatedAt, Voting, VotesCounted, Orderly, Registered, Feeding}
 use Rattle.aggregator.specs.declared.Processed.{Processed}

@@ -14,9 +14,9 @@ use Rattle.committee.specs.StakeAggregator.{hasQuorum}
 use Rattle.blocks.specs.Reference.{BlockReference, sameReference, TransactionLocatorRange, offsets}
 use Rattle.blocks.specs.Block.{Statement, Block, author, votedRange, countedOffsets, eventRoom}
 use Rattle.store_layout.specs.Layout.{Entry, positionOf, lookup}
-use Rattle.range_map.specs.Items.{Item, itemAt, voteOver}
-use Rattle.range_map.proofs.Items.{Ordered, ordered-voteOver, ordered-afterLeaving}
-use Rattle.range_map.proofs.Order.{Pending, pending-voteOver, pending-afterLeaving, pending-register, ordered-register, length-voteOver, length-afterLeaving}
+use Rattle.pending_items.specs.Items.{Item, itemAt, voteOver}
+use Rattle.pending_items.proofs.Items.{Ordered, ordered-voteOver, ordered-afterLeaving}
+use Rattle.pending_items.proofs.Order.{Pending, pending-voteOver, pending-afterLeaving, pending-register, ordered-register, length-voteOver, length-afterLeaving}
 use Rattle.aggregator.specs.ProcessBlock.{Event, eventOf, Processing, vote, votes, registering, processBlock}
 
 -- a new entry is found by its reference

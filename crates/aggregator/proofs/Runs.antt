@@ -18,11 +18,11 @@ use Rattle.shared_ranges.specs.Cursor.{runsLeft, runsTold}
 use Rattle.shared_ranges.specs.declared.SharedRange.{SharedRange}
 use Rattle.shared_ranges.specs.declared.SharedRange.the-variants.{Run, End}
 use Rattle.block_record.specs.declared.StatementCursor.{StatementCursor}
-use Rattle.range_map.specs.Items.{Item, itemBefore, itemFull, firstVote, registered, register}
-use Rattle.range_map.specs.Table.{tableOf, itemsOf, room, HoldsItems}
-use Rattle.range_map.proofs.Items.{Ordered}
+use Rattle.pending_items.specs.Items.{Item, itemBefore, itemFull, firstVote, registered, register}
+use Rattle.pending_items.specs.Table.{tableOf, itemsOf, room, HoldsItems}
+use Rattle.pending_items.proofs.Items.{Ordered}
 use Rattle.range_map.proofs.Voting.{Written, written}
-use Rattle.range_map.proofs.Slots.{table-holding}
+use Rattle.table_words.proofs.Slots.{table-holding}
 use Rattle.aggregator.specs.Step.{Orderly, Registered}
 use borrow.Author.Tests.{ltb-true}
 

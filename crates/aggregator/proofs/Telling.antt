@@ -15,7 +15,7 @@ use Rattle.committee.specs.Committee.{Committee, Stake, totalStake, isQuorum, q
 use Rattle.committee.specs.StakeAggregator.{hasQuorum}
 use Rattle.blocks.specs.Reference.{BlockReference}
 use Rattle.store_layout.specs.Layout.{Entry}
-use Rattle.range_map.specs.Items.{Item, itemAt}
+use Rattle.pending_items.specs.Items.{Item, itemAt}
 use Rattle.aggregator.specs.ProcessBlock.{Event, eventWords, missed, eventOf}
 use Rattle.aggregator.specs.Step.{eventsBy, wordsOf, toldAt, eventsBetween, SameItem, StatedAt, told}
 

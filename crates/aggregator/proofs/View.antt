@@ -23,10 +23,10 @@ use Rattle.blocks.proofs.References.{reference-same, same-reference}
 use Rattle.store_layout.specs.Layout.{Record, Entry, referenceOf, usedBy, entries, positionOf, lookup}
 use Rattle.store_layout.specs.Store.{recordsOf}
 use Rattle.store_layout.proofs.Store.{entries-below, entries-within}
-use Rattle.range_map.specs.Items.{Item, itemAt, voteOver}
-use Rattle.range_map.specs.Table.{itemsOf}
-use Rattle.range_map.proofs.Items.{Ordered, heldAt, unless, held-voteOver, held-afterVote, held-register}
-use Rattle.range_map.proofs.Order.{Pending, pending-position}
+use Rattle.pending_items.specs.Items.{Item, itemAt, voteOver}
+use Rattle.pending_items.specs.Table.{itemsOf}
+use Rattle.pending_items.proofs.Items.{Ordered, heldAt, unless, held-voteOver, held-afterVote, held-register}
+use Rattle.pending_items.proofs.Order.{Pending, pending-position}
 use Rattle.aggregator.specs.ProcessBlock.{Event, missed, eventOf, Processing, vote, registering}
 use Rattle.aggregator.specs.Pending.{pendingChecks, standingOf, pending}
 use Rattle.store_order.proofs.Visit.{one-position}

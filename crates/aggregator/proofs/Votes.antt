@@ -26,11 +26,11 @@ use Rattle.block_record.specs.declared.BaseStatement.the-variants.{Accept}
 use Rattle.blocks.specs.Block.{author}
 use Rattle.blocks.specs.Record.{blockIn}
 use Rattle.store_layout.specs.Layout.{Entry, positionOf, lookup}
-use Rattle.range_map.specs.Items.{Item, itemAt, bothCuts, voteOver, stays, afterLeaving}
-use Rattle.range_map.specs.Table.{HoldsItems, tableOf, itemsOf, room, tableInOrder, tableFormed}
-use Rattle.range_map.proofs.Items.{ordered-voteOver}
-use Rattle.range_map.proofs.Order.{Pending, InOrder, in-order, room-fits, pending-voteOver, length-voteOver}
-use Rattle.range_map.proofs.Forming.{order-parts}
+use Rattle.pending_items.specs.Items.{Item, itemAt, bothCuts, voteOver, stays, afterLeaving}
+use Rattle.pending_items.specs.Table.{HoldsItems, tableOf, itemsOf, room, tableInOrder, tableFormed}
+use Rattle.pending_items.proofs.Items.{ordered-voteOver}
+use Rattle.pending_items.proofs.Order.{Pending, InOrder, in-order, room-fits, pending-voteOver, length-voteOver}
+use Rattle.table_order.proofs.Forming.{order-parts}
 use Rattle.range_map.proofs.Voting.{Formed, formed, Written, written}
 use Rattle.aggregator.specs.ProcessBlock.{Event, eventOf, Processing, vote}
 use Rattle.aggregator.specs.Step.{withNew, wordsOf, toldAt, eventsBetween, StatedAt, told, startingWith, Voting, VotesCounted}

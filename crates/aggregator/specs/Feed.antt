@@ -13,7 +13,7 @@ use Rattle.blocks.specs.Block.{eventRoom}
 use Rattle.store_layout.specs.Layout.{Record, readRecord, entries}
 use Rattle.store_layout.specs.Accept.{blockChecks}
 use Rattle.store_layout.specs.Store.{recordsOf, storeInOrder, storeFull, storeHolding}
-use Rattle.range_map.specs.Table.{tableOf, itemsOf, tableInOrder, room}
+use Rattle.pending_items.specs.Table.{tableOf, itemsOf, tableInOrder, room}
 use Rattle.aggregator.specs.ProcessBlock.{eventWords, Processing, processBlock}
 
 -- what a feed is lent, and the record; the work slice's content is free, and no answer reads it

@@ -9,7 +9,7 @@ use Rattle.committee.specs.StakeAggregator.{hasQuorum}
 use Rattle.blocks.specs.Reference.{BlockReference, TransactionLocatorRange, offsets}
 use Rattle.blocks.specs.Block.{Statement, Block, author, isShareAt, votedRange, sharedRanges}
 use Rattle.store_layout.specs.Layout.{Entry, positionOf, lookup}
-use Rattle.range_map.specs.Items.{Item, itemAt, bothCuts, voteOver, afterLeaving, register}
+use Rattle.pending_items.specs.Items.{Item, itemAt, bothCuts, voteOver, afterLeaving, register}
 
 -- 01: "An event is three words: kind (1 processed, 2 late, 3 unknown), statement index, offset"
 pub record Event : Type 0 where

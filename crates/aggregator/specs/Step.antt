@@ -24,8 +24,8 @@ use Rattle.store_layout.specs.Layout.{Entry, entries, usedBy, positionOf, looku
 use Rattle.store_layout.specs.Store.{recordsOf, recordIn, storeFull}
 use Rattle.store_layout.specs.Accept.{blockChecks}
 use Rattle.store_order.specs.Entry.{blockAt, isEntry, laidOut}
-use Rattle.range_map.specs.Items.{Item, itemBefore, itemFull, itemAt}
-use Rattle.range_map.specs.Table.{tableOf, itemsOf, room, sharesIn, tableInOrder}
+use Rattle.pending_items.specs.Items.{Item, itemBefore, itemFull, itemAt}
+use Rattle.pending_items.specs.Table.{tableOf, itemsOf, room, sharesIn, tableInOrder}
 use Rattle.aggregator.specs.ProcessBlock.{Event, eventWords, missed, Processing}
 use Rattle.aggregator.specs.Pending.{Standing, standingOf}
 use Rattle.aggregator.specs.declared.Walk.{Walk}

@@ -9,7 +9,7 @@ use Rattle.committee.specs.Committee.{Committee, totalStake, newCommittee, isQu
 use Rattle.blocks.specs.Reference.{BlockReference, TransactionLocator, newRange}
 use Rattle.blocks.specs.Block.{Statement, share, accept, voteRange, Block, sharedRanges}
 use Rattle.blocks.specs.Verify.{statementChecks}
-use Rattle.range_map.specs.Items.{Item, voteOver}
+use Rattle.pending_items.specs.Items.{Item, voteOver}
 use Rattle.aggregator.specs.ProcessBlock.{processBlock}
 use Rattle.finalization_interpreter.specs.Voters.{certifies, isFinal}
 

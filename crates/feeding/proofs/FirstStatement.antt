@@ -20,8 +20,8 @@ use Rattle.store_layout.specs.Layout.{Record, readRecord, layout}
 use Rattle.store_layout.specs.Accept.{blockChecks}
 use Rattle.store_layout.specs.Store.{recordsOf, storeFull, storeHolding}
 use Rattle.store_layout.proofs.Store.{length-layout, readRecord-some, Holding, accepting}
-use Rattle.range_map.specs.Table.{room}
-use Rattle.range_map.proofs.Table.{itemsOf-tableOf}
+use Rattle.pending_items.specs.Table.{room}
+use Rattle.pending_items.proofs.Table.{itemsOf-tableOf}
 use Rattle.aggregator.specs.Feed.{Lent, processed, lentChecks, recordChecks, feedChecks, refusedFeed, acceptedFeed, feedRecord, feed}
 use Rattle.aggregator.specs.Step.{wordsOf}
 use Rattle.aggregator.proofs.Keeping.{Passed, passed, State, lent-state, Kept, feed-keeps}

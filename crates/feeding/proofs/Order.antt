@@ -25,7 +25,7 @@ use Rattle.store_layout.specs.Layout.{Record, readRecord, entries}
 use Rattle.store_layout.specs.Accept.{blockChecks}
 use Rattle.store_layout.specs.Store.{recordsOf, recordIn, storeFull, storeHolding}
 use Rattle.store_order.specs.Entry.{laidOut}
-use Rattle.range_map.specs.Table.{itemsOf, room}
+use Rattle.pending_items.specs.Table.{itemsOf, room}
 use Rattle.aggregator.specs.Pending.{pendingChecks}
 use Rattle.aggregator.specs.Feed.{Lent, processed, lentChecks, recordChecks, feedChecks, refusedFeed, acceptedFeed, feedRecord, feed}
 use Rattle.aggregator.specs.Step.{acceptChecks, wordsOf, VotesCounted, Feeding}

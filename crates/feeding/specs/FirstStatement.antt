@@ -12,7 +12,7 @@ use Rattle.blocks.specs.Block.{eventRoom}
 use Rattle.store_layout.specs.Layout.{Record, readRecord, entries, usedBy}
 use Rattle.store_layout.specs.Accept.{blockChecks}
 use Rattle.store_layout.specs.Store.{recordsOf, storeInOrder, storeFull}
-use Rattle.range_map.specs.Table.{itemsOf, tableInOrder, room}
+use Rattle.pending_items.specs.Table.{itemsOf, tableInOrder, room}
 use Rattle.aggregator.specs.ProcessBlock.{eventWords}
 use Rattle.aggregator.specs.Feed.{Lent, Fed, processed, feedChecks, feed}
 

@@ -22,9 +22,9 @@ use Rattle.blocks.specs.Reference.{TransactionLocator}
 use Rattle.words.specs.Words.{wordsIn, wordsOf}
 use Rattle.store_layout.specs.Layout.{entries, positionOf, lookup}
 use Rattle.store_layout.specs.Store.{recordsOf}
-use Rattle.range_map.specs.Items.{Item, itemHolds, itemAt}
-use Rattle.range_map.specs.Table.{itemsOf}
-use Rattle.range_map.proofs.Order.{in-order}
+use Rattle.pending_items.specs.Items.{Item, itemHolds, itemAt}
+use Rattle.pending_items.specs.Table.{itemsOf}
+use Rattle.pending_items.proofs.Order.{in-order}
 use Rattle.aggregator.specs.Pending.{Standing, pendingChecks, standingOf, pending}
 use Rattle.aggregator.proofs.Lending.{lying}
 use Rattle.host_lib.specs.Payload.{refusalBefore}

@@ -10,7 +10,7 @@ use Rattle.store_layout.specs.Layout.{layout, headerBytes, bodyBytes, entries, 
 use Rattle.store_layout.specs.Claims.{FreshInOrder}
 use Rattle.store_layout.proofs.Store.{length-layout}
 use Rattle.store_layout.proofs.Claimed.{fresh-in-order}
-use Rattle.range_map.specs.Table.{HoldsItems}
+use Rattle.pending_items.specs.Table.{HoldsItems}
 use Rattle.aggregator.specs.Feed.{feed, lentOf}
 use Rattle.aggregator.proofs.Keeping.{State, feed-keeps, fresh-table}
 use Rattle.aggregator.proofs.Votes.{order-holds}

@@ -25,11 +25,11 @@ use Rattle.store_layout.specs.Accept.{isStored}
 use Rattle.store_layout.specs.Store.{recordsOf}
 use Rattle.store_layout.proofs.Accepted.{known-author, accepted-new}
 use Rattle.store_layout.proofs.Store.{readRecord-some, Holding, accepting}
-use Rattle.range_map.specs.Items.{Item, itemAt}
-use Rattle.range_map.specs.Table.{itemsOf}
-use Rattle.range_map.proofs.Items.{heldAt}
-use Rattle.range_map.proofs.Order.{Pending, in-order}
-use Rattle.range_map.proofs.Table.{itemsOf-tableOf}
+use Rattle.pending_items.specs.Items.{Item, itemAt}
+use Rattle.pending_items.specs.Table.{itemsOf}
+use Rattle.pending_items.proofs.Items.{heldAt}
+use Rattle.pending_items.proofs.Order.{Pending, in-order}
+use Rattle.pending_items.proofs.Table.{itemsOf-tableOf}
 use Rattle.aggregator.specs.ProcessBlock.{Processing, registering, processBlock}
 use Rattle.aggregator.specs.Feed.{Lent, processed, feedChecks, refusedFeed, acceptedFeed, feedRecord, feed}
 use Rattle.aggregator.specs.Pending.{Standing, standingOf, pending}

@@ -12,7 +12,7 @@ use Rattle.committee.specs.StakeAggregator.{StakeAggregator, counted, hasQuorum
 use Rattle.blocks.specs.Reference.{BlockReference, TransactionLocator, TransactionLocatorRange, sameReference, covers}
 use Rattle.blocks.specs.Block.{Statement, Block, votedRange}
 use Rattle.store_layout.specs.Layout.{Record, Entry, entries, lookup}
-use Rattle.range_map.proofs.Items.{heldAt}
+use Rattle.pending_items.proofs.Items.{heldAt}
 use Rattle.aggregator.specs.ProcessBlock.{Event, Processing, vote, votes}
 use Rattle.aggregator.proofs.ProcessBlock.{Sound, sound-vote}
 use Rattle.aggregator.proofs.View.{positionIn, held-vote, processedBy, processed-vote}

@@ -2,7 +2,7 @@ use Prim.Native.Nat.{_-_}
 use native.Mathlib.Omega.{arith}
 use borrow.Author.Needs.{needs}
 use Rattle.types.specs.Values.{asReference}
-use Rattle.range_map.specs.Table.{itemsOf}
+use Rattle.pending_items.specs.Table.{itemsOf}
 use Rattle.aggregator.specs.Step.{withNew}
 use Rattle.aggregator.proofs.Telling.{Announcing, announcing-start, announcing-on, announcing-end, stated-long}
 use Rattle.aggregator.proofs.announce.Statement.{statement}

@@ -5,7 +5,7 @@ use mathlib.Core.Path.{_≡_, sym, ap, _∙_}
 use native.Mathlib.Omega.{arith}
 use Rattle.store_order.proofs.Check.{is-readable}
 use Rattle.store_order.proofs.Loops.{entry-room, record-part, refuses}
-use Rattle.range_map.specs.Answers.{asItem}
+use Rattle.table_words.specs.Answers.{asItem}
 use Rattle.aggregator.proofs.Checked.{not-there, not-past}
 use borrow.Author.Needs.{needs}
 use Rattle.aggregator.proofs.item_stored.Statement.{statement}

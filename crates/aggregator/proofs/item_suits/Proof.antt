@@ -4,7 +4,7 @@ use Rattle.committee.specs.AuthoritySet.{member}
 use Rattle.blocks.specs.Reference.{BlockReference}
 use Rattle.types.specs.Values.{asReference}
 use Rattle.store_order.proofs.Loops.{refuses}
-use Rattle.range_map.specs.Answers.{asItem}
+use Rattle.table_words.specs.Answers.{asItem}
 use Rattle.aggregator.specs.Step.{suits}
 use borrow.Author.Needs.{needs}
 use Rattle.aggregator.proofs.item_suits.Statement.{statement}

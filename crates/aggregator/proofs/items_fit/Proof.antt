@@ -6,7 +6,7 @@ use lib.Dec.{leb}
 use lib.ListN.{length, length-take}
 use Rattle.base.proofs.Tests.{not-both}
 use Rattle.blocks.specs.Record.{blockIn}
-use Rattle.range_map.specs.Table.{itemsOf, room}
+use Rattle.pending_items.specs.Table.{itemsOf, room}
 use Rattle.aggregator.specs.ProcessBlock.{processBlock}
 use Rattle.aggregator.specs.Step.{withNew, Feeding}
 use Rattle.aggregator.proofs.Copying.{copied-front}

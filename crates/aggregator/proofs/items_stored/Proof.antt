@@ -6,10 +6,10 @@ use native.Mathlib.Omega.{arith}
 use borrow.Author.Needs.{needs}
 use borrow.Author.Tests.{not-true, not-false}
 use Rattle.base.proofs.Places.{every-place}
-use Rattle.range_map.specs.Items.{noItem}
-use Rattle.range_map.specs.Table.{itemsOf}
-use Rattle.range_map.specs.Answers.{asItem}
-use Rattle.range_map.proofs.Halves.{holds-ordered, holds-full}
+use Rattle.pending_items.specs.Items.{noItem}
+use Rattle.pending_items.specs.Table.{itemsOf}
+use Rattle.table_words.specs.Answers.{asItem}
+use Rattle.table_words.proofs.Halves.{holds-ordered, holds-full}
 use Rattle.aggregator.proofs.Checked.{Checking, checking-start, checking-on, checking-no, checking-all}
 use Rattle.aggregator.proofs.items_stored.Statement.{statement}
 use Rattle.aggregator.proofs.items_stored.Tie as tie

@@ -1,7 +1,7 @@
 use mathlib.Core.Path.{_≡_, sym, ap, _∙_}
 use Rattle.blocks.specs.Reference.{locator}
 use Rattle.types.specs.Values.{asLocator}
-use Rattle.range_map.specs.Answers.{asItem}
+use Rattle.table_words.specs.Answers.{asItem}
 use Rattle.aggregator.specs.Answers.{asPending}
 use Rattle.aggregator.proofs.Lending.{index-found, standing-none, standing-some}
 use borrow.Author.Needs.{needs}

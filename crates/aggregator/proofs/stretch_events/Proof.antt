@@ -1,8 +1,8 @@
 use mathlib.Core.Path.{_≡_, sym, ap, _∙_}
 use mathlib.Core.Option.{some}
 use borrow.Author.Tests.{not-true, not-false}
-use Rattle.range_map.specs.Answers.{asItem}
-use Rattle.range_map.proofs.Halves.{holds-ordered}
+use Rattle.table_words.specs.Answers.{asItem}
+use Rattle.table_words.proofs.Halves.{holds-ordered}
 use Rattle.aggregator.proofs.Lending.{index-found, at-none, at-some}
 use Rattle.aggregator.proofs.Telling.{between-missed, between-processed, between-silent, stated-none, stated-by}
 use borrow.Author.Needs.{needs}

@@ -1,6 +1,6 @@
 use mathlib.Core.Path.{_≡_, sym, _∙_}
 use borrow.Author.Tests.{not-true, not-false}
-use Rattle.range_map.proofs.Forming.{order-parts}
+use Rattle.table_order.proofs.Forming.{order-parts}
 use Rattle.range_map.proofs.Voting.{formed}
 use borrow.Author.Needs.{needs}
 use Rattle.aggregator.proofs.table_in_order.Statement.{statement}
