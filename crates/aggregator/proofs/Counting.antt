@@ -25,11 +25,12 @@ use Rattle.pending_items.proofs.Items.{Ordered}
 use Rattle.table_words.proofs.Slots.{table-holding}
 use Rattle.pending_items.proofs.Order.{Pending, InOrder, in-order, order-tableOf, room-fits}
 use Rattle.pending_items.proofs.Table.{itemsOf-tableOf, length-tableOf}
-use Rattle.aggregator.specs.ProcessBlock.{Event, Processing, vote, votes}
-use Rattle.aggregator.specs.Step.{StatedAt, told, startingWith, VotesCounted}
+use Rattle.feeds.specs.ProcessBlock.{Event, Processing, vote, votes}
+use Rattle.events.specs.Step.{StatedAt, told}
+use Rattle.aggregator.specs.Step.{startingWith, VotesCounted}
 use Rattle.aggregator.specs.declared.Processed.{Processed}
-use Rattle.aggregator.proofs.ProcessBlock.{Sound, sound-vote, events-vote}
-use Rattle.aggregator.proofs.Telling.{told-none, stated-none, stated-on, stated-long}
+use Rattle.feeds.proofs.ProcessBlock.{Sound, sound-vote, events-vote}
+use Rattle.events.proofs.Telling.{told-none, stated-none, stated-on, stated-long}
 
 -- ---- a vote, from the items alone
 

@@ -32,10 +32,11 @@ use Rattle.pending_items.proofs.Items.{ordered-voteOver}
 use Rattle.pending_items.proofs.Order.{Pending, InOrder, in-order, room-fits, pending-voteOver, length-voteOver}
 use Rattle.table_order.proofs.Forming.{order-parts}
 use Rattle.range_map.proofs.Voting.{Formed, formed, Written, written}
-use Rattle.aggregator.specs.ProcessBlock.{Event, eventOf, Processing, vote}
-use Rattle.aggregator.specs.Step.{withNew, wordsOf, toldAt, eventsBetween, StatedAt, told, startingWith, Voting, VotesCounted}
+use Rattle.feeds.specs.ProcessBlock.{Event, eventOf, Processing, vote}
+use Rattle.events.specs.Step.{withNew, wordsOf, toldAt, eventsBetween, StatedAt, told}
+use Rattle.aggregator.specs.Step.{startingWith, Voting, VotesCounted}
 use Rattle.aggregator.specs.declared.Processed.{Processed}
-use Rattle.aggregator.proofs.Telling.{told-event, told-none, stated-none}
+use Rattle.events.proofs.Telling.{told-event, told-none, stated-none}
 
 pub order-formed : (c : Committee) (es : List Entry) (t : List ℕ) → tableInOrder c es t ≡ true → tableFormed c t ≡ true
 order-formed c es t h = and-left _ _ (sym (order-parts c es t) ∙ h)

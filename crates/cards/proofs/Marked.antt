@@ -2,7 +2,7 @@
 use mathlib.Core.Path.{refl}
 use Rattle.committee.specs.Committee.{isQuorum, isValid}
 use Rattle.blocks.proofs.Computing.{computing}
-use Rattle.aggregator.proofs.Computing.{computing as counting}
+use Rattle.feeds.proofs.Computing.{computing as counting}
 use Rattle.finalization_interpreter.proofs.Computing.{computing as certifying}
 use Rattle.cards.specs.Marked.{MarkedCards}
 

@@ -10,7 +10,7 @@ use Rattle.blocks.specs.Reference.{BlockReference, TransactionLocator, newRange
 use Rattle.blocks.specs.Block.{Statement, share, accept, voteRange, Block, sharedRanges}
 use Rattle.blocks.specs.Verify.{statementChecks}
 use Rattle.pending_items.specs.Items.{Item, voteOver}
-use Rattle.aggregator.specs.ProcessBlock.{processBlock}
+use Rattle.feeds.specs.ProcessBlock.{processBlock}
 use Rattle.finalization_interpreter.specs.Voters.{certifies, isFinal}
 
 -- ---- what the cards speak of

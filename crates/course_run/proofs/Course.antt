@@ -11,7 +11,7 @@ use Rattle.blocks.specs.Reference.{BlockReference, TransactionLocator}
 use Rattle.blocks.specs.Block.{Statement, share, accept}
 use Rattle.blocks.specs.Record.{blockBytes}
 use Rattle.store_layout.specs.Payload.{payload}
-use Rattle.aggregator.specs.Pending.{pending}
+use Rattle.feeds.specs.Pending.{pending}
 use Rattle.finalization_interpreter.specs.Finality.{finality, blocksOf}
 use Rattle.finalization_interpreter.specs.NextFinal.{nextFinal, finalList}
 use Rattle.promises.specs.Feeds.{Feed, Engine, fresh, run, accepted}

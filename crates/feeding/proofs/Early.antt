@@ -11,7 +11,7 @@ use Rattle.blocks.specs.Record.{wellFormed, blockIn}
 use Rattle.store_layout.specs.Layout.{readRecord}
 use Rattle.store_layout.specs.Accept.{blockChecks}
 use Rattle.store_layout.specs.Store.{recordsOf, recordIn}
-use Rattle.aggregator.specs.Pending.{pendingChecks}
+use Rattle.feeds.specs.Pending.{pendingChecks}
 use Rattle.feeding.specs.Refusals.{ruleChecks, earlyChecks}
 use Rattle.feeding.proofs.Order.{lent-only, read-none, read-some}
 

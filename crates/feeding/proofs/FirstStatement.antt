@@ -22,10 +22,10 @@ use Rattle.store_layout.specs.Store.{recordsOf, storeFull, storeHolding}
 use Rattle.store_layout.proofs.Store.{length-layout, readRecord-some, Holding, accepting}
 use Rattle.pending_items.specs.Table.{room}
 use Rattle.pending_items.proofs.Table.{itemsOf-tableOf}
-use Rattle.aggregator.specs.Feed.{Lent, processed, lentChecks, recordChecks, feedChecks, refusedFeed, acceptedFeed, feedRecord, feed}
-use Rattle.aggregator.specs.Step.{wordsOf}
-use Rattle.aggregator.proofs.Keeping.{Passed, passed, State, lent-state, Kept, feed-keeps}
-use Rattle.aggregator.proofs.Telling.{length-words}
+use Rattle.feeds.specs.Feed.{Lent, processed, lentChecks, recordChecks, feedChecks, refusedFeed, acceptedFeed, feedRecord, feed}
+use Rattle.events.specs.Step.{wordsOf}
+use Rattle.feeds.proofs.Keeping.{Passed, passed, State, lent-state, Kept, feed-keeps}
+use Rattle.events.proofs.Telling.{length-words}
 use Rattle.feeding.specs.FirstStatement.{EnoughMemory, KeepsRules, Counted, FirstApplies, here, later, Refused, FirstStatement}
 
 -- the refusal number is the first that applies

@@ -9,7 +9,7 @@ use Rattle.committee.specs.Committee.{Committee}
 use Rattle.store_layout.specs.Layout.{Record, readRecord}
 use Rattle.store_layout.specs.Accept.{blockChecks}
 use Rattle.store_layout.specs.Store.{recordsOf}
-use Rattle.aggregator.specs.Pending.{pendingChecks}
+use Rattle.feeds.specs.Pending.{pendingChecks}
 
 -- 01: "20 to 30 ascending"
 unfoldable pub ruleChecks : Committee → Bytes → Option Record → List Check

@@ -21,8 +21,8 @@ use Rattle.store_layout.specs.Layout.{Record, readRecord}
 use Rattle.store_layout.specs.Accept.{blockChecks}
 use Rattle.store_layout.specs.Store.{recordsOf}
 use Rattle.words.specs.Words.{wordsIn, wordsOf}
-use Rattle.aggregator.specs.Pending.{pendingChecks}
-use Rattle.aggregator.specs.Feed.{Lent, lentOf, processed, lentChecks, recordChecks, feedChecks, refusedFeed, acceptedFeed, feedRecord, feed}
+use Rattle.feeds.specs.Pending.{pendingChecks}
+use Rattle.feeds.specs.Feed.{Lent, lentOf, processed, lentChecks, recordChecks, feedChecks, refusedFeed, acceptedFeed, feedRecord, feed}
 use Rattle.feeding.specs.Refusals.{ruleChecks, earlyChecks}
 use Rattle.host_lib.specs.Payload.{refusalBefore}
 use Rattle.host_lib.specs.Feed.{FeedCall, refusedCall, fedCall, fedWith, feedOf}

@@ -25,8 +25,8 @@ use Rattle.store_layout.specs.Store.{recordsOf}
 use Rattle.pending_items.specs.Items.{Item, itemHolds, itemAt}
 use Rattle.pending_items.specs.Table.{itemsOf}
 use Rattle.pending_items.proofs.Order.{in-order}
-use Rattle.aggregator.specs.Pending.{Standing, pendingChecks, standingOf, pending}
-use Rattle.aggregator.proofs.Lending.{lying}
+use Rattle.feeds.specs.Pending.{Standing, pendingChecks, standingOf, pending}
+use Rattle.pending.proofs.Lending.{lying}
 use Rattle.host_lib.specs.Payload.{refusalBefore}
 use Rattle.host_lib.specs.Pending.{pendingIn, askedPending}
 use Rattle.host_lib.proofs.Numbers.{refusal-most}

@@ -12,8 +12,8 @@ ghost use Rattle.store_layout.specs.Payload.{payloadLength};
 ghost use Rattle.payload.specs.Answers.{asPayloadLength, asPlace, payloadPlace};
 ghost use Rattle.committee.specs.Committee.{broken};
 ghost use Rattle.committee.specs.Answers.{asAggregator, asAddAnswer};
-ghost use Rattle.aggregator.specs.Answers.{asPending};
-ghost use Rattle.aggregator.specs.Pending.{pendingChecks};
+ghost use Rattle.pending.specs.Answers.{asPending};
+ghost use Rattle.feeds.specs.Pending.{pendingChecks};
 ghost use Rattle.host_lib.specs.Calls.{flag, committeeOf};
 ghost use Rattle.host_lib.specs.Add.{aggregatorOf, aggregatorBytes, flagged, addOf};
 ghost use Rattle.host_lib.specs.Pending.{pendingIn, askedPending};
@@ -21,7 +21,6 @@ ghost use Rattle.feeding.specs.Answers.{asFeedAnswer};
 ghost use Rattle.feeding.specs.Refusals.{earlyChecks};
 ghost use Rattle.host_lib.specs.Feed.{fedWith, feedOf};
 ghost use Rattle.host_lib.specs.Payload.{locatorOf, refusalBefore, asked};
-use aggregator::PendingAnswer;
 use committee::AddAnswer;
 use committee::AuthorityIndex;
 use committee::AuthoritySet;
@@ -31,6 +30,7 @@ use committee::StakeAggregator;
 use feeding::FeedAnswer;
 use payload::PayloadLength;
 use payload::PayloadPlace;
+use pending::PendingAnswer;
 
 // Whether one of the words is zero.
 pub fn has_zero_word(bytes: &[u8]) -> bool
@@ -156,7 +156,7 @@ pub fn payload_place(stakes: &[u64], store: &[u8], locator: &[u8]) -> PayloadPla
 fn no_locator(stakes: &[u64], store: &[u8], table: &[u64]) -> u64
     ensures { λ r. ⌜ r ≡ refusal (pendingChecks (now (stakes .entry)) (now (store .entry)) (now (table .entry)) ++ ((true ⇒ 20) ∷ [])) ⌝ }
 {
-    let refusal = aggregator::lent_refusal(stakes, store, table);
+    let refusal = pending::lent_refusal(stakes, store, table);
     if refusal != 0 {
         return refusal;
     }
@@ -169,7 +169,7 @@ fn pending_in(stakes: &[u64], store: &[u8], table: &[u64], locator: &[u8]) -> Pe
     if locator.len() != 56 {
         return PendingAnswer::Refused(no_locator(stakes, store, table));
     }
-    aggregator::pending(stakes, store, table, types::read_locator(locator, 0))
+    pending::pending(stakes, store, table, types::read_locator(locator, 0))
 }
 
 pub fn pending_of(stakes: &[u64], store: &[u8], table: &[u8], locator: &[u8]) -> PendingAnswer

@@ -11,8 +11,8 @@ use Rattle.store_layout.specs.Claims.{FreshInOrder}
 use Rattle.store_layout.proofs.Store.{length-layout}
 use Rattle.store_layout.proofs.Claimed.{fresh-in-order}
 use Rattle.pending_items.specs.Table.{HoldsItems}
-use Rattle.aggregator.specs.Feed.{feed, lentOf}
-use Rattle.aggregator.proofs.Keeping.{State, feed-keeps, fresh-table}
+use Rattle.feeds.specs.Feed.{feed, lentOf}
+use Rattle.feeds.proofs.Keeping.{State, feed-keeps, fresh-table}
 use Rattle.aggregator.proofs.Votes.{order-holds}
 use Rattle.promises.specs.Feeds.{Feed, Engine, fresh, outcome, left, run}
 use Rattle.listing_run.specs.Feeds.{engine, FedFrom, start}

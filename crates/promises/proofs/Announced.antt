@@ -17,9 +17,9 @@ use Rattle.blocks.specs.Reference.{BlockReference, TransactionLocator, sameRefe
 use Rattle.blocks.specs.Block.{Block}
 use Rattle.blocks.proofs.References.{reference-same, same-reference}
 use Rattle.store_layout.specs.Layout.{Record, readRecord, Entry, entries}
-use Rattle.aggregator.specs.ProcessBlock.{Event}
-use Rattle.aggregator.specs.Feed.{Lent, processed, feedChecks, feed}
-use Rattle.aggregator.proofs.Events.{Shared, Source, processed-source}
+use Rattle.feeds.specs.ProcessBlock.{Event}
+use Rattle.feeds.specs.Feed.{Lent, processed, feedChecks, feed}
+use Rattle.feeds.proofs.Events.{Shared, Source, processed-source}
 use Rattle.promises.specs.Feeds.{Feed, Engine, fresh, outcome, left, run, Accepted, acceptedIn, accepted}
 use Rattle.promises.specs.Shares.{sharedBy, isStoredShare, votesUnder, announces, announcedBy, announcements}
 use Rattle.promises.specs.ThirdStatement.{Start, acceptedOf}

@@ -30,12 +30,12 @@ use Rattle.pending_items.specs.Table.{itemsOf}
 use Rattle.pending_items.proofs.Items.{heldAt}
 use Rattle.pending_items.proofs.Order.{Pending, in-order}
 use Rattle.pending_items.proofs.Table.{itemsOf-tableOf}
-use Rattle.aggregator.specs.ProcessBlock.{Processing, registering, processBlock}
-use Rattle.aggregator.specs.Feed.{Lent, processed, feedChecks, refusedFeed, acceptedFeed, feedRecord, feed}
-use Rattle.aggregator.specs.Pending.{Standing, standingOf, pending}
-use Rattle.aggregator.proofs.Keeping.{State, Kept, Passed, passed, feed-keeps, sound-registering, lent-state}
-use Rattle.aggregator.proofs.ProcessBlock.{lookup-new}
-use Rattle.aggregator.proofs.View.{positionIn, held-own, held-other, found-still, standing-held, standing-none, pending-passes}
+use Rattle.feeds.specs.ProcessBlock.{Processing, registering, processBlock}
+use Rattle.feeds.specs.Feed.{Lent, processed, feedChecks, refusedFeed, acceptedFeed, feedRecord, feed}
+use Rattle.feeds.specs.Pending.{Standing, standingOf, pending}
+use Rattle.feeds.proofs.Keeping.{State, Kept, Passed, passed, feed-keeps, sound-registering, lent-state}
+use Rattle.feeds.proofs.ProcessBlock.{lookup-new}
+use Rattle.feeds.proofs.View.{positionIn, held-own, held-other, found-still, standing-held, standing-none, pending-passes}
 use Rattle.promises.specs.Feeds.{Feed, Engine, fresh, outcome, left, run, Accepted, acceptedIn, accepted}
 use Rattle.promises.specs.Shares.{sharedBy, isStoredShare, votesFrom, countedVotes, countedVoters, NoneLeft, announcedBy, announcements}
 use Rattle.promises.specs.ThirdStatement.{ShareStands, stays, gone, Start, engineOf, acceptedOf}

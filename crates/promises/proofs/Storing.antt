@@ -16,8 +16,8 @@ use Rattle.store_layout.specs.Store.{recordsOf, storeInOrder}
 use Rattle.store_layout.specs.Claims.{FreshInOrder}
 use Rattle.store_layout.proofs.Store.{length-layout, recordsOf-laid, readRecord-some, Holding, accepting}
 use Rattle.store_layout.proofs.Claimed.{fresh-in-order}
-use Rattle.aggregator.specs.Feed.{Lent, feedChecks, refusedFeed, acceptedFeed, feed}
-use Rattle.aggregator.proofs.Keeping.{Passed, passed}
+use Rattle.feeds.specs.Feed.{Lent, feedChecks, refusedFeed, acceptedFeed, feed}
+use Rattle.feeds.proofs.Keeping.{Passed, passed}
 use Rattle.promises.proofs.Feeds.{taken, feed-cases}
 use Rattle.promises.specs.Feeds.{Feed, Engine, outcome, left, run, Accepted, acceptedIn, accepted}
 

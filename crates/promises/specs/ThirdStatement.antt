@@ -11,7 +11,7 @@ use Rattle.base.specs.Checks.{refused, answered}
 use Rattle.committee.specs.Committee.{Committee, broken}
 use Rattle.blocks.specs.Reference.{TransactionLocator, locatorBefore}
 use Rattle.blocks.specs.Block.{Block}
-use Rattle.aggregator.specs.Pending.{Standing, pending}
+use Rattle.feeds.specs.Pending.{Standing, pending}
 use Rattle.finalization_interpreter.specs.Ancestry.{VoteIn, Final}
 use Rattle.finalization_interpreter.specs.Finality.{finality}
 use Rattle.finalization_interpreter.specs.NextFinal.{FinalList}
