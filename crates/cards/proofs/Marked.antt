@@ -3,7 +3,7 @@ use mathlib.Core.Path.{refl}
 use Rattle.committee.specs.Committee.{isQuorum, isValid}
 use Rattle.blocks.proofs.Computing.{computing}
 use Rattle.feeds.proofs.Computing.{computing as counting}
-use Rattle.finalization_interpreter.proofs.Computing.{computing as certifying}
+use Rattle.finality.proofs.Computing.{computing as certifying}
 use Rattle.cards.specs.Marked.{MarkedCards}
 
 pub marked : MarkedCards

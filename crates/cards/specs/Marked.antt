@@ -11,7 +11,7 @@ use Rattle.blocks.specs.Block.{Statement, share, accept, voteRange, Block, shar
 use Rattle.blocks.specs.Verify.{statementChecks}
 use Rattle.pending_items.specs.Items.{Item, voteOver}
 use Rattle.feeds.specs.ProcessBlock.{processBlock}
-use Rattle.finalization_interpreter.specs.Voters.{certifies, isFinal}
+use Rattle.finality.specs.Voters.{certifies, isFinal}
 
 -- ---- what the cards speak of
 

@@ -12,8 +12,8 @@ use Rattle.blocks.specs.Block.{Statement, share, accept}
 use Rattle.blocks.specs.Record.{blockBytes}
 use Rattle.store_layout.specs.Payload.{payload}
 use Rattle.feeds.specs.Pending.{pending}
-use Rattle.finalization_interpreter.specs.Finality.{finality, blocksOf}
-use Rattle.finalization_interpreter.specs.NextFinal.{nextFinal, finalList}
+use Rattle.finality.specs.Finality.{finality, blocksOf}
+use Rattle.finality.specs.NextFinal.{nextFinal, finalList}
 use Rattle.promises.specs.Feeds.{Feed, Engine, fresh, run, accepted}
 use Rattle.promises.specs.Shares.{countedVotes, announcements}
 use Rattle.promises.proofs.Computing.{computing}

@@ -8,7 +8,7 @@ use Rattle.committee.specs.Committee.{Committee}
 use Rattle.blocks.specs.Reference.{BlockReference, TransactionLocator}
 use Rattle.blocks.specs.Block.{share, accept}
 use Rattle.feeds.specs.Pending.{pending}
-use Rattle.finalization_interpreter.specs.Finality.{finality}
+use Rattle.finality.specs.Finality.{finality}
 use Rattle.promises.specs.Feeds.{Feed, Engine, fresh, run, accepted}
 use Rattle.promises.specs.Shares.{announcements}
 use Rattle.promises.proofs.Computing.{computing}

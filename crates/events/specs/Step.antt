@@ -16,7 +16,6 @@ use Rattle.store_layout.specs.Store.{recordsOf, recordIn}
 use Rattle.pending_items.specs.Items.{Item, itemAt}
 use Rattle.feeds.specs.ProcessBlock.{Event, eventWords, missed}
 use Rattle.pending.specs.Step.{Placed}
-use Rattle.record_checks.specs.Step.{acceptChecks}
 
 -- ---- events
 -- the entries once the record is stored: 01, "the block being fed counts as stored"

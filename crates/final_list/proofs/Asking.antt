@@ -11,7 +11,7 @@ use Rattle.base.specs.Checks.{refusal, passes, Answer, refused, answered, check
 use Rattle.committee.specs.Committee.{Committee, broken}
 use Rattle.blocks.specs.Reference.{TransactionLocator}
 use Rattle.store_layout.specs.Store.{storeInOrder}
-use Rattle.finalization_interpreter.specs.NextFinal.{nextFinalChecks}
+use Rattle.finality.specs.NextFinal.{nextFinalChecks}
 use Rattle.final_list.specs.Stretches.{stretches, Given, givenAfter, wordsAfter, finalStretches}
 
 module _ (c : Committee) (s : Bytes) (out : List ℕ) (after : Option TransactionLocator) where

@@ -21,9 +21,9 @@ use Rattle.blocks.specs.Block.{Block, spans, spansFrom}
 use Rattle.blocks.specs.Record.{noStatement}
 use Rattle.blocks.proofs.References.{same-reference}
 use Rattle.store_order.specs.Entry.{blockAt}
-use Rattle.finalization_interpreter.specs.Finality.{blocksOf}
-use Rattle.finalization_interpreter.specs.Walk.{spanOf, Sorted}
-use Rattle.finalization_interpreter.proofs.Reading.{spans-on, spans-end}
+use Rattle.finality.specs.Finality.{blocksOf}
+use Rattle.block_votes.specs.Walk.{spanOf, Sorted}
+use Rattle.block_votes.proofs.Reading.{spans-on, spans-end}
 use Rattle.finalization_interpreter.proofs.Certify.{position-block, block-position}
 use Rattle.final_list.specs.Stretches.{edgesOf, edges, nearer, nearest}
 use Rattle.final_list.specs.Step.{edgesIn}

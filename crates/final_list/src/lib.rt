@@ -4,10 +4,10 @@ use committee::NewCommittee;
 use committee::Stake;
 use final_walk::Tabling;
 use finalization_interpreter::Certifiers;
-use finalization_interpreter::MaybeLocator;
 use types::BlockReference;
 use types::TransactionLocator;
 use types::TransactionLocatorRange;
+use vote_starts::MaybeLocator;
 ghost use mathlib.Core.Path.{_≡_};
 ghost use mathlib.Core.Bool.{true, false, _&&_};
 ghost use mathlib.Core.List.{map};
@@ -24,11 +24,12 @@ ghost use Rattle.blocks.specs.Block.{spans};
 ghost use Rattle.blocks.specs.Record.{wellFormed, blockIn};
 ghost use Rattle.types.specs.Values.{asReference, asLocator, asRange};
 ghost use Rattle.block_record.specs.Values.{asStatement};
-ghost use Rattle.finalization_interpreter.specs.Voters.{isFinal};
-ghost use Rattle.finalization_interpreter.specs.Finality.{blocksOf};
-ghost use Rattle.finalization_interpreter.specs.NextFinal.{isAfter, leastLocator, candidates, leastFinal};
-ghost use Rattle.finalization_interpreter.specs.Answers.{asMaybe};
-ghost use Rattle.finalization_interpreter.specs.Walk.{spanOf, startOf, Sorted, SortedStore};
+ghost use Rattle.finality.specs.Voters.{isFinal};
+ghost use Rattle.finality.specs.Finality.{blocksOf};
+ghost use Rattle.finality.specs.NextFinal.{isAfter, leastLocator, candidates, leastFinal};
+ghost use Rattle.vote_starts.specs.Answers.{asMaybe};
+ghost use Rattle.block_votes.specs.Walk.{spanOf, Sorted, SortedStore};
+ghost use Rattle.vote_starts.specs.Walk.{startOf};
 ghost use Rattle.final_walk.specs.Table.{Tabled};
 ghost use Rattle.final_walk.specs.Places.{Placed};
 ghost use Rattle.final_list.specs.Stretches.{edgesOf, edges, nearer, nearest, stretchEnd, stretchAt, stretches, referenceWords, stretchWords, givenAfter, wordsAfter, finalStretches};
@@ -59,7 +60,7 @@ fn one_edges(block: BlockReference, offset: u64, best: u64, voted: TransactionLo
     requires { ⌜ offset < 18446744073709551615 ⌝ }
     ensures { λ r. ⌜ r ≡ nearest offset best (edgesOf (asReference block) (oneRange (asLocator voted))) ⌝ }
 {
-    if !finalization_interpreter::same_reference(voted.block, block) {
+    if !block_votes::same_reference(voted.block, block) {
         return best;
     }
     let start = voted.offset;
@@ -75,7 +76,7 @@ fn one_edges(block: BlockReference, offset: u64, best: u64, voted: TransactionLo
 fn range_edges(block: BlockReference, offset: u64, best: u64, range: TransactionLocatorRange) -> u64
     ensures { λ r. ⌜ r ≡ nearest offset best (edgesOf (asReference block) (asRange range)) ⌝ }
 {
-    if !finalization_interpreter::same_reference(range.block, block) {
+    if !block_votes::same_reference(range.block, block) {
         return best;
     }
     let near = nearer(offset, best, range.offset_start_inclusive);
@@ -246,7 +247,7 @@ fn fill_stretches(
     let mut n: usize = 0;
     let mut last = after;
     loop {
-        let found = finalization_interpreter::next_final_after(stakes, total, store, order, last);
+        let found = next_final::next_final_after(stakes, total, store, order, last);
         let MaybeLocator::Locator(l) = found else {
             return StretchesAnswer::Last(n as u64);
         };
@@ -312,7 +313,7 @@ fn table_start(votes: &[u64], m: usize, last: MaybeLocator) -> MaybeLocator
     let mut i: usize = 0;
     while i < m {
         let range = final_walk::read_vote(votes, i);
-        least = finalization_interpreter::lesser(least, last, start_of(range));
+        least = vote_starts::lesser(least, last, start_of(range));
         i += 1;
     }
     least
@@ -499,7 +500,7 @@ pub fn final_stretches(
         return StretchesAnswer::Refused(10);
     }
     let mut order = [0u64; 1024];
-    let count = finalization_interpreter::sorted_positions(store, &mut order);
+    let count = block_votes::sorted_positions(store, &mut order);
     fill(stakes, total, store, &order[..count], out, after)
 }
 

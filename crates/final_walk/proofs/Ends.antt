@@ -27,11 +27,11 @@ use Rattle.store_layout.specs.Store.{recordsOf, storeInOrder}
 use Rattle.store_layout.specs.Accept.{blockChecks, allAccepted}
 use Rattle.store_layout.proofs.Store.{in-order}
 use Rattle.store_layout.proofs.Accepted.{blocks}
-use Rattle.finalization_interpreter.specs.Voters.{isFinal}
-use Rattle.finalization_interpreter.specs.Finality.{blocksOf}
-use Rattle.finalization_interpreter.proofs.Votes.{spanned}
-use Rattle.finalization_interpreter.proofs.Growing.{final-votes}
-use Rattle.finalization_interpreter.proofs.Onward.{share-index, block-fits}
+use Rattle.finality.specs.Voters.{isFinal}
+use Rattle.finality.specs.Finality.{blocksOf}
+use Rattle.finality.proofs.Votes.{spanned}
+use Rattle.finality.proofs.Growing.{final-votes}
+use Rattle.next_final.proofs.Onward.{share-index, block-fits}
 
 -- ---- 28 of an accepted block
 

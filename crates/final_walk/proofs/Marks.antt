@@ -13,7 +13,7 @@ use Rattle.base.proofs.Tests.{not-both}
 use Rattle.committee.specs.AuthoritySet.{AuthoritySet, united}
 use Rattle.blocks.specs.Reference.{TransactionLocator, covers}
 use Rattle.blocks.specs.Record.{noReference}
-use Rattle.finalization_interpreter.specs.Walk.{blockAtPlace}
+use Rattle.block_votes.specs.Walk.{blockAtPlace}
 use Rattle.final_walk.specs.Table.{placeAt, rangeAt}
 use Rattle.final_walk.specs.Places.{IsPlace, includesBefore, Noted, Placed, votersIn, gathered, Marks}
 

@@ -21,8 +21,8 @@ use Rattle.block_record.specs.Values.{asStatement}
 use Rattle.types.specs.declared.TransactionLocatorRange as ranges
 use Rattle.block_record.specs.declared.BaseStatement.{BaseStatement}
 use Rattle.block_record.specs.declared.BaseStatement.the-variants.{Share, Accept, Reject, RejectFor, VoteRange}
-use Rattle.finalization_interpreter.specs.Walk.{spanOf, blockAtPlace}
-use Rattle.finalization_interpreter.proofs.Reading.{spans-on, spans-end}
+use Rattle.block_votes.specs.Walk.{spanOf, blockAtPlace}
+use Rattle.block_votes.proofs.Reading.{spans-on, spans-end}
 use Rattle.final_walk.specs.Table.{voteWords, placeAt, rangeAt, EndsFit, Held, Recorded, Tabled}
 
 -- ---- one vote written

@@ -12,10 +12,10 @@ use Rattle.committee.specs.AuthoritySet.{AuthoritySet, nobody, inserted, united
 use Rattle.blocks.specs.Reference.{BlockReference, TransactionLocator, covers}
 use Rattle.blocks.specs.Record.{noReference}
 use Rattle.blocks.specs.Block.{author}
-use Rattle.finalization_interpreter.specs.Voters.{votesFor, certifiers}
-use Rattle.finalization_interpreter.specs.Finality.{blocksOf, certifyingPositions}
+use Rattle.finality.specs.Voters.{votesFor, certifiers}
+use Rattle.finality.specs.Finality.{blocksOf, certifyingPositions}
 use Rattle.finalization_interpreter.specs.declared.Certifiers as found
-use Rattle.finalization_interpreter.specs.Walk.{blockAtPlace}
+use Rattle.block_votes.specs.Walk.{blockAtPlace}
 use Rattle.final_walk.specs.Table.{placeAt, rangeAt}
 use Rattle.final_walk.specs.declared.Checked as checked
 

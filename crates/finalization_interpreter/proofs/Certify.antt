@@ -26,11 +26,12 @@ use Rattle.store_order.specs.Entry.{blockAt, sortedPositions, laidOut}
 use Rattle.store_order.proofs.Loops.{block-of-entry}
 use Rattle.store_order.proofs.Search.{laid-out}
 use Rattle.store_order.proofs.Visit.{ascending-in, in-ascending}
-use Rattle.finalization_interpreter.specs.Voters.{certifies, certifiers}
-use Rattle.finalization_interpreter.specs.Finality.{blocksOf, certifyingPositions}
-use Rattle.finalization_interpreter.specs.Walk.{Sorted, blockAtPlace, votersAt, Remembers}
-use Rattle.finalization_interpreter.proofs.Reading.{or-false}
-use Rattle.finalization_interpreter.proofs.Sorting.{some-committee, entry-block, sorted-authors}
+use Rattle.finality.specs.Voters.{certifies, certifiers}
+use Rattle.finality.specs.Finality.{blocksOf, certifyingPositions}
+use Rattle.block_votes.specs.Walk.{Sorted, blockAtPlace, votersAt}
+use Rattle.voters.specs.Walk.{Remembers}
+use Rattle.block_votes.proofs.Reading.{or-false}
+use Rattle.block_votes.proofs.Sorting.{some-committee, entry-block, sorted-authors}
 
 -- ---- a list written over the front of another
 

@@ -13,8 +13,8 @@ use Rattle.base.specs.Checks.{refusal, passes, Answer, refused, answered, check
 use Rattle.committee.specs.Committee.{Committee}
 use Rattle.blocks.specs.Reference.{TransactionLocator}
 use Rattle.words.specs.Words.{wordsIn, wordsOf, bytesOf}
-use Rattle.finalization_interpreter.specs.Finality.{blocksOf}
-use Rattle.finalization_interpreter.specs.NextFinal.{leastFinal, nextFinalChecks}
+use Rattle.finality.specs.Finality.{blocksOf}
+use Rattle.finality.specs.NextFinal.{leastFinal, nextFinalChecks}
 use Rattle.final_list.specs.Answers.{asStretches}
 use Rattle.final_list.specs.Stretches.{lastLocator, stretchAt, fromFound, stretches, Given, givenAfter, finalStretches}
 use Rattle.final_list.specs.declared.StretchesAnswer.{StretchesAnswer}

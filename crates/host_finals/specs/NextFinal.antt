@@ -9,8 +9,8 @@ use Rattle.base.specs.Checks.{Answer, refused, answered}
 use Rattle.committee.specs.Committee.{Committee}
 use Rattle.blocks.specs.Reference.{TransactionLocator}
 use Rattle.blocks.specs.Record.{locatorBytes}
-use Rattle.finalization_interpreter.specs.Answers.{asMaybe}
-use Rattle.finalization_interpreter.specs.NextFinal.{nextFinal}
+use Rattle.vote_starts.specs.Answers.{asMaybe}
+use Rattle.finality.specs.NextFinal.{nextFinal}
 use Rattle.host_finals.specs.declared.After.{After}
 use Rattle.host_finals.specs.declared.After.the-variants.{Place, Malformed}
 use Rattle.host_lib.specs.Calls.{committeeOf}

@@ -10,11 +10,11 @@ use committee::NewCommittee;
 use committee::RoundNumber;
 use feeding::FeedAnswer;
 use final_list::StretchesAnswer;
-use finalization_interpreter::MaybeLocator;
 use listing_lib::Size;
 use types::BlockDigest;
 use types::BlockReference;
 use types::TransactionLocator;
+use vote_starts::MaybeLocator;
 
 // ---- feeding
 

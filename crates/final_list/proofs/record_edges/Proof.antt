@@ -8,7 +8,7 @@ use Rattle.blocks.specs.Record.{blockIn, noStatement}
 use Rattle.types.specs.Values.{asReference}
 use Rattle.block_record.specs.Values.{asStatement}
 use Rattle.block_record.specs.Cursor.{cursorAt}
-use Rattle.finalization_interpreter.specs.Walk.{spanOf}
+use Rattle.block_votes.specs.Walk.{spanOf}
 use Rattle.final_list.specs.Stretches.{nearest}
 use Rattle.final_list.specs.Step.{edgesIn}
 use Rattle.final_list.proofs.Edges.{edgesFrom, edges-start, edges-on, edges-end}

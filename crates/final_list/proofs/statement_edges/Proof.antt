@@ -4,7 +4,7 @@ use Rattle.blocks.specs.Reference.{locator, oneRange}
 use Rattle.blocks.specs.Block.{isShare, votedRange}
 use Rattle.types.specs.Values.{asReference, asLocator, asRange}
 use Rattle.block_record.specs.Values.{asStatement}
-use Rattle.finalization_interpreter.specs.Walk.{spanOf}
+use Rattle.block_votes.specs.Walk.{spanOf}
 use Rattle.final_list.specs.Stretches.{nearest}
 use Rattle.final_list.specs.Step.{edgesIn}
 use Rattle.final_list.proofs.Edges.{edges-one}

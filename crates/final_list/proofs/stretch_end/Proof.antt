@@ -10,8 +10,8 @@ use Rattle.blocks.specs.Record.{blockIn}
 use Rattle.types.specs.Values.{asReference, asLocator}
 use Rattle.store_order.specs.Entry.{blockAt}
 use Rattle.store_order.proofs.Loops.{entry-room, record-part}
-use Rattle.finalization_interpreter.specs.Walk.{SortedStore}
-use Rattle.finalization_interpreter.proofs.Sorting.{place-entry}
+use Rattle.block_votes.specs.Walk.{SortedStore}
+use Rattle.block_votes.proofs.Sorting.{place-entry}
 use Rattle.final_list.specs.Stretches.{nearest, stretchEnd}
 use Rattle.final_list.specs.Step.{edgesIn}
 use Rattle.final_list.proofs.Edges.{edgesOver, over-on, over-end, over-all}

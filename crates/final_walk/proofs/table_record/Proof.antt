@@ -9,7 +9,7 @@ use Rattle.blocks.specs.Reference.{TransactionLocatorRange}
 use Rattle.blocks.specs.Record.{blockIn, noStatement}
 use Rattle.types.specs.Values.{asRange}
 use Rattle.block_record.specs.Cursor.{cursorAt}
-use Rattle.finalization_interpreter.specs.Walk.{spanOf}
+use Rattle.block_votes.specs.Walk.{spanOf}
 use Rattle.final_walk.specs.Table.{votedBy, EndsFit, Recorded, RecordedBy}
 use Rattle.final_walk.proofs.Table.{record-start, record-none, record-one, span-stands, payload-free}
 use Rattle.final_walk.proofs.table_record.Statement.{statement}

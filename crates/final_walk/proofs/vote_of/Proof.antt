@@ -5,7 +5,7 @@ use Rattle.blocks.specs.Reference.{locator, newRange, oneRange}
 use Rattle.blocks.specs.Block.{isShare, votedRange}
 use Rattle.types.specs.Values.{asReference, asLocator}
 use Rattle.block_record.specs.Values.{asStatement}
-use Rattle.finalization_interpreter.specs.Walk.{spanOf}
+use Rattle.block_votes.specs.Walk.{spanOf}
 use Rattle.final_walk.specs.Table.{votedBy, EndsFit}
 use borrow.Author.Needs.{needs}
 use Rattle.final_walk.proofs.vote_of.Statement.{statement}
