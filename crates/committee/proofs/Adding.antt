@@ -13,8 +13,8 @@ use Rattle.committee.specs.StakeAggregator.{StakeAggregator, counted, ha
 use Rattle.committee.specs.Answers.{asAggregator, asAddAnswer, asAdded}
 use Rattle.committee.specs.declared.StakeAggregator as code-aggregator
 use Rattle.committee.specs.declared.AddAnswer.the-variants.{Counted}
-use Rattle.committee.proofs.Aggregators.{few-members, known-below}
-use Rattle.committee.proofs.Sums.{stake-most, member-most, total-most}
+use Rattle.committee.proofs.Bounds.{few-members, known-below, total-most, member-most}
+use Rattle.committee.proofs.Sums.{stake-most}
 
 module _ (c : Committee) (g : StakeAggregator) (a : AuthorityIndex) where
   pub add-broken : broken c ≡ true → add c g a ≡ record { answer = refused 5; aggregator = g }

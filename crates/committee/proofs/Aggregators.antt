@@ -3,17 +3,14 @@ use mathlib.Core.Path.{_≡_, refl, sym, ap, _∙_}
 use mathlib.Core.Logic.{_⊎_, inl, inr}
 use mathlib.Core.Bool.{Bool, true, false, _||_, or-true}
 use mathlib.Core.List.{[], _∷_}
-use Prim.Native.Nat.{_+_, _≤_, _<_}
+use Prim.Native.Nat.{_+_}
 use native.Mathlib.Omega.{arith}
 use lib.Dec.{eqb}
-use lib.ListN.{length}
-use borrow.Author.Tests.{eq-eqb, eqb-true, ltb-true, ltb-false, not-false}
+use borrow.Author.Tests.{eq-eqb, eqb-true}
 use Rattle.base.specs.Lists.{pick, allOf, countFrom, _∈_}
-use Rattle.base.specs.Checks.{passes}
-use Rattle.base.proofs.Checks.{passes-first, passes-others}
 use Rattle.base.proofs.Tests.{not-both, and-both, and-left, and-right, or-cases}
 use Rattle.base.proofs.Members.{in-keep, keep-in, all-in, in-all}
-use Rattle.committee.specs.Committee.{AuthorityIndex, Committee, committeeChecks, broken, known, getStake}
+use Rattle.committee.specs.Committee.{AuthorityIndex, Committee, known, getStake}
 use Rattle.committee.specs.AuthoritySet.{AuthoritySet, nobody, stakeFrom, member, inserted, members, stakeOf}
 use Rattle.committee.specs.StakeAggregator.{StakeAggregator, noVotes, counted, aggregatorInOrder}
 use Rattle.committee.proofs.Votes.{member-nobody, member-inserted}
@@ -75,14 +72,3 @@ unfolding aggregatorInOrder stakeOf members
 noVotes-order c =
     and-both _ _ (in-all (known c) (members nobody) (λ b m. absurd (not-both (keep-in (member nobody) (countFrom 0 128) m .1) (member-nobody b))))
     (eq-eqb 0 (stakeFrom 0 c nobody) (sym (stake-nobody c 0)))
-
--- a committee that is not broken has at most 128 members
-pub few-members : (c : Committee) → broken c ≡ false → length c ≤ 128
-unfolding broken committeeChecks
-few-members c h =
-    let ok : passes (committeeChecks c) ≡ true = not-false (passes (committeeChecks c)) h in
-    ltb-false 128 (length c) (passes-first _ _ (passes-others _ _ (passes-others _ _ ok)))
-
-pub known-below : (c : Committee) (a : AuthorityIndex) → known c a ≡ true → a < length c
-unfolding known
-known-below c a h = ltb-true a (length c) h

@@ -1,19 +1,17 @@
--- The stake of a set, one member of the committee at a time, and its bounds. Assumes nothing.
-use mathlib.Core.Path.{_≡_, refl, sym, ap, _∙_}
-use mathlib.Core.Bool.{Bool, true, false}
-use mathlib.Core.List.{List, [], _∷_}
-use Prim.Native.Nat.{ℕ, zero, suc, _+_, _≤_, _<_}
+-- The stake of a set, one member of the committee at a time; its most; who is known in it. Assumes nothing.
+use mathlib.Core.Path.{_≡_, refl, ap}
+use mathlib.Core.Bool.{true, false}
+use mathlib.Core.List.{[], _∷_}
+use Prim.Native.Nat.{ℕ, _+_, _≤_, _<_}
 use native.Mathlib.Decide.{decLt}
 use native.Mathlib.Omega.{arith}
 use lib.ListN.{length, getD, drop, drop-of-length-le}
-use borrow.Author.Tests.{lt-ltb, le-ltb, ltb-false, not-false}
+use borrow.Author.Tests.{lt-ltb, le-ltb}
 use Rattle.base.specs.Lists.{pick, allOf, sumOf, countFrom}
-use Rattle.base.specs.Checks.{passes}
-use Rattle.base.proofs.Checks.{passes-first, passes-others}
 use Rattle.base.proofs.Loops.{drop-next}
 use Rattle.base.proofs.Members.{keep-in, in-all, all-in, in-keep, in-countFrom, countFrom-in}
 use Rattle.base.proofs.Tests.{fails, not-both}
-use Rattle.committee.specs.Committee.{AuthorityIndex, Stake, Committee, totalStake, committeeChecks, broken, known, getStake}
+use Rattle.committee.specs.Committee.{AuthorityIndex, Committee, totalStake, known}
 use Rattle.committee.specs.AuthoritySet.{AuthoritySet, member, members, stakeFrom, stakeOf}
 use Rattle.committee.proofs.Stakes.{weigh, weigh-mono, stake-of}
 
@@ -35,20 +33,6 @@ everyone (s ∷ c) = ap (λ (n : ℕ). s + n) (everyone c)
 pub stake-most : (c : Committee) (v : AuthoritySet) → stakeOf c v ≤ totalStake c
 unfolding totalStake
 stake-most c v = omega (arith, stake-of c v, everyone c, weigh-mono (member v) (λ a. true) c (λ a k e. refl))
-
--- nor has one member
-pub member-most : (c : Committee) (a : AuthorityIndex) → getStake c a ≤ totalStake c
-unfolding getStake totalStake sumOf
-member-most [] a = omega arith
-member-most (s ∷ c) zero = omega arith
-member-most (s ∷ c) (suc a) = omega (arith, member-most c a)
-
--- 01: "total T at most 2^63 - 1"
-pub total-most : (c : Committee) → broken c ≡ false → totalStake c ≤ 9223372036854775807
-unfolding broken committeeChecks
-total-most c h =
-    let ok : passes (committeeChecks c) ≡ true = not-false (passes (committeeChecks c)) h in
-    ltb-false 9223372036854775807 (totalStake c) (passes-first _ _ (passes-others _ _ (passes-others _ _ (passes-others _ _ ok))))
 
 -- a set is known where no number past the committee is in it, and unknown where one is
 pub members-known : (c : Committee) (v : AuthoritySet) → ((a : AuthorityIndex) → length c ≤ a → a < 128 → member v a ≡ false) → allOf (known c) (members v) ≡ true

@@ -17,7 +17,8 @@ use Rattle.base.proofs.Refusals.{Numbered, passes-zero, refusal-first, refusal-
 use Rattle.committee.specs.Committee.{Committee, known}
 use Rattle.committee.specs.AuthoritySet.{members, stakeOf}
 use Rattle.committee.specs.StakeAggregator.{aggregatorInOrder}
-use Rattle.committee.proofs.Sums.{stake-most, total-most}
+use Rattle.committee.proofs.Bounds.{total-most}
+use Rattle.committee.proofs.Sums.{stake-most}
 use Rattle.blocks.specs.Reference.{TransactionLocator}
 use Rattle.words.specs.Words.{wordsIn, wordsOf}
 use Rattle.store_layout.specs.Layout.{entries, positionOf, lookup}

@@ -1,6 +1,7 @@
 use mathlib.Core.Logic.{⊎-elim}
 use borrow.Author.Needs.{needs}
-use Rattle.committee.proofs.Sums.{stake-on, stake-end, stake-most, total-most}
+use Rattle.committee.proofs.Bounds.{total-most}
+use Rattle.committee.proofs.Sums.{stake-on, stake-end, stake-most}
 use Rattle.committee.specs.AuthoritySet.{stakeFrom, stakeOf}
 use lib.ListN.{length, drop}
 use native.Mathlib.Omega.{arith}
