@@ -19,7 +19,7 @@ use Rattle.base.proofs.Members.{in-empty, in-left, in-right, in-flatten, in-map
 use Rattle.base.proofs.Checks.{passes-none}
 use Rattle.base.proofs.Places.{in-place}
 use Rattle.committee.specs.Committee.{Committee}
-use Rattle.committee.specs.AuthoritySet.{nobody, inserted, united}
+use Rattle.authority_set.specs.AuthoritySet.{nobody, inserted, united}
 use Rattle.blocks.specs.Reference.{BlockReference, TransactionLocator, referenceKey, sameReference, referenceBefore}
 use Rattle.blocks.specs.Block.{Block, author, round}
 use Rattle.blocks.specs.Record.{noReference}

@@ -1,6 +1,6 @@
 // The vote of one stored block, and the stored blocks in ascending reference order. Follows finalization_interpreter.rs.
+use authority_set::AuthoritySet;
 use block_record::BaseStatement;
-use committee::AuthoritySet;
 use types::BlockReference;
 use types::Ordering;
 use types::TransactionLocator;

@@ -14,7 +14,7 @@ use Rattle.base.specs.Checks.{passes}
 use Rattle.base.proofs.Members.{in-empty, in-cases, in-append, flatten-in, map-in}
 use Rattle.base.proofs.Lists.{Every, every-in, find-passes, find-every, find-in}
 use Rattle.committee.specs.Committee.{AuthorityIndex, Committee, known}
-use Rattle.committee.specs.StakeAggregator.{hasQuorum}
+use Rattle.stake_aggregator.specs.StakeAggregator.{hasQuorum}
 use Rattle.blocks.specs.Reference.{BlockReference, TransactionLocatorRange, sameReference, offsets}
 use Rattle.blocks.specs.Block.{Statement, author, isShareAt, votedRange}
 use Rattle.blocks.proofs.References.{reference-same}

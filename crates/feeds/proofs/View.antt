@@ -14,8 +14,8 @@ use Rattle.base.specs.Checks.{passes, refused, answered}
 use Rattle.base.proofs.Tests.{and-left, and-right, same-test}
 use Rattle.base.proofs.Lists.{Every, every, every-in, find-passes, find-in, keep-append}
 use Rattle.committee.specs.Committee.{AuthorityIndex, Committee, broken}
-use Rattle.committee.specs.AuthoritySet.{numberOfVoters}
-use Rattle.committee.specs.StakeAggregator.{StakeAggregator, noVotes, counted, hasQuorum}
+use Rattle.authority_set.specs.AuthoritySet.{numberOfVoters}
+use Rattle.stake_aggregator.specs.StakeAggregator.{StakeAggregator, noVotes, counted, hasQuorum}
 use Rattle.blocks.specs.Reference.{BlockReference, TransactionLocator, TransactionLocatorRange, sameReference, within, offsets, covers}
 use Rattle.blocks.specs.Block.{author, isShareAt}
 use Rattle.blocks.proofs.Ranges.{within-yes, within-no, within-true}

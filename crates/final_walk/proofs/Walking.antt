@@ -15,8 +15,8 @@ use Rattle.base.specs.Le.{Bytes}
 use Rattle.base.proofs.Tests.{same-test}
 use Rattle.base.proofs.Members.{any-in, in-any}
 use Rattle.committee.specs.Committee.{Committee, isQuorum}
-use Rattle.committee.specs.AuthoritySet.{AuthoritySet, nobody, inserted, united, stakeOf}
-use Rattle.committee.proofs.Words.{united-assoc, united-nobody}
+use Rattle.authority_set.specs.AuthoritySet.{AuthoritySet, nobody, inserted, united, stakeOf}
+use Rattle.authority_set.proofs.Words.{united-assoc, united-nobody}
 use Rattle.blocks.specs.Reference.{BlockReference, TransactionLocator, TransactionLocatorRange, covers}
 use Rattle.blocks.specs.Block.{Block, author, spans}
 use Rattle.blocks.specs.Record.{noReference}

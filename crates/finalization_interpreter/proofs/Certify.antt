@@ -15,9 +15,9 @@ use Rattle.base.proofs.Tests.{same-test}
 use Rattle.base.proofs.Lists.{append-nil, length-keep, keep-append}
 use Rattle.base.proofs.Members.{any-in, in-any, in-map, map-in, in-keep, keep-in}
 use Rattle.committee.specs.Committee.{AuthorityIndex, Committee, isQuorum}
-use Rattle.committee.specs.AuthoritySet.{AuthoritySet, nobody, member, inserted, setOf, stakeOf}
-use Rattle.committee.proofs.Words.{Small, small-nobody, small-inserted, set-ext}
-use Rattle.committee.proofs.Votes.{member-nobody, member-inserted, member-setOf}
+use Rattle.authority_set.specs.AuthoritySet.{AuthoritySet, nobody, member, inserted, setOf, stakeOf}
+use Rattle.authority_set.proofs.Words.{Small, small-nobody, small-inserted, set-ext}
+use Rattle.authority_set.proofs.Votes.{member-nobody, member-inserted, member-setOf}
 use Rattle.blocks.specs.Reference.{TransactionLocator}
 use Rattle.blocks.specs.Block.{Block, author}
 use Rattle.store_layout.specs.Layout.{Record, usedBy, Entry, entries, ascending}

@@ -15,7 +15,7 @@ use Rattle.base.proofs.Lists.{Every, none-of, and}
 use Rattle.base.proofs.Checks.{passes-first, passes-others}
 use Rattle.base.proofs.Refusals.{zero-passes, passes-zero}
 use Rattle.committee.specs.Committee.{Committee, broken}
-use Rattle.committee.specs.AuthoritySet.{numberOfVoters}
+use Rattle.authority_set.specs.AuthoritySet.{numberOfVoters}
 use Rattle.blocks.specs.Reference.{TransactionLocator}
 use Rattle.store_layout.specs.Layout.{entries, positionOf, lookup}
 use Rattle.store_layout.specs.Store.{recordsOf, storeInOrder}

@@ -9,7 +9,7 @@ use lib.ListN.{length}
 use Rattle.base.specs.Lists.{_∈_}
 use Rattle.base.specs.Le.{Bytes}
 use Rattle.base.specs.Checks.{Answer}
-use Rattle.committee.specs.AuthoritySet.{member}
+use Rattle.authority_set.specs.AuthoritySet.{member}
 use Rattle.blocks.specs.Reference.{TransactionLocator}
 use Rattle.blocks.specs.Block.{Block, author}
 use Rattle.block_record.specs.Cursor.{cursorAt}

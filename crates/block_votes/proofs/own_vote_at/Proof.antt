@@ -3,7 +3,7 @@ use mathlib.Core.Bool.{true, false}
 use native.Mathlib.Omega.{arith}
 use borrow.Author.Tests.{not-true, not-false}
 use Rattle.base.specs.Le.{Bytes}
-use Rattle.committee.specs.AuthoritySet.{inserted, nobody}
+use Rattle.authority_set.specs.AuthoritySet.{inserted, nobody}
 use Rattle.blocks.specs.Record.{blockIn}
 use Rattle.types.specs.Values.{asReference, asLocator}
 use Rattle.store_order.specs.Entry.{blockAt}

@@ -7,7 +7,7 @@ use lib.ListN.{length, getD}
 use borrow.Author.Tests.{not-true, not-false}
 use Rattle.base.specs.Lists.{pick}
 use Rattle.committee.specs.Committee.{isQuorum}
-use Rattle.committee.specs.AuthoritySet.{nobody, inserted, united}
+use Rattle.authority_set.specs.AuthoritySet.{nobody, inserted, united}
 use Rattle.blocks.specs.Reference.{TransactionLocator}
 use Rattle.blocks.specs.Block.{author}
 use Rattle.types.specs.Values.{asReference}

@@ -1,4 +1,4 @@
-use Rattle.committee.specs.AuthoritySet.{stakeOf}
+use Rattle.authority_set.specs.AuthoritySet.{stakeOf}
 use Prim.Native.Nat.{_<_, _≤_}
 use mathlib.Core.Path.{_≡_, refl, sym, ap, _∙_}
 use mathlib.Core.Bool.{true, false}

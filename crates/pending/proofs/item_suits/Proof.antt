@@ -1,6 +1,6 @@
 use mathlib.Core.Path.{_≡_, sym, ap, _∙_}
 use borrow.Author.Tests.{not-true, not-false}
-use Rattle.committee.specs.AuthoritySet.{member}
+use Rattle.authority_set.specs.AuthoritySet.{member}
 use Rattle.blocks.specs.Reference.{BlockReference}
 use Rattle.types.specs.Values.{asReference}
 use Rattle.store_order.proofs.Loops.{refuses}
