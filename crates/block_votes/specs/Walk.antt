@@ -11,7 +11,7 @@ use Rattle.authority_set.specs.AuthoritySet.{AuthoritySet}
 use Rattle.blocks.specs.Reference.{BlockReference, TransactionLocator, TransactionLocatorRange, locator, oneRange, covers}
 use Rattle.blocks.specs.Block.{Statement, Block, isShare, votedRange}
 use Rattle.store_layout.specs.Store.{recordsOf, storeInOrder}
-use Rattle.store_order.specs.Entry.{blockAt, laidOut, sortedPositions}
+use Rattle.store_layout.specs.Entry.{blockAt, laidOut, sortedPositions}
 use Rattle.finality.specs.Voters.{voters}
 use Rattle.finality.specs.Finality.{blocksOf}
 

@@ -20,7 +20,7 @@ use Rattle.blocks.specs.Block.{Statement, author, isShareAt, votedRange}
 use Rattle.blocks.proofs.References.{reference-same}
 use Rattle.store_layout.specs.Layout.{Record, Entry, referenceOf, entries, positionOf, lookup}
 use Rattle.store_layout.specs.Store.{recordsOf}
-use Rattle.store_order.proofs.Visit.{one-position}
+use Rattle.store_layout.proofs.Visit.{one-position}
 use Rattle.store_layout.proofs.Accepted.{known-author}
 use Rattle.store_layout.proofs.Store.{entries-within}
 use Rattle.pending_items.specs.Items.{Item, itemHolds, itemAt, voteOver}

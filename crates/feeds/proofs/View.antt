@@ -29,7 +29,7 @@ use Rattle.pending_items.proofs.Items.{Ordered, heldAt, unless, held-voteOver, 
 use Rattle.pending_items.proofs.Order.{Pending, pending-position}
 use Rattle.feeds.specs.ProcessBlock.{Event, missed, eventOf, Processing, vote, registering}
 use Rattle.feeds.specs.Pending.{pendingChecks, standingOf, pending}
-use Rattle.store_order.proofs.Visit.{one-position}
+use Rattle.store_layout.proofs.Visit.{one-position}
 use Rattle.feeds.proofs.Keeping.{State}
 use Rattle.feeds.proofs.ProcessBlock.{lookup-new}
 

@@ -24,7 +24,7 @@ ghost use Rattle.blocks.specs.Block.{author, spans};
 ghost use Rattle.blocks.specs.Record.{wellFormed, blockIn};
 ghost use Rattle.types.specs.Values.{asReference, asLocator, asRange};
 ghost use Rattle.block_record.specs.Values.{asStatement};
-ghost use Rattle.store_order.specs.Entry.{blockAt, isEntry};
+ghost use Rattle.store_layout.specs.Entry.{blockAt, isEntry};
 ghost use Rattle.block_votes.specs.Walk.{spanOf, Sorted, SortedStore, blockAtPlace};
 ghost use Rattle.final_walk.specs.Table.{voteWords, placeAt, rangeAt, votedBy, EndsFit, RecordedBy, Tabled, TabledBy};
 ghost use Rattle.final_walk.specs.Places.{Noted, Placed, withVoters, gathered, Sure, Marks, Certify, CertifyMarked};

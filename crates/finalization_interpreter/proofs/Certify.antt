@@ -22,10 +22,10 @@ use Rattle.blocks.specs.Reference.{TransactionLocator}
 use Rattle.blocks.specs.Block.{Block, author}
 use Rattle.store_layout.specs.Layout.{Record, usedBy, Entry, entries, ascending}
 use Rattle.store_layout.specs.Store.{recordsOf}
-use Rattle.store_order.specs.Entry.{blockAt, sortedPositions, laidOut}
-use Rattle.store_order.proofs.Loops.{block-of-entry}
-use Rattle.store_order.proofs.Search.{laid-out}
-use Rattle.store_order.proofs.Visit.{ascending-in, in-ascending}
+use Rattle.store_layout.specs.Entry.{blockAt, sortedPositions, laidOut}
+use Rattle.store_layout.proofs.Loops.{block-of-entry}
+use Rattle.store_layout.proofs.Search.{laid-out}
+use Rattle.store_layout.proofs.Visit.{ascending-in, in-ascending}
 use Rattle.finality.specs.Voters.{certifies, certifiers}
 use Rattle.finality.specs.Finality.{blocksOf, certifyingPositions}
 use Rattle.block_votes.specs.Walk.{Sorted, blockAtPlace, votersAt}

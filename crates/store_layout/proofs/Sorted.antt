@@ -9,7 +9,7 @@ use lib.ListN.{length, getD}
 use borrow.Author.Tests.{ltb-true, eq-eqb, ne-eqb}
 use Rattle.base.specs.Lists.{allOf, anyOf, pairwise}
 use Rattle.base.proofs.Tests.{and-left, and-right, or-right}
-use Rattle.store_order.specs.Entry.{isIn}
+use Rattle.store_layout.specs.Entry.{isIn}
 
 every-above : (x : ℕ) (l : List ℕ) (j : ℕ) → allOf (ltb x) l ≡ true → j < length l → x < getD l j 0
 unfolding allOf

@@ -19,14 +19,14 @@ use Rattle.base.proofs.Read.{part}
 use Rattle.base.proofs.Parts.{PartOf, part-taken, part-complete, part-left, part-right, part-part, part-at, part-same}
 use Rattle.committee.specs.Committee.{Committee}
 use Rattle.blocks.specs.Reference.{sameReference, referenceBefore}
 use Rattle.store_layout.specs.Layout.{Record, usedBy, Entry, referenceOf, entries, lesser, least, positionOf, firstPosition, nextPosition, entryBytes, bodyBytes, headerBytes, layout}
 use Rattle.store_layout.specs.Accept.{allAccepted}
 use Rattle.store_layout.specs.Store.{usedLength, blockCount, readEntries, recordsRead, recordsOf, allowedLength, storeInOrder}
-use Rattle.store_order.specs.Entry.{headerRight, endsAt, readable, chained, laidOut}
+use Rattle.store_layout.specs.Entry.{headerRight, endsAt, readable, chained, laidOut}
 use Rattle.store_layout.proofs.Store.{InOrder, in-order, to-order, longest, used-within, used-is, blockCount-laid, laid, body-laid, entries-reads, recordsOf-right, bytes-drop, length-body, length-header, entries-below}
-use Rattle.store_order.proofs.Walk.{Stands, Walked, begun, then, walked-reads, Reached, reads-walked}
+use Rattle.store_layout.proofs.Walk.{Stands, Walked, begun, then, walked-reads, Reached, reads-walked}
 use Rattle.store_layout.proofs.Chain.{Distinct, distinct}
 use Rattle.store_layout.proofs.Payloads.{body-part}
 
 -- ---- bytes by their numbers
 

@@ -22,13 +22,13 @@ use Rattle.blocks.specs.Block.{Block}
 use Rattle.blocks.specs.Record.{noReference}
 use Rattle.blocks.specs.Verify.{headChecks, bodyChecks}
 use Rattle.blocks.proofs.References.{reference-same, same-reference}
 use Rattle.store_layout.specs.Layout.{Record, usedBy, Entry, referenceOf, entries, positionOf, lookup}
 use Rattle.store_layout.specs.Accept.{isStored, firstMissing, blockChecks, allAccepted}
-use Rattle.store_order.specs.Entry.{positions}
-use Rattle.store_order.specs.Check.{storedBefore, acceptedAt}
+use Rattle.store_layout.specs.Entry.{positions}
+use Rattle.store_layout.specs.Check.{storedBefore, acceptedAt}
 use Rattle.store_layout.proofs.Store.{entries-below, entries-within}
 use Rattle.store_layout.proofs.Chain.{Distinct}
-use Rattle.store_order.proofs.Loops.{length-positions}
+use Rattle.store_layout.proofs.Loops.{length-positions}
 
 -- ---- by reference
 

@@ -18,16 +18,16 @@ use Rattle.base.proofs.Tests.{fails, not-both, same-test, or-right, and-left, a
 use Rattle.base.proofs.Lists.{Every, none-of, and, every, every-in, every-append, Pairs, no-pairs, with-later, pairs-append, pairs-pairwise}
 use Rattle.base.proofs.Members.{in-empty, in-cases, in-append, in-left, in-right, any-in, in-any}
 use Rattle.blocks.specs.Reference.{BlockReference, referenceBefore}
-use Rattle.block_record.proofs.Shape.{block-of}
+use Rattle.blocks.proofs.Records.{block-of}
 use Rattle.store_layout.specs.Layout.{Record, usedBy, Entry, entries, positionOf, ascending}
 use Rattle.store_layout.specs.Store.{usedLength, blockCount, recordsOf}
-use Rattle.store_order.specs.Entry.{headerRight, positions, isIn, sortedPositions, readable, chained, isEntry, noneOrEntry, follows, recordAt, blockAt}
+use Rattle.store_layout.specs.Entry.{headerRight, positions, isIn, sortedPositions, readable, chained, isEntry, noneOrEntry, follows, recordAt, blockAt}
 use Rattle.store_layout.proofs.Store.{entries-within}
-use Rattle.store_order.proofs.Walk.{Stands, Walked, begun, then, walked-same, walked-on, entries-stand}
+use Rattle.store_layout.proofs.Walk.{Stands, Walked, begun, then, walked-same, walked-on, entries-stand}
 use Rattle.store_layout.specs.Step.{first}
 use Rattle.store_layout.proofs.Chain.{lower, Ascending, ascending-ascends}
-use Rattle.store_order.proofs.Check.{Readable, is-readable, readable-is, Chained, is-chained, chained-is}
-use Rattle.store_order.proofs.Visit.{back, back-append, length-back, back-right, Descending, descending-more, ascending-in, length-ascending, length-entries, Linked, begins, goes, ToCome, comes, Ended, ended}
+use Rattle.store_layout.proofs.Check.{Readable, is-readable, readable-is, Chained, is-chained, chained-is}
+use Rattle.store_layout.proofs.Visit.{back, back-append, length-back, back-right, Descending, descending-more, ascending-in, length-ascending, length-entries, Linked, begins, goes, ToCome, comes, Ended, ended}
 
 -- ---- positions
 

@@ -15,14 +15,14 @@ use Rattle.base.proofs.Places.{in-place, places-every, pairs-places}
 use Rattle.blocks.specs.Reference.{BlockReference, referenceBefore}
 use Rattle.blocks.specs.Record.{noBlock}
 use Rattle.blocks.proofs.References.{reference-irrefl}
 use Rattle.store_layout.specs.Layout.{Entry, referenceOf, entries, positionOf, ascending, lookup}
 use Rattle.store_layout.specs.Store.{recordsOf}
-use Rattle.store_order.specs.Entry.{blockAt, sortedPositions, readable, laidOut, isEntry}
+use Rattle.store_layout.specs.Entry.{blockAt, sortedPositions, readable, laidOut, isEntry}
 use Rattle.store_layout.proofs.Chain.{ascending-ascends}
-use Rattle.store_order.proofs.Check.{Readable, is-readable, Chained, is-chained}
-use Rattle.store_order.proofs.Visit.{ascending-in, in-ascending}
-use Rattle.store_order.proofs.Loops.{is-entry, block-of-entry}
-use Rattle.store_order.proofs.Lookups.{lookup-hit, lookup-miss}
+use Rattle.store_layout.proofs.Check.{Readable, is-readable, Chained, is-chained}
+use Rattle.store_layout.proofs.Visit.{ascending-in, in-ascending}
+use Rattle.store_layout.proofs.Loops.{is-entry, block-of-entry}
+use Rattle.store_layout.proofs.Lookups.{lookup-hit, lookup-miss}
 
 -- what a store laid out has
 pub record LaidOut (s : Bytes) : Type 0 where

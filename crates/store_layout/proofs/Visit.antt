@@ -15,12 +15,12 @@ use Rattle.base.proofs.Members.{in-empty, in-cases, in-first}
 use Rattle.base.proofs.Covered.{covered}
 use Rattle.blocks.specs.Reference.{sameReference}
 use Rattle.blocks.proofs.References.{reference-irrefl, reference-asymmetric, reference-trans, reference-same}
 use Rattle.store_layout.specs.Layout.{Record, Entry, referenceOf, entries, positionOf, firstPosition, nextPosition, placed, ascending}
 use Rattle.store_layout.proofs.Store.{entries-within}
 use Rattle.store_layout.specs.Step.{first}
 use Rattle.store_layout.proofs.Chain.{lower, Ascending, Distinct, lower-self, least-first, ascending-every, ascending-ascends, next-after}
 use Rattle.store_layout.proofs.Splice.{Apart, entries-apart, ascending-back}
-use Rattle.store_order.proofs.Check.{Chained, in-every}
+use Rattle.store_layout.proofs.Check.{Chained, in-every}
 
 -- ---- lists
 
