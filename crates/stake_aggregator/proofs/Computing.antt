@@ -1,9 +1,7 @@
 -- Every definition of the crate and of those below it at once, for evaluated examples: `unfolding computing`. Assumes nothing.
-use Rattle.base.proofs.Computing.{computing as computing-base}
-use Rattle.committee.proofs.Computing.{computing as computing-committee}
 use Rattle.authority_set.proofs.Computing.{computing as computing-authority-set}
 use Rattle.stake_aggregator.specs.StakeAggregator.{counted, hasQuorum, aggregatorInOrder, addChecks, add}
 
 unfoldable pub computing : Unit {0}
-unfolding computing-base computing-committee computing-authority-set counted hasQuorum aggregatorInOrder addChecks add
+unfolding computing-authority-set counted hasQuorum aggregatorInOrder addChecks add
 computing = tt

@@ -6,7 +6,7 @@ use mathlib.Core.List.{[]}
 use Rattle.base.specs.Checks.{refused, answered}
 use Rattle.committee.specs.Committee.{courseCommittee}
 use Rattle.stake_aggregator.specs.StakeAggregator.{StakeAggregator, add}
-use Rattle.committee.proofs.Computing.{computing}
+use Rattle.stake_aggregator.proofs.Computing.{computing}
 
 -- `add`: a new voter, the same voter again, 5, 6 (an unknown voter; a wrong stake), 21
 has : ℕ → ℕ → ℕ → StakeAggregator
