@@ -19,16 +19,17 @@ ghost use Rattle.store_layout.specs.Store.{recordsOf};
 ghost use Rattle.store_layout.specs.Entry.{readable, laidOut};
 ghost use Rattle.pending_items.specs.Table.{HoldsItems, sharesIn, itemStored, tableStored, tableInOrder};
 ghost use Rattle.table_words.specs.Answers.{asItem};
-ghost use Rattle.feeds.specs.Pending.{pending};
+ghost use Rattle.feeds.specs.Pending.{pending, pendingChecks};
 ghost use Rattle.pending.specs.Answers.{asPending};
 ghost use Rattle.pending.specs.Step.{standingAt, Placed, OnEntry, Passed, EntryFrom, Ahead, WalkedTo, suits};
+ghost use Rattle.base.specs.Checks.{refusal};
 
 // ---- the store's part of a table in order (11)
 
 // Whether a share stands at an offset, and a place that is not past it.
-struct ShareAt {
-    share: bool,
-    cursor: StatementCursor,
+pub struct ShareAt {
+    pub share: bool,
+    pub cursor: StatementCursor,
 }
 
 // Whether all of a range are shares, and a place that is not past its end.

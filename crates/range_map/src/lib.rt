@@ -11,9 +11,11 @@ ghost use Prim.Native.Nat.{_+_, _*_, _≤_, _<_};
 ghost use lib.ListN.{length};
 ghost use Rattle.base.specs.Lists.{pick, keep};
 ghost use Rattle.pending_items.specs.Items.{frontOf, backOf, cutAt, bothCuts, itemWithin, voteOver, firstVote, stays};
-ghost use Rattle.pending_items.specs.Table.{tableOf, itemsOf, HoldsItems};
+ghost use Rattle.pending_items.specs.Table.{tableOf, itemsOf, HoldsItems, room, tableFormed};
 ghost use Rattle.table_words.specs.Answers.{asItem};
 ghost use Rattle.table_words.specs.Step.{inTwo, Countable, votedIn};
+ghost use mathlib.Core.Bool.{true, false};
+ghost use Rattle.committee.specs.Committee.{broken, known};
 
 // The part of an item before o.
 fn front_of(x: Item, o: u64) -> Item
