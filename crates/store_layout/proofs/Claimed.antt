@@ -1,23 +1,28 @@
 -- The claims about the store: the chain of next positions, a fresh store, accepting. Assumes nothing.
-use mathlib.Core.Path.{_≡_, refl, sym, subst}
+use Prim.Native.Nat.{_≤_}
+use mathlib.Core.Path.{_≡_, refl, sym, subst, _∙_}
 use mathlib.Core.Logic.{_⊎_, inl, inr}
 use mathlib.Core.Bool.{Bool, true, false}
 use mathlib.Core.List.{List, [], _∷_, _++_}
 use mathlib.Core.Option.{Option, none, some, Option·none-ne-some, Option·some-injective}
 use native.Mathlib.Omega.{arith}
 use lib.ListN.{length, drop, length-append}
-use lib.Seq.{drop-at}
-use borrow.Author.Tests.{le-leb}
+use lib.Seq.{take-at, drop-at}
+use borrow.Author.Tests.{le-leb, le-ltb, lt-leb}
 use Rattle.base.specs.Lists.{pick, keep, _∈_, here, there}
 use Rattle.base.specs.Le.{Bytes}
-use Rattle.base.proofs.Tests.{fails, not-both}
+use Rattle.base.specs.Checks.{passes}
+use Rattle.base.proofs.Tests.{and-left, and-right, fails, not-both}
+use Rattle.base.proofs.Lists.{Every, none-of, and}
 use Rattle.base.proofs.Members.{in-empty, in-cases, in-keep, keep-in}
+use Rattle.committee.specs.Committee.{Committee}
 use Rattle.blocks.proofs.References.{reference-trans}
-use Rattle.store_layout.specs.Layout.{Entry, referenceOf, lesser, least, positionOf, nextPosition, usedBy, layout}
-use Rattle.store_layout.specs.Store.{allowedLength, storeHolding}
-use Rattle.store_layout.specs.Claims.{NextOf, next, last, ChainMeant, FreshInOrder, AcceptingKeepsOrder}
+use Rattle.store_layout.specs.Layout.{Record, Entry, referenceOf, lesser, least, positionOf, nextPosition, usedBy, layout}
+use Rattle.store_layout.specs.Accept.{blockChecks, allAccepted}
+use Rattle.store_layout.specs.Store.{usedLength, recordsOf, allowedLength, storeFull, storeHolding}
+use Rattle.store_layout.specs.Claims.{NextOf, next, last, ChainMeant, Accepts, from-fresh, accepting, InOrderAccepted, FreshInOrder, AcceptingKeepsOrder}
 use Rattle.store_layout.proofs.Chain.{lower, lower-self}
-use Rattle.store_layout.proofs.Store.{length-layout, readRecord-some, accepting, fresh-held}
+use Rattle.store_layout.proofs.Store.{Right, length-layout, readRecord-some, recordsOf-right, InOrder, in-order, used-within, used-is, Holding, holding, holding-again, accepting as accepting-holds, fresh-held}
 
 -- ---- the least entry
 
@@ -93,4 +98,38 @@ fresh-in-order c past h =
 
 pub accepting-keeps-order : AcceptingKeepsOrder
 unfolding AcceptingKeepsOrder
-accepting-keeps-order c s r o e p f = accepting c s r o (readRecord-some (r .bytes) r e) p f .order
+accepting-keeps-order c s r o e p f = accepting-holds c s r o (readRecord-some (r .bytes) r e) p f .order
+
+-- accepted records are held once they were accepted one after the other
+accepts-all : (c : Committee) (rs : List Record) (s : Bytes) → allowedLength s ≡ true → Every Right rs → length rs ≤ 1024 → usedBy rs ≤ length s → allAccepted c rs ≡ true
+    → Accepts c s rs (storeHolding rs s)
+unfolding usedBy allAccepted storeFull
+accepts-all c [] s a none-of few fits acc = from-fresh
+accepts-all c (r ∷ rs) s a (and h hs) few fits acc = subst (λ (x : Bytes). Accepts c s (r ∷ rs) x) same (accepting r (accepts-all c rs s a hs (omega arith) (omega arith) older) h passed room)
+  where
+    older : allAccepted c rs ≡ true
+    older = and-right (passes (blockChecks c rs (r .block))) _ acc
+
+    before : Holding c rs s
+    before = holding c rs s a hs (omega arith) (omega arith) older
+
+    passed : passes (blockChecks c (recordsOf (storeHolding rs s)) (r .block)) ≡ true
+    passed = rw (before .records) (and-left (passes (blockChecks c rs (r .block))) _ acc)
+
+    room : storeFull (storeHolding rs s) r ≡ false
+    room = rw (before .records, before .size, le-ltb (length s) (usedBy (r ∷ rs)) fits, lt-leb 1024 (length rs) (omega arith))
+
+    same : storeHolding (r ∷ recordsOf (storeHolding rs s)) (storeHolding rs s) ≡ storeHolding (r ∷ rs) s
+    same = rw (before .records) (holding-again r rs s)
+
+pub in-order-accepted : InOrderAccepted
+unfolding InOrderAccepted storeHolding allowedLength
+in-order-accepted c s h f e =
+    let i : InOrder c s = in-order c s h in
+    let rs : List Record = recordsOf s in
+    let fits : usedBy rs ≤ length f = omega (arith, e, used-within c s i) in
+    record {
+      after = storeHolding rs f;
+      accepts = accepts-all c rs f (rw e (i .allowed)) (recordsOf-right s) (i .few) fits (i .accepted);
+      used = take-at (layout rs) (drop (usedBy rs) f) (usedLength s) (length-layout rs ∙ sym (used-is c s i)) ∙ sym (i .used);
+    }

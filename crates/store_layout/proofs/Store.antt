@@ -299,42 +299,14 @@ pub fresh-held : (c : Committee) (s : Bytes) → allowedLength s ≡ true → Ho
 unfolding allAccepted allowedLength usedBy
 fresh-held c s a = holding c [] s a none-of (omega arith) (leb-true 16 (length s) (and-left (leb 16 (length s)) _ a)) refl
 
--- ---- what "in order" means
-
 -- holding one record more is the same from a store that held the others
-holding-again : (r : Record) (rs : List Record) (s : Bytes) → storeHolding (r ∷ rs) (storeHolding rs s) ≡ storeHolding (r ∷ rs) s
+pub holding-again : (r : Record) (rs : List Record) (s : Bytes) → storeHolding (r ∷ rs) (storeHolding rs s) ≡ storeHolding (r ∷ rs) s
 unfolding storeHolding usedBy
 holding-again r rs s =
     let n : ℕ = 8 + length (r .bytes) in
     let e : drop (usedBy rs + n) (layout rs ++ drop (usedBy rs) s) ≡ drop (usedBy rs + n) s =
     rw (← length-layout rs) (drop-append-add (layout rs) (drop (length (layout rs)) s) n ∙ drop-drop n (length (layout rs)) s) in
     ap (λ (l : Bytes). layout (r ∷ rs) ++ l) e
-
--- the store that accepting records one after the other, from fresh, leaves
-unfoldable pub storeAfter : List Record → Bytes → Bytes
-storeAfter [] s = storeHolding [] s
-storeAfter (r ∷ rs) s = storeHolding (r ∷ recordsOf (storeAfter rs s)) (storeAfter rs s)
-
-after-holding : (c : Committee) (rs : List Record) (s : Bytes) → allowedLength s ≡ true → Every Right rs → length rs ≤ 1024 → usedBy rs ≤ length s → allAccepted c rs ≡ true
-    → storeAfter rs s ≡ storeHolding rs s
-unfolding storeAfter usedBy allAccepted
-after-holding c [] s a none-of few fits acc = refl
-after-holding c (r ∷ rs) s a (and h hs) few fits acc =
-    let acc₁ : allAccepted c rs ≡ true = and-right (passes (blockChecks c rs (r .block))) _ acc in
-    let before : Holding c rs s = holding c rs s a hs (omega arith) (omega arith) acc₁ in
-    rw (after-holding c rs s a hs (omega arith) (omega arith) acc₁, before .records) (holding-again r rs s)
-
--- 01: "In order means: what accepting the same records from fresh, under the given committee, leaves in the used part"
-pub order-means : (c : Committee) (s : Bytes) → storeInOrder c s ≡ true → (fresh-bytes : Bytes) → length fresh-bytes ≡ length s
-    → take (usedLength s) s ≡ take (usedLength s) (storeAfter (recordsOf s) fresh-bytes)
-unfolding storeHolding allowedLength
-order-means c s h f e =
-    let i : InOrder c s = in-order c s h in
-    let rs : List Record = recordsOf s in
-    let fits : usedBy rs ≤ length f = omega (arith, e, used-within c s i) in
-    let all-used : usedLength s ≡ usedBy rs = used-is c s i in
-    rw (after-holding c rs f (rw e (i .allowed)) (recordsOf-right s) (i .few) fits (i .accepted))
-    (i .used ∙ sym (take-at (layout rs) (drop (usedBy rs) f) (usedLength s) (length-layout rs ∙ sym all-used)))
 
 -- ---- positions
 

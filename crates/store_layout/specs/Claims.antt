@@ -4,7 +4,7 @@ use mathlib.Core.Path.{_≡_}
 use mathlib.Core.Bool.{true, false}
 use mathlib.Core.List.{List, [], _∷_, _++_}
 use mathlib.Core.Option.{some}
-use lib.ListN.{length}
+use lib.ListN.{length, take}
 use Rattle.base.specs.Lists.{_∈_}
 use Rattle.base.specs.Le.{Bytes}
 use Rattle.base.specs.Checks.{passes}
@@ -12,7 +12,7 @@ use Rattle.committee.specs.Committee.{Committee}
 use Rattle.blocks.specs.Reference.{referenceBefore}
 use Rattle.store_layout.specs.Layout.{Record, readRecord, Entry, referenceOf, nextPosition, layout}
 use Rattle.store_layout.specs.Accept.{blockChecks}
-use Rattle.store_layout.specs.Store.{recordsOf, storeInOrder, storeFull, storeHolding}
+use Rattle.store_layout.specs.Store.{usedLength, recordsOf, storeInOrder, storeFull, storeHolding}
 
 -- 01: "Next positions chain the entries in ascending reference order; zero ends the chain": no entry stands between e and the one at its next position
 pub data NextOf (es : List Entry) (e : Entry) : ℕ → Type 0 where
@@ -24,7 +24,24 @@ pub data NextOf (es : List Entry) (e : Entry) : ℕ → Type 0 where
 unfoldable pub ChainMeant : Type 0
 ChainMeant = (es : List Entry) (e : Entry) → NextOf es e (nextPosition es e)
 
--- 01: "what accepting the same records from fresh .. leaves in the used part": a fresh store is in order, and accepting keeps it so
+-- 01: "what accepting the same records from fresh .. leaves": a store that held no records in front, and then records accepted one after the other,
+-- the newest first, each by 20 to 30 after those before it and with room for it
+pub data Accepts (c : Committee) (s : Bytes) : List Record → Bytes → Type 0 where
+  from-fresh : Accepts c s [] (storeHolding [] s)
+  accepting : {rs : List Record} {t : Bytes} (r : Record) → Accepts c s rs t → readRecord (r .bytes) ≡ some r
+      → passes (blockChecks c (recordsOf t) (r .block)) ≡ true → storeFull t r ≡ false
+      → Accepts c s (r ∷ rs) (storeHolding (r ∷ recordsOf t) t)
+
+-- a store is in order only where accepting its records from fresh, in a slice of its length, leaves its used part
+pub record AcceptedFrom (c : Committee) (s fresh : Bytes) : Type 0 where
+  pub after : Bytes
+  pub accepts : Accepts c fresh (recordsOf s) after
+  pub used : take (usedLength s) after ≡ take (usedLength s) s
+
+unfoldable pub InOrderAccepted : Type 0
+InOrderAccepted = (c : Committee) (s : Bytes) → storeInOrder c s ≡ true → (fresh : Bytes) → length fresh ≡ length s → AcceptedFrom c s fresh
+
+-- and wherever it does: a fresh store is in order, and accepting keeps it so
 unfoldable pub FreshInOrder : Type 0
 FreshInOrder = (c : Committee) (past : Bytes) → length (layout [] ++ past) ≤ 4294967295 → storeInOrder c (layout [] ++ past) ≡ true
 
@@ -35,5 +52,6 @@ AcceptingKeepsOrder = (c : Committee) (s : Bytes) (r : Record) → storeInOrder 
 
 pub record Claims : Type 0 where
   pub chain : ChainMeant
+  pub accepted : InOrderAccepted
   pub fresh : FreshInOrder
   pub accepting : AcceptingKeepsOrder
