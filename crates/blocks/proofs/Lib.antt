@@ -1,5 +1,5 @@
 pub mod Computing
-pub mod Examples
+mod Worked
 pub mod References
 pub mod Ranges
 pub mod Runs

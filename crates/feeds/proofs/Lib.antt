@@ -1,5 +1,5 @@
 pub mod Computing
-pub mod Cards
+mod Worked
 pub mod ProcessBlock
 pub mod Keeping
 pub mod Events

@@ -1,5 +1,5 @@
 pub mod Computing
-pub mod Examples
+mod Worked
 pub mod Items
 pub mod Table
 pub mod Order
