@@ -32,8 +32,8 @@ use Rattle.pending_items.proofs.Items.{ordered-voteOver}
 use Rattle.pending_items.proofs.Order.{Pending, InOrder, in-order, room-fits, pending-voteOver, length-voteOver}
 use Rattle.table_order.proofs.Forming.{order-parts}
 use Rattle.range_map.proofs.Voting.{Formed, formed, Written, written}
-use Rattle.feeds.specs.ProcessBlock.{Event, eventOf, Processing, vote}
-use Rattle.events.specs.Step.{withNew, wordsOf, toldAt, eventsBetween, StatedAt, told}
+use Rattle.feeds.specs.ProcessBlock.{Event, wordsOf, eventOf, Processing, vote}
+use Rattle.events.specs.Step.{withNew, toldAt, eventsBetween, StatedAt, told}
 use Rattle.aggregator.specs.Step.{startingWith, Voting, VotesCounted}
 use Rattle.aggregator.specs.declared.Processed.{Processed}
 use Rattle.events.proofs.Telling.{told-event, told-none, stated-none}

@@ -1,2 +1,2 @@
-pub mod Course
-pub mod Exclusions
+mod Evaluated
+mod Excluded

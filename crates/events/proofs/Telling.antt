@@ -16,8 +16,9 @@ use Rattle.stake_aggregator.specs.StakeAggregator.{hasQuorum}
 use Rattle.blocks.specs.Reference.{BlockReference}
 use Rattle.store_layout.specs.Layout.{Entry}
 use Rattle.pending_items.specs.Items.{Item, itemAt}
-use Rattle.feeds.specs.ProcessBlock.{Event, eventWords, missed, eventOf}
-use Rattle.events.specs.Step.{eventsBy, wordsOf, toldAt, eventsBetween, SameItem, StatedAt, told}
+use Rattle.feeds.specs.ProcessBlock.{Event, eventWords, wordsOf, missed, eventOf}
+use Rattle.feeds.proofs.ProcessBlock.{length-words}
+use Rattle.events.specs.Step.{eventsBy, toldAt, eventsBetween, SameItem, StatedAt, told}
 
 event : ℕ → ℕ → ℕ → Event
 event kind i o = record { kind = kind; statement = i; offset = o }
@@ -32,11 +33,6 @@ flat-append (xs ∷ xss) yss = rw (flat-append xss yss, append-assoc)
 words-append : (vs ws : List Event) → wordsOf (vs ++ ws) ≡ wordsOf vs ++ wordsOf ws
 unfolding wordsOf
 words-append vs ws = rw (map-append eventWords vs ws) (flat-append (map eventWords vs) (map eventWords ws))
-
-pub length-words : (vs : List Event) → length (wordsOf vs) ≡ 3 * length vs
-unfolding wordsOf flatten eventWords
-length-words [] = refl
-length-words (v ∷ vs) = omega (arith, length-words vs)
 
 one-event : (k j i o : ℕ) → k ≡ j → _≡_ {A = List ℕ} (k ∷ i ∷ o ∷ []) (wordsOf (event j i o ∷ []))
 unfolding wordsOf flatten eventWords event

@@ -14,7 +14,7 @@ use Rattle.blocks.specs.Reference.{BlockReference}
 use Rattle.store_layout.specs.Layout.{Entry, entries}
 use Rattle.store_layout.specs.Store.{recordsOf, recordIn}
 use Rattle.pending_items.specs.Items.{Item, itemAt}
-use Rattle.feeds.specs.ProcessBlock.{Event, eventWords, missed}
+use Rattle.feeds.specs.ProcessBlock.{Event, wordsOf, missed}
 use Rattle.pending.specs.Step.{Placed}
 
 -- ---- events
@@ -25,10 +25,6 @@ withNew s rec = entries (recordIn rec ∷ recordsOf s)
 -- an event for each offset in start..end, of the kind that f says
 unfoldable pub eventsBy : (ℕ → ℕ) → ℕ → ℕ → ℕ → List Event
 eventsBy f i start end = map (λ o. record { kind = f o; statement = i; offset = o }) (countFrom start (end - start))
-
--- the words of events
-unfoldable pub wordsOf : List Event → List ℕ
-wordsOf vs = flatten (map eventWords vs)
 
 -- the event of an offset where quorum is of the total stake: `eventOf`
 unfoldable pub toldAt : Stake → List Entry → BlockReference → ℕ → ℕ → Option Item → List Event

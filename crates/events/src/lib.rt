@@ -16,8 +16,8 @@ ghost use Rattle.types.specs.Values.{asReference};
 ghost use Rattle.store_layout.specs.Layout.{positionOf, lookup};
 ghost use Rattle.store_layout.specs.Entry.{laidOut};
 ghost use Rattle.pending_items.specs.Table.{itemsOf, HoldsItems, room};
-ghost use Rattle.feeds.specs.ProcessBlock.{missed};
-ghost use Rattle.events.specs.Step.{withNew, eventsBy, eventsBetween, wordsOf, StatedAt, SameItem};
+ghost use Rattle.feeds.specs.ProcessBlock.{missed, wordsOf};
+ghost use Rattle.events.specs.Step.{withNew, eventsBy, eventsBetween, StatedAt, SameItem};
 ghost use Rattle.pending_items.specs.Items.{itemHolds};
 ghost use Rattle.table_words.specs.Answers.{FoundBy};
 

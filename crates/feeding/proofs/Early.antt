@@ -12,7 +12,8 @@ use Rattle.store_layout.specs.Layout.{readRecord}
 use Rattle.store_layout.specs.Accept.{blockChecks}
 use Rattle.store_layout.specs.Store.{recordsOf, recordIn}
 use Rattle.feeds.specs.Pending.{pendingChecks}
-use Rattle.feeding.specs.Refusals.{ruleChecks, earlyChecks}
+use Rattle.feeds.specs.Feed.{ruleChecks}
+use Rattle.feeding.specs.Refusals.{earlyChecks}
 use Rattle.feeding.proofs.Order.{lent-only, read-none, read-some}
 
 module _ (c : Committee) (s : Bytes) (t : List ℕ) (rec : Bytes) where

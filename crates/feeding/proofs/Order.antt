@@ -27,14 +27,13 @@ use Rattle.store_layout.specs.Store.{recordsOf, recordIn, storeFull, storeHoldi
 use Rattle.store_layout.specs.Entry.{laidOut}
 use Rattle.pending_items.specs.Table.{itemsOf, room}
 use Rattle.feeds.specs.Pending.{pendingChecks}
-use Rattle.feeds.specs.Feed.{Lent, processed, lentChecks, recordChecks, feedChecks, refusedFeed, acceptedFeed, feedRecord, feed}
+use Rattle.feeds.specs.Feed.{Lent, processed, lentChecks, ruleChecks, recordChecks, feedChecks, refusedFeed, acceptedFeed, feedRecord, feed}
 use Rattle.record_checks.specs.Step.{acceptChecks}
-use Rattle.events.specs.Step.{wordsOf}
+use Rattle.feeds.specs.ProcessBlock.{wordsOf}
 use Rattle.aggregator.specs.Step.{VotesCounted, Feeding}
 use Rattle.pending.proofs.Lending.{lying}
 use Rattle.aggregator.specs.declared.Processed.{Processed}
-use Rattle.feeds.proofs.ProcessBlock.{events-processBlock}
-use Rattle.events.proofs.Telling.{length-words}
+use Rattle.feeds.proofs.ProcessBlock.{events-processBlock, length-words}
 use Rattle.record_checks.proofs.Feeds.{accept-numbered}
 
 -- ---- the record that is read
@@ -101,11 +100,11 @@ module _ (c : Committee) (m : Lent) (bytes : Bytes) where
   full = ltb (room (m .table)) (processed c m (recordIn bytes) .most) ⇒ 14
 
   with-full : wellFormed bytes ≡ true → recordChecks c m (readRecord bytes) ≡ asked ++ (full ∷ [])
-  unfolding recordChecks asked acceptChecks full recordIn
+  unfolding recordChecks ruleChecks asked acceptChecks full recordIn
   with-full w = rw (read-some bytes w, w) (sym (append-assoc (blockChecks c (recordsOf (m .store)) (blockIn bytes)) _ _))
 
   pub feeds-asked : (refusal (acceptChecks c (m .store) (length (m .events)) bytes) ≡ 0 → ⊥) → refusal (recordChecks c m (readRecord bytes)) ≡ refusal (acceptChecks c (m .store) (length (m .events)) bytes)
-  unfolding asked recordChecks acceptChecks
+  unfolding asked recordChecks ruleChecks acceptChecks
   feeds-asked h = go (wellFormed bytes) refl
     where
       go : (t : Bool) → wellFormed bytes ≡ t → refusal (recordChecks c m (readRecord bytes)) ≡ refusal asked
@@ -195,7 +194,7 @@ module _ (c : Committee) (m : Lent) (bytes : Bytes) where
       → s ≡ storeHolding (recordIn bytes ∷ recordsOf (m .store)) (m .store)
       → VotesCounted (processed c m (recordIn bytes)) true 0 (m .table) (m .events) q t v → q .fits ≡ true
       → Gives (answered (q .events)) s t v
-  unfolding acceptedFeed wordsOf
+  unfolding acceptedFeed
   gives-acceptance s t v q a z e w y =
       rw (feed-accepts c m bytes (a .formed) z)
       (ap answered many, (e, (w .table y, w .stated y .words ∙ sets-eq words (m .events) 0 enough ∙ ap (λ n. words ++ drop n (m .events)) (zero-add (length words)))))

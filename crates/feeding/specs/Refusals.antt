@@ -10,11 +10,7 @@ use Rattle.store_layout.specs.Layout.{Record, readRecord}
 use Rattle.store_layout.specs.Accept.{blockChecks}
 use Rattle.store_layout.specs.Store.{recordsOf}
 use Rattle.feeds.specs.Pending.{pendingChecks}
-
--- 01: "20 to 30 ascending"
-unfoldable pub ruleChecks : Committee → Bytes → Option Record → List Check
-ruleChecks c s none = (true ⇒ 20) ∷ []
-ruleChecks c s (some r) = blockChecks c (recordsOf s) (r .block)
+use Rattle.feeds.specs.Feed.{ruleChecks}
 
 -- 01: "Feeding checks 5, 10, 11, .. 20 to 30": all that come before 15, but for 12
 unfoldable pub earlyChecks : Committee → Bytes → List ℕ → Bytes → List Check

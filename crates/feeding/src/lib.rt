@@ -4,7 +4,6 @@ ghost use Rattle.base.specs.Checks.{refusal};
 ghost use Rattle.feeds.specs.Feed.{feed, lentOf};
 ghost use Rattle.feeding.specs.Answers.{asFeedAnswer};
 ghost use Rattle.feeding.specs.Refusals.{earlyChecks};
-ghost use Rattle.feeding.specs.FirstStatement.{FirstStatement};
 
 // The number of events, or a refusal.
 pub enum FeedAnswer {
@@ -58,8 +57,3 @@ pub fn early_refusal(stakes: &[u64], store: &[u8], table: &[u64], rec: &[u8]) ->
     }
     record_checks::block_refusal(stakes, store, rec)
 }
-
-// The mission's first statement.
-pub fn first_statement()
-    ensures { λ _. ⌜ FirstStatement ⌝ }
-{}

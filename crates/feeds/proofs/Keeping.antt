@@ -22,9 +22,10 @@ use Rattle.store_layout.proofs.Store.{Right, readRecord-some, Holding, acceptin
 use Rattle.pending_items.specs.Table.{tableOf, itemsOf, tableInOrder, room}
 use Rattle.pending_items.proofs.Table.{length-tableOf}
 use Rattle.pending_items.proofs.Order.{InOrder, in-order, order-tableOf, room-fits}
-use Rattle.feeds.specs.ProcessBlock.{Event, eventWords, registering}
-use Rattle.feeds.specs.Feed.{Lent, Fed, processed, lentChecks, recordChecks, feedChecks, refusedFeed, acceptedFeed, feedRecord, feed}
-use Rattle.feeds.proofs.ProcessBlock.{Sound, sound-registered, sound-processBlock, events-processBlock}
+use Rattle.feeds.specs.ProcessBlock.{wordsOf, registering}
+use Rattle.feeds.specs.Pending.{pendingChecks}
+use Rattle.feeds.specs.Feed.{Lent, Fed, processed, lentChecks, ruleChecks, recordChecks, feedChecks, refusedFeed, acceptedFeed, feedRecord, feed}
+use Rattle.feeds.proofs.ProcessBlock.{Sound, sound-registered, sound-processBlock, events-processBlock, length-words}
 
 -- what passing all the checks of a record says
 pub record Passed (c : Committee) (m : Lent) (r : Record) : Type 0 where
@@ -34,7 +35,7 @@ pub record Passed (c : Committee) (m : Lent) (r : Record) : Type 0 where
   pub items : processed c m r .most ≤ room (m .table)
 
 pub passed : (c : Committee) (m : Lent) (r : Record) → passes (feedChecks c m (some r)) ≡ true → Passed c m r
-unfolding feedChecks recordChecks
+unfolding feedChecks recordChecks ruleChecks
 passed c m r h =
     let h₁ = passes-right (lentChecks c m) (recordChecks c m (some r)) h in
     let h₂ = passes-right (blockChecks c (recordsOf (m .store)) (r .block)) _ h₁ in
@@ -79,7 +80,7 @@ sound-registering c m r h a =
 
 -- passing the checks says that store and table were in order
 pub lent-state : (c : Committee) (m : Lent) (r : Record) → passes (feedChecks c m (some r)) ≡ true → State c (m .store) (m .table)
-unfolding feedChecks lentChecks
+unfolding feedChecks lentChecks pendingChecks
 lent-state c m r p =
     let h = passes-left (lentChecks c m) (recordChecks c m (some r)) p in
     let h₁ = passes-others _ _ h in
@@ -87,11 +88,6 @@ lent-state c m r p =
       store = not-false (storeInOrder c (m .store)) (passes-first _ _ h₁);
       table = not-false (tableInOrder c (entries (recordsOf (m .store))) (m .table)) (passes-first _ _ (passes-others _ _ h₁));
     }
-
-length-eventWords : (vs : List Event) → length (flatten (map eventWords vs)) ≡ 3 * length vs
-unfolding flatten eventWords
-length-eventWords [] = refl
-length-eventWords (v ∷ vs) = omega (arith, length-eventWords vs)
 
 kept-accepted : (c : Committee) (m : Lent) (r : Record) → State c (m .store) (m .table) → Right r → Passed c m r → Kept c m (acceptedFeed c m r)
 unfolding acceptedFeed
@@ -115,8 +111,8 @@ kept-accepted c m r h q a =
     fits : 1 + 6 * length (processed c m r .items) ≤ length (m .table)
     fits = room-fits c (entries rs) (m .table) (length (processed c m r .items)) (in-order c (entries rs) (m .table) (h .table)) (omega (arith, z .few, a .items))
 
-    enough : length (flatten (map eventWords (processed c m r .events))) ≤ length (m .events)
-    enough = unfold processed in omega (arith, length-eventWords (processed c m r .events), events-processBlock c (entries (r ∷ rs)) (r .block) (itemsOf (m .table)), a .events)
+    enough : length (wordsOf (processed c m r .events)) ≤ length (m .events)
+    enough = unfold processed in omega (arith, length-words (processed c m r .events), events-processBlock c (entries (r ∷ rs)) (r .block) (itemsOf (m .table)), a .events)
 
 -- one feed, accepted or refused, leaves store and table in order, and every slice as long as it was
 pub feed-keeps : (c : Committee) (m : Lent) (bytes : Bytes) → State c (m .store) (m .table) → Kept c m (feed c m bytes)

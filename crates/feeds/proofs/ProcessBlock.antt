@@ -1,5 +1,5 @@
 -- What a block's votes leave: items in order, no more of them than were counted, and no more events than offsets. Assumes nothing.
-use mathlib.Core.Path.{_≡_}
+use mathlib.Core.Path.{_≡_, refl}
 use mathlib.Core.List.{List, [], _∷_, map, flatten}
 use mathlib.Core.Option.{Option, none, some}
 use mathlib.Core.Bool.{Bool, true, false}
@@ -17,7 +17,7 @@ use Rattle.store_layout.specs.Layout.{Entry, positionOf, lookup}
 use Rattle.pending_items.specs.Items.{Item, itemAt, voteOver}
 use Rattle.pending_items.proofs.Items.{Ordered, ordered-voteOver, ordered-afterLeaving}
 use Rattle.pending_items.proofs.Order.{Pending, pending-voteOver, pending-afterLeaving, pending-register, ordered-register, length-voteOver, length-afterLeaving}
-use Rattle.feeds.specs.ProcessBlock.{Event, eventOf, Processing, vote, votes, registering, processBlock}
+use Rattle.feeds.specs.ProcessBlock.{Event, eventWords, wordsOf, eventOf, Processing, vote, votes, registering, processBlock}
 
 -- a new entry is found by its reference
 pub lookup-new : (es : List Entry) (new : Entry) → lookup (new ∷ es) (new .block .reference) ≡ some new
@@ -97,3 +97,10 @@ module _ (c : Committee) (es : List Entry) (a : AuthorityIndex) where
 pub events-processBlock : (c : Committee) (es : List Entry) (b : Block) (xs : List Item) → 3 * length (processBlock c es b xs .events) ≤ eventRoom b
 unfolding processBlock registering eventRoom
 events-processBlock c es b xs = omega (arith, events-votes c es (author b) 0 (b .statements) (registering c es b xs))
+
+-- ---- words of events
+
+pub length-words : (vs : List Event) → length (wordsOf vs) ≡ 3 * length vs
+unfolding wordsOf flatten eventWords
+length-words [] = refl
+length-words (v ∷ vs) = omega (arith, length-words vs)

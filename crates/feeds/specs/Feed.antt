@@ -1,7 +1,7 @@
 -- Feeding a record: the first refusal or the number of events, and every lent slice afterwards. Assumes nothing: these are definitions.
 use Prim.Native.Nat.{ℕ}
 use mathlib.Core.Bool.{true, not}
-use mathlib.Core.List.{List, [], _∷_, _++_, map, flatten}
+use mathlib.Core.List.{List, [], _∷_, _++_}
 use mathlib.Core.Option.{Option, none, some}
 use lib.Dec.{ltb}
 use lib.ListN.{length, drop}
@@ -14,7 +14,8 @@ use Rattle.store_layout.specs.Layout.{Record, readRecord, entries}
 use Rattle.store_layout.specs.Accept.{blockChecks}
 use Rattle.store_layout.specs.Store.{recordsOf, storeInOrder, storeFull, storeHolding}
 use Rattle.pending_items.specs.Table.{tableOf, itemsOf, tableInOrder, room}
-use Rattle.feeds.specs.ProcessBlock.{eventWords, Processing, processBlock}
+use Rattle.feeds.specs.Pending.{pendingChecks}
+use Rattle.feeds.specs.ProcessBlock.{wordsOf, Processing, processBlock}
 
 -- what a feed is lent, and the record; the work slice's content is free, and no answer reads it
 pub record Lent : Type 0 where
@@ -39,18 +40,18 @@ processed c m r = processBlock c (entries (r ∷ recordsOf (m .store))) (r .bloc
 
 -- 01: "Feeding checks 5, 10, 11, 12, .."
 unfoldable pub lentChecks : Committee → Lent → List Check
-lentChecks c m =
-    (broken c ⇒ 5)
-    ∷ (not (storeInOrder c (m .store)) ⇒ 10)
-    ∷ (not (tableInOrder c (entries (recordsOf (m .store))) (m .table)) ⇒ 11)
-    ∷ (ltb (length (m .work)) (length (m .table)) ⇒ 12)
-    ∷ []
+lentChecks c m = pendingChecks c (m .store) (m .table) ++ ((ltb (length (m .work)) (length (m .table)) ⇒ 12) ∷ [])
+
+-- 01: "20 to 30 ascending", of what was read of the record
+unfoldable pub ruleChecks : Committee → Bytes → Option Record → List Check
+ruleChecks c s none = (true ⇒ 20) ∷ []
+ruleChecks c s (some r) = blockChecks c (recordsOf s) (r .block)
 
 -- 01: ".. 20 to 30 ascending, 15, 13, 14"
 unfoldable pub recordChecks : Committee → Lent → Option Record → List Check
-recordChecks c m none = (true ⇒ 20) ∷ []
+recordChecks c m none = ruleChecks c (m .store) none
 recordChecks c m (some r) =
-    blockChecks c (recordsOf (m .store)) (r .block)
+    ruleChecks c (m .store) (some r)
     ++ ((ltb (length (m .events)) (eventRoom (r .block)) ⇒ 15)
     ∷ (storeFull (m .store) r ⇒ 13)
     ∷ (ltb (room (m .table)) (processed c m r .most) ⇒ 14)
@@ -67,7 +68,7 @@ refusedFeed m n = record { answer = refused n; store = m .store; table = m .tabl
 unfoldable pub acceptedFeed : Committee → Lent → Record → Fed
 acceptedFeed c m r =
     let z : Processing = processed c m r in
-    let words : List ℕ = flatten (map eventWords (z .events)) in
+    let words : List ℕ = wordsOf (z .events) in
     record {
       answer = answered (length (z .events));
       store = storeHolding (r ∷ recordsOf (m .store)) (m .store);

@@ -20,6 +20,9 @@ pub record Event : Type 0 where
 unfoldable pub eventWords : Event → List ℕ
 eventWords v = v .kind ∷ v .statement ∷ v .offset ∷ []
 
+unfoldable pub wordsOf : List Event → List ℕ
+wordsOf vs = flatten (map eventWords vs)
+
 -- 01: "an offset with no item is late if it is a stored share, else unknown"
 unfoldable pub missed : List Entry → BlockReference → ℕ → ℕ
 missed es r o = pick (holds (λ e. isShareAt (e .block) o) (lookup es r)) 2 3

@@ -22,8 +22,8 @@ use Rattle.store_layout.specs.Accept.{blockChecks}
 use Rattle.store_layout.specs.Store.{recordsOf}
 use Rattle.words.specs.Words.{wordsIn, wordsOf}
 use Rattle.feeds.specs.Pending.{pendingChecks}
-use Rattle.feeds.specs.Feed.{Lent, lentOf, processed, lentChecks, recordChecks, feedChecks, refusedFeed, acceptedFeed, feedRecord, feed}
-use Rattle.feeding.specs.Refusals.{ruleChecks, earlyChecks}
+use Rattle.feeds.specs.Feed.{Lent, lentOf, processed, lentChecks, ruleChecks, recordChecks, feedChecks, refusedFeed, acceptedFeed, feedRecord, feed}
+use Rattle.feeding.specs.Refusals.{earlyChecks}
 use Rattle.host_lib.specs.Payload.{refusalBefore}
 use Rattle.host_lib.specs.Feed.{FeedCall, refusedCall, fedCall, fedWith, feedOf}
 use Rattle.host_lib.proofs.Locators.{before-most}
@@ -65,7 +65,7 @@ block-ordinary c rs b =
     (and (lit< tt, lit< tt) none-of))))
 
 checks-ordinary : (c : Committee) (m : Lent) (o : Option Record) → Ordinary (feedChecks c m o)
-unfolding feedChecks lentChecks recordChecks
+unfolding feedChecks lentChecks pendingChecks ruleChecks recordChecks
 checks-ordinary c m none = and (lit< tt, lit< tt) (and (lit< tt, lit< tt) (and (lit< tt, lit< tt) (and (lit< tt, lit< tt) (and (lit< tt, lit< tt) none-of))))
 checks-ordinary c m (some r) =
     and (lit< tt, lit< tt) (and (lit< tt, lit< tt) (and (lit< tt, lit< tt) (and (lit< tt, lit< tt)
@@ -95,7 +95,7 @@ early-ordinary c s t rec = and (lit< tt, lit< tt) (and (lit< tt, lit< tt) (and (
 -- ---- the work slice: no answer reads it
 
 pub work-free : (c : Committee) (s : Bytes) (t w u v : List ℕ) (rec : Bytes) → length w ≡ length u → feed c (lentOf s t w v) rec ≡ feed c (lentOf s t u v) rec
-unfolding feed feedRecord feedChecks lentChecks recordChecks processed refusedFeed acceptedFeed
+unfolding feed feedRecord feedChecks lentChecks pendingChecks ruleChecks recordChecks processed refusedFeed acceptedFeed
 work-free c s t w u v rec e = by (readRecord rec)
   where
     by : (o : Option Record) → feedRecord c (lentOf s t w v) o ≡ feedRecord c (lentOf s t u v) o

@@ -1,7 +1,7 @@
 -- One feed, by cases: refused, or accepted with the record, its block and its events. Assumes nothing.
 use mathlib.Core.Path.{_≡_, refl, sym, ap, subst}
 use mathlib.Core.Bool.{Bool, true, false}
-use mathlib.Core.List.{List, [], _∷_, _++_, map, flatten}
+use mathlib.Core.List.{List, [], _∷_, _++_, flatten}
 use mathlib.Core.Option.{Option, none, some}
 use Prim.Native.Nat.{ℕ}
 use lib.ListN.{length, drop}
@@ -10,13 +10,13 @@ use Rattle.base.specs.Le.{Bytes}
 use Rattle.base.specs.Checks.{refusal, passes}
 use Rattle.committee.specs.Committee.{Committee}
 use Rattle.store_layout.specs.Layout.{Record, readRecord}
-use Rattle.feeds.specs.ProcessBlock.{Event, eventWords}
+use Rattle.feeds.specs.ProcessBlock.{Event, eventWords, wordsOf}
 use Rattle.feeds.specs.Feed.{Lent, Fed, processed, feedChecks, refusedFeed, acceptedFeed, feedRecord, feed}
 use Rattle.promises.specs.Feeds.{Accepted, eventsIn, acceptedIn}
 
 -- events are read back from their words
-events-back : (vs : List Event) (rest : List ℕ) → eventsIn (length vs) (flatten (map eventWords vs) ++ rest) ≡ vs
-unfolding eventsIn flatten eventWords
+events-back : (vs : List Event) (rest : List ℕ) → eventsIn (length vs) (wordsOf vs ++ rest) ≡ vs
+unfolding eventsIn wordsOf flatten eventWords
 events-back [] rest = refl
 events-back (v ∷ vs) rest = ap {B = List Event} (λ ws. v ∷ ws) (events-back vs rest)
 
@@ -45,4 +45,4 @@ feed-cases c m bytes P kept took = go (readRecord bytes) refl
         by-checks false p = kept _
         by-checks true p =
             subst (λ (ws : List Event). P (acceptedFeed c m r) (record { bytes = r .bytes; block = r .block; events = ws } ∷ []))
-            (sym (events-back vs (drop (length (flatten (map eventWords vs))) (m .events)))) (took r e p)
+            (sym (events-back vs (drop (length (wordsOf vs)) (m .events)))) (took r e p)

@@ -8,3 +8,4 @@ pub mod Statements
 pub mod Shares
 pub mod Since
 pub mod ThirdStatement
+pub mod FirstStatement

@@ -2,7 +2,7 @@
 use Prim.Native.Nat.{ℕ, _*_, _≤_}
 use mathlib.Core.Path.{_≡_}
 use mathlib.Core.Bool.{true, false}
-use mathlib.Core.List.{List, _∷_, _++_, map, flatten}
+use mathlib.Core.List.{List, _∷_, _++_}
 use mathlib.Core.Option.{some}
 use lib.ListN.{length, drop}
 use Rattle.base.specs.Le.{Bytes}
@@ -13,7 +13,7 @@ use Rattle.store_layout.specs.Layout.{Record, readRecord, entries, usedBy}
 use Rattle.store_layout.specs.Accept.{blockChecks}
 use Rattle.store_layout.specs.Store.{recordsOf, storeInOrder, storeFull}
 use Rattle.pending_items.specs.Table.{itemsOf, tableInOrder, room}
-use Rattle.feeds.specs.ProcessBlock.{eventWords}
+use Rattle.feeds.specs.ProcessBlock.{wordsOf}
 use Rattle.feeds.specs.Feed.{Lent, Fed, processed, feedChecks, feed}
 
 -- "with enough lent memory": a committee, a store and a table that are in order (5, 10, 11), room for the work (12), for the events (15), in
@@ -43,7 +43,7 @@ pub record Counted (c : Committee) (m : Lent) (r : Record) (f : Fed) : Type 0 wh
   pub store-past : drop (usedBy (r ∷ recordsOf (m .store))) (f .store) ≡ drop (usedBy (r ∷ recordsOf (m .store))) (m .store)
   pub items : itemsOf (f .table) ≡ processed c m r .items
   pub table-order : tableInOrder c (entries (r ∷ recordsOf (m .store))) (f .table) ≡ true
-  pub events : f .events ≡ flatten (map eventWords (processed c m r .events)) ++ drop (3 * length (processed c m r .events)) (m .events)
+  pub events : f .events ≡ wordsOf (processed c m r .events) ++ drop (3 * length (processed c m r .events)) (m .events)
 
 -- "the first refusal number that applies"
 pub data FirstApplies : ℕ → List Check → Type 0 where

@@ -22,11 +22,12 @@ use Rattle.store_layout.specs.Store.{recordsOf, storeFull, storeHolding}
 use Rattle.store_layout.proofs.Store.{length-layout, readRecord-some, Holding, accepting}
 use Rattle.pending_items.specs.Table.{room}
 use Rattle.pending_items.proofs.Table.{itemsOf-tableOf}
-use Rattle.feeds.specs.Feed.{Lent, processed, lentChecks, recordChecks, feedChecks, refusedFeed, acceptedFeed, feedRecord, feed}
-use Rattle.events.specs.Step.{wordsOf}
+use Rattle.feeds.specs.Pending.{pendingChecks}
+use Rattle.feeds.specs.Feed.{Lent, processed, lentChecks, ruleChecks, recordChecks, feedChecks, refusedFeed, acceptedFeed, feedRecord, feed}
+use Rattle.feeds.specs.ProcessBlock.{wordsOf}
 use Rattle.feeds.proofs.Keeping.{Passed, passed, State, lent-state, Kept, feed-keeps}
-use Rattle.events.proofs.Telling.{length-words}
-use Rattle.feeding.specs.FirstStatement.{EnoughMemory, KeepsRules, Counted, FirstApplies, here, later, Refused, FirstStatement}
+use Rattle.feeds.proofs.ProcessBlock.{length-words}
+use Rattle.promises.specs.FirstStatement.{EnoughMemory, KeepsRules, Counted, FirstApplies, here, later, Refused, FirstStatement}
 
 -- the refusal number is the first that applies
 first-applies : (ks : List Check) → passes ks ≡ false → FirstApplies (refusal ks) ks
@@ -40,14 +41,14 @@ first-applies (k ∷ ks) h = go (k .applies) refl h (first-applies ks)
 
 -- what the first and the fourth check say
 lent-facts : (c : Committee) (m : Lent) (r : Record) → passes (feedChecks c m (some r)) ≡ true → (broken c ≡ false) × (length (m .table) ≤ length (m .work))
-unfolding feedChecks lentChecks
+unfolding feedChecks lentChecks pendingChecks
 lent-facts c m r p =
     let h = passes-left (lentChecks c m) (recordChecks c m (some r)) p in
     (passes-first _ _ h, ltb-false _ _ (passes-first _ _ (passes-others _ _ (passes-others _ _ (passes-others _ _ h)))))
 
 -- a record that keeps the rules passes every check
 lent-passes : (c : Committee) (m : Lent) (r : Record) → EnoughMemory c m r → passes (lentChecks c m) ≡ true
-unfolding lentChecks passes allOf
+unfolding lentChecks pendingChecks passes allOf
 lent-passes c m r e = rw (e .committee, e .store, e .table, le-ltb (length (m .work)) (length (m .table)) (e .work))
 
 room-passes : (c : Committee) (m : Lent) (r : Record) → EnoughMemory c m r
@@ -56,7 +57,7 @@ unfolding passes allOf
 room-passes c m r e = rw (le-ltb (length (m .events)) (eventRoom (r .block)) (e .events), e .bytes, le-ltb (room (m .table)) (processed c m r .most) (e .items))
 
 all-pass : (c : Committee) (m : Lent) (r : Record) → passes (blockChecks c (recordsOf (m .store)) (r .block)) ≡ true → EnoughMemory c m r → passes (feedChecks c m (some r)) ≡ true
-unfolding feedChecks recordChecks
+unfolding feedChecks recordChecks ruleChecks
 all-pass c m r b e =
     passes-append (lentChecks c m) _ ∙ rw (lent-passes c m r e) (passes-append (blockChecks c (recordsOf (m .store)) (r .block)) _ ∙ rw b (room-passes c m r e))
 
@@ -88,7 +89,7 @@ counted c m bytes k = rw accepts here-counted
           store-past = unfold acceptedFeed storeHolding in drop-at (layout (r ∷ recordsOf (m .store))) _ _ (length-layout (r ∷ recordsOf (m .store)));
           items = unfold acceptedFeed in itemsOf-tableOf (length (m .table)) (processed c m r .items);
           table-order = rw (← records) (kept .state .table);
-          events = unfold acceptedFeed wordsOf in ap (λ n. wordsOf (processed c m r .events) ++ drop n (m .events)) (length-words (processed c m r .events));
+          events = unfold acceptedFeed in ap (λ n. wordsOf (processed c m r .events) ++ drop n (m .events)) (length-words (processed c m r .events));
         }
       where
         records : recordsOf (acceptedFeed c m r .store) ≡ r ∷ recordsOf (m .store)
@@ -104,7 +105,7 @@ others c m bytes n = unfold feed in go (readRecord bytes) refl
         record { number = refusal (feedChecks c m (readRecord bytes)); answer = refl; first = first-applies (feedChecks c m (readRecord bytes)) f; store = refl; table = refl; events = refl }
 
     never : passes (feedChecks c m none) ≡ false
-    never = unfold feedChecks recordChecks in fails _ (λ p. not-both refl (passes-first (true ⇒ 20) [] (passes-right (lentChecks c m) _ p)))
+    never = unfold feedChecks recordChecks ruleChecks in fails _ (λ p. not-both refl (passes-first (true ⇒ 20) [] (passes-right (lentChecks c m) _ p)))
 
     keeps : (r : Record) → readRecord bytes ≡ some r → passes (feedChecks c m (some r)) ≡ true → KeepsRules c m bytes
     keeps r e p =
