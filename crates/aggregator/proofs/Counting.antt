@@ -14,22 +14,23 @@ use Rattle.base.specs.Lists.{pick}
 use Rattle.base.proofs.Lists.{append-nil, Every}
 use Rattle.base.proofs.Tests.{not-both}
 use Rattle.committee.specs.Committee.{AuthorityIndex, Committee, known}
-use Rattle.types.specs.Reference.{TransactionLocatorRange}
-use Rattle.types.specs.Block.{Statement, votedRange, countedOffsets}
-use Rattle.types.specs.Record.{noStatement}
-use Rattle.types.proofs.Walk.{offsetsCounted, counted-on}
-use Rattle.block_store.specs.Layout.{Entry}
-use Rattle.range_map.specs.Items.{Item}
-use Rattle.range_map.specs.Table.{tableOf, itemsOf, room, tableInOrder}
-use Rattle.range_map.proofs.Items.{Ordered}
-use Rattle.range_map.proofs.Slots.{table-holding}
-use Rattle.range_map.proofs.Order.{Pending, InOrder, in-order, order-tableOf, room-fits}
-use Rattle.range_map.proofs.Table.{itemsOf-tableOf, length-tableOf}
-use Rattle.aggregator.specs.ProcessBlock.{Event, Processing, vote, votes}
-use Rattle.aggregator.specs.Step.{StatedAt, told, startingWith, VotesCounted}
+use Rattle.blocks.specs.Reference.{TransactionLocatorRange}
+use Rattle.blocks.specs.Block.{Statement, votedRange, countedOffsets}
+use Rattle.blocks.specs.Record.{noStatement}
+use Rattle.shared_ranges.proofs.Walk.{offsetsCounted, counted-on}
+use Rattle.store_layout.specs.Layout.{Entry}
+use Rattle.pending_items.specs.Items.{Item}
+use Rattle.pending_items.specs.Table.{tableOf, itemsOf, room, tableInOrder}
+use Rattle.pending_items.proofs.Items.{Ordered}
+use Rattle.table_words.proofs.Slots.{table-holding}
+use Rattle.pending_items.proofs.Order.{Pending, InOrder, in-order, order-tableOf, room-fits}
+use Rattle.pending_items.proofs.Table.{itemsOf-tableOf, length-tableOf}
+use Rattle.feeds.specs.ProcessBlock.{Event, Processing, vote, votes}
+use Rattle.events.specs.Step.{StatedAt, told}
+use Rattle.aggregator.specs.Step.{startingWith, VotesCounted}
 use Rattle.aggregator.specs.declared.Processed.{Processed}
-use Rattle.aggregator.proofs.ProcessBlock.{Sound, sound-vote, events-vote}
-use Rattle.aggregator.proofs.Telling.{told-none, stated-none, stated-on, stated-long}
+use Rattle.feeds.proofs.ProcessBlock.{Sound, sound-vote, events-vote}
+use Rattle.events.proofs.Telling.{told-none, stated-none, stated-on, stated-long}
 
 -- ---- a vote, from the items alone
 

@@ -1,42 +1,37 @@
 -- A block's shares and votes, as the code counts them. Assumes nothing.
-use mathlib.Core.Path.{_≡_, refl, sym, ap, _∙_}
+use mathlib.Core.Path.{_≡_, refl, sym, _∙_}
 use mathlib.Core.Bool.{Bool, true, false}
-use mathlib.Core.List.{List, [], _∷_, _++_, map, flatten}
+use mathlib.Core.List.{List, [], _∷_}
 use mathlib.Core.Option.{Option, none, some}
-use Prim.Native.Nat.{ℕ, _+_, _*_, _≤_, _<_, max}
+use Prim.Native.Nat.{ℕ, _+_, _*_, _≤_, max}
 use native.Mathlib.Decide.{decLe}
 use native.Mathlib.Omega.{arith}
 use lib.Dec.{leb}
 use lib.ListN.{length}
 use borrow.Author.Tests.{leb-true, leb-false, le-leb, lt-leb, lt-ltb}
-use Rattle.base.specs.Lists.{allOf}
 use Rattle.base.specs.Le.{Bytes}
-use Rattle.base.specs.Checks.{passes}
-use Rattle.base.proofs.Checks.{passes-others, passes-left, passes-right}
 use Rattle.base.proofs.Tests.{not-both}
-use Rattle.base.proofs.Lists.{Every, every, every-all, pairs-pairwise}
+use Rattle.base.proofs.Lists.{every, every-all, pairs-pairwise}
 use Rattle.committee.specs.Committee.{AuthorityIndex, Committee, Stake, totalStake}
-use Rattle.types.specs.Reference.{TransactionLocatorRange}
-use Rattle.types.specs.Verify.{headChecks, includeChecks, statementChecks, bodyChecks}
-use Rattle.types.specs.Block.{Statement, Block, author, votedRange, sharedRanges}
-use Rattle.types.specs.Record.{blockIn}
-use Rattle.block_store.specs.Layout.{Record, Entry, entries, usedBy, positionOf, lookup}
-use Rattle.block_store.specs.Store.{recordsOf, recordIn}
-use Rattle.block_store.specs.Accept.{blockChecks}
-use Rattle.block_store.proofs.Accepted.{known-author}
-use Rattle.block_store.proofs.Store.{entries-below}
-use Rattle.range_map.specs.Items.{Item, itemBefore, itemFull, register}
-use Rattle.range_map.specs.Table.{tableOf, itemsOf, room, tableInOrder}
-use Rattle.range_map.proofs.Order.{Pending, InOrder, in-order, order-tableOf, room-fits}
-use Rattle.range_map.proofs.Table.{itemsOf-tableOf, length-tableOf}
-use Rattle.aggregator.specs.ProcessBlock.{Event, Processing, vote, votes, registering, processBlock}
-use Rattle.aggregator.specs.Step.{withNew, startingWith, told, StatedAt, Voting, VotesCounted, Orderly, Registered, Feeding}
+use Rattle.blocks.specs.Reference.{TransactionLocatorRange}
+use Rattle.blocks.specs.Block.{Statement, author, votedRange, sharedRanges}
+use Rattle.blocks.specs.Record.{blockIn}
+use Rattle.store_layout.specs.Layout.{Entry, entries, usedBy, positionOf}
+use Rattle.store_layout.specs.Store.{recordsOf, recordIn}
+use Rattle.store_layout.proofs.Accepted.{known-author}
+use Rattle.store_layout.proofs.Store.{entries-below}
+use Rattle.pending_items.specs.Items.{Item, itemBefore, itemFull, register}
+use Rattle.pending_items.specs.Table.{itemsOf, room}
+use Rattle.pending_items.proofs.Order.{Pending, InOrder, in-order, order-tableOf, room-fits}
+use Rattle.pending_items.proofs.Table.{itemsOf-tableOf, length-tableOf}
+use Rattle.feeds.specs.ProcessBlock.{Processing, vote, votes, registering, processBlock}
+use Rattle.events.specs.Step.{withNew}
+use Rattle.aggregator.specs.Step.{startingWith, Voting, VotesCounted, Orderly, Registered, Feeding}
 use Rattle.aggregator.specs.declared.Processed.{Processed}
-use Rattle.aggregator.proofs.ProcessBlock.{lookup-new, Sound, sound-registered}
+use Rattle.feeds.proofs.ProcessBlock.{lookup-new, Sound, sound-registered}
 use Rattle.aggregator.proofs.Counting.{votes-grow}
 
 -- ---- the same items and events, but for how many there were at most
-
 pub record Alike (m : ℕ) (z y : Processing) : Type 0 where
   pub items : z .items ≡ y .items
   pub events : z .events ≡ y .events
@@ -157,10 +152,3 @@ module _ (c : Committee) (s rec : Bytes) (t : List ℕ) (h : Feeding c s rec t) 
             stated = λ e. rw (alike .events) (w .stated e);
             silent = w .silent;
           }
-
--- the statements of an accepted block pass their checks
-pub statements-pass : (c : Committee) (rs : List Record) (b : Block) → passes (blockChecks c rs b) ≡ true → passes (flatten (map statementChecks (b .statements))) ≡ true
-unfolding blockChecks bodyChecks
-statements-pass c rs b h =
-    let body = passes-left (bodyChecks c b) _ (passes-others _ _ (passes-right (headChecks c b) _ h)) in
-    passes-left (flatten (map statementChecks (b .statements))) _ (passes-right (flatten (map (includeChecks c b) (b .includes))) _ body)

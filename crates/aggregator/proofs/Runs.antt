@@ -11,17 +11,18 @@ use Rattle.base.specs.Lists.{allOf, pairwise}
 use Rattle.base.proofs.Lists.{append-nil, all-left, pairwise-pairs, all-every, every}
 use Rattle.base.proofs.Tests.{and-both, and-left, and-right, not-both}
 use Rattle.committee.specs.Committee.{AuthorityIndex, Committee}
-use Rattle.types.specs.Reference.{newRange}
-use Rattle.types.specs.Block.{Block, sharedRanges}
-use Rattle.types.specs.Cursor.{cursorAt, runsLeft, runsTold}
-use Rattle.types.specs.declared.SharedRange.{SharedRange}
-use Rattle.types.specs.declared.SharedRange.the-variants.{Run, End}
-use Rattle.types.specs.declared.StatementCursor.{StatementCursor}
-use Rattle.range_map.specs.Items.{Item, itemBefore, itemFull, firstVote, registered, register}
-use Rattle.range_map.specs.Table.{tableOf, itemsOf, room, HoldsItems}
-use Rattle.range_map.proofs.Items.{Ordered}
+use Rattle.blocks.specs.Reference.{newRange}
+use Rattle.blocks.specs.Block.{Block, sharedRanges}
+use Rattle.block_record.specs.Cursor.{cursorAt}
+use Rattle.shared_ranges.specs.Cursor.{runsLeft, runsTold}
+use Rattle.shared_ranges.specs.declared.SharedRange.{SharedRange}
+use Rattle.shared_ranges.specs.declared.SharedRange.the-variants.{Run, End}
+use Rattle.block_record.specs.declared.StatementCursor.{StatementCursor}
+use Rattle.pending_items.specs.Items.{Item, itemBefore, itemFull, firstVote, registered, register}
+use Rattle.pending_items.specs.Table.{tableOf, itemsOf, room, HoldsItems}
+use Rattle.pending_items.proofs.Items.{Ordered}
 use Rattle.range_map.proofs.Voting.{Written, written}
-use Rattle.range_map.proofs.Slots.{table-holding}
+use Rattle.table_words.proofs.Slots.{table-holding}
 use Rattle.aggregator.specs.Step.{Orderly, Registered}
 use borrow.Author.Tests.{ltb-true}
 

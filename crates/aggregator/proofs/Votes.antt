@@ -16,25 +16,27 @@ use Rattle.base.proofs.Lists.{Every, every}
 use Rattle.committee.specs.Committee.{AuthorityIndex, Committee, Stake, totalStake}
 use Rattle.base.specs.Checks.{passes}
 use Rattle.base.proofs.Checks.{passes-first}
-use Rattle.types.specs.Reference.{TransactionLocatorRange, locator, offsets}
-use Rattle.types.specs.Verify.{statementChecks}
-use Rattle.types.specs.Values.{asLocator, asStatement}
+use Rattle.blocks.specs.Reference.{TransactionLocatorRange, locator, offsets}
+use Rattle.blocks.specs.Verify.{statementChecks}
+use Rattle.types.specs.Values.{asLocator}
+use Rattle.block_record.specs.Values.{asStatement}
 use Rattle.types.specs.declared.TransactionLocator.{TransactionLocator}
-use Rattle.types.specs.declared.BaseStatement.{BaseStatement}
-use Rattle.types.specs.declared.BaseStatement.the-variants.{Accept}
-use Rattle.types.specs.Block.{author}
-use Rattle.types.specs.Record.{blockIn}
-use Rattle.block_store.specs.Layout.{Entry, positionOf, lookup}
-use Rattle.range_map.specs.Items.{Item, itemAt, bothCuts, voteOver, stays, afterLeaving}
-use Rattle.range_map.specs.Table.{HoldsItems, tableOf, itemsOf, room, tableInOrder, tableFormed}
-use Rattle.range_map.proofs.Items.{ordered-voteOver}
-use Rattle.range_map.proofs.Order.{Pending, InOrder, in-order, room-fits, pending-voteOver, length-voteOver}
-use Rattle.range_map.proofs.Forming.{order-parts}
+use Rattle.block_record.specs.declared.BaseStatement.{BaseStatement}
+use Rattle.block_record.specs.declared.BaseStatement.the-variants.{Accept}
+use Rattle.blocks.specs.Block.{author}
+use Rattle.blocks.specs.Record.{blockIn}
+use Rattle.store_layout.specs.Layout.{Entry, positionOf, lookup}
+use Rattle.pending_items.specs.Items.{Item, itemAt, bothCuts, voteOver, stays, afterLeaving}
+use Rattle.pending_items.specs.Table.{HoldsItems, tableOf, itemsOf, room, tableInOrder, tableFormed}
+use Rattle.pending_items.proofs.Items.{ordered-voteOver}
+use Rattle.pending_items.proofs.Order.{Pending, InOrder, in-order, room-fits, pending-voteOver, length-voteOver}
+use Rattle.table_order.proofs.Forming.{order-parts}
 use Rattle.range_map.proofs.Voting.{Formed, formed, Written, written}
-use Rattle.aggregator.specs.ProcessBlock.{Event, eventOf, Processing, vote}
-use Rattle.aggregator.specs.Step.{withNew, wordsOf, toldAt, eventsBetween, StatedAt, told, startingWith, Voting, VotesCounted}
+use Rattle.feeds.specs.ProcessBlock.{Event, eventOf, Processing, vote}
+use Rattle.events.specs.Step.{withNew, wordsOf, toldAt, eventsBetween, StatedAt, told}
+use Rattle.aggregator.specs.Step.{startingWith, Voting, VotesCounted}
 use Rattle.aggregator.specs.declared.Processed.{Processed}
-use Rattle.aggregator.proofs.Telling.{told-event, told-none, stated-none}
+use Rattle.events.proofs.Telling.{told-event, told-none, stated-none}
 
 pub order-formed : (c : Committee) (es : List Entry) (t : List ℕ) → tableInOrder c es t ≡ true → tableFormed c t ≡ true
 order-formed c es t h = and-left _ _ (sym (order-parts c es t) ∙ h)

@@ -11,21 +11,22 @@ use Rattle.base.specs.Lists.{isNone, _∈_, here}
 use Rattle.base.specs.Le.{Bytes, leAt}
 use Rattle.base.proofs.Lists.{Every, none-of, and, every, every-in, every-append, with-later}
 use Rattle.base.proofs.Members.{in-append, in-right}
-use Rattle.types.specs.Reference.{BlockReference, referenceBefore}
-use Rattle.types.specs.Block.{Block}
+use Rattle.blocks.specs.Reference.{BlockReference, referenceBefore}
+use Rattle.blocks.specs.Block.{Block}
 use Rattle.types.specs.Values.{referenceOrder}
 use Rattle.types.specs.declared.Ordering.the-variants.{Less, Equal, Greater}
-use Rattle.types.proofs.References.{reference-irrefl, reference-trans}
-use Rattle.block_store.specs.Layout.{Entry, referenceOf, entries, positionOf, firstPosition, ascending, lookup}
-use Rattle.block_store.specs.Store.{blockCount, recordsOf}
-use Rattle.block_store.specs.Entry.{blockAt, laidOut, isEntry}
-use Rattle.block_store.specs.Step.{LastAt, none-last, last-at, first, Between}
-use Rattle.block_store.proofs.Chain.{lower, Ascending, least-first, ascending-ascends, next-after}
-use Rattle.block_store.proofs.Visit.{ascending-in, in-ascending, length-ascending, length-entries}
-use Rattle.block_store.proofs.Compared.{compared-less, compared-equal, compared-greater}
-use Rattle.block_store.proofs.Loops.{is-entry, block-of-entry}
-use Rattle.block_store.proofs.Lookups.{lookup-hit, lookup-miss}
-use Rattle.block_store.proofs.Search.{laid-out}
+use Rattle.blocks.proofs.References.{reference-irrefl, reference-trans}
+use Rattle.store_layout.specs.Layout.{Entry, referenceOf, entries, positionOf, firstPosition, ascending, lookup}
+use Rattle.store_layout.specs.Store.{blockCount, recordsOf}
+use Rattle.store_order.specs.Entry.{blockAt, laidOut, isEntry}
+use Rattle.store_layout.specs.Step.{first}
+use Rattle.block_store.specs.Step.{LastAt, none-last, last-at, Between}
+use Rattle.store_layout.proofs.Chain.{lower, Ascending, least-first, ascending-ascends, next-after}
+use Rattle.store_order.proofs.Visit.{ascending-in, in-ascending, length-ascending, length-entries}
+use Rattle.store_order.proofs.Compared.{compared-less, compared-equal, compared-greater}
+use Rattle.store_order.proofs.Loops.{is-entry, block-of-entry}
+use Rattle.store_order.proofs.Lookups.{lookup-hit, lookup-miss}
+use Rattle.store_order.proofs.Search.{laid-out}
 
 -- the entries passed are lower than the reference; `left` more are to come, the first at a position
 pub record Along (s : Bytes) (r : BlockReference) (at left : ℕ) : Type 0 where

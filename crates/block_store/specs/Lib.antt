@@ -1,9 +1,1 @@
-pub mod Layout
-pub mod Accept
-pub mod Store
-pub mod Entry
-pub mod Check
 pub mod Step
-pub mod Payload
-pub mod Answers
-pub mod Claims

@@ -3,22 +3,17 @@ use Prim.Native.Nat.{ℕ}
 use mathlib.Core.Path.{_≡_}
 use mathlib.Core.Bool.{true}
 use mathlib.Core.List.{List, [], _∷_, _++_}
-use mathlib.Core.Option.{Option, none, some}
 use Rattle.base.specs.Lists.{_∈_}
 use Rattle.base.specs.Le.{Bytes}
-use Rattle.types.specs.Reference.{BlockReference, referenceBefore}
-use Rattle.block_store.specs.Layout.{Entry, referenceOf, entries, positionOf, ascending}
-use Rattle.block_store.specs.Store.{recordsOf}
+use Rattle.blocks.specs.Reference.{BlockReference, referenceBefore}
+use Rattle.store_layout.specs.Layout.{Entry, referenceOf, entries, positionOf, ascending}
+use Rattle.store_layout.specs.Store.{recordsOf}
+use Rattle.store_layout.specs.Step.{first}
 
 -- the position of the last entry; zero where there is none
 pub data LastAt : List Entry → ℕ → Type 0 where
   none-last : LastAt [] 0
   last-at : (es : List Entry) (e : Entry) → LastAt (es ++ (e ∷ [])) (e .position)
-
--- the first of a list
-unfoldable pub first : List Entry → Option Entry
-first [] = none
-first (e ∷ es) = some e
 
 -- of the entries in ascending order those lower than a reference, the last of them at `below`, and those higher, the first of them at `above`
 pub record Between (s : Bytes) (r : BlockReference) (below above : ℕ) : Type 0 where

@@ -1,9 +1,9 @@
 -- The marked cards hold: evaluated, where a card is about given values. Assumes nothing.
 use mathlib.Core.Path.{refl}
 use Rattle.committee.specs.Committee.{isQuorum, isValid}
-use Rattle.types.proofs.Computing.{computing}
-use Rattle.aggregator.proofs.Computing.{computing as counting}
-use Rattle.finalization_interpreter.proofs.Computing.{computing as certifying}
+use Rattle.blocks.proofs.Computing.{computing}
+use Rattle.feeds.proofs.Computing.{computing as counting}
+use Rattle.finality.proofs.Computing.{computing as certifying}
 use Rattle.cards.specs.Marked.{MarkedCards}
 
 pub marked : MarkedCards

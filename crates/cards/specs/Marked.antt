@@ -6,12 +6,12 @@ use mathlib.Core.List.{List, [], _∷_}
 use Rattle.base.specs.Le.{Bytes}
 use Rattle.base.specs.Checks.{refusal, refused, answered}
 use Rattle.committee.specs.Committee.{Committee, totalStake, newCommittee, isQuorum, isValid}
-use Rattle.types.specs.Reference.{BlockReference, TransactionLocator, newRange}
-use Rattle.types.specs.Block.{Statement, share, accept, voteRange, Block, sharedRanges}
-use Rattle.types.specs.Verify.{statementChecks}
-use Rattle.range_map.specs.Items.{Item, voteOver}
-use Rattle.aggregator.specs.ProcessBlock.{processBlock}
-use Rattle.finalization_interpreter.specs.Voters.{certifies, isFinal}
+use Rattle.blocks.specs.Reference.{BlockReference, TransactionLocator, newRange}
+use Rattle.blocks.specs.Block.{Statement, share, accept, voteRange, Block, sharedRanges}
+use Rattle.blocks.specs.Verify.{statementChecks}
+use Rattle.pending_items.specs.Items.{Item, voteOver}
+use Rattle.feeds.specs.ProcessBlock.{processBlock}
+use Rattle.finality.specs.Voters.{certifies, isFinal}
 
 -- ---- what the cards speak of
 

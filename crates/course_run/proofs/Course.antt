@@ -7,13 +7,13 @@ use mathlib.Core.Option.{none, some}
 use lib.ListN.{length, replicate}
 use Rattle.base.specs.Checks.{refused, answered}
 use Rattle.committee.specs.Committee.{Committee}
-use Rattle.types.specs.Reference.{BlockReference, TransactionLocator}
-use Rattle.types.specs.Block.{Statement, share, accept}
-use Rattle.types.specs.Record.{blockBytes}
-use Rattle.block_store.specs.Payload.{payload}
-use Rattle.aggregator.specs.Pending.{pending}
-use Rattle.finalization_interpreter.specs.Finality.{finality, blocksOf}
-use Rattle.finalization_interpreter.specs.NextFinal.{nextFinal, finalList}
+use Rattle.blocks.specs.Reference.{BlockReference, TransactionLocator}
+use Rattle.blocks.specs.Block.{Statement, share, accept}
+use Rattle.blocks.specs.Record.{blockBytes}
+use Rattle.store_layout.specs.Payload.{payload}
+use Rattle.feeds.specs.Pending.{pending}
+use Rattle.finality.specs.Finality.{finality, blocksOf}
+use Rattle.finality.specs.NextFinal.{nextFinal, finalList}
 use Rattle.promises.specs.Feeds.{Feed, Engine, fresh, run, accepted}
 use Rattle.promises.specs.Shares.{countedVotes, announcements}
 use Rattle.promises.proofs.Computing.{computing}

@@ -5,10 +5,10 @@ use mathlib.Core.List.{List, [], _∷_}
 use lib.ListN.{length, replicate}
 use Rattle.base.specs.Checks.{answered}
 use Rattle.committee.specs.Committee.{Committee}
-use Rattle.types.specs.Reference.{BlockReference, TransactionLocator}
-use Rattle.types.specs.Block.{share, accept}
-use Rattle.aggregator.specs.Pending.{pending}
-use Rattle.finalization_interpreter.specs.Finality.{finality}
+use Rattle.blocks.specs.Reference.{BlockReference, TransactionLocator}
+use Rattle.blocks.specs.Block.{share, accept}
+use Rattle.feeds.specs.Pending.{pending}
+use Rattle.finality.specs.Finality.{finality}
 use Rattle.promises.specs.Feeds.{Feed, Engine, fresh, run, accepted}
 use Rattle.promises.specs.Shares.{announcements}
 use Rattle.promises.proofs.Computing.{computing}

@@ -7,11 +7,11 @@ use Rattle.base.specs.Le.{Bytes}
 use Rattle.base.specs.Checks.{refusal}
 use Rattle.base.proofs.Refusals.{refusal-first, refusal-then}
 use Rattle.committee.specs.Committee.{Committee}
-use Rattle.types.specs.Record.{wellFormed, blockIn}
-use Rattle.block_store.specs.Layout.{readRecord}
-use Rattle.block_store.specs.Accept.{blockChecks}
-use Rattle.block_store.specs.Store.{recordsOf, recordIn}
-use Rattle.aggregator.specs.Pending.{pendingChecks}
+use Rattle.blocks.specs.Record.{wellFormed, blockIn}
+use Rattle.store_layout.specs.Layout.{readRecord}
+use Rattle.store_layout.specs.Accept.{blockChecks}
+use Rattle.store_layout.specs.Store.{recordsOf, recordIn}
+use Rattle.feeds.specs.Pending.{pendingChecks}
 use Rattle.feeding.specs.Refusals.{ruleChecks, earlyChecks}
 use Rattle.feeding.proofs.Order.{lent-only, read-none, read-some}
 

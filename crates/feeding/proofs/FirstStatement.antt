@@ -15,17 +15,17 @@ use Rattle.base.proofs.Tests.{not-both, fails}
 use Rattle.base.proofs.Checks.{passes-first, passes-others, passes-left, passes-right}
 use Rattle.base.proofs.Passing.{passes-append}
 use Rattle.committee.specs.Committee.{Committee, broken}
-use Rattle.types.specs.Block.{eventRoom}
-use Rattle.block_store.specs.Layout.{Record, readRecord, layout}
-use Rattle.block_store.specs.Accept.{blockChecks}
-use Rattle.block_store.specs.Store.{recordsOf, storeFull, storeHolding}
-use Rattle.block_store.proofs.Store.{length-layout, readRecord-some, Holding, accepting}
-use Rattle.range_map.specs.Table.{room}
-use Rattle.range_map.proofs.Table.{itemsOf-tableOf}
-use Rattle.aggregator.specs.Feed.{Lent, processed, lentChecks, recordChecks, feedChecks, refusedFeed, acceptedFeed, feedRecord, feed}
-use Rattle.aggregator.specs.Step.{wordsOf}
-use Rattle.aggregator.proofs.Keeping.{Passed, passed, State, lent-state, Kept, feed-keeps}
-use Rattle.aggregator.proofs.Telling.{length-words}
+use Rattle.blocks.specs.Block.{eventRoom}
+use Rattle.store_layout.specs.Layout.{Record, readRecord, layout}
+use Rattle.store_layout.specs.Accept.{blockChecks}
+use Rattle.store_layout.specs.Store.{recordsOf, storeFull, storeHolding}
+use Rattle.store_layout.proofs.Store.{length-layout, readRecord-some, Holding, accepting}
+use Rattle.pending_items.specs.Table.{room}
+use Rattle.pending_items.proofs.Table.{itemsOf-tableOf}
+use Rattle.feeds.specs.Feed.{Lent, processed, lentChecks, recordChecks, feedChecks, refusedFeed, acceptedFeed, feedRecord, feed}
+use Rattle.events.specs.Step.{wordsOf}
+use Rattle.feeds.proofs.Keeping.{Passed, passed, State, lent-state, Kept, feed-keeps}
+use Rattle.events.proofs.Telling.{length-words}
 use Rattle.feeding.specs.FirstStatement.{EnoughMemory, KeepsRules, Counted, FirstApplies, here, later, Refused, FirstStatement}
 
 -- the refusal number is the first that applies

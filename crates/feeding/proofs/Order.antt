@@ -18,22 +18,24 @@ use Rattle.base.proofs.Lists.{none-of, and, every-append}
 use Rattle.base.proofs.Checks.{passes-first, passes-others, passes-left, passes-right}
 use Rattle.base.proofs.Refusals.{Numbered, zero-passes, passes-zero, refusal-first, refusal-then}
 use Rattle.committee.specs.Committee.{Committee}
-use Rattle.types.specs.Block.{Block, eventRoom}
-use Rattle.types.specs.Record.{blockOf, wellFormed, blockIn}
-use Rattle.types.proofs.Shape.{block-of}
-use Rattle.block_store.specs.Layout.{Record, readRecord, entries}
-use Rattle.block_store.specs.Accept.{blockChecks}
-use Rattle.block_store.specs.Store.{recordsOf, recordIn, storeFull, storeHolding}
-use Rattle.block_store.specs.Entry.{laidOut}
-use Rattle.range_map.specs.Table.{itemsOf, room}
-use Rattle.aggregator.specs.Pending.{pendingChecks}
-use Rattle.aggregator.specs.Feed.{Lent, processed, lentChecks, recordChecks, feedChecks, refusedFeed, acceptedFeed, feedRecord, feed}
-use Rattle.aggregator.specs.Step.{acceptChecks, wordsOf, VotesCounted, Feeding}
-use Rattle.aggregator.proofs.Lending.{lying}
+use Rattle.blocks.specs.Block.{Block, eventRoom}
+use Rattle.blocks.specs.Record.{blockOf, wellFormed, blockIn}
+use Rattle.block_record.proofs.Shape.{block-of}
+use Rattle.store_layout.specs.Layout.{Record, readRecord, entries}
+use Rattle.store_layout.specs.Accept.{blockChecks}
+use Rattle.store_layout.specs.Store.{recordsOf, recordIn, storeFull, storeHolding}
+use Rattle.store_order.specs.Entry.{laidOut}
+use Rattle.pending_items.specs.Table.{itemsOf, room}
+use Rattle.feeds.specs.Pending.{pendingChecks}
+use Rattle.feeds.specs.Feed.{Lent, processed, lentChecks, recordChecks, feedChecks, refusedFeed, acceptedFeed, feedRecord, feed}
+use Rattle.record_checks.specs.Step.{acceptChecks}
+use Rattle.events.specs.Step.{wordsOf}
+use Rattle.aggregator.specs.Step.{VotesCounted, Feeding}
+use Rattle.pending.proofs.Lending.{lying}
 use Rattle.aggregator.specs.declared.Processed.{Processed}
-use Rattle.aggregator.proofs.ProcessBlock.{events-processBlock}
-use Rattle.aggregator.proofs.Telling.{length-words}
-use Rattle.aggregator.proofs.Feeds.{accept-numbered}
+use Rattle.feeds.proofs.ProcessBlock.{events-processBlock}
+use Rattle.events.proofs.Telling.{length-words}
+use Rattle.record_checks.proofs.Feeds.{accept-numbered}
 
 -- ---- the record that is read
 

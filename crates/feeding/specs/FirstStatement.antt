@@ -8,13 +8,13 @@ use lib.ListN.{length, drop}
 use Rattle.base.specs.Le.{Bytes}
 use Rattle.base.specs.Checks.{Check, passes, refused, answered}
 use Rattle.committee.specs.Committee.{Committee, broken}
-use Rattle.types.specs.Block.{eventRoom}
-use Rattle.block_store.specs.Layout.{Record, readRecord, entries, usedBy}
-use Rattle.block_store.specs.Accept.{blockChecks}
-use Rattle.block_store.specs.Store.{recordsOf, storeInOrder, storeFull}
-use Rattle.range_map.specs.Table.{itemsOf, tableInOrder, room}
-use Rattle.aggregator.specs.ProcessBlock.{eventWords}
-use Rattle.aggregator.specs.Feed.{Lent, Fed, processed, feedChecks, feed}
+use Rattle.blocks.specs.Block.{eventRoom}
+use Rattle.store_layout.specs.Layout.{Record, readRecord, entries, usedBy}
+use Rattle.store_layout.specs.Accept.{blockChecks}
+use Rattle.store_layout.specs.Store.{recordsOf, storeInOrder, storeFull}
+use Rattle.pending_items.specs.Table.{itemsOf, tableInOrder, room}
+use Rattle.feeds.specs.ProcessBlock.{eventWords}
+use Rattle.feeds.specs.Feed.{Lent, Fed, processed, feedChecks, feed}
 
 -- "with enough lent memory": a committee, a store and a table that are in order (5, 10, 11), room for the work (12), for the events (15), in
 -- the store (13) and for the items (14)

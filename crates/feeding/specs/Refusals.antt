@@ -6,10 +6,10 @@ use mathlib.Core.Option.{Option, none, some}
 use Rattle.base.specs.Le.{Bytes}
 use Rattle.base.specs.Checks.{Check, _⇒_}
 use Rattle.committee.specs.Committee.{Committee}
-use Rattle.block_store.specs.Layout.{Record, readRecord}
-use Rattle.block_store.specs.Accept.{blockChecks}
-use Rattle.block_store.specs.Store.{recordsOf}
-use Rattle.aggregator.specs.Pending.{pendingChecks}
+use Rattle.store_layout.specs.Layout.{Record, readRecord}
+use Rattle.store_layout.specs.Accept.{blockChecks}
+use Rattle.store_layout.specs.Store.{recordsOf}
+use Rattle.feeds.specs.Pending.{pendingChecks}
 
 -- 01: "20 to 30 ascending"
 unfoldable pub ruleChecks : Committee → Bytes → Option Record → List Check

@@ -1,7 +1,7 @@
 // Feeding a record: one call over the committee and all lent memory. Follows committee.rs (`TransactionAggregator`) and block_store.rs.
 ghost use mathlib.Core.Path.{_≡_};
 ghost use Rattle.base.specs.Checks.{refusal};
-ghost use Rattle.aggregator.specs.Feed.{feed, lentOf};
+ghost use Rattle.feeds.specs.Feed.{feed, lentOf};
 ghost use Rattle.feeding.specs.Answers.{asFeedAnswer};
 ghost use Rattle.feeding.specs.Refusals.{earlyChecks};
 ghost use Rattle.feeding.specs.FirstStatement.{FirstStatement};
@@ -26,14 +26,14 @@ pub fn feed(
     ensures { λ r. ⌜ now (table .exit) ≡ feed (now (stakes .entry)) (lentOf (now (store .entry)) (now (table .entry)) (now (work .entry)) (now (events .entry))) (now (rec .entry)) .table ⌝ }
     ensures { λ r. ⌜ now (events .exit) ≡ feed (now (stakes .entry)) (lentOf (now (store .entry)) (now (table .entry)) (now (work .entry)) (now (events .entry))) (now (rec .entry)) .events ⌝ }
 {
-    let lent = aggregator::lent_refusal(stakes, store, table);
+    let lent = pending::lent_refusal(stakes, store, table);
     if lent != 0 {
         return FeedAnswer::Refused(lent);
     }
     if work.len() < table.len() {
         return FeedAnswer::Refused(12);
     }
-    let refusal = aggregator::record_refusal(stakes, store, rec, events.len());
+    let refusal = record_checks::record_refusal(stakes, store, rec, events.len());
     if refusal != 0 {
         return FeedAnswer::Refused(refusal);
     }
@@ -49,14 +49,14 @@ pub fn feed(
 pub fn early_refusal(stakes: &[u64], store: &[u8], table: &[u64], rec: &[u8]) -> u64
     ensures { λ r. ⌜ r ≡ refusal (earlyChecks (now (stakes .entry)) (now (store .entry)) (now (table .entry)) (now (rec .entry))) ⌝ }
 {
-    let lent = aggregator::lent_refusal(stakes, store, table);
+    let lent = pending::lent_refusal(stakes, store, table);
     if lent != 0 {
         return lent;
     }
-    if !types::well_formed(rec) {
+    if !block_record::well_formed(rec) {
         return 20;
     }
-    aggregator::block_refusal(stakes, store, rec)
+    record_checks::block_refusal(stakes, store, rec)
 }
 
 // The mission's first statement.

@@ -13,14 +13,14 @@ use Rattle.base.proofs.Tests.{same-test}
 use Rattle.base.proofs.Members.{map-in, countFrom-in}
 use Rattle.committee.specs.Committee.{Committee, isQuorum}
 use Rattle.committee.specs.AuthoritySet.{setOf, stakeOf}
-use Rattle.types.specs.Reference.{TransactionLocator, TransactionLocatorRange, locator, newRange, offsets, locators}
-use Rattle.types.specs.Block.{Block, author, spans}
-use Rattle.block_store.specs.Layout.{entries, ascending}
-use Rattle.block_store.specs.Store.{recordsOf}
-use Rattle.finalization_interpreter.specs.Voters.{votesFor, certifies, certifiers, isFinal}
-use Rattle.finalization_interpreter.specs.Finality.{blocksOf, certifyingPositions}
-use Rattle.finalization_interpreter.proofs.Votes.{Covered, Spanned, spanned, is-spanned}
-use Rattle.finalization_interpreter.proofs.Growing.{certifies-mono, final-votes}
+use Rattle.blocks.specs.Reference.{TransactionLocator, TransactionLocatorRange, locator, newRange, offsets, locators}
+use Rattle.blocks.specs.Block.{Block, author, spans}
+use Rattle.store_layout.specs.Layout.{entries, ascending}
+use Rattle.store_layout.specs.Store.{recordsOf}
+use Rattle.finality.specs.Voters.{votesFor, certifies, certifiers, isFinal}
+use Rattle.finality.specs.Finality.{blocksOf, certifyingPositions}
+use Rattle.finality.proofs.Votes.{Covered, Spanned, spanned, is-spanned}
+use Rattle.finality.proofs.Growing.{certifies-mono, final-votes}
 use Rattle.final_list.specs.Stretches.{FinalStretch, stretchLocators, edges, stretchEnd, stretchAt}
 use Rattle.final_list.specs.Claims.{Alike}
 use Rattle.final_list.proofs.Edges.{Nearest, nearest-is, edge-start, edge-end}

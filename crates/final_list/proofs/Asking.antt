@@ -9,9 +9,9 @@ use Rattle.base.specs.Lists.{allOf}
 use Rattle.base.specs.Le.{Bytes}
 use Rattle.base.specs.Checks.{refusal, passes, Answer, refused, answered, checked}
 use Rattle.committee.specs.Committee.{Committee, broken}
-use Rattle.types.specs.Reference.{TransactionLocator}
-use Rattle.block_store.specs.Store.{storeInOrder}
-use Rattle.finalization_interpreter.specs.NextFinal.{nextFinalChecks}
+use Rattle.blocks.specs.Reference.{TransactionLocator}
+use Rattle.store_layout.specs.Store.{storeInOrder}
+use Rattle.finality.specs.NextFinal.{nextFinalChecks}
 use Rattle.final_list.specs.Stretches.{stretches, Given, givenAfter, wordsAfter, finalStretches}
 
 module _ (c : Committee) (s : Bytes) (out : List ℕ) (after : Option TransactionLocator) where

@@ -13,13 +13,13 @@ use Rattle.base.specs.Checks.{Answer, answered}
 use Rattle.base.proofs.Tests.{not-both}
 use Rattle.base.proofs.Members.{in-empty, in-cases}
 use Rattle.committee.specs.Committee.{Committee, broken}
-use Rattle.types.specs.Reference.{BlockReference, TransactionLocator, locator, newRange, offsets, locators}
-use Rattle.block_store.specs.Store.{storeInOrder}
-use Rattle.finalization_interpreter.specs.Voters.{isFinal}
-use Rattle.finalization_interpreter.specs.Finality.{blocksOf}
-use Rattle.finalization_interpreter.specs.NextFinal.{leastFinal, nextFinal, AskedOn, done, onward}
-use Rattle.finalization_interpreter.proofs.Onward.{just-after}
-use Rattle.finalization_interpreter.proofs.Asked.{next-answers}
+use Rattle.blocks.specs.Reference.{BlockReference, TransactionLocator, locator, newRange, offsets, locators}
+use Rattle.store_layout.specs.Store.{storeInOrder}
+use Rattle.finality.specs.Voters.{isFinal}
+use Rattle.finality.specs.Finality.{blocksOf}
+use Rattle.finality.specs.NextFinal.{leastFinal, nextFinal, AskedOn, done, onward}
+use Rattle.next_final.proofs.Onward.{just-after}
+use Rattle.finality.proofs.Asked.{next-answers}
 use Rattle.final_list.specs.Stretches.{FinalStretch, stretchLocators, lastLocator, stretchEnd, stretchAt, fromFound, stretches, reached, moreFollow}
 use Rattle.final_list.specs.Claims.{Alike, StretchesAlike, Asked, StretchesAsked}
 use Rattle.final_list.proofs.Alike.{final-before-end, final-same, all-alike}

@@ -16,14 +16,14 @@ use Rattle.base.specs.Le.{Bytes}
 use Rattle.base.proofs.Lists.{append-nil}
 use Rattle.base.proofs.Members.{in-empty, in-cases, in-first, in-map, map-in, in-flatten, flatten-in}
 use Rattle.committee.specs.Committee.{Committee}
-use Rattle.types.specs.Reference.{BlockReference, TransactionLocator, TransactionLocatorRange, locator, sameReference}
-use Rattle.types.specs.Block.{Block, spans, spansFrom}
-use Rattle.types.specs.Record.{noStatement}
-use Rattle.types.proofs.References.{same-reference}
-use Rattle.block_store.specs.Entry.{blockAt}
-use Rattle.finalization_interpreter.specs.Finality.{blocksOf}
-use Rattle.finalization_interpreter.specs.Walk.{spanOf, Sorted}
-use Rattle.finalization_interpreter.proofs.Reading.{spans-on, spans-end}
+use Rattle.blocks.specs.Reference.{BlockReference, TransactionLocator, TransactionLocatorRange, locator, sameReference}
+use Rattle.blocks.specs.Block.{Block, spans, spansFrom}
+use Rattle.blocks.specs.Record.{noStatement}
+use Rattle.blocks.proofs.References.{same-reference}
+use Rattle.store_order.specs.Entry.{blockAt}
+use Rattle.finality.specs.Finality.{blocksOf}
+use Rattle.block_votes.specs.Walk.{spanOf, Sorted}
+use Rattle.block_votes.proofs.Reading.{spans-on, spans-end}
 use Rattle.finalization_interpreter.proofs.Certify.{position-block, block-position}
 use Rattle.final_list.specs.Stretches.{edgesOf, edges, nearer, nearest}
 use Rattle.final_list.specs.Step.{edgesIn}

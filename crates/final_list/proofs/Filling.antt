@@ -13,12 +13,12 @@ use Rattle.base.specs.Le.{Bytes}
 use Rattle.base.proofs.Lists.{append-nil}
 use Rattle.committee.specs.Committee.{Committee, Stake}
 use Rattle.committee.specs.AuthoritySet.{setOf, stakeOf}
-use Rattle.types.specs.Reference.{TransactionLocator}
-use Rattle.types.specs.Block.{Block, author}
-use Rattle.finalization_interpreter.specs.Voters.{certifiers, isFinal}
-use Rattle.finalization_interpreter.specs.Finality.{blocksOf, certifyingPositions}
-use Rattle.finalization_interpreter.specs.NextFinal.{LeastFinal, least, nothing, leastFinal}
-use Rattle.finalization_interpreter.proofs.Candidates.{least-final}
+use Rattle.blocks.specs.Reference.{TransactionLocator}
+use Rattle.blocks.specs.Block.{Block, author}
+use Rattle.finality.specs.Voters.{certifiers, isFinal}
+use Rattle.finality.specs.Finality.{blocksOf, certifyingPositions}
+use Rattle.finality.specs.NextFinal.{LeastFinal, least, nothing, leastFinal}
+use Rattle.finality.proofs.Candidates.{least-final}
 use Rattle.finalization_interpreter.proofs.Certify.{written-more}
 use Rattle.final_list.specs.Stretches.{FinalStretch, lastLocator, stretchEnd, stretchAt, fromFound, stretches, reached, moreFollow, digestWords, referenceWords, stretchWords, Given, givenAfter, wordsAfter}
 use Rattle.final_list.specs.Step.{stretchOf, Filled}

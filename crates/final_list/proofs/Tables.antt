@@ -12,15 +12,16 @@ use Rattle.base.specs.Le.{Bytes}
 use Rattle.base.proofs.Lists.{keep-append}
 use Rattle.base.proofs.Members.{in-empty, in-map, map-in, in-flatten, flatten-in, in-keep, keep-in, in-countFrom, countFrom-in}
 use Rattle.committee.specs.Committee.{Committee}
-use Rattle.types.specs.Reference.{BlockReference, TransactionLocator, TransactionLocatorRange, locator}
-use Rattle.types.specs.Block.{Block, spans}
-use Rattle.block_store.specs.Entry.{blockAt}
-use Rattle.finalization_interpreter.specs.Finality.{blocksOf}
-use Rattle.finalization_interpreter.specs.NextFinal.{justAfter, candidates, leastLocator}
-use Rattle.finalization_interpreter.specs.Walk.{Sorted, blockAtPlace, startOf, lesserOf}
-use Rattle.finalization_interpreter.proofs.Sorting.{some-committee, place-stored}
-use Rattle.finalization_interpreter.proofs.Minimum.{lesser-none, lesser-assoc, least-append}
-use Rattle.finalization_interpreter.proofs.Starts.{least-same}
+use Rattle.blocks.specs.Reference.{BlockReference, TransactionLocator, TransactionLocatorRange, locator}
+use Rattle.blocks.specs.Block.{Block, spans}
+use Rattle.store_order.specs.Entry.{blockAt}
+use Rattle.finality.specs.Finality.{blocksOf}
+use Rattle.finality.specs.NextFinal.{justAfter, candidates, leastLocator}
+use Rattle.block_votes.specs.Walk.{Sorted, blockAtPlace}
+use Rattle.vote_starts.specs.Walk.{startOf, lesserOf}
+use Rattle.block_votes.proofs.Sorting.{some-committee, place-stored}
+use Rattle.vote_starts.proofs.Minimum.{lesser-none, lesser-assoc, least-append}
+use Rattle.vote_starts.proofs.Starts.{least-same}
 use Rattle.finalization_interpreter.proofs.Certify.{block-position}
 use Rattle.final_walk.specs.Table.{rangeAt, placeAt, Tabled}
 use Rattle.final_list.specs.Stretches.{edgesOf, edges, nearest, stretchEnd}

@@ -7,7 +7,7 @@ use lib.ListN.{length, set, take, drop, length-reverse}
 use lib.Seq.{sets, take-at, drop-at, drop-drop, take-length}
 use Rattle.base.specs.Le.{leNumber, leBytes}
 use Rattle.base.proofs.Le.{length-leBytes, leNumber-leBytes, sets-append}
-use Rattle.types.specs.Reference.{BlockReference}
+use Rattle.blocks.specs.Reference.{BlockReference}
 use Rattle.types.specs.Values.{beBytes, digestBytes}
 use Rattle.types.specs.declared.BlockDigest as digest
 use Rattle.types.proofs.Words.{Words}

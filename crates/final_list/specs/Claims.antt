@@ -10,12 +10,12 @@ use Rattle.base.specs.Lists.{_∈_}
 use Rattle.base.specs.Le.{Bytes}
 use Rattle.committee.specs.Committee.{Committee, broken}
 use Rattle.committee.specs.AuthoritySet.{setOf, stakeOf}
-use Rattle.types.specs.Reference.{TransactionLocator, locator}
-use Rattle.types.specs.Block.{author}
-use Rattle.block_store.specs.Store.{storeInOrder}
-use Rattle.finalization_interpreter.specs.Voters.{certifiers, isFinal}
-use Rattle.finalization_interpreter.specs.Finality.{blocksOf, certifyingPositions}
-use Rattle.finalization_interpreter.specs.NextFinal.{AskedOn}
+use Rattle.blocks.specs.Reference.{TransactionLocator, locator}
+use Rattle.blocks.specs.Block.{author}
+use Rattle.store_layout.specs.Store.{storeInOrder}
+use Rattle.finality.specs.Voters.{certifiers, isFinal}
+use Rattle.finality.specs.Finality.{blocksOf, certifyingPositions}
+use Rattle.finality.specs.NextFinal.{AskedOn}
 use Rattle.final_list.specs.Stretches.{FinalStretch, stretchLocators, stretches, reached, moreFollow}
 
 -- a locator of a stretch is final, with the certifying blocks of the first one, as many as told and with the stake told

@@ -7,7 +7,7 @@ use lib.ListN.{length, drop}
 use Rattle.base.specs.Lists.{countFrom}
 use Rattle.base.specs.Le.{Bytes}
 use Rattle.committee.specs.Committee.{Committee, Stake}
-use Rattle.types.specs.Reference.{BlockReference, TransactionLocator, TransactionLocatorRange}
+use Rattle.blocks.specs.Reference.{BlockReference, TransactionLocator, TransactionLocatorRange}
 use Rattle.types.specs.Values.{asLocator}
 use Rattle.final_walk.specs.Table.{rangeAt}
 use Rattle.final_walk.specs.Places.{Certify}

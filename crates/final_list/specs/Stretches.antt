@@ -10,11 +10,11 @@ use Rattle.base.specs.Le.{Bytes, leNumber}
 use Rattle.base.specs.Checks.{passes, Answer, checked}
 use Rattle.committee.specs.Committee.{Committee, Stake}
 use Rattle.committee.specs.AuthoritySet.{setOf, stakeOf}
-use Rattle.types.specs.Reference.{BlockReference, TransactionLocator, TransactionLocatorRange, locator, newRange, sameReference, locators}
-use Rattle.types.specs.Block.{Block, author, spans}
-use Rattle.finalization_interpreter.specs.Voters.{certifiers}
-use Rattle.finalization_interpreter.specs.Finality.{blocksOf, certifyingPositions}
-use Rattle.finalization_interpreter.specs.NextFinal.{leastFinal, nextFinalChecks}
+use Rattle.blocks.specs.Reference.{BlockReference, TransactionLocator, TransactionLocatorRange, locator, newRange, sameReference, locators}
+use Rattle.blocks.specs.Block.{Block, author, spans}
+use Rattle.finality.specs.Voters.{certifiers}
+use Rattle.finality.specs.Finality.{blocksOf, certifyingPositions}
+use Rattle.finality.specs.NextFinal.{leastFinal, nextFinalChecks}
 
 -- final locators of one block, from the first offset to the end (excluded), with the number of certifying blocks and the stake of their
 -- authors, which are the same for each of them

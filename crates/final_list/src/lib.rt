@@ -1,13 +1,13 @@
 // The final list in bulk: stretches of final locators that have the same certifying blocks.
+use block_record::BaseStatement;
 use committee::NewCommittee;
 use committee::Stake;
 use final_walk::Tabling;
 use finalization_interpreter::Certifiers;
-use finalization_interpreter::MaybeLocator;
-use types::BaseStatement;
 use types::BlockReference;
 use types::TransactionLocator;
 use types::TransactionLocatorRange;
+use vote_starts::MaybeLocator;
 ghost use mathlib.Core.Path.{_≡_};
 ghost use mathlib.Core.Bool.{true, false, _&&_};
 ghost use mathlib.Core.List.{map};
@@ -19,15 +19,17 @@ ghost use Rattle.base.specs.Lists.{keep};
 ghost use Rattle.base.specs.Le.{Bytes};
 ghost use Rattle.base.specs.Checks.{answered};
 ghost use Rattle.committee.specs.Committee.{totalStake};
-ghost use Rattle.types.specs.Reference.{locator as newLocator, oneRange};
-ghost use Rattle.types.specs.Block.{spans};
-ghost use Rattle.types.specs.Record.{wellFormed, blockIn};
-ghost use Rattle.types.specs.Values.{asReference, asLocator, asRange, asStatement};
-ghost use Rattle.finalization_interpreter.specs.Voters.{isFinal};
-ghost use Rattle.finalization_interpreter.specs.Finality.{blocksOf};
-ghost use Rattle.finalization_interpreter.specs.NextFinal.{isAfter, leastLocator, candidates, leastFinal};
-ghost use Rattle.finalization_interpreter.specs.Answers.{asMaybe};
-ghost use Rattle.finalization_interpreter.specs.Walk.{spanOf, startOf, Sorted, SortedStore};
+ghost use Rattle.blocks.specs.Reference.{locator as newLocator, oneRange};
+ghost use Rattle.blocks.specs.Block.{spans};
+ghost use Rattle.blocks.specs.Record.{wellFormed, blockIn};
+ghost use Rattle.types.specs.Values.{asReference, asLocator, asRange};
+ghost use Rattle.block_record.specs.Values.{asStatement};
+ghost use Rattle.finality.specs.Voters.{isFinal};
+ghost use Rattle.finality.specs.Finality.{blocksOf};
+ghost use Rattle.finality.specs.NextFinal.{isAfter, leastLocator, candidates, leastFinal};
+ghost use Rattle.vote_starts.specs.Answers.{asMaybe};
+ghost use Rattle.block_votes.specs.Walk.{spanOf, Sorted, SortedStore};
+ghost use Rattle.vote_starts.specs.Walk.{startOf};
 ghost use Rattle.final_walk.specs.Table.{Tabled};
 ghost use Rattle.final_walk.specs.Places.{Placed};
 ghost use Rattle.final_list.specs.Stretches.{edgesOf, edges, nearer, nearest, stretchEnd, stretchAt, stretches, referenceWords, stretchWords, givenAfter, wordsAfter, finalStretches};
@@ -58,7 +60,7 @@ fn one_edges(block: BlockReference, offset: u64, best: u64, voted: TransactionLo
     requires { ⌜ offset < 18446744073709551615 ⌝ }
     ensures { λ r. ⌜ r ≡ nearest offset best (edgesOf (asReference block) (oneRange (asLocator voted))) ⌝ }
 {
-    if !finalization_interpreter::same_reference(voted.block, block) {
+    if !block_votes::same_reference(voted.block, block) {
         return best;
     }
     let start = voted.offset;
@@ -74,7 +76,7 @@ fn one_edges(block: BlockReference, offset: u64, best: u64, voted: TransactionLo
 fn range_edges(block: BlockReference, offset: u64, best: u64, range: TransactionLocatorRange) -> u64
     ensures { λ r. ⌜ r ≡ nearest offset best (edgesOf (asReference block) (asRange range)) ⌝ }
 {
-    if !finalization_interpreter::same_reference(range.block, block) {
+    if !block_votes::same_reference(range.block, block) {
         return best;
     }
     let near = nearer(offset, best, range.offset_start_inclusive);
@@ -115,12 +117,12 @@ fn record_edges(rec: &[u8], block: BlockReference, offset: u64, best: u64) -> u6
     requires { ⌜ (wellFormed (now rec) ≡ true) × (offset < 18446744073709551615) ⌝ }
     ensures { λ r. ⌜ r ≡ nearest offset best (edgesIn (asReference block) (spans (blockIn (now (rec .entry))))) ⌝ }
 {
-    let count = types::statement_count(rec);
-    let of = types::reference(rec);
-    let mut cursor = types::first_statement(rec);
+    let count = block_record::statement_count(rec);
+    let of = block_record::reference(rec);
+    let mut cursor = block_record::first_statement(rec);
     let mut near = best;
     while cursor.index < count {
-        let next = types::next_statement(rec, cursor);
+        let next = block_record::next_statement(rec, cursor);
         let statement = next.statement;
         near = statement_edges(block, offset, near, of, cursor.index as u64, statement);
         cursor = next.next;
@@ -139,7 +141,7 @@ fn stretch_end(store: &[u8], order: &[u64], locator: TransactionLocator) -> u64
     while k < order.len() {
         let at = order[k] as usize;
         let from = at + 8;
-        let end = block_store::record_end(store, at);
+        let end = store_order::record_end(store, at);
         near = record_edges(&store[from..end], block, locator.offset, near);
         k += 1;
     }
@@ -245,7 +247,7 @@ fn fill_stretches(
     let mut n: usize = 0;
     let mut last = after;
     loop {
-        let found = finalization_interpreter::next_final_after(stakes, total, store, order, last);
+        let found = next_final::next_final_after(stakes, total, store, order, last);
         let MaybeLocator::Locator(l) = found else {
             return StretchesAnswer::Last(n as u64);
         };
@@ -311,7 +313,7 @@ fn table_start(votes: &[u64], m: usize, last: MaybeLocator) -> MaybeLocator
     let mut i: usize = 0;
     while i < m {
         let range = final_walk::read_vote(votes, i);
-        least = finalization_interpreter::lesser(least, last, start_of(range));
+        least = vote_starts::lesser(least, last, start_of(range));
         i += 1;
     }
     least
@@ -494,11 +496,11 @@ pub fn final_stretches(
     let NewCommittee::Taken(total) = committee::new_committee(stakes) else {
         return StretchesAnswer::Refused(5);
     };
-    if !block_store::in_order(stakes, store) {
+    if !store_order::in_order(stakes, store) {
         return StretchesAnswer::Refused(10);
     }
     let mut order = [0u64; 1024];
-    let count = finalization_interpreter::sorted_positions(store, &mut order);
+    let count = block_votes::sorted_positions(store, &mut order);
     fill(stakes, total, store, &order[..count], out, after)
 }
 

@@ -17,21 +17,21 @@ use Rattle.base.proofs.Lists.{every-in}
 use Rattle.base.proofs.Members.{in-empty, in-left, in-right, in-flatten, in-map}
 use Rattle.base.proofs.Checks.{passes-none}
 use Rattle.committee.specs.Committee.{Committee}
-use Rattle.types.specs.Reference.{TransactionLocator, TransactionLocatorRange, locator, newRange, oneRange}
-use Rattle.types.specs.Block.{Statement, share, accept, reject, voteRange, Block, votedRange, spans}
-use Rattle.types.specs.Verify.{headChecks, includeChecks, statementChecks, bodyChecks}
-use Rattle.types.proofs.Spans.{Span, ofShare, ofVote, span-of}
-use Rattle.types.proofs.Records.{StatementFits, BlockFits}
-use Rattle.block_store.specs.Layout.{Record}
-use Rattle.block_store.specs.Store.{recordsOf, storeInOrder}
-use Rattle.block_store.specs.Accept.{blockChecks, allAccepted}
-use Rattle.block_store.proofs.Store.{in-order}
-use Rattle.block_store.proofs.Accepted.{blocks}
-use Rattle.finalization_interpreter.specs.Voters.{isFinal}
-use Rattle.finalization_interpreter.specs.Finality.{blocksOf}
-use Rattle.finalization_interpreter.proofs.Votes.{spanned}
-use Rattle.finalization_interpreter.proofs.Growing.{final-votes}
-use Rattle.finalization_interpreter.proofs.Onward.{share-index, block-fits}
+use Rattle.blocks.specs.Reference.{TransactionLocator, TransactionLocatorRange, locator, newRange, oneRange}
+use Rattle.blocks.specs.Block.{Statement, share, accept, reject, voteRange, Block, votedRange, spans}
+use Rattle.blocks.specs.Verify.{headChecks, includeChecks, statementChecks, bodyChecks}
+use Rattle.blocks.proofs.Spans.{Span, ofShare, ofVote, span-of}
+use Rattle.blocks.proofs.Records.{StatementFits, BlockFits}
+use Rattle.store_layout.specs.Layout.{Record}
+use Rattle.store_layout.specs.Store.{recordsOf, storeInOrder}
+use Rattle.store_layout.specs.Accept.{blockChecks, allAccepted}
+use Rattle.store_layout.proofs.Store.{in-order}
+use Rattle.store_layout.proofs.Accepted.{blocks}
+use Rattle.finality.specs.Voters.{isFinal}
+use Rattle.finality.specs.Finality.{blocksOf}
+use Rattle.finality.proofs.Votes.{spanned}
+use Rattle.finality.proofs.Growing.{final-votes}
+use Rattle.next_final.proofs.Onward.{share-index, block-fits}
 
 -- ---- 28 of an accepted block
 

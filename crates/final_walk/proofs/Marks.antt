@@ -11,9 +11,9 @@ use lib.Seq.{getD-set-same, getD-set-other}
 use Rattle.base.specs.Le.{Bytes}
 use Rattle.base.proofs.Tests.{not-both}
 use Rattle.committee.specs.AuthoritySet.{AuthoritySet, united}
-use Rattle.types.specs.Reference.{TransactionLocator, covers}
-use Rattle.types.specs.Record.{noReference}
-use Rattle.finalization_interpreter.specs.Walk.{blockAtPlace}
+use Rattle.blocks.specs.Reference.{TransactionLocator, covers}
+use Rattle.blocks.specs.Record.{noReference}
+use Rattle.block_votes.specs.Walk.{blockAtPlace}
 use Rattle.final_walk.specs.Table.{placeAt, rangeAt}
 use Rattle.final_walk.specs.Places.{IsPlace, includesBefore, Noted, Placed, votersIn, gathered, Marks}
 

@@ -13,15 +13,16 @@ use Rattle.base.specs.Le.{Bytes}
 use Rattle.base.proofs.Le.{getD-sets-below}
 use Rattle.base.proofs.Index.{getD-sets-in}
 use Rattle.base.proofs.Members.{in-empty, in-cases, in-left, in-right, in-append}
-use Rattle.types.specs.Reference.{BlockReference, TransactionLocatorRange, newRange}
-use Rattle.types.specs.Block.{Block, isShare, spansFrom, spans}
-use Rattle.types.specs.Record.{noStatement}
-use Rattle.types.specs.Values.{asReference, asRange, asStatement, digestBytes}
+use Rattle.blocks.specs.Reference.{BlockReference, TransactionLocatorRange, newRange}
+use Rattle.blocks.specs.Block.{Block, isShare, spansFrom, spans}
+use Rattle.blocks.specs.Record.{noStatement}
+use Rattle.types.specs.Values.{asReference, asRange, digestBytes}
+use Rattle.block_record.specs.Values.{asStatement}
 use Rattle.types.specs.declared.TransactionLocatorRange as ranges
-use Rattle.types.specs.declared.BaseStatement.{BaseStatement}
-use Rattle.types.specs.declared.BaseStatement.the-variants.{Share, Accept, Reject, RejectFor, VoteRange}
-use Rattle.finalization_interpreter.specs.Walk.{spanOf, blockAtPlace}
-use Rattle.finalization_interpreter.proofs.Reading.{spans-on, spans-end}
+use Rattle.block_record.specs.declared.BaseStatement.{BaseStatement}
+use Rattle.block_record.specs.declared.BaseStatement.the-variants.{Share, Accept, Reject, RejectFor, VoteRange}
+use Rattle.block_votes.specs.Walk.{spanOf, blockAtPlace}
+use Rattle.block_votes.proofs.Reading.{spans-on, spans-end}
 use Rattle.final_walk.specs.Table.{voteWords, placeAt, rangeAt, EndsFit, Held, Recorded, Tabled}
 
 -- ---- one vote written

@@ -17,14 +17,14 @@ use Rattle.base.proofs.Members.{any-in, in-any}
 use Rattle.committee.specs.Committee.{Committee, isQuorum}
 use Rattle.committee.specs.AuthoritySet.{AuthoritySet, nobody, inserted, united, stakeOf}
 use Rattle.committee.proofs.Words.{united-assoc, united-nobody}
-use Rattle.types.specs.Reference.{BlockReference, TransactionLocator, TransactionLocatorRange, covers}
-use Rattle.types.specs.Block.{Block, author, spans}
-use Rattle.types.specs.Record.{noReference}
-use Rattle.block_store.specs.Entry.{blockAt}
-use Rattle.finalization_interpreter.specs.Voters.{votesFor, ownVote, unions, voters, certifies}
-use Rattle.finalization_interpreter.specs.Finality.{blocksOf}
-use Rattle.finalization_interpreter.specs.Walk.{SortedStore, blockAtPlace, votersAt}
-use Rattle.finalization_interpreter.proofs.Sorting.{place-voters, include-lower}
+use Rattle.blocks.specs.Reference.{BlockReference, TransactionLocator, TransactionLocatorRange, covers}
+use Rattle.blocks.specs.Block.{Block, author, spans}
+use Rattle.blocks.specs.Record.{noReference}
+use Rattle.store_order.specs.Entry.{blockAt}
+use Rattle.finality.specs.Voters.{votesFor, ownVote, unions, voters, certifies}
+use Rattle.finality.specs.Finality.{blocksOf}
+use Rattle.block_votes.specs.Walk.{SortedStore, blockAtPlace, votersAt}
+use Rattle.block_votes.proofs.Sorting.{place-voters, include-lower}
 use Rattle.finalization_interpreter.proofs.Certify.{certifiesAt, found, found-yes, found-no, Authors, authors-none, authors-more}
 use Rattle.final_walk.specs.Table.{placeAt, rangeAt, Tabled}
 use Rattle.final_walk.specs.Places.{IsPlace, includesBefore, Placed, votersIn, withVoters, gathered, Sure, Marks, Owned}

@@ -9,13 +9,13 @@ use Rattle.base.specs.Lists.{pick}
 use Rattle.base.specs.Le.{Bytes}
 use Rattle.committee.specs.Committee.{Committee, AuthorityIndex, isQuorum}
 use Rattle.committee.specs.AuthoritySet.{AuthoritySet, nobody, inserted, united, setOf, stakeOf}
-use Rattle.types.specs.Reference.{BlockReference, TransactionLocator, covers}
-use Rattle.types.specs.Record.{noReference}
-use Rattle.types.specs.Block.{author}
-use Rattle.finalization_interpreter.specs.Voters.{votesFor, certifiers}
-use Rattle.finalization_interpreter.specs.Finality.{blocksOf, certifyingPositions}
+use Rattle.blocks.specs.Reference.{BlockReference, TransactionLocator, covers}
+use Rattle.blocks.specs.Record.{noReference}
+use Rattle.blocks.specs.Block.{author}
+use Rattle.finality.specs.Voters.{votesFor, certifiers}
+use Rattle.finality.specs.Finality.{blocksOf, certifyingPositions}
 use Rattle.finalization_interpreter.specs.declared.Certifiers as found
-use Rattle.finalization_interpreter.specs.Walk.{blockAtPlace}
+use Rattle.block_votes.specs.Walk.{blockAtPlace}
 use Rattle.final_walk.specs.Table.{placeAt, rangeAt}
 use Rattle.final_walk.specs.declared.Checked as checked
 

@@ -6,11 +6,11 @@ use mathlib.Core.List.{List, [], _∷_}
 use lib.ListN.{length, getD, drop}
 use Rattle.base.specs.Lists.{_∈_}
 use Rattle.base.specs.Le.{Bytes}
-use Rattle.types.specs.Reference.{TransactionLocatorRange, newRange}
-use Rattle.types.specs.Block.{Block, spansFrom, spans}
+use Rattle.blocks.specs.Reference.{TransactionLocatorRange, newRange}
+use Rattle.blocks.specs.Block.{Block, spansFrom, spans}
 use Rattle.types.specs.Values.{digestBytes}
 use Rattle.types.specs.declared.TransactionLocatorRange as ranges
-use Rattle.finalization_interpreter.specs.Walk.{blockAtPlace}
+use Rattle.block_votes.specs.Walk.{blockAtPlace}
 use Rattle.final_walk.specs.declared.Vote.{Vote}
 use Rattle.final_walk.specs.declared.Vote.the-variants.{Range, Nothing}
 use Rattle.final_walk.specs.declared.Tabling.{Tabling}

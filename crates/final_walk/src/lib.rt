@@ -1,15 +1,15 @@
 // Finality of one locator after another: the votes and the includes of a store read once, then a walk over words.
+use block_record::BaseStatement;
 use committee::AuthorityIndex;
 use committee::AuthoritySet;
 use committee::RoundNumber;
 use committee::Stake;
 use finalization_interpreter::Certifiers;
-use finalization_interpreter::MaybeLocator;
-use types::BaseStatement;
 use types::BlockDigest;
 use types::BlockReference;
 use types::TransactionLocator;
 use types::TransactionLocatorRange;
+use vote_starts::MaybeLocator;
 ghost use mathlib.Core.Path.{_≡_};
 ghost use mathlib.Core.Bool.{true, false, not, _&&_};
 ghost use Prim.Native.Nat.{ℕ, _+_, _*_, _≤_, _<_};
@@ -20,11 +20,12 @@ ghost use Rattle.base.specs.Lists.{pick};
 ghost use Rattle.base.specs.Le.{Bytes};
 ghost use Rattle.committee.specs.Committee.{broken, totalStake};
 ghost use Rattle.committee.specs.AuthoritySet.{nobody, inserted, united};
-ghost use Rattle.types.specs.Block.{author, spans};
-ghost use Rattle.types.specs.Record.{wellFormed, blockIn};
-ghost use Rattle.types.specs.Values.{asReference, asLocator, asRange, asStatement};
-ghost use Rattle.block_store.specs.Entry.{blockAt, isEntry};
-ghost use Rattle.finalization_interpreter.specs.Walk.{spanOf, Sorted, SortedStore, blockAtPlace};
+ghost use Rattle.blocks.specs.Block.{author, spans};
+ghost use Rattle.blocks.specs.Record.{wellFormed, blockIn};
+ghost use Rattle.types.specs.Values.{asReference, asLocator, asRange};
+ghost use Rattle.block_record.specs.Values.{asStatement};
+ghost use Rattle.store_order.specs.Entry.{blockAt, isEntry};
+ghost use Rattle.block_votes.specs.Walk.{spanOf, Sorted, SortedStore, blockAtPlace};
 ghost use Rattle.final_walk.specs.Table.{voteWords, placeAt, rangeAt, votedBy, EndsFit, RecordedBy, Tabled, TabledBy};
 ghost use Rattle.final_walk.specs.Places.{Noted, Placed, withVoters, gathered, Sure, Marks, Certify, CertifyMarked};
 
@@ -103,12 +104,12 @@ fn table_record(rec: &[u8], k: usize, votes: &mut [u64], m: usize) -> Tabling
     requires { ⌜ ((wellFormed (now rec) ≡ true) × EndsFit (spans (blockIn (now rec)))) × (9 * m ≤ length (now votes)) ⌝ }
     ensures { λ r. ⌜ RecordedBy (blockIn (now (rec .entry))) k (now (votes .entry)) (now (votes .exit)) m r ⌝ }
 {
-    let count = types::statement_count(rec);
-    let block = types::reference(rec);
-    let mut cursor = types::first_statement(rec);
+    let count = block_record::statement_count(rec);
+    let block = block_record::reference(rec);
+    let mut cursor = block_record::first_statement(rec);
     let mut n = m;
     while cursor.index < count {
-        let next = types::next_statement(rec, cursor);
+        let next = block_record::next_statement(rec, cursor);
         let statement = next.statement;
         let vote = vote_of(block, cursor.index as u64, statement);
         cursor = next.next;
@@ -134,7 +135,7 @@ pub fn table_votes(stakes: &[u64], store: &[u8], order: &[u64], votes: &mut [u64
     while k < order.len() {
         let at = order[k] as usize;
         let from = at + 8;
-        let end = block_store::record_end(store, at);
+        let end = store_order::record_end(store, at);
         let tabled = table_record(&store[from..end], k, votes, m);
         let Tabling::Now(n) = tabled else {
             return Tabling::Full;
@@ -162,8 +163,8 @@ fn note_includes(
     let at = order[k] as usize;
     let mut j: usize = 0;
     while j < count {
-        let include = finalization_interpreter::include_at(store, at, j);
-        places[from + j] = finalization_interpreter::place_of(store, order, include) as u64;
+        let include = block_votes::include_at(store, at, j);
+        places[from + j] = block_votes::place_of(store, order, include) as u64;
         j += 1;
     }
 }
@@ -176,7 +177,7 @@ pub fn note_places(store: &[u8], order: &[u64], places: &mut [u64]) -> bool
     let mut i: usize = 0;
     let mut k: usize = 0;
     while k < order.len() {
-        let count = finalization_interpreter::include_count_at(store, order[k] as usize);
+        let count = block_votes::include_count_at(store, order[k] as usize);
         if places.len() - i < count {
             return false;
         }
@@ -220,7 +221,7 @@ fn gather(memo: &[u64], places: &[u64], from: usize, count: usize) -> AuthorityS
         let p = places[from + j] as usize;
         let low = memo[2 * p];
         let high = memo[2 * p + 1];
-        voters = finalization_interpreter::union(voters, AuthoritySet { low, high });
+        voters = voters::union(voters, AuthoritySet { low, high });
         j += 1;
     }
     voters
@@ -232,11 +233,11 @@ fn with_own(store: &[u8], at: usize, mark: u64, below: AuthoritySet) -> Authorit
     ensures { λ r. ⌜ r ≡ united (pick (eqb mark 1) (inserted nobody (author (blockAt (now (store .entry)) at))) nobody) below ⌝ }
 {
     if mark != 1 {
-        return finalization_interpreter::union(AuthoritySet::new(), below);
+        return voters::union(AuthoritySet::new(), below);
     }
-    let block = block_store::reference_at(store, at);
+    let block = store_order::reference_at(store, at);
     let own = AuthoritySet::new().insert(block.authority);
-    finalization_interpreter::union(own, below)
+    voters::union(own, below)
 }
 
 // Remembers the voters of the block at a place.
@@ -253,7 +254,7 @@ fn certifies_at(store: &[u8], at: usize, quorum: bool) -> bool
     requires { ⌜ isEntry (now store) at ≡ true ⌝ }
     ensures { λ r. ⌜ r ≡ not (blockAt (now (store .entry)) at .marked) && quorum ⌝ }
 {
-    if finalization_interpreter::epoch_changed_at(store, at) {
+    if block_votes::epoch_changed_at(store, at) {
         return false;
     }
     quorum
@@ -269,7 +270,7 @@ fn mark_votes(votes: &[u64], m: usize, locator: TransactionLocator, own: &mut [u
         let range = read_vote(votes, i);
         let k = votes[9 * i] as usize;
         i += 1;
-        if !finalization_interpreter::covers(range, locator) {
+        if !block_votes::covers(range, locator) {
             continue;
         }
         own[k] = 1;
@@ -298,7 +299,7 @@ fn walk(
     let mut k: usize = 0;
     while k < order.len() {
         let at = order[k] as usize;
-        let count = finalization_interpreter::include_count_at(store, at);
+        let count = block_votes::include_count_at(store, at);
         let below = gather(&memo, places, i, count);
         let voters = with_own(store, at, own[k], below);
         note_voters(&mut memo, k, voters);
@@ -309,7 +310,7 @@ fn walk(
             continue;
         }
         blocks += 1;
-        let block = block_store::reference_at(store, at);
+        let block = store_order::reference_at(store, at);
         authors = authors.insert(block.authority);
     }
     Certifiers { blocks, authors }

@@ -11,11 +11,11 @@ use Rattle.base.specs.Le.{Bytes}
 use Rattle.base.specs.Checks.{refusal, passes, refused, answered, checked}
 use Rattle.committee.specs.Committee.{Stake, Committee, totalStake, broken, quorumOf, isQuorum}
 use Rattle.committee.specs.AuthoritySet.{AuthoritySet, setOf, stakeOf}
-use Rattle.types.specs.Reference.{TransactionLocator}
-use Rattle.types.specs.Block.{author}
-use Rattle.block_store.specs.Store.{recordsOf, storeInOrder}
-use Rattle.finalization_interpreter.specs.Voters.{certifiers, isFinal}
-use Rattle.finalization_interpreter.specs.Finality.{blocksOf, certifyingPositions, Asked, finalityChecks, finality}
+use Rattle.blocks.specs.Reference.{TransactionLocator}
+use Rattle.blocks.specs.Block.{author}
+use Rattle.store_layout.specs.Store.{recordsOf, storeInOrder}
+use Rattle.finality.specs.Voters.{certifiers, isFinal}
+use Rattle.finality.specs.Finality.{blocksOf, certifyingPositions, Asked, finalityChecks, finality}
 
 -- quorum of the certifiers' authors is finality
 pub final-by : (c : Committee) (s : Bytes) (l : TransactionLocator) (t : Stake) (v : AuthoritySet) → t ≡ totalStake c → v ≡ setOf (map author (certifiers c (blocksOf s) l)) → quorumOf t (stakeOf c v) ≡ isFinal c (blocksOf s) l

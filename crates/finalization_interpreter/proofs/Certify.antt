@@ -18,19 +18,20 @@ use Rattle.committee.specs.Committee.{AuthorityIndex, Committee, isQuorum}
 use Rattle.committee.specs.AuthoritySet.{AuthoritySet, nobody, member, inserted, setOf, stakeOf}
 use Rattle.committee.proofs.Words.{Small, small-nobody, small-inserted, set-ext}
 use Rattle.committee.proofs.Votes.{member-nobody, member-inserted, member-setOf}
-use Rattle.types.specs.Reference.{TransactionLocator}
-use Rattle.types.specs.Block.{Block, author}
-use Rattle.block_store.specs.Layout.{Record, usedBy, Entry, entries, ascending}
-use Rattle.block_store.specs.Store.{recordsOf}
-use Rattle.block_store.specs.Entry.{blockAt, sortedPositions, laidOut}
-use Rattle.block_store.proofs.Loops.{block-of-entry}
-use Rattle.block_store.proofs.Search.{laid-out}
-use Rattle.block_store.proofs.Visit.{ascending-in, in-ascending}
-use Rattle.finalization_interpreter.specs.Voters.{certifies, certifiers}
-use Rattle.finalization_interpreter.specs.Finality.{blocksOf, certifyingPositions}
-use Rattle.finalization_interpreter.specs.Walk.{Sorted, blockAtPlace, votersAt, Remembers}
-use Rattle.finalization_interpreter.proofs.Reading.{or-false}
-use Rattle.finalization_interpreter.proofs.Sorting.{some-committee, entry-block, sorted-authors}
+use Rattle.blocks.specs.Reference.{TransactionLocator}
+use Rattle.blocks.specs.Block.{Block, author}
+use Rattle.store_layout.specs.Layout.{Record, usedBy, Entry, entries, ascending}
+use Rattle.store_layout.specs.Store.{recordsOf}
+use Rattle.store_order.specs.Entry.{blockAt, sortedPositions, laidOut}
+use Rattle.store_order.proofs.Loops.{block-of-entry}
+use Rattle.store_order.proofs.Search.{laid-out}
+use Rattle.store_order.proofs.Visit.{ascending-in, in-ascending}
+use Rattle.finality.specs.Voters.{certifies, certifiers}
+use Rattle.finality.specs.Finality.{blocksOf, certifyingPositions}
+use Rattle.block_votes.specs.Walk.{Sorted, blockAtPlace, votersAt}
+use Rattle.voters.specs.Walk.{Remembers}
+use Rattle.block_votes.proofs.Reading.{or-false}
+use Rattle.block_votes.proofs.Sorting.{some-committee, entry-block, sorted-authors}
 
 -- ---- a list written over the front of another
 

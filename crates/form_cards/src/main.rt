@@ -8,12 +8,12 @@ use committee::Stake;
 use committee::StakeAggregator;
 use feeding::FeedAnswer;
 use finalization_interpreter::FinalityAnswer;
-use finalization_interpreter::MaybeLocator;
-use finalization_interpreter::NextFinalAnswer;
 use libc::STDOUT_FILENO;
+use next_final::NextFinalAnswer;
 use types::BlockDigest;
 use types::BlockReference;
 use types::TransactionLocator;
+use vote_starts::MaybeLocator;
 
 fn print(text: &[u8]) {
     io::write_all(STDOUT_FILENO, text);
@@ -138,7 +138,7 @@ fn finality(card: &[u8], stakes: &[u64], store: &[u8], offset: u64) {
 fn next_final(card: &[u8], stakes: &[u64], store: &[u8], after: MaybeLocator) {
     print(card);
     print(b": by value ");
-    print_next(finalization_interpreter::next_final(stakes, store, after));
+    print_next(next_final::next_final(stakes, store, after));
     print(b"; held ");
     print_next(interpreter::next_final_held(stakes, store, after));
     print(b"\n");

@@ -13,14 +13,14 @@ ghost use Rattle.host_finals.specs.NextFinal.{nextFinalCall};
 ghost use Rattle.host_lib.specs.Payload.{payloadLengthCall, payloadStartCall};
 ghost use Rattle.host_finals.specs.Finality.{finalityCall};
 ghost use Rattle.host_finals.specs.Stretches.{stretchesCall};
-use aggregator::PendingAnswer;
-use block_store::PayloadLength;
-use block_store::PayloadPlace;
 use committee::AddAnswer;
 use committee::NewCommittee;
 use committee::Stake;
 use feeding::FeedAnswer;
 use finalization_interpreter::FinalityAnswer;
+use payload::PayloadLength;
+use payload::PayloadPlace;
+use pending::PendingAnswer;
 
 const REFUSED: u64 = 9223372036854775808;
 

@@ -10,12 +10,12 @@ use borrow.Author.Tests.{eq-eqb, ne-eqb}
 use Rattle.base.specs.Lists.{pick, allOf}
 use Rattle.base.specs.Checks.{refusal, passes, Answer, refused, answered, checked}
 use Rattle.committee.specs.Committee.{Committee}
-use Rattle.types.specs.Reference.{TransactionLocator}
+use Rattle.blocks.specs.Reference.{TransactionLocator}
 use Rattle.base.proofs.Le.{AllBytes}
 use Rattle.words.proofs.Words.{bytesOf-wordsIn}
 use Rattle.words.specs.Words.{wordsIn, wordsOf, bytesOf}
-use Rattle.finalization_interpreter.specs.Finality.{Finality, finality, finalityChecks, certifyingPositions, blocksOf}
-use Rattle.finalization_interpreter.specs.Voters.{isFinal}
+use Rattle.finality.specs.Finality.{Finality, finality, finalityChecks, certifyingPositions, blocksOf}
+use Rattle.finality.specs.Voters.{isFinal}
 use Rattle.finalization_interpreter.specs.Answers.{asFinality}
 use Rattle.finalization_interpreter.specs.declared.FinalityAnswer.{FinalityAnswer}
 use Rattle.finalization_interpreter.specs.declared.FinalityAnswer.the-variants.{Final, NotFinal, Refused}

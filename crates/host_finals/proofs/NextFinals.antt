@@ -8,8 +8,8 @@ use borrow.Author.Tests.{eq-eqb, ne-eqb}
 use Rattle.base.specs.Lists.{allOf}
 use Rattle.base.specs.Checks.{Answer, refused}
 use Rattle.committee.specs.Committee.{Committee}
-use Rattle.types.specs.Reference.{TransactionLocator}
-use Rattle.finalization_interpreter.specs.NextFinal.{nextFinal, nextFinalChecks}
+use Rattle.blocks.specs.Reference.{TransactionLocator}
+use Rattle.finality.specs.NextFinal.{nextFinal, nextFinalChecks}
 use Rattle.host_lib.specs.Payload.{refusalBefore}
 use Rattle.host_finals.specs.NextFinal.{foundIn, askedNextFinal}
 use Rattle.host_lib.proofs.Numbers.{checked-most}

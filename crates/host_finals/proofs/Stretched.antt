@@ -11,10 +11,10 @@ use Rattle.base.specs.Lists.{pick, allOf}
 use Rattle.base.specs.Le.{Bytes}
 use Rattle.base.specs.Checks.{refusal, passes, Answer, refused, answered, checked}
 use Rattle.committee.specs.Committee.{Committee}
-use Rattle.types.specs.Reference.{TransactionLocator}
+use Rattle.blocks.specs.Reference.{TransactionLocator}
 use Rattle.words.specs.Words.{wordsIn, wordsOf, bytesOf}
-use Rattle.finalization_interpreter.specs.Finality.{blocksOf}
-use Rattle.finalization_interpreter.specs.NextFinal.{leastFinal, nextFinalChecks}
+use Rattle.finality.specs.Finality.{blocksOf}
+use Rattle.finality.specs.NextFinal.{leastFinal, nextFinalChecks}
 use Rattle.final_list.specs.Answers.{asStretches}
 use Rattle.final_list.specs.Stretches.{lastLocator, stretchAt, fromFound, stretches, Given, givenAfter, finalStretches}
 use Rattle.final_list.specs.declared.StretchesAnswer.{StretchesAnswer}

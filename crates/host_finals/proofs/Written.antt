@@ -10,8 +10,8 @@ use lib.Seq.{sets}
 use Rattle.base.specs.Le.{leBytes}
 use Rattle.base.proofs.Le.{length-leBytes, leBytes-add, leBytes-mod, sets-append}
 use Rattle.words.proofs.Stores.{sets-complete}
-use Rattle.types.specs.Reference.{TransactionLocator}
-use Rattle.types.specs.Record.{referenceBytes, locatorBytes}
+use Rattle.blocks.specs.Reference.{TransactionLocator}
+use Rattle.blocks.specs.Record.{referenceBytes, locatorBytes}
 use Rattle.types.specs.Values.{beBytes, digestBytes}
 use Rattle.types.specs.declared.BlockDigest as digest
 

@@ -7,7 +7,7 @@ use Rattle.base.specs.Lists.{pick}
 use Rattle.base.specs.Le.{Bytes}
 use Rattle.base.specs.Checks.{Answer, refused, answered}
 use Rattle.committee.specs.Committee.{Committee}
-use Rattle.types.specs.Reference.{TransactionLocator}
+use Rattle.blocks.specs.Reference.{TransactionLocator}
 use Rattle.words.specs.Words.{wordsOf, bytesOf}
 use Rattle.final_list.specs.declared.StretchesAnswer.{StretchesAnswer}
 use Rattle.final_list.specs.declared.StretchesAnswer.the-variants.{Last, More, Refused}

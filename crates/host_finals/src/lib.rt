@@ -4,20 +4,21 @@ ghost use Prim.Native.Nat.{_+_, _≤_};
 ghost use lib.ListN.{length};
 ghost use lib.Seq.{sets};
 ghost use Rattle.types.specs.Values.{beBytes, digestBytes, asLocator};
-ghost use Rattle.types.specs.Record.{locatorBytes};
+ghost use Rattle.blocks.specs.Record.{locatorBytes};
 ghost use Rattle.host_lib.specs.Calls.{encoded};
 ghost use Rattle.host_finals.specs.NextFinal.{afterOf, asAfter, askedNextFinal};
 ghost use Rattle.host_lib.specs.Payload.{locatorOf, asked};
 ghost use Rattle.host_finals.specs.Finality.{finalityNumber, askedFinality, numbersFit};
-ghost use Rattle.finalization_interpreter.specs.Answers.{asFinality, asMaybe};
+ghost use Rattle.finalization_interpreter.specs.Answers.{asFinality};
+ghost use Rattle.vote_starts.specs.Answers.{asMaybe};
 ghost use Rattle.final_list.specs.Answers.{asStretches};
 ghost use Rattle.host_finals.specs.Stretches.{stretchesNumber, stretchesIn, askedStretches, countsFit};
 use final_list::StretchesAnswer;
 use finalization_interpreter::FinalityAnswer;
-use finalization_interpreter::MaybeLocator;
-use finalization_interpreter::NextFinalAnswer;
+use next_final::NextFinalAnswer;
 use types::BlockDigest;
 use types::TransactionLocator;
+use vote_starts::MaybeLocator;
 
 const REFUSED: u64 = 9223372036854775808;
 
@@ -140,7 +141,7 @@ pub fn next_final_of(stakes: &[u64], store: &[u8], after: &[u8], found: &mut [u8
     if found.len() != 56 {
         return REFUSED + host_lib::refusal_before(40, stakes, store);
     }
-    match finalization_interpreter::next_final(stakes, store, place) {
+    match next_final::next_final(stakes, store, place) {
         NextFinalAnswer::Found(locator) => {
             write_locator(found, locator);
             1

@@ -15,14 +15,14 @@ use Rattle.base.specs.Checks.{Check, _⇒_, refusal, passes, Answer, refused}
 use Rattle.base.proofs.Lists.{Every, none-of, and, every, every-one, every-append, every-flatten}
 use Rattle.base.proofs.Refusals.{Numbered, refusal-first, refusal-then}
 use Rattle.committee.specs.Committee.{Committee}
-use Rattle.types.specs.Block.{Block, Statement, share, accept, reject, voteRange}
-use Rattle.types.specs.Verify.{headChecks, includeChecks, statementChecks, bodyChecks}
-use Rattle.block_store.specs.Layout.{Record, readRecord}
-use Rattle.block_store.specs.Accept.{blockChecks}
-use Rattle.block_store.specs.Store.{recordsOf}
+use Rattle.blocks.specs.Block.{Block, Statement, share, accept, reject, voteRange}
+use Rattle.blocks.specs.Verify.{headChecks, includeChecks, statementChecks, bodyChecks}
+use Rattle.store_layout.specs.Layout.{Record, readRecord}
+use Rattle.store_layout.specs.Accept.{blockChecks}
+use Rattle.store_layout.specs.Store.{recordsOf}
 use Rattle.words.specs.Words.{wordsIn, wordsOf}
-use Rattle.aggregator.specs.Pending.{pendingChecks}
-use Rattle.aggregator.specs.Feed.{Lent, lentOf, processed, lentChecks, recordChecks, feedChecks, refusedFeed, acceptedFeed, feedRecord, feed}
+use Rattle.feeds.specs.Pending.{pendingChecks}
+use Rattle.feeds.specs.Feed.{Lent, lentOf, processed, lentChecks, recordChecks, feedChecks, refusedFeed, acceptedFeed, feedRecord, feed}
 use Rattle.feeding.specs.Refusals.{ruleChecks, earlyChecks}
 use Rattle.host_lib.specs.Payload.{refusalBefore}
 use Rattle.host_lib.specs.Feed.{FeedCall, refusedCall, fedCall, fedWith, feedOf}

@@ -12,10 +12,10 @@ use Rattle.base.specs.Le.{Bytes}
 use Rattle.base.specs.Checks.{refusal, passes, refused}
 use Rattle.base.proofs.Le.{AllBytes}
 use Rattle.committee.specs.Committee.{Committee}
-use Rattle.block_store.specs.Layout.{Record, readRecord}
+use Rattle.store_layout.specs.Layout.{Record, readRecord}
 use Rattle.words.specs.Words.{wordsIn, wordsOf}
 use Rattle.words.proofs.Words.{bytesOf-wordsIn}
-use Rattle.aggregator.specs.Feed.{Lent, lentOf, feedChecks, refusedFeed, acceptedFeed, feedRecord, feed}
+use Rattle.feeds.specs.Feed.{Lent, lentOf, feedChecks, refusedFeed, acceptedFeed, feedRecord, feed}
 use Rattle.host_lib.specs.Feed.{FeedCall, refusedCall, fedCall, fedWith, feedOf}
 use Rattle.host_lib.proofs.Feeds.{feed-unsized, feed-eventless, feed-sized}
 

@@ -13,13 +13,13 @@ use Rattle.base.specs.Read.{complete}
 use Rattle.base.specs.Checks.{_⇒_, refusal, Answer, refused}
 use Rattle.base.proofs.Fixed.{reads-at, short-at}
 use Rattle.committee.specs.Committee.{Committee, broken}
-use Rattle.types.specs.Reference.{TransactionLocator}
-use Rattle.types.specs.Record.{readLocator}
+use Rattle.blocks.specs.Reference.{TransactionLocator}
+use Rattle.blocks.specs.Record.{readLocator}
 use Rattle.types.specs.Step.{locatorAt}
-use Rattle.types.proofs.Steps.{fixed-locator, locator-value}
-use Rattle.block_store.specs.Store.{storeInOrder}
-use Rattle.block_store.specs.Payload.{payloadChecks, payloadLength}
-use Rattle.block_store.specs.Answers.{payloadPlace}
+use Rattle.block_record.proofs.Steps.{fixed-locator, locator-value}
+use Rattle.store_layout.specs.Store.{storeInOrder}
+use Rattle.store_layout.specs.Payload.{payloadChecks, payloadLength}
+use Rattle.payload.specs.Answers.{payloadPlace}
 use Rattle.host_lib.specs.Payload.{locatorOf, storeChecks, refusalBefore, asked}
 use Rattle.host_lib.proofs.Numbers.{refusal-most, checked-most}
 

@@ -18,15 +18,15 @@ use Rattle.committee.specs.Committee.{Committee, known}
 use Rattle.committee.specs.AuthoritySet.{members, stakeOf}
 use Rattle.committee.specs.StakeAggregator.{aggregatorInOrder}
 use Rattle.committee.proofs.Sums.{stake-most, total-most}
-use Rattle.types.specs.Reference.{TransactionLocator}
+use Rattle.blocks.specs.Reference.{TransactionLocator}
 use Rattle.words.specs.Words.{wordsIn, wordsOf}
-use Rattle.block_store.specs.Layout.{entries, positionOf, lookup}
-use Rattle.block_store.specs.Store.{recordsOf}
-use Rattle.range_map.specs.Items.{Item, itemHolds, itemAt}
-use Rattle.range_map.specs.Table.{itemsOf}
-use Rattle.range_map.proofs.Order.{in-order}
-use Rattle.aggregator.specs.Pending.{Standing, pendingChecks, standingOf, pending}
-use Rattle.aggregator.proofs.Lending.{lying}
+use Rattle.store_layout.specs.Layout.{entries, positionOf, lookup}
+use Rattle.store_layout.specs.Store.{recordsOf}
+use Rattle.pending_items.specs.Items.{Item, itemHolds, itemAt}
+use Rattle.pending_items.specs.Table.{itemsOf}
+use Rattle.pending_items.proofs.Order.{in-order}
+use Rattle.feeds.specs.Pending.{Standing, pendingChecks, standingOf, pending}
+use Rattle.pending.proofs.Lending.{lying}
 use Rattle.host_lib.specs.Payload.{refusalBefore}
 use Rattle.host_lib.specs.Pending.{pendingIn, askedPending}
 use Rattle.host_lib.proofs.Numbers.{refusal-most}

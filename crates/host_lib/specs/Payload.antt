@@ -7,11 +7,11 @@ use Rattle.base.specs.Le.{Bytes}
 use Rattle.base.specs.Read.{complete}
 use Rattle.base.specs.Checks.{Check, _⇒_, refusal, Answer, refused, answered}
 use Rattle.committee.specs.Committee.{Committee, broken}
-use Rattle.types.specs.Reference.{TransactionLocator}
-use Rattle.types.specs.Record.{readLocator}
-use Rattle.block_store.specs.Store.{storeInOrder}
-use Rattle.block_store.specs.Payload.{Stretch, payloadLength}
-use Rattle.block_store.specs.Answers.{payloadPlace}
+use Rattle.blocks.specs.Reference.{TransactionLocator}
+use Rattle.blocks.specs.Record.{readLocator}
+use Rattle.store_layout.specs.Store.{storeInOrder}
+use Rattle.store_layout.specs.Payload.{Stretch, payloadLength}
+use Rattle.payload.specs.Answers.{payloadPlace}
 use Rattle.host_lib.specs.Calls.{committeeOf}
 
 -- a locator is the 56 bytes that it has in a record; bytes of another length are none

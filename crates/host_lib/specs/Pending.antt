@@ -9,9 +9,9 @@ use Rattle.base.specs.Lists.{pick}
 use Rattle.base.specs.Le.{Bytes}
 use Rattle.base.specs.Checks.{_⇒_, refusal, Answer, refused, answered}
 use Rattle.committee.specs.Committee.{Committee}
-use Rattle.types.specs.Reference.{TransactionLocator}
+use Rattle.blocks.specs.Reference.{TransactionLocator}
 use Rattle.words.specs.Words.{wordsOf}
-use Rattle.aggregator.specs.Pending.{Standing, pendingChecks, pending}
+use Rattle.feeds.specs.Pending.{Standing, pendingChecks, pending}
 use Rattle.host_lib.specs.Calls.{committeeOf}
 use Rattle.host_lib.specs.Payload.{locatorOf, refusalBefore}
 

@@ -8,12 +8,12 @@ ghost use lib.ListN.{length, take};
 ghost use Rattle.base.specs.Lists.{anyOf};
 ghost use Rattle.base.specs.Checks.{_⇒_, refusal};
 ghost use Rattle.words.specs.Words.{wordsOf, bytesOf};
-ghost use Rattle.block_store.specs.Payload.{payloadLength};
-ghost use Rattle.block_store.specs.Answers.{asPayloadLength, asPlace, payloadPlace};
+ghost use Rattle.store_layout.specs.Payload.{payloadLength};
+ghost use Rattle.payload.specs.Answers.{asPayloadLength, asPlace, payloadPlace};
 ghost use Rattle.committee.specs.Committee.{broken};
 ghost use Rattle.committee.specs.Answers.{asAggregator, asAddAnswer};
-ghost use Rattle.aggregator.specs.Answers.{asPending};
-ghost use Rattle.aggregator.specs.Pending.{pendingChecks};
+ghost use Rattle.pending.specs.Answers.{asPending};
+ghost use Rattle.feeds.specs.Pending.{pendingChecks};
 ghost use Rattle.host_lib.specs.Calls.{flag, committeeOf};
 ghost use Rattle.host_lib.specs.Add.{aggregatorOf, aggregatorBytes, flagged, addOf};
 ghost use Rattle.host_lib.specs.Pending.{pendingIn, askedPending};
@@ -21,9 +21,6 @@ ghost use Rattle.feeding.specs.Answers.{asFeedAnswer};
 ghost use Rattle.feeding.specs.Refusals.{earlyChecks};
 ghost use Rattle.host_lib.specs.Feed.{fedWith, feedOf};
 ghost use Rattle.host_lib.specs.Payload.{locatorOf, refusalBefore, asked};
-use aggregator::PendingAnswer;
-use block_store::PayloadLength;
-use block_store::PayloadPlace;
 use committee::AddAnswer;
 use committee::AuthorityIndex;
 use committee::AuthoritySet;
@@ -31,6 +28,9 @@ use committee::NewCommittee;
 use committee::Stake;
 use committee::StakeAggregator;
 use feeding::FeedAnswer;
+use payload::PayloadLength;
+use payload::PayloadPlace;
+use pending::PendingAnswer;
 
 // Whether one of the words is zero.
 pub fn has_zero_word(bytes: &[u8]) -> bool
@@ -126,7 +126,7 @@ pub fn refusal_before(number: u64, stakes: &[u64], store: &[u8]) -> u64
     let NewCommittee::Taken(_) = committee::new_committee(stakes) else {
         return 5;
     };
-    if !block_store::in_order(stakes, store) {
+    if !store_order::in_order(stakes, store) {
         return 10;
     }
     number
@@ -138,7 +138,7 @@ pub fn payload_length(stakes: &[u64], store: &[u8], locator: &[u8]) -> PayloadLe
     if locator.len() != 56 {
         return PayloadLength::Refused(refusal_before(20, stakes, store));
     }
-    block_store::payload_length(stakes, store, types::read_locator(locator, 0))
+    payload::payload_length(stakes, store, types::read_locator(locator, 0))
 }
 
 pub fn payload_place(stakes: &[u64], store: &[u8], locator: &[u8]) -> PayloadPlace
@@ -147,7 +147,7 @@ pub fn payload_place(stakes: &[u64], store: &[u8], locator: &[u8]) -> PayloadPla
     if locator.len() != 56 {
         return PayloadPlace::Refused(refusal_before(20, stakes, store));
     }
-    block_store::find_payload(stakes, store, types::read_locator(locator, 0))
+    payload::find_payload(stakes, store, types::read_locator(locator, 0))
 }
 
 // ---- the pending question
@@ -156,7 +156,7 @@ pub fn payload_place(stakes: &[u64], store: &[u8], locator: &[u8]) -> PayloadPla
 fn no_locator(stakes: &[u64], store: &[u8], table: &[u64]) -> u64
     ensures { λ r. ⌜ r ≡ refusal (pendingChecks (now (stakes .entry)) (now (store .entry)) (now (table .entry)) ++ ((true ⇒ 20) ∷ [])) ⌝ }
 {
-    let refusal = aggregator::lent_refusal(stakes, store, table);
+    let refusal = pending::lent_refusal(stakes, store, table);
     if refusal != 0 {
         return refusal;
     }
@@ -169,7 +169,7 @@ fn pending_in(stakes: &[u64], store: &[u8], table: &[u64], locator: &[u8]) -> Pe
     if locator.len() != 56 {
         return PendingAnswer::Refused(no_locator(stakes, store, table));
     }
-    aggregator::pending(stakes, store, table, types::read_locator(locator, 0))
+    pending::pending(stakes, store, table, types::read_locator(locator, 0))
 }
 
 pub fn pending_of(stakes: &[u64], store: &[u8], table: &[u8], locator: &[u8]) -> PendingAnswer

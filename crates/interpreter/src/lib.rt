@@ -1,13 +1,15 @@
 // The interpreter that holds the store it reads, as the Rust's `FinalizationInterpreter` does: thin functions over the covered questions.
 ghost use mathlib.Core.Path.{_≡_};
 ghost use Rattle.types.specs.Values.{asLocator};
-ghost use Rattle.finalization_interpreter.specs.Finality.{finality};
-ghost use Rattle.finalization_interpreter.specs.NextFinal.{nextFinal};
-ghost use Rattle.finalization_interpreter.specs.Answers.{asFinality, asMaybe, asNextFinal};
+ghost use Rattle.finality.specs.Finality.{finality};
+ghost use Rattle.finality.specs.NextFinal.{nextFinal};
+ghost use Rattle.finalization_interpreter.specs.Answers.{asFinality};
+ghost use Rattle.vote_starts.specs.Answers.{asMaybe};
+ghost use Rattle.next_final.specs.Answers.{asNextFinal};
 use finalization_interpreter::FinalityAnswer;
-use finalization_interpreter::MaybeLocator;
-use finalization_interpreter::NextFinalAnswer;
+use next_final::NextFinalAnswer;
 use types::TransactionLocator;
+use vote_starts::MaybeLocator;
 
 pub struct Interpreter<'a> {
     pub store: &'a [u8],
@@ -39,7 +41,7 @@ pub fn next_final<'s, 'a>(
 ) -> NextFinalAnswer
     ensures { λ r. ⌜ asNextFinal r ≡ nextFinal (now (stakes .entry)) (now (interpreter .entry .store)) (asMaybe after) ⌝ }
 {
-    finalization_interpreter::next_final(stakes, interpreter.store, after)
+    next_final::next_final(stakes, interpreter.store, after)
 }
 
 // The finality question with plain parameters, for every other caller.

@@ -6,13 +6,13 @@ use native.Mathlib.Omega.{arith}
 use lib.ListN.{replicate, set, length-append, length-replicate, replicate-append-replicate}
 use Rattle.base.specs.Le.{Bytes, leBytes}
 use Rattle.committee.specs.Committee.{Committee}
-use Rattle.block_store.specs.Layout.{layout, headerBytes, bodyBytes, entries, firstPosition, positionOf, least, usedBy}
-use Rattle.block_store.specs.Claims.{FreshInOrder}
-use Rattle.block_store.proofs.Store.{length-layout}
-use Rattle.block_store.proofs.Claimed.{fresh-in-order}
-use Rattle.range_map.specs.Table.{HoldsItems}
-use Rattle.aggregator.specs.Feed.{feed, lentOf}
-use Rattle.aggregator.proofs.Keeping.{State, feed-keeps, fresh-table}
+use Rattle.store_layout.specs.Layout.{layout, headerBytes, bodyBytes, entries, firstPosition, positionOf, least, usedBy}
+use Rattle.store_layout.specs.Claims.{FreshInOrder}
+use Rattle.store_layout.proofs.Store.{length-layout}
+use Rattle.store_layout.proofs.Claimed.{fresh-in-order}
+use Rattle.pending_items.specs.Table.{HoldsItems}
+use Rattle.feeds.specs.Feed.{feed, lentOf}
+use Rattle.feeds.proofs.Keeping.{State, feed-keeps, fresh-table}
 use Rattle.aggregator.proofs.Votes.{order-holds}
 use Rattle.promises.specs.Feeds.{Feed, Engine, fresh, outcome, left, run}
 use Rattle.listing_run.specs.Feeds.{engine, FedFrom, start}

@@ -2,7 +2,7 @@
 ghost use mathlib.Core.Path.{_≡_};
 ghost use Prim.Native.Nat.{_+_, _%_, _^_, _≤_, _<_};
 ghost use lib.ListN.{length, replicate};
-ghost use Rattle.range_map.specs.Table.{HoldsItems, itemsOf};
+ghost use Rattle.pending_items.specs.Table.{HoldsItems, itemsOf};
 ghost use Rattle.listing_run.specs.Feeds.{engine, FedFrom, start};
 ghost use Rattle.listing_run.specs.Pending.{pendingOffsets};
 use committee::AuthorityIndex;
@@ -10,11 +10,11 @@ use committee::NewCommittee;
 use committee::RoundNumber;
 use feeding::FeedAnswer;
 use final_list::StretchesAnswer;
-use finalization_interpreter::MaybeLocator;
 use listing_lib::Size;
 use types::BlockDigest;
 use types::BlockReference;
 use types::TransactionLocator;
+use vote_starts::MaybeLocator;
 
 // ---- feeding
 
@@ -277,11 +277,11 @@ fn pending_offsets(table: &[u64]) -> u64
     requires { ⌜ HoldsItems (now table) ⌝ }
     ensures { λ r. ⌜ r ≡ pendingOffsets (itemsOf (now (table .entry))) % 2 ^ 64 ⌝ }
 {
-    let n = range_map::item_count(table);
+    let n = table_words::item_count(table);
     let mut sum: u64 = 0;
     let mut k = 0;
     while k < n {
-        let x = range_map::item_at(table, k);
+        let x = table_words::item_at(table, k);
         sum = std::num::wrapping_add_u64(sum, x.end - x.start);
         k += 1;
     }

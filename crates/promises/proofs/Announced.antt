@@ -13,13 +13,13 @@ use Rattle.base.specs.Checks.{passes}
 use Rattle.base.proofs.Tests.{and-both, and-left, and-right, neither-right, fails, not-both}
 use Rattle.base.proofs.Members.{in-empty, in-any}
 use Rattle.committee.specs.Committee.{Committee}
-use Rattle.types.specs.Reference.{BlockReference, TransactionLocator, sameReference}
-use Rattle.types.specs.Block.{Block}
-use Rattle.types.proofs.References.{reference-same, same-reference}
-use Rattle.block_store.specs.Layout.{Record, readRecord, Entry, entries}
-use Rattle.aggregator.specs.ProcessBlock.{Event}
-use Rattle.aggregator.specs.Feed.{Lent, processed, feedChecks, feed}
-use Rattle.aggregator.proofs.Events.{Shared, Source, processed-source}
+use Rattle.blocks.specs.Reference.{BlockReference, TransactionLocator, sameReference}
+use Rattle.blocks.specs.Block.{Block}
+use Rattle.blocks.proofs.References.{reference-same, same-reference}
+use Rattle.store_layout.specs.Layout.{Record, readRecord, Entry, entries}
+use Rattle.feeds.specs.ProcessBlock.{Event}
+use Rattle.feeds.specs.Feed.{Lent, processed, feedChecks, feed}
+use Rattle.feeds.proofs.Events.{Shared, Source, processed-source}
 use Rattle.promises.specs.Feeds.{Feed, Engine, fresh, outcome, left, run, Accepted, acceptedIn, accepted}
 use Rattle.promises.specs.Shares.{sharedBy, isStoredShare, votesUnder, announces, announcedBy, announcements}
 use Rattle.promises.specs.ThirdStatement.{Start, acceptedOf}

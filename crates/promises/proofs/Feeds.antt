@@ -9,9 +9,9 @@ use Rattle.base.specs.Lists.{pick}
 use Rattle.base.specs.Le.{Bytes}
 use Rattle.base.specs.Checks.{refusal, passes}
 use Rattle.committee.specs.Committee.{Committee}
-use Rattle.block_store.specs.Layout.{Record, readRecord}
-use Rattle.aggregator.specs.ProcessBlock.{Event, eventWords}
-use Rattle.aggregator.specs.Feed.{Lent, Fed, processed, feedChecks, refusedFeed, acceptedFeed, feedRecord, feed}
+use Rattle.store_layout.specs.Layout.{Record, readRecord}
+use Rattle.feeds.specs.ProcessBlock.{Event, eventWords}
+use Rattle.feeds.specs.Feed.{Lent, Fed, processed, feedChecks, refusedFeed, acceptedFeed, feedRecord, feed}
 use Rattle.promises.specs.Feeds.{Accepted, eventsIn, acceptedIn}
 
 -- events are read back from their words

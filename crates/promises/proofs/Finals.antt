@@ -16,20 +16,20 @@ use Rattle.base.proofs.Tests.{and-both}
 use Rattle.base.proofs.Members.{in-all, in-map, map-in}
 use Rattle.base.proofs.Lists.{every-in}
 use Rattle.committee.specs.Committee.{Committee, broken}
-use Rattle.types.specs.Reference.{TransactionLocator, locatorBefore}
-use Rattle.types.specs.Block.{Block}
-use Rattle.types.specs.Record.{blockOf}
-use Rattle.block_store.specs.Layout.{Record}
-use Rattle.block_store.specs.Store.{recordsOf}
-use Rattle.block_store.proofs.Store.{in-order, recordsOf-right, right-block}
-use Rattle.finalization_interpreter.specs.Ancestry.{Final}
-use Rattle.finalization_interpreter.specs.Voters.{isFinal}
-use Rattle.finalization_interpreter.specs.Finality.{blocksOf, certifyingPositions, finalityChecks, finality}
-use Rattle.finalization_interpreter.specs.Claims.{FinalMeant}
-use Rattle.finalization_interpreter.specs.NextFinal.{FinalList, finalList}
-use Rattle.finalization_interpreter.proofs.Claimed.{final-meant}
-use Rattle.finalization_interpreter.proofs.FinalList.{Ascending, none-left, and-then, final-list-ascending, final-list-in, final-list-order}
-use Rattle.finalization_interpreter.proofs.Asked.{in-order-stored, asked-on, asked-once}
+use Rattle.blocks.specs.Reference.{TransactionLocator, locatorBefore}
+use Rattle.blocks.specs.Block.{Block}
+use Rattle.blocks.specs.Record.{blockOf}
+use Rattle.store_layout.specs.Layout.{Record}
+use Rattle.store_layout.specs.Store.{recordsOf}
+use Rattle.store_layout.proofs.Store.{in-order, recordsOf-right, right-block}
+use Rattle.finality.specs.Ancestry.{Final}
+use Rattle.finality.specs.Voters.{isFinal}
+use Rattle.finality.specs.Finality.{blocksOf, certifyingPositions, finalityChecks, finality}
+use Rattle.finality.specs.Claims.{FinalMeant}
+use Rattle.finality.specs.NextFinal.{FinalList, finalList}
+use Rattle.finality.proofs.Claimed.{final-meant}
+use Rattle.finality.proofs.FinalList.{Ascending, none-left, and-then, final-list-ascending, final-list-in, final-list-order}
+use Rattle.finality.proofs.Asked.{in-order-stored, asked-on, asked-once}
 use Rattle.promises.specs.Feeds.{Engine, fresh, Accepted, storedBlocks, storedRecords}
 use Rattle.promises.specs.ThirdStatement.{AnsweredFinal, GivesFinal, Start, engineOf, acceptedOf, SameRecords}
 use Rattle.promises.proofs.Storing.{asRecord, StoreOf, fresh-holds, run-holds}

@@ -17,25 +17,25 @@ use Rattle.committee.specs.Committee.{Committee, broken}
 use Rattle.committee.specs.AuthoritySet.{numberOfVoters}
 use Rattle.committee.specs.StakeAggregator.{noVotes, counted}
 use Rattle.committee.proofs.Tallies.{Counting, counts-first}
-use Rattle.types.specs.Reference.{TransactionLocator, sameReference}
-use Rattle.types.specs.Block.{Block, author, isShareAt}
-use Rattle.types.proofs.References.{reference-same}
-use Rattle.block_store.specs.Layout.{Record, readRecord, Entry, usedBy, entries, lookup}
-use Rattle.block_store.specs.Accept.{isStored}
-use Rattle.block_store.specs.Store.{recordsOf}
-use Rattle.block_store.proofs.Accepted.{known-author, accepted-new}
-use Rattle.block_store.proofs.Store.{readRecord-some, Holding, accepting}
-use Rattle.range_map.specs.Items.{Item, itemAt}
-use Rattle.range_map.specs.Table.{itemsOf}
-use Rattle.range_map.proofs.Items.{heldAt}
-use Rattle.range_map.proofs.Order.{Pending, in-order}
-use Rattle.range_map.proofs.Table.{itemsOf-tableOf}
-use Rattle.aggregator.specs.ProcessBlock.{Processing, registering, processBlock}
-use Rattle.aggregator.specs.Feed.{Lent, processed, feedChecks, refusedFeed, acceptedFeed, feedRecord, feed}
-use Rattle.aggregator.specs.Pending.{Standing, standingOf, pending}
-use Rattle.aggregator.proofs.Keeping.{State, Kept, Passed, passed, feed-keeps, sound-registering, lent-state}
-use Rattle.aggregator.proofs.ProcessBlock.{lookup-new}
-use Rattle.aggregator.proofs.View.{positionIn, held-own, held-other, found-still, standing-held, standing-none, pending-passes}
+use Rattle.blocks.specs.Reference.{TransactionLocator, sameReference}
+use Rattle.blocks.specs.Block.{Block, author, isShareAt}
+use Rattle.blocks.proofs.References.{reference-same}
+use Rattle.store_layout.specs.Layout.{Record, readRecord, Entry, usedBy, entries, lookup}
+use Rattle.store_layout.specs.Accept.{isStored}
+use Rattle.store_layout.specs.Store.{recordsOf}
+use Rattle.store_layout.proofs.Accepted.{known-author, accepted-new}
+use Rattle.store_layout.proofs.Store.{readRecord-some, Holding, accepting}
+use Rattle.pending_items.specs.Items.{Item, itemAt}
+use Rattle.pending_items.specs.Table.{itemsOf}
+use Rattle.pending_items.proofs.Items.{heldAt}
+use Rattle.pending_items.proofs.Order.{Pending, in-order}
+use Rattle.pending_items.proofs.Table.{itemsOf-tableOf}
+use Rattle.feeds.specs.ProcessBlock.{Processing, registering, processBlock}
+use Rattle.feeds.specs.Feed.{Lent, processed, feedChecks, refusedFeed, acceptedFeed, feedRecord, feed}
+use Rattle.feeds.specs.Pending.{Standing, standingOf, pending}
+use Rattle.feeds.proofs.Keeping.{State, Kept, Passed, passed, feed-keeps, sound-registering, lent-state}
+use Rattle.feeds.proofs.ProcessBlock.{lookup-new}
+use Rattle.feeds.proofs.View.{positionIn, held-own, held-other, found-still, standing-held, standing-none, pending-passes}
 use Rattle.promises.specs.Feeds.{Feed, Engine, fresh, outcome, left, run, Accepted, acceptedIn, accepted}
 use Rattle.promises.specs.Shares.{sharedBy, isStoredShare, votesFrom, countedVotes, countedVoters, NoneLeft, announcedBy, announcements}
 use Rattle.promises.specs.ThirdStatement.{ShareStands, stays, gone, Start, engineOf, acceptedOf}

@@ -14,13 +14,13 @@ use Rattle.base.proofs.Members.{in-empty, in-left, in-right, in-append, in-map,
 use Rattle.committee.specs.Committee.{AuthorityIndex, Committee, broken}
 use Rattle.committee.specs.Quorum.{HoldQuorum}
 use Rattle.committee.proofs.Quorums.{quorum-mono, quorum-member}
-use Rattle.types.specs.Reference.{TransactionLocator, sameReference, newRange, oneRange, covers}
-use Rattle.types.specs.Block.{Statement, Block, author, isShareAt, votedRange}
-use Rattle.types.proofs.References.{reference-same, same-reference}
-use Rattle.block_store.proofs.Stored.{WellStored, one-reference}
-use Rattle.finalization_interpreter.specs.Ancestry.{Ancestor, itself, included, VoteIn, byAccept, byRange, VotesFor, byShare, byVote, Voter, Certificate, Final}
-use Rattle.finalization_interpreter.proofs.Asked.{in-order-stored}
-use Rattle.finalization_interpreter.proofs.Votes.{covered, is-covered, statement-vote}
+use Rattle.blocks.specs.Reference.{TransactionLocator, sameReference, newRange, oneRange, covers}
+use Rattle.blocks.specs.Block.{Statement, Block, author, isShareAt, votedRange}
+use Rattle.blocks.proofs.References.{reference-same, same-reference}
+use Rattle.store_layout.proofs.Stored.{WellStored, one-reference}
+use Rattle.finality.specs.Ancestry.{Ancestor, itself, included, VoteIn, byAccept, byRange, VotesFor, byShare, byVote, Voter, Certificate, Final}
+use Rattle.finality.proofs.Asked.{in-order-stored}
+use Rattle.finality.proofs.Votes.{covered, is-covered, statement-vote}
 use Rattle.promises.specs.Feeds.{Accepted, storedBlocks}
 use Rattle.promises.specs.Shares.{sharedBy, isStoredShare, Vote, statementVotes, votesFrom, countedVotes, countedVoters, NoneLeft}
 use Rattle.promises.specs.ThirdStatement.{ShareStands, stays, gone, VotedOnlySince, Announced, Start, engineOf, acceptedOf}

@@ -13,8 +13,8 @@ use Rattle.committee.specs.AuthoritySet.{members, numberOfVoters}
 use Rattle.committee.specs.StakeAggregator.{StakeAggregator, counted, hasQuorum}
 use Rattle.committee.proofs.Aggregators.{few-members, known-below}
 use Rattle.committee.proofs.Tallies.{members-once, members-in, in-members, stake-members, Counting, stake-right, counts-more, counts-quorum, quorum-counts}
-use Rattle.types.specs.Reference.{TransactionLocator}
-use Rattle.range_map.proofs.Items.{unless}
+use Rattle.blocks.specs.Reference.{TransactionLocator}
+use Rattle.pending_items.proofs.Items.{unless}
 use Rattle.promises.specs.Shares.{Place, Vote, countedVoters, LeftQuorum, NoneLeft, Tally}
 
 -- what the aggregator says is the tally of the voters

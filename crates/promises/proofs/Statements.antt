@@ -9,13 +9,13 @@ use lib.ListN.{getElem?}
 use Rattle.base.specs.Lists.{pick, keep, holds}
 use Rattle.committee.specs.Committee.{AuthorityIndex, Committee, known}
 use Rattle.committee.specs.StakeAggregator.{StakeAggregator, counted, hasQuorum}
-use Rattle.types.specs.Reference.{BlockReference, TransactionLocator, TransactionLocatorRange, sameReference, covers}
-use Rattle.types.specs.Block.{Statement, Block, votedRange}
-use Rattle.block_store.specs.Layout.{Record, Entry, entries, lookup}
-use Rattle.range_map.proofs.Items.{heldAt}
-use Rattle.aggregator.specs.ProcessBlock.{Event, Processing, vote, votes}
-use Rattle.aggregator.proofs.ProcessBlock.{Sound, sound-vote}
-use Rattle.aggregator.proofs.View.{positionIn, held-vote, processedBy, processed-vote}
+use Rattle.blocks.specs.Reference.{BlockReference, TransactionLocator, TransactionLocatorRange, sameReference, covers}
+use Rattle.blocks.specs.Block.{Statement, Block, votedRange}
+use Rattle.store_layout.specs.Layout.{Record, Entry, entries, lookup}
+use Rattle.pending_items.proofs.Items.{heldAt}
+use Rattle.feeds.specs.ProcessBlock.{Event, Processing, vote, votes}
+use Rattle.feeds.proofs.ProcessBlock.{Sound, sound-vote}
+use Rattle.feeds.proofs.View.{positionIn, held-vote, processedBy, processed-vote}
 use Rattle.promises.specs.Shares.{Place, Vote, statementVotes, votesFrom, votesUnder, announces, announcedBy}
 use Rattle.promises.proofs.Standing.{afterVote, tells, Stands, stands-vote}
 

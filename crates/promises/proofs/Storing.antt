@@ -11,13 +11,13 @@ use Rattle.base.specs.Le.{Bytes}
 use Rattle.base.specs.Checks.{passes}
 use Rattle.base.proofs.Lists.{none-of}
 use Rattle.committee.specs.Committee.{Committee}
-use Rattle.block_store.specs.Layout.{Record, readRecord, usedBy, layout}
-use Rattle.block_store.specs.Store.{recordsOf, storeInOrder}
-use Rattle.block_store.specs.Claims.{FreshInOrder}
-use Rattle.block_store.proofs.Store.{length-layout, recordsOf-laid, readRecord-some, Holding, accepting}
-use Rattle.block_store.proofs.Claimed.{fresh-in-order}
-use Rattle.aggregator.specs.Feed.{Lent, feedChecks, refusedFeed, acceptedFeed, feed}
-use Rattle.aggregator.proofs.Keeping.{Passed, passed}
+use Rattle.store_layout.specs.Layout.{Record, readRecord, usedBy, layout}
+use Rattle.store_layout.specs.Store.{recordsOf, storeInOrder}
+use Rattle.store_layout.specs.Claims.{FreshInOrder}
+use Rattle.store_layout.proofs.Store.{length-layout, recordsOf-laid, readRecord-some, Holding, accepting}
+use Rattle.store_layout.proofs.Claimed.{fresh-in-order}
+use Rattle.feeds.specs.Feed.{Lent, feedChecks, refusedFeed, acceptedFeed, feed}
+use Rattle.feeds.proofs.Keeping.{Passed, passed}
 use Rattle.promises.proofs.Feeds.{taken, feed-cases}
 use Rattle.promises.specs.Feeds.{Feed, Engine, outcome, left, run, Accepted, acceptedIn, accepted}
 

@@ -9,10 +9,10 @@ use lib.ListN.{length, getElem?}
 use Rattle.base.specs.Lists.{pick, anyOf, holds, sumOf, _∈_, Once}
 use Rattle.committee.specs.Committee.{AuthorityIndex, Committee, getStake}
 use Rattle.committee.specs.Quorum.{HoldQuorum}
-use Rattle.types.specs.Reference.{BlockReference, TransactionLocator, sameReference, covers}
-use Rattle.types.specs.Block.{Statement, Block, author, isShareAt, votedRange}
-use Rattle.aggregator.specs.ProcessBlock.{Event}
-use Rattle.aggregator.specs.Pending.{Standing}
+use Rattle.blocks.specs.Reference.{BlockReference, TransactionLocator, sameReference, covers}
+use Rattle.blocks.specs.Block.{Statement, Block, author, isShareAt, votedRange}
+use Rattle.feeds.specs.ProcessBlock.{Event}
+use Rattle.feeds.specs.Pending.{Standing}
 use Rattle.promises.specs.Feeds.{Accepted}
 
 -- the locator names a share of the block

@@ -9,12 +9,12 @@ use Rattle.base.specs.Lists.{pairwise, _∈_}
 use Rattle.base.specs.Le.{Bytes}
 use Rattle.base.specs.Checks.{refused, answered}
 use Rattle.committee.specs.Committee.{Committee, broken}
-use Rattle.types.specs.Reference.{TransactionLocator, locatorBefore}
-use Rattle.types.specs.Block.{Block}
-use Rattle.aggregator.specs.Pending.{Standing, pending}
-use Rattle.finalization_interpreter.specs.Ancestry.{VoteIn, Final}
-use Rattle.finalization_interpreter.specs.Finality.{finality}
-use Rattle.finalization_interpreter.specs.NextFinal.{FinalList}
+use Rattle.blocks.specs.Reference.{TransactionLocator, locatorBefore}
+use Rattle.blocks.specs.Block.{Block}
+use Rattle.feeds.specs.Pending.{Standing, pending}
+use Rattle.finality.specs.Ancestry.{VoteIn, Final}
+use Rattle.finality.specs.Finality.{finality}
+use Rattle.finality.specs.NextFinal.{FinalList}
 use Rattle.promises.specs.Feeds.{Feed, Engine, fresh, run, Accepted, accepted, storedBlocks, storedRecords}
 use Rattle.promises.specs.Shares.{isStoredShare, Place, Vote, countedVotes, countedVoters, LeftQuorum, NoneLeft, Tally, announcements}
 

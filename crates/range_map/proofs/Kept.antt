@@ -10,11 +10,11 @@ use Rattle.base.proofs.Lists.{append-nil, Every, none-of, and, every, every-app
 use Rattle.committee.specs.Committee.{AuthorityIndex, Committee, known}
 use Rattle.committee.specs.StakeAggregator.{noVotes, aggregatorInOrder}
 use Rattle.committee.proofs.Aggregators.{counted-in-order, noVotes-order}
-use Rattle.types.specs.Reference.{TransactionLocatorRange}
-use Rattle.range_map.specs.Items.{Item, itemBefore, cutAt, bothCuts, itemWithin, votedItem, voteOver, stays, afterLeaving, firstVote, registered, register}
-use Rattle.range_map.specs.Table.{tableOf, itemsOf, tableFormed}
-use Rattle.range_map.proofs.Items.{Ordered, ordered-voteOver, ordered-afterLeaving}
-use Rattle.range_map.proofs.Halves.{Full, holds-ordered, holds-full}
+use Rattle.blocks.specs.Reference.{TransactionLocatorRange}
+use Rattle.pending_items.specs.Items.{Item, itemBefore, cutAt, bothCuts, itemWithin, votedItem, voteOver, stays, afterLeaving, firstVote, registered, register}
+use Rattle.pending_items.specs.Table.{tableOf, itemsOf, tableFormed}
+use Rattle.pending_items.proofs.Items.{Ordered, ordered-voteOver, ordered-afterLeaving}
+use Rattle.table_words.proofs.Halves.{Full, holds-ordered, holds-full}
 use Rattle.range_map.proofs.Voting.{written, formed, from-formed, full-cutAt, votes-cutAt}
 
 -- items as a table in form has them

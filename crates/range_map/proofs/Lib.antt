@@ -1,14 +1,4 @@
-pub mod Computing
-pub mod Examples
-pub mod Items
-pub mod Table
-pub mod Slots
-pub mod Moves
-pub mod Halves
-pub mod Finds
 pub mod Stretches
 pub mod Cuts
 pub mod Voting
-pub mod Forming
 pub mod Kept
-pub mod Order

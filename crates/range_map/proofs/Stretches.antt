@@ -5,11 +5,11 @@ use mathlib.Core.Option.{Option}
 use Prim.Native.Nat.{ℕ, zero, suc, _+_, _-_, _≤_, _<_}
 use native.Mathlib.Omega.{arith}
 use Rattle.base.specs.Lists.{countFrom}
-use Rattle.range_map.specs.declared.Stretch.{Stretch}
-use Rattle.range_map.specs.Items.{Item, itemAt}
-use Rattle.range_map.specs.Answers.{foundItem, Constant}
-use Rattle.range_map.proofs.Items.{Ordered}
-use Rattle.range_map.proofs.Finds.{found-item}
+use Rattle.table_words.specs.declared.Stretch.{Stretch}
+use Rattle.pending_items.specs.Items.{Item, itemAt}
+use Rattle.table_words.specs.Answers.{foundItem, Constant}
+use Rattle.pending_items.proofs.Items.{Ordered}
+use Rattle.table_words.proofs.Finds.{found-item}
 
 -- the numbers of two neighbouring stretches
 countFrom-add : (i m n : ℕ) → countFrom i (m + n) ≡ countFrom i m ++ countFrom (i + m) n

@@ -17,16 +17,16 @@ use Rattle.committee.specs.StakeAggregator.{StakeAggregator, noVotes, withVote,
 use Rattle.committee.specs.Answers.{asAggregator}
 use Rattle.committee.proofs.Adding.{vote-fits}
 use Rattle.committee.proofs.Aggregators.{noVotes-order}
-use Rattle.range_map.specs.declared.Item as declared
-use Rattle.range_map.specs.Items.{Item, noItem, itemBefore, itemFull, cutItem, cutAt, bothCuts, itemWithin, votedItem, voteOver, firstVote}
-use Rattle.range_map.specs.Table.{tableOf, room, itemsOf, HoldsItems, tableFormed}
-use Rattle.range_map.specs.Answers.{asItem}
-use Rattle.range_map.specs.Step.{slot, Countable, votedIn}
-use Rattle.range_map.proofs.Items.{Ordered, Cut, two, complete, cut, every-cut, ordered-cutAt}
-use Rattle.range_map.proofs.Table.{itemsOf-tableOf, length-tableOf}
-use Rattle.range_map.proofs.Slots.{holds-holding}
-use Rattle.range_map.proofs.Halves.{Full, holds-ordered, holds-full}
-use Rattle.range_map.proofs.Moves.{Mapped}
+use Rattle.table_words.specs.declared.Item as declared
+use Rattle.pending_items.specs.Items.{Item, noItem, itemBefore, itemFull, cutItem, cutAt, bothCuts, itemWithin, votedItem, voteOver, firstVote}
+use Rattle.pending_items.specs.Table.{tableOf, room, itemsOf, HoldsItems, tableFormed}
+use Rattle.table_words.specs.Answers.{asItem}
+use Rattle.table_words.specs.Step.{slot, Countable, votedIn}
+use Rattle.pending_items.proofs.Items.{Ordered, Cut, two, complete, cut, every-cut, ordered-cutAt}
+use Rattle.pending_items.proofs.Table.{itemsOf-tableOf, length-tableOf}
+use Rattle.table_words.proofs.Slots.{holds-holding}
+use Rattle.table_words.proofs.Halves.{Full, holds-ordered, holds-full}
+use Rattle.table_words.proofs.Moves.{Mapped}
 
 -- ---- a table written from items
 

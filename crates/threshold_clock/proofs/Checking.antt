@@ -20,10 +20,10 @@ use Rattle.committee.specs.AuthoritySet.{nobody, inserted, setOf}
 use Rattle.committee.specs.Answers.{foundStake}
 use Rattle.committee.specs.declared.Stake as stakes
 use Rattle.committee.specs.declared.FoundStake.the-variants.{Known, Unknown}
-use Rattle.types.specs.Reference.{BlockReference}
-use Rattle.types.specs.Block.{Statement, share, accept, reject, voteRange, Block, round}
-use Rattle.types.specs.Record.{noReference, noStatement}
-use Rattle.types.specs.Verify.{headChecks, includeChecks, statementChecks, previousAuthors, clockValid, bodyChecks}
+use Rattle.blocks.specs.Reference.{BlockReference}
+use Rattle.blocks.specs.Block.{Statement, share, accept, reject, voteRange, Block, round}
+use Rattle.blocks.specs.Record.{noReference, noStatement}
+use Rattle.blocks.specs.Verify.{headChecks, includeChecks, statementChecks, previousAuthors, clockValid, bodyChecks}
 
 -- ---- the lookup of a stake
 

@@ -1,9 +1,9 @@
 // What is checked of a record by itself: 21, 22, 24 to 28, and the clock, 29. Follows threshold_clock.rs, and `verify` of types.rs.
+use block_record::BaseStatement;
 use committee::AuthoritySet;
 use committee::FoundStake;
 use committee::NewCommittee;
 use committee::RoundNumber;
-use types::BaseStatement;
 use types::BlockReference;
 use types::TransactionLocatorRange;
 ghost use mathlib.Core.Path.{_≡_};
@@ -11,32 +11,32 @@ ghost use mathlib.Core.Bool.{true, false};
 ghost use mathlib.Core.List.{map, flatten};
 ghost use Prim.Native.Nat.{_+_, _<_};
 ghost use lib.Dec.{eqb, ltb, leb};
-ghost use Rattle.types.specs.Reference.{maxLen};
+ghost use Rattle.blocks.specs.Reference.{maxLen};
 ghost use Rattle.base.specs.Lists.{pick};
 ghost use Rattle.base.specs.Le.{Bytes};
 ghost use Rattle.base.specs.Checks.{refusal, passes};
 ghost use Rattle.committee.specs.Committee.{broken};
 ghost use Rattle.committee.specs.AuthoritySet.{inserted};
-ghost use Rattle.types.specs.Record.{wellFormed, blockIn};
-ghost use Rattle.types.specs.Values.{asStatement};
-ghost use Rattle.types.specs.Verify.{headChecks, includeChecks, statementChecks, previousAuthors, clockValid, bodyChecks};
+ghost use Rattle.blocks.specs.Record.{wellFormed, blockIn};
+ghost use Rattle.block_record.specs.Values.{asStatement};
+ghost use Rattle.blocks.specs.Verify.{headChecks, includeChecks, statementChecks, previousAuthors, clockValid, bodyChecks};
 
 // 21 and 22 of a well-formed record, or 0.
 pub fn head_refusal(stakes: &[u64], rec: &[u8]) -> u64
     requires { ⌜ wellFormed (now rec) ≡ true ⌝ }
     ensures { λ r. ⌜ r ≡ refusal (headChecks (now (stakes .entry)) (blockIn (now (rec .entry)))) ⌝ }
 {
-    let reference = types::reference(rec);
+    let reference = block_record::reference(rec);
     let FoundStake::Known(_) = committee::get_stake(stakes, reference.authority) else {
         return 21;
     };
     if reference.round.0 != 0 {
         return 0;
     }
-    if types::include_count(rec) != 0 {
+    if block_record::include_count(rec) != 0 {
         return 22;
     }
-    if types::statement_count(rec) != 0 {
+    if block_record::statement_count(rec) != 0 {
         return 22;
     }
     0
@@ -47,11 +47,11 @@ fn includes_refusal(stakes: &[u64], rec: &[u8]) -> u64
     requires { ⌜ wellFormed (now rec) ≡ true ⌝ }
     ensures { λ r. ⌜ r ≡ refusal (flatten (map (includeChecks (now (stakes .entry)) (blockIn (now (rec .entry)))) (blockIn (now (rec .entry)) .includes))) ⌝ }
 {
-    let reference = types::reference(rec);
-    let count = types::include_count(rec);
+    let reference = block_record::reference(rec);
+    let count = block_record::include_count(rec);
     let mut k = 0;
     while k < count {
-        let include = types::include(rec, k);
+        let include = block_record::include(rec, k);
         let FoundStake::Known(_) = committee::get_stake(stakes, include.authority) else {
             return 24;
         };
@@ -105,10 +105,10 @@ fn statements_refusal(rec: &[u8]) -> u64
     requires { ⌜ wellFormed (now rec) ≡ true ⌝ }
     ensures { λ r. ⌜ r ≡ refusal (flatten (map statementChecks (blockIn (now (rec .entry)) .statements))) ⌝ }
 {
-    let count = types::statement_count(rec);
-    let mut cursor = types::first_statement(rec);
+    let count = block_record::statement_count(rec);
+    let mut cursor = block_record::first_statement(rec);
     while cursor.index < count {
-        let found = types::next_statement(rec, cursor);
+        let found = block_record::next_statement(rec, cursor);
         let statement = found.statement;
         let refused = statement_refusal(statement);
         if refused != 0 {
@@ -135,12 +135,12 @@ fn previous_authors(stakes: &[u64], rec: &[u8]) -> AuthoritySet
     requires { ⌜ (wellFormed (now rec) ≡ true) × ((broken (now stakes) ≡ false) × (passes (flatten (map (includeChecks (now stakes) (blockIn (now rec))) (blockIn (now rec) .includes))) ≡ true)) ⌝ }
     ensures { λ r. ⌜ r ≡ previousAuthors (blockIn (now (rec .entry))) (blockIn (now (rec .entry)) .includes) ⌝ }
 {
-    let reference = types::reference(rec);
+    let reference = block_record::reference(rec);
     let mut voters = AuthoritySet::new();
-    let mut left = types::include_count(rec);
+    let mut left = block_record::include_count(rec);
     while 0 < left {
         left = left - 1;
-        voters = with_include(voters, types::include(rec, left), reference.round);
+        voters = with_include(voters, block_record::include(rec, left), reference.round);
     }
     voters
 }
@@ -172,7 +172,7 @@ pub fn body_refusal(stakes: &[u64], rec: &[u8]) -> u64
     if of_statements != 0 {
         return of_statements;
     }
-    let reference = types::reference(rec);
+    let reference = block_record::reference(rec);
     if reference.round.0 == 0 {
         return 0;
     }

@@ -1,14 +1,2 @@
-pub mod Computing
-pub mod Examples
 pub mod References
-pub mod Ranges
-pub mod Runs
-pub mod Spans
-pub mod Records
-pub mod Claimed
 pub mod Words
-pub mod Steps
-pub mod Formed
-pub mod Shape
-pub mod Statements
-pub mod Walk

@@ -13,12 +13,12 @@ use borrow.Author.Tests.{eq-eqb, ne-eqb, lt-ltb, le-ltb}
 use Rattle.base.specs.Lists.{pick, same, before}
 use Rattle.base.specs.Le.{leBytes}
 use Rattle.base.proofs.Le.{leBytes-add, leBytes-mod}
-use Rattle.types.specs.Reference.{BlockReference, TransactionLocator, referenceKey, sameReference, referenceBefore, sameLocator, locatorBefore}
+use Rattle.blocks.specs.Reference.{BlockReference, TransactionLocator, referenceKey, sameReference, referenceBefore, sameLocator, locatorBefore}
 use Rattle.types.specs.Values.{beBytes, digestBytes, asReference, orderOf, wordOrder, keyOrder, referenceOrder, locatorOrder}
 use mir.Syntax.{w64}
 use mir.Val.{Fits}
 use Rattle.base.proofs.Tests.{fails}
-use Rattle.types.proofs.References.{reference-same, reference-irrefl, reference-other}
+use Rattle.blocks.proofs.References.{reference-same, reference-irrefl, reference-other}
 use Rattle.types.specs.declared.BlockDigest as digest
 use Rattle.types.specs.declared.BlockReference as declared
 use Rattle.types.specs.declared.Ordering.{Ordering}

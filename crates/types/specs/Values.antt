@@ -2,19 +2,14 @@
 use Prim.Native.Nat.{ℕ}
 use mathlib.Core.Bool.{Bool}
 use mathlib.Core.List.{List, _++_, reverse}
-use mathlib.Core.Option.{none, some}
 use lib.Dec.{eqb, ltb}
-use lib.ListN.{take, drop}
 use Rattle.base.specs.Lists.{pick, same, before}
 use Rattle.base.specs.Le.{Bytes, leBytes}
-use Rattle.types.specs.Reference.{BlockReference, TransactionLocator, TransactionLocatorRange, locator, newRange, sameReference, referenceBefore, sameLocator, locatorBefore}
-use Rattle.types.specs.Block.{Statement, share, accept, reject, voteRange}
+use Rattle.blocks.specs.Reference.{BlockReference, TransactionLocator, TransactionLocatorRange, locator, newRange, sameReference, referenceBefore, sameLocator, locatorBefore}
 use Rattle.types.specs.declared.BlockDigest as digest
 use Rattle.types.specs.declared.BlockReference as reference
 use Rattle.types.specs.declared.TransactionLocator as locators
 use Rattle.types.specs.declared.TransactionLocatorRange as ranges
-use Rattle.types.specs.declared.BaseStatement as statements
-use Rattle.types.specs.declared.BaseStatement.the-variants.{Share, Accept, Reject, RejectFor, VoteRange}
 use Rattle.types.specs.declared.Ordering.{Ordering}
 use Rattle.types.specs.declared.Ordering.the-variants.{Less, Equal, Greater}
 
@@ -34,14 +29,6 @@ asLocator l = locator (asReference (l .block)) (l .offset)
 
 unfoldable pub asRange : ranges.TransactionLocatorRange → TransactionLocatorRange
 asRange r = newRange (asReference (r .block)) (r .«offset_start_inclusive») (r .«offset_end_exclusive»)
-
--- a statement of a record; of a share the code holds where its payload starts and how long it is
-unfoldable pub asStatement : Bytes → statements.BaseStatement → Statement
-asStatement rec (Share start len) = share (take len (drop start rec))
-asStatement rec (Accept l) = accept (asLocator l)
-asStatement rec (Reject l) = reject (asLocator l) none
-asStatement rec (RejectFor l other) = reject (asLocator l) (some (asLocator other))
-asStatement rec (VoteRange r) = voteRange (asRange r)
 
 -- the order of two things, from the tests that they are the same and that the first comes before the other
 unfoldable pub orderOf : Bool → Bool → Ordering

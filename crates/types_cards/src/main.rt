@@ -2,10 +2,10 @@
 // member, so an include of round - 1 holds quorum.
 use committee::NewCommittee;
 use libc::STDOUT_FILENO;
-use types::SharedRange;
+use shared_ranges::SharedRange;
 ghost use mathlib.Core.Path.{_≡_};
 ghost use mathlib.Core.Bool.{true};
-ghost use Rattle.types.specs.Record.{wellFormed};
+ghost use Rattle.blocks.specs.Record.{wellFormed};
 
 fn print(text: &[u8]) {
     io::write_all(STDOUT_FILENO, text);
@@ -20,7 +20,7 @@ fn verify(stakes: &[u64], rec: &[u8]) -> u64 {
     let NewCommittee::Taken(_) = committee::new_committee(stakes) else {
         return 5;
     };
-    if !types::well_formed(rec) {
+    if !block_record::well_formed(rec) {
         return 20;
     }
     let refused = threshold_clock::head_refusal(stakes, rec);
@@ -49,7 +49,7 @@ fn formed_lengths(rec: &[u8]) -> u64 {
     let mut formed: u64 = 0;
     let mut n: usize = 0;
     while n < rec.len() {
-        if types::well_formed(&rec[0..n]) {
+        if block_record::well_formed(&rec[0..n]) {
             formed += 1;
         }
         n += 1;
@@ -68,9 +68,10 @@ fn print_run(start: u64, end: u64) {
 fn print_runs(rec: &[u8])
     requires { ⌜ wellFormed (now rec) ≡ true ⌝ }
 {
-    let mut cursor = types::first_statement(rec);
+    let mut cursor = block_record::first_statement(rec);
     loop {
-        let SharedRange::Run(start, end, next) = types::next_shared_range(rec, cursor) else {
+        let SharedRange::Run(start, end, next) = shared_ranges::next_shared_range(rec, cursor)
+        else {
             return;
         };
         print_run(start, end);
@@ -190,7 +191,7 @@ fn runs() {
     rec[51] = 4;
     rec[62] = 1;
     print(b"shares at 0, 1, 3:");
-    if types::well_formed(&rec) {
+    if block_record::well_formed(&rec) {
         print_runs(&rec);
     }
     print(b"\n");

@@ -1,5 +1,5 @@
 use borrow.Author.Tests.{not-true, not-false}
-use Rattle.aggregator.proofs.Telling.{stated-none}
+use Rattle.events.proofs.Telling.{stated-none}
 use borrow.Author.Needs.{needs}
 use Rattle.aggregator.proofs.announced.Statement.{statement}
 use Rattle.aggregator.proofs.announced.Tie as tie

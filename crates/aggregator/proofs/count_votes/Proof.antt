@@ -4,14 +4,14 @@ use native.Mathlib.Omega.{arith}
 use borrow.Author.Needs.{needs}
 use borrow.Author.Tests.{not-true, not-false}
 use lib.ListN.{length}
-use Rattle.types.specs.Block.{Statement, votedRange, countedOffsets, eventRoom}
-use Rattle.types.specs.Record.{blockIn}
-use Rattle.types.specs.Cursor.{cursorAt}
-use Rattle.types.specs.Values.{asStatement}
-use Rattle.types.proofs.Walk.{placed-index, placed, checks-any, passes-at, offsetsCounted, counted-on}
-use Rattle.aggregator.specs.Step.{withNew}
+use Rattle.blocks.specs.Block.{Statement, votedRange, countedOffsets, eventRoom}
+use Rattle.blocks.specs.Record.{blockIn}
+use Rattle.block_record.specs.Cursor.{cursorAt}
+use Rattle.block_record.specs.Values.{asStatement}
+use Rattle.shared_ranges.proofs.Walk.{placed-index, placed, checks-any, passes-at, offsetsCounted, counted-on}
+use Rattle.events.specs.Step.{withNew}
 use Rattle.aggregator.proofs.Counting.{Counting, counting-start, counting-long, counting-order, counting-on, counting-stop, counting-end}
-use Rattle.aggregator.proofs.Telling.{stated-long}
+use Rattle.events.proofs.Telling.{stated-long}
 use Rattle.aggregator.proofs.count_votes.Statement.{statement}
 use Rattle.aggregator.proofs.count_votes.Tie as tie
 

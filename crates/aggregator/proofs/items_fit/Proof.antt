@@ -5,10 +5,11 @@ use native.Mathlib.Omega.{arith}
 use lib.Dec.{leb}
 use lib.ListN.{length, length-take}
 use Rattle.base.proofs.Tests.{not-both}
-use Rattle.types.specs.Record.{blockIn}
-use Rattle.range_map.specs.Table.{itemsOf, room}
-use Rattle.aggregator.specs.ProcessBlock.{processBlock}
-use Rattle.aggregator.specs.Step.{withNew, Feeding}
+use Rattle.blocks.specs.Record.{blockIn}
+use Rattle.pending_items.specs.Table.{itemsOf, room}
+use Rattle.feeds.specs.ProcessBlock.{processBlock}
+use Rattle.events.specs.Step.{withNew}
+use Rattle.aggregator.specs.Step.{Feeding}
 use Rattle.aggregator.proofs.Copying.{copied-front}
 use borrow.Author.Needs.{needs}
 use Rattle.aggregator.proofs.items_fit.Statement.{statement}

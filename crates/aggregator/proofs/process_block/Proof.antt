@@ -4,12 +4,13 @@ use borrow.Author.Tests.{not-true, not-false}
 use Rattle.base.proofs.Tests.{not-both}
 use Rattle.committee.specs.Answers.{asNewCommittee}
 use Rattle.committee.proofs.Answers.{taken-sound, broken-sound}
-use Rattle.block_store.specs.Store.{usedLength}
-use Rattle.block_store.proofs.Accepted.{known-author}
-use Rattle.block_store.proofs.Check.{is-readable}
-use Rattle.aggregator.proofs.Lending.{laid-readable}
+use Rattle.store_layout.specs.Store.{usedLength}
+use Rattle.store_layout.proofs.Accepted.{known-author}
+use Rattle.store_order.proofs.Check.{is-readable}
+use Rattle.pending.proofs.Lending.{laid-readable}
 use Rattle.aggregator.proofs.Votes.{order-holds}
-use Rattle.aggregator.proofs.Process.{added-orderly, process-stop, process-voting, process-done, statements-pass}
+use Rattle.record_checks.proofs.Process.{statements-pass}
+use Rattle.aggregator.proofs.Process.{added-orderly, process-stop, process-voting, process-done}
 use borrow.Author.Needs.{needs}
 use Rattle.aggregator.proofs.process_block.Statement.{statement}
 use Rattle.aggregator.proofs.process_block.Tie as tie

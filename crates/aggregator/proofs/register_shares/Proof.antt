@@ -6,11 +6,12 @@ use Prim.Native.Nat.{ℕ, _-_, _≤_}
 use native.Mathlib.Omega.{arith}
 use lib.ListN.{length}
 use borrow.Author.Needs.{needs}
-use Rattle.types.specs.Reference.{BlockReference}
-use Rattle.types.specs.Record.{blockIn}
+use Rattle.blocks.specs.Reference.{BlockReference}
+use Rattle.blocks.specs.Record.{blockIn}
 use Rattle.types.specs.Values.{asReference}
-use Rattle.types.specs.Cursor.{cursorAt, runsTold, FurtherOn}
-use Rattle.types.proofs.Walk.{placed-index, placed}
+use Rattle.block_record.specs.Cursor.{cursorAt}
+use Rattle.shared_ranges.specs.Cursor.{runsTold, FurtherOn}
+use Rattle.shared_ranges.proofs.Walk.{placed-index, placed}
 use Rattle.aggregator.proofs.Runs.{Adding, adding-start, adding-written, adding-on, adding-stop, adding-end}
 use Rattle.aggregator.proofs.register_shares.Statement.{statement}
 use Rattle.aggregator.proofs.register_shares.Tie as tie

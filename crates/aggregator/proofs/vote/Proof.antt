@@ -3,7 +3,7 @@ use mathlib.Core.Path.{_≡_, refl, sym, ap, subst}
 use Prim.Native.Nat.{ℕ}
 use native.Mathlib.Omega.{arith}
 use Rattle.committee.specs.Committee.{known}
-use Rattle.types.specs.Reference.{BlockReference, newRange}
+use Rattle.blocks.specs.Reference.{BlockReference, newRange}
 use Rattle.types.specs.Values.{asReference, asRange}
 use Rattle.aggregator.proofs.Votes.{order-formed, order-holds, vote-stop, vote-written, vote-done}
 use borrow.Author.Needs.{needs}

@@ -1,6 +1,6 @@
 use mathlib.Core.Path.{_≡_, refl, sym, ap, _∙_}
-use Rattle.types.specs.Reference.{newRange}
-use Rattle.types.specs.Block.{countedOffsets}
+use Rattle.blocks.specs.Reference.{newRange}
+use Rattle.blocks.specs.Block.{countedOffsets}
 use Rattle.types.specs.Values.{asRange}
 use Rattle.aggregator.specs.Step.{asVoted}
 use Rattle.aggregator.proofs.Votes.{order-holds, vote-nothing}

@@ -1,8 +1,8 @@
 use Rattle.aggregator.proofs.Votes.{accept-low}
 use mathlib.Core.Path.{_≡_, ap}
 use mathlib.Core.Option.{some}
-use Rattle.types.specs.Block.{votedRange}
-use Rattle.types.specs.Values.{asStatement}
+use Rattle.blocks.specs.Block.{votedRange}
+use Rattle.block_record.specs.Values.{asStatement}
 use Rattle.aggregator.specs.Step.{asVoted}
 use borrow.Author.Needs.{needs}
 use Rattle.aggregator.proofs.voted_range.Statement.{statement}

@@ -5,12 +5,12 @@ use native.Mathlib.Omega.{arith}
 use lib.ListN.{length}
 use Rattle.base.specs.Le.{Bytes}
 use Rattle.base.proofs.Le.{AllBytes, bytes-of}
-use Rattle.types.specs.Record.{blockIn}
+use Rattle.blocks.specs.Record.{blockIn}
 use Rattle.types.specs.Values.{asReference}
-use Rattle.block_store.specs.Store.{recordsOf}
+use Rattle.store_layout.specs.Store.{recordsOf}
 use Rattle.block_store.specs.Step.{Between}
-use Rattle.block_store.proofs.Lookups.{not-stored-none}
-use Rattle.block_store.proofs.Search.{laid-out}
+use Rattle.store_order.proofs.Lookups.{not-stored-none}
+use Rattle.store_order.proofs.Search.{laid-out}
 use Rattle.block_store.proofs.Appended.{roomy, reach, appended-so}
 use Rattle.block_store.proofs.append.Statement.{statement}
 use Rattle.block_store.proofs.append.Tie as tie

@@ -5,15 +5,15 @@ use mathlib.Core.List.{List}
 use native.Mathlib.Omega.{arith}
 use native.Mathlib.Nat.{zero-add}
 use lib.ListN.{drop}
-use Rattle.types.specs.Reference.{BlockReference}
-use Rattle.types.specs.Record.{blockIn}
+use Rattle.blocks.specs.Reference.{BlockReference}
+use Rattle.blocks.specs.Record.{blockIn}
 use Rattle.types.specs.Values.{asReference}
-use Rattle.block_store.specs.Layout.{Record, entries, lookup}
-use Rattle.block_store.specs.Store.{blockCount, recordsOf}
-use Rattle.block_store.specs.Accept.{firstMissing}
-use Rattle.block_store.proofs.Loops.{entry-room}
-use Rattle.block_store.proofs.Lookups.{missing-on, missing-there, missing-none, none-is}
-use Rattle.block_store.proofs.Search.{laid-out}
+use Rattle.store_layout.specs.Layout.{Record, entries, lookup}
+use Rattle.store_layout.specs.Store.{blockCount, recordsOf}
+use Rattle.store_layout.specs.Accept.{firstMissing}
+use Rattle.store_order.proofs.Loops.{entry-room}
+use Rattle.store_order.proofs.Lookups.{missing-on, missing-there, missing-none, none-is}
+use Rattle.store_order.proofs.Search.{laid-out}
 use Rattle.block_store.proofs.Along.{Along, along-start, along-entry, along-end, met-found, met-past, met-on}
 use Rattle.block_store.proofs.first_missing.Statement.{statement}
 use Rattle.block_store.proofs.first_missing.Tie as tie

@@ -1,6 +1,6 @@
 use mathlib.Core.Path.{sym, _∙_}
 use borrow.Author.Tests.{not-true, not-false}
-use Rattle.aggregator.proofs.Lending.{lying}
+use Rattle.pending.proofs.Lending.{lying}
 use Rattle.feeding.proofs.Early.{early-lent, early-malformed, early-rules}
 use borrow.Author.Needs.{needs}
 use Rattle.feeding.proofs.early_refusal.Statement.{statement}

@@ -3,12 +3,12 @@ use Prim.Native.Nat.{ℕ}
 use native.Mathlib.Omega.{arith}
 use lib.ListN.{length}
 use borrow.Author.Tests.{not-true, not-false}
-use Rattle.types.specs.Record.{blockIn}
-use Rattle.block_store.specs.Layout.{readRecord}
-use Rattle.block_store.specs.Store.{recordsOf, recordIn}
-use Rattle.block_store.proofs.Accepted.{accepted-new}
-use Rattle.aggregator.specs.Feed.{Lent, lentOf, processed}
-use Rattle.aggregator.proofs.Lending.{lying}
+use Rattle.blocks.specs.Record.{blockIn}
+use Rattle.store_layout.specs.Layout.{readRecord}
+use Rattle.store_layout.specs.Store.{recordsOf, recordIn}
+use Rattle.store_layout.proofs.Accepted.{accepted-new}
+use Rattle.feeds.specs.Feed.{Lent, lentOf, processed}
+use Rattle.pending.proofs.Lending.{lying}
 use Rattle.feeding.specs.Answers.{asFeedAnswer}
 use Rattle.feeding.proofs.Order.{feeds-lent, feeds-work, feeds-record, feeds-asked, acceptable, feeding, feeds-crowded, feeds-none, gives-refusal, gives-acceptance}
 use borrow.Author.Needs.{needs}

@@ -1,5 +1,5 @@
 use borrow.Author.Tests.{not-false}
-use Rattle.finalization_interpreter.proofs.Sorting.{some-committee}
+use Rattle.block_votes.proofs.Sorting.{some-committee}
 use Rattle.final_walk.specs.Table.{TabledBy}
 use borrow.Author.Needs.{needs}
 use Rattle.final_list.proofs.fill_large.Statement.{statement}

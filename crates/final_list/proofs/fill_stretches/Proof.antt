@@ -6,11 +6,11 @@ use native.Mathlib.Omega.{arith}
 use lib.ListN.{length}
 use Rattle.base.specs.Checks.{Answer, answered}
 use Rattle.base.proofs.Le.{bytes-of}
-use Rattle.types.specs.Reference.{locator}
+use Rattle.blocks.specs.Reference.{locator}
 use Rattle.types.specs.Values.{asLocator}
-use Rattle.finalization_interpreter.specs.Finality.{blocksOf}
-use Rattle.finalization_interpreter.specs.NextFinal.{leastFinal}
-use Rattle.finalization_interpreter.specs.Answers.{asMaybe}
+use Rattle.finality.specs.Finality.{blocksOf}
+use Rattle.finality.specs.NextFinal.{leastFinal}
+use Rattle.vote_starts.specs.Answers.{asMaybe}
 use Rattle.final_list.specs.Stretches.{lastLocator, stretchAt, Given}
 use Rattle.final_list.specs.Answers.{asStretches}
 use Rattle.final_list.specs.Step.{Filled}

@@ -3,15 +3,15 @@ use mathlib.Core.Path.{_≡_, sym, ap, _∙_}
 use mathlib.Core.Option.{none}
 use native.Mathlib.Omega.{arith}
 use Rattle.base.proofs.Le.{bytes-of}
-use Rattle.types.specs.Reference.{locator}
+use Rattle.blocks.specs.Reference.{locator}
 use Rattle.types.specs.Values.{asLocator}
-use Rattle.finalization_interpreter.specs.Voters.{isFinal}
-use Rattle.finalization_interpreter.specs.Finality.{blocksOf}
-use Rattle.finalization_interpreter.specs.NextFinal.{leastLocator, candidates, leastFinal}
-use Rattle.finalization_interpreter.specs.Answers.{asMaybe}
+use Rattle.finality.specs.Voters.{isFinal}
+use Rattle.finality.specs.Finality.{blocksOf}
+use Rattle.finality.specs.NextFinal.{leastLocator, candidates, leastFinal}
+use Rattle.vote_starts.specs.Answers.{asMaybe}
 use Rattle.finalization_interpreter.proofs.Asking.{final-by}
-use Rattle.finalization_interpreter.proofs.Starts.{finalAfter}
-use Rattle.finalization_interpreter.proofs.Onward.{from-start, just-after, not-just-after, past-the-last}
+use Rattle.vote_starts.proofs.Starts.{finalAfter}
+use Rattle.next_final.proofs.Onward.{from-start, just-after, not-just-after, past-the-last}
 use Rattle.final_walk.specs.Places.{Certify}
 use Rattle.final_list.specs.Step.{asNext, FoundRight}
 use borrow.Author.Needs.{needs}

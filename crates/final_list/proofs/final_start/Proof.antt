@@ -4,12 +4,12 @@ use mathlib.Core.Option.{none, some}
 use lib.ListN.{length}
 use Rattle.base.specs.Lists.{keep}
 use Rattle.types.specs.Values.{asLocator}
-use Rattle.finalization_interpreter.specs.Voters.{isFinal}
-use Rattle.finalization_interpreter.specs.Finality.{blocksOf}
-use Rattle.finalization_interpreter.specs.NextFinal.{isAfter, leastLocator, candidates}
-use Rattle.finalization_interpreter.specs.Answers.{asMaybe}
+use Rattle.finality.specs.Voters.{isFinal}
+use Rattle.finality.specs.Finality.{blocksOf}
+use Rattle.finality.specs.NextFinal.{isAfter, leastLocator, candidates}
+use Rattle.vote_starts.specs.Answers.{asMaybe}
 use Rattle.finalization_interpreter.proofs.Asking.{final-by}
-use Rattle.finalization_interpreter.proofs.Starts.{finalAfter, none-final, one-final, not-final, fewer}
+use Rattle.vote_starts.proofs.Starts.{finalAfter, none-final, one-final, not-final, fewer}
 use Rattle.final_walk.specs.Places.{Certify}
 use Rattle.final_list.specs.Step.{asNext, FoundRight}
 use Rattle.final_list.proofs.Tables.{table-starts}

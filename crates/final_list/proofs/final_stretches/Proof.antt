@@ -5,10 +5,10 @@ use lib.ListN.{length}
 use borrow.Author.Tests.{not-true, not-false}
 use Rattle.committee.specs.Answers.{asNewCommittee}
 use Rattle.committee.proofs.Answers.{taken-sound, broken-sound}
-use Rattle.block_store.specs.Store.{storeInOrder}
-use Rattle.block_store.proofs.Check.{order-laid}
-use Rattle.finalization_interpreter.specs.Answers.{asMaybe}
-use Rattle.finalization_interpreter.proofs.Along.{sorted-count}
+use Rattle.store_layout.specs.Store.{storeInOrder}
+use Rattle.store_order.proofs.Check.{order-laid}
+use Rattle.vote_starts.specs.Answers.{asMaybe}
+use Rattle.block_votes.proofs.Along.{sorted-count}
 use Rattle.final_list.specs.Stretches.{AskedBulk}
 use Rattle.final_list.specs.Answers.{asStretches}
 use Rattle.final_list.proofs.Asking.{bulk-broken, bulk-disordered, bulk-asked}

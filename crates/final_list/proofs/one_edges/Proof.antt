@@ -3,7 +3,7 @@ use Rattle.final_list.specs.Stretches.{nearer}
 use mathlib.Core.Path.{_≡_, sym, ap, _∙_}
 use native.Mathlib.Omega.{arith}
 use borrow.Author.Tests.{not-true, not-false}
-use Rattle.types.specs.Reference.{locator, newRange, oneRange}
+use Rattle.blocks.specs.Reference.{locator, newRange, oneRange}
 use Rattle.types.specs.Values.{asReference, asLocator}
 use Rattle.final_list.proofs.Edges.{other-block, own-block, end-past}
 use borrow.Author.Needs.{needs}

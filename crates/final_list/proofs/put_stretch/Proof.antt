@@ -3,7 +3,7 @@ use mathlib.Core.Path.{_≡_, ap, _∙_}
 use lib.Seq.{sets}
 use Rattle.committee.specs.AuthoritySet.{stakeOf}
 use Rattle.types.specs.Values.{asLocator}
-use Rattle.finalization_interpreter.proofs.Sorting.{some-committee}
+use Rattle.block_votes.proofs.Sorting.{some-committee}
 use Rattle.final_list.specs.Stretches.{FinalStretch, stretchWords}
 use Rattle.final_list.proofs.Filling.{stretch-parts}
 use borrow.Author.Needs.{needs}

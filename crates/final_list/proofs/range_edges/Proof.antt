@@ -3,7 +3,7 @@ use Rattle.final_list.specs.Stretches.{nearer}
 use mathlib.Core.Path.{_≡_, sym, ap, _∙_}
 use native.Mathlib.Omega.{arith}
 use borrow.Author.Tests.{not-true, not-false}
-use Rattle.types.specs.Reference.{newRange}
+use Rattle.blocks.specs.Reference.{newRange}
 use Rattle.types.specs.Values.{asReference, asRange}
 use Rattle.final_list.proofs.Edges.{other-block, own-block}
 use borrow.Author.Needs.{needs}

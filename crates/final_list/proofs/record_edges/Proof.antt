@@ -3,11 +3,12 @@ use Prim.Native.Nat.{_-_, _≤_, _<_}
 use mathlib.Core.Path.{_≡_, refl, sym, _∙_}
 use native.Mathlib.Omega.{arith}
 use lib.ListN.{length, getD}
-use Rattle.types.specs.Block.{spans}
-use Rattle.types.specs.Record.{blockIn, noStatement}
-use Rattle.types.specs.Values.{asReference, asStatement}
-use Rattle.types.specs.Cursor.{cursorAt}
-use Rattle.finalization_interpreter.specs.Walk.{spanOf}
+use Rattle.blocks.specs.Block.{spans}
+use Rattle.blocks.specs.Record.{blockIn, noStatement}
+use Rattle.types.specs.Values.{asReference}
+use Rattle.block_record.specs.Values.{asStatement}
+use Rattle.block_record.specs.Cursor.{cursorAt}
+use Rattle.block_votes.specs.Walk.{spanOf}
 use Rattle.final_list.specs.Stretches.{nearest}
 use Rattle.final_list.specs.Step.{edgesIn}
 use Rattle.final_list.proofs.Edges.{edgesFrom, edges-start, edges-on, edges-end}

@@ -1,7 +1,7 @@
 use mathlib.Core.Path.{refl}
-use Rattle.types.specs.Reference.{locator, newRange}
+use Rattle.blocks.specs.Reference.{locator, newRange}
 use Rattle.types.specs.Values.{asLocator, asRange}
-use Rattle.finalization_interpreter.specs.Walk.{startOf}
+use Rattle.vote_starts.specs.Walk.{startOf}
 use Rattle.final_list.proofs.start_of.Statement.{statement}
 use Rattle.final_list.proofs.start_of.Tie as tie
 

@@ -4,14 +4,14 @@ use mathlib.Core.Path.{_≡_, refl, sym, ap, _∙_}
 use native.Mathlib.Omega.{arith}
 use lib.ListN.{length, getD, drop}
 use Rattle.base.specs.Le.{Bytes}
-use Rattle.types.specs.Reference.{locator}
-use Rattle.types.specs.Block.{spans}
-use Rattle.types.specs.Record.{blockIn}
+use Rattle.blocks.specs.Reference.{locator}
+use Rattle.blocks.specs.Block.{spans}
+use Rattle.blocks.specs.Record.{blockIn}
 use Rattle.types.specs.Values.{asReference, asLocator}
-use Rattle.block_store.specs.Entry.{blockAt}
-use Rattle.block_store.proofs.Loops.{entry-room, record-part}
-use Rattle.finalization_interpreter.specs.Walk.{SortedStore}
-use Rattle.finalization_interpreter.proofs.Sorting.{place-entry}
+use Rattle.store_order.specs.Entry.{blockAt}
+use Rattle.store_order.proofs.Loops.{entry-room, record-part}
+use Rattle.block_votes.specs.Walk.{SortedStore}
+use Rattle.block_votes.proofs.Sorting.{place-entry}
 use Rattle.final_list.specs.Stretches.{nearest, stretchEnd}
 use Rattle.final_list.specs.Step.{edgesIn}
 use Rattle.final_list.proofs.Edges.{edgesOver, over-on, over-end, over-all}

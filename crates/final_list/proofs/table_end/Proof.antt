@@ -3,7 +3,7 @@ use Prim.Native.Nat.{ℕ, _-_, _≤_, _<_, _+_}
 use mathlib.Core.Path.{_≡_, refl, sym, ap, _∙_}
 use mathlib.Core.List.{List}
 use native.Mathlib.Omega.{arith}
-use Rattle.types.specs.Reference.{TransactionLocatorRange}
+use Rattle.blocks.specs.Reference.{TransactionLocatorRange}
 use Rattle.types.specs.Values.{asReference}
 use Rattle.final_list.specs.Stretches.{edgesOf, nearest}
 use Rattle.final_list.specs.Step.{edgesIn, tableRanges}

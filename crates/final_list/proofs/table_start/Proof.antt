@@ -4,10 +4,10 @@ use mathlib.Core.Path.{_≡_, refl, sym, ap, _∙_}
 use mathlib.Core.List.{List, [], _∷_, map}
 use native.Mathlib.Omega.{arith}
 use Rattle.base.specs.Lists.{keep}
-use Rattle.types.specs.Reference.{TransactionLocator, TransactionLocatorRange}
-use Rattle.finalization_interpreter.specs.NextFinal.{isAfter, leastLocator}
-use Rattle.finalization_interpreter.specs.Answers.{asMaybe}
-use Rattle.finalization_interpreter.specs.Walk.{startOf, lesserOf}
+use Rattle.blocks.specs.Reference.{TransactionLocator, TransactionLocatorRange}
+use Rattle.finality.specs.NextFinal.{isAfter, leastLocator}
+use Rattle.vote_starts.specs.Answers.{asMaybe}
+use Rattle.vote_starts.specs.Walk.{startOf, lesserOf}
 use Rattle.final_list.specs.Step.{tableRanges}
 use Rattle.final_list.proofs.Tables.{startsFrom, first-range, starts-on, starts-end}
 use Rattle.final_list.proofs.table_start.Statement.{statement}

@@ -1,7 +1,7 @@
 use Prim.Native.Nat.{_*_}
 use native.Mathlib.Omega.{arith}
 use lib.ListN.{length-set}
-use Rattle.types.specs.Reference.{locator}
+use Rattle.blocks.specs.Reference.{locator}
 use Rattle.types.specs.Values.{asReference, asLocator}
 use Rattle.final_list.specs.Stretches.{stretchWords}
 use Rattle.final_list.specs.Step.{stretchOf}

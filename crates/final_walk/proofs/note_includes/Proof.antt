@@ -3,8 +3,8 @@ use Prim.Native.Nat.{ℕ, _-_, _≤_, _<_, _+_}
 use mathlib.Core.Path.{_≡_, refl, sym, subst, _∙_}
 use native.Mathlib.Omega.{arith}
 use lib.ListN.{length}
-use Rattle.finalization_interpreter.specs.Walk.{blockAtPlace}
-use Rattle.finalization_interpreter.proofs.Sorting.{place-entry, include-found}
+use Rattle.block_votes.specs.Walk.{blockAtPlace}
+use Rattle.block_votes.proofs.Sorting.{place-entry, include-found}
 use Rattle.final_walk.specs.Places.{IsPlace, Noted}
 use Rattle.final_walk.proofs.Marks.{noted-start, noted-more}
 use Rattle.final_walk.proofs.note_includes.Statement.{statement}

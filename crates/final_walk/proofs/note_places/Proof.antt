@@ -3,8 +3,8 @@ use Prim.Native.Nat.{ℕ, _-_, _≤_, _<_, _+_}
 use mathlib.Core.Path.{_≡_, refl, sym, subst, _∙_}
 use native.Mathlib.Omega.{arith}
 use lib.ListN.{length}
-use Rattle.finalization_interpreter.specs.Walk.{blockAtPlace}
-use Rattle.finalization_interpreter.proofs.Sorting.{place-entry}
+use Rattle.block_votes.specs.Walk.{blockAtPlace}
+use Rattle.block_votes.proofs.Sorting.{place-entry}
 use Rattle.final_walk.specs.Places.{includesBefore, Placed}
 use Rattle.final_walk.proofs.Marks.{before-none, before-next, placed-start, placed-more}
 use Rattle.final_walk.proofs.note_places.Statement.{statement}

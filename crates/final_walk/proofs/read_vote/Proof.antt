@@ -1,5 +1,5 @@
 use mathlib.Core.Path.{refl}
-use Rattle.types.specs.Reference.{newRange}
+use Rattle.blocks.specs.Reference.{newRange}
 use Rattle.types.specs.Values.{asReference, asRange}
 use Rattle.final_walk.specs.Table.{rangeAt}
 use borrow.Author.Needs.{needs}

@@ -5,11 +5,11 @@ use mathlib.Core.List.{List, [], _∷_}
 use native.Mathlib.Omega.{arith}
 use lib.ListN.{length, getD}
 use Rattle.base.specs.Lists.{_∈_, here}
-use Rattle.types.specs.Reference.{TransactionLocatorRange}
-use Rattle.types.specs.Record.{blockIn, noStatement}
+use Rattle.blocks.specs.Reference.{TransactionLocatorRange}
+use Rattle.blocks.specs.Record.{blockIn, noStatement}
 use Rattle.types.specs.Values.{asRange}
-use Rattle.types.specs.Cursor.{cursorAt}
-use Rattle.finalization_interpreter.specs.Walk.{spanOf}
+use Rattle.block_record.specs.Cursor.{cursorAt}
+use Rattle.block_votes.specs.Walk.{spanOf}
 use Rattle.final_walk.specs.Table.{votedBy, EndsFit, Recorded, RecordedBy}
 use Rattle.final_walk.proofs.Table.{record-start, record-none, record-one, span-stands, payload-free}
 use Rattle.final_walk.proofs.table_record.Statement.{statement}

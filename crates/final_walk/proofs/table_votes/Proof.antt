@@ -4,10 +4,10 @@ use mathlib.Core.Path.{_≡_, refl, sym, ap, subst, _∙_}
 use native.Mathlib.Omega.{arith}
 use lib.ListN.{length, getD}
 use Rattle.base.proofs.Le.{bytes-of}
-use Rattle.block_store.specs.Entry.{blockAt}
-use Rattle.block_store.proofs.Loops.{entry-room, record-part}
-use Rattle.finalization_interpreter.specs.Walk.{blockAtPlace}
-use Rattle.finalization_interpreter.proofs.Sorting.{some-committee, place-entry, place-stored}
+use Rattle.store_order.specs.Entry.{blockAt}
+use Rattle.store_order.proofs.Loops.{entry-room, record-part}
+use Rattle.block_votes.specs.Walk.{blockAtPlace}
+use Rattle.block_votes.proofs.Sorting.{some-committee, place-entry, place-stored}
 use Rattle.final_walk.specs.Table.{EndsFit, RecordedBy, Tabled, TabledBy}
 use Rattle.final_walk.proofs.Ends.{span-end}
 use Rattle.final_walk.proofs.Table.{table-start, table-more}

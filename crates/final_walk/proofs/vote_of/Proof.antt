@@ -1,10 +1,11 @@
 use mathlib.Core.List.{[], Option·toList}
 use native.Mathlib.Omega.{arith}
 use Rattle.base.specs.Lists.{here}
-use Rattle.types.specs.Reference.{locator, newRange, oneRange}
-use Rattle.types.specs.Block.{isShare, votedRange}
-use Rattle.types.specs.Values.{asReference, asLocator, asStatement}
-use Rattle.finalization_interpreter.specs.Walk.{spanOf}
+use Rattle.blocks.specs.Reference.{locator, newRange, oneRange}
+use Rattle.blocks.specs.Block.{isShare, votedRange}
+use Rattle.types.specs.Values.{asReference, asLocator}
+use Rattle.block_record.specs.Values.{asStatement}
+use Rattle.block_votes.specs.Walk.{spanOf}
 use Rattle.final_walk.specs.Table.{votedBy, EndsFit}
 use borrow.Author.Needs.{needs}
 use Rattle.final_walk.proofs.vote_of.Statement.{statement}

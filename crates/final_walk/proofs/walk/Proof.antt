@@ -8,12 +8,12 @@ use borrow.Author.Tests.{not-true, not-false}
 use Rattle.base.specs.Lists.{pick}
 use Rattle.committee.specs.Committee.{isQuorum}
 use Rattle.committee.specs.AuthoritySet.{nobody, inserted, united}
-use Rattle.types.specs.Reference.{TransactionLocator}
-use Rattle.types.specs.Block.{author}
+use Rattle.blocks.specs.Reference.{TransactionLocator}
+use Rattle.blocks.specs.Block.{author}
 use Rattle.types.specs.Values.{asReference}
-use Rattle.block_store.specs.Entry.{blockAt}
-use Rattle.finalization_interpreter.specs.Walk.{blockAtPlace, votersAt}
-use Rattle.finalization_interpreter.proofs.Sorting.{some-committee, place-entry, place-author}
+use Rattle.store_order.specs.Entry.{blockAt}
+use Rattle.block_votes.specs.Walk.{blockAtPlace, votersAt}
+use Rattle.block_votes.proofs.Sorting.{some-committee, place-entry, place-author}
 use Rattle.finalization_interpreter.proofs.Certify.{found, found-all, authors-all}
 use Rattle.final_walk.specs.Places.{IsPlace, Sure, Owned, Certify, CertifyMarked}
 use Rattle.final_walk.proofs.Marks.{before-room}

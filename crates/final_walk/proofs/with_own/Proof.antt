@@ -1,7 +1,7 @@
 use mathlib.Core.Path.{_≡_, refl, ap, _∙_}
 use borrow.Author.Tests.{eq-eqb, ne-eqb}
 use Rattle.committee.specs.AuthoritySet.{AuthoritySet, united}
-use Rattle.types.specs.Reference.{BlockReference}
+use Rattle.blocks.specs.Reference.{BlockReference}
 use Rattle.types.specs.Values.{asReference}
 use borrow.Author.Needs.{needs}
 use Rattle.final_walk.proofs.with_own.Statement.{statement}

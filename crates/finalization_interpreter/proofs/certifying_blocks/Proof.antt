@@ -7,13 +7,13 @@ use native.Mathlib.Omega.{arith}
 use lib.ListN.{length, getD, length-append, length-drop, length-set}
 use borrow.Author.Tests.{not-true, not-false}
 use Rattle.types.specs.Values.{asReference, asLocator}
-use Rattle.types.specs.Block.{author}
-use Rattle.block_store.specs.Entry.{blockAt}
-use Rattle.finalization_interpreter.specs.Voters.{certifies}
-use Rattle.finalization_interpreter.specs.Finality.{blocksOf}
-use Rattle.finalization_interpreter.specs.Walk.{votersAt, blockAtPlace}
-use Rattle.finalization_interpreter.proofs.Sorting.{some-committee, place-entry, place-author}
-use Rattle.finalization_interpreter.proofs.Remembering.{remembers-nothing}
+use Rattle.blocks.specs.Block.{author}
+use Rattle.store_order.specs.Entry.{blockAt}
+use Rattle.finality.specs.Voters.{certifies}
+use Rattle.finality.specs.Finality.{blocksOf}
+use Rattle.block_votes.specs.Walk.{votersAt, blockAtPlace}
+use Rattle.block_votes.proofs.Sorting.{some-committee, place-entry, place-author}
+use Rattle.voters.proofs.Remembering.{remembers-nothing}
 use Rattle.finalization_interpreter.proofs.certifying_blocks.Statement.{statement}
 use Rattle.finalization_interpreter.proofs.certifying_blocks.Tie as tie
 

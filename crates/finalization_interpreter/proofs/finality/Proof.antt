@@ -9,12 +9,12 @@ use Rattle.committee.specs.Committee.{quorumOf}
 use Rattle.committee.specs.Answers.{asNewCommittee}
 use Rattle.committee.proofs.Answers.{taken-sound, broken-sound}
 use Rattle.types.specs.Values.{asLocator}
-use Rattle.block_store.specs.Store.{recordsOf, storeInOrder}
-use Rattle.block_store.specs.Entry.{sortedPositions}
-use Rattle.block_store.proofs.Check.{order-laid}
-use Rattle.finalization_interpreter.specs.Finality.{Asked}
+use Rattle.store_layout.specs.Store.{recordsOf, storeInOrder}
+use Rattle.store_order.specs.Entry.{sortedPositions}
+use Rattle.store_order.proofs.Check.{order-laid}
+use Rattle.finality.specs.Finality.{Asked}
 use Rattle.finalization_interpreter.specs.Answers.{asFinality}
-use Rattle.finalization_interpreter.proofs.Along.{sorted-count}
+use Rattle.block_votes.proofs.Along.{sorted-count}
 use Rattle.finalization_interpreter.proofs.Asking.{final-by, finality-broken, finality-disordered, finality-short, finality-asked}
 use borrow.Author.Needs.{needs}
 use Rattle.finalization_interpreter.proofs.finality.Statement.{statement}

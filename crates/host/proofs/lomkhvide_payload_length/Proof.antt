@@ -3,8 +3,8 @@ use lib.Seq.{length-take-le}
 use lib.ListN.{take}
 use native.Mathlib.Omega.{arith}
 use borrow.Author.Needs.{needs}
-use Rattle.block_store.specs.Answers.{asPayloadLength}
-use Rattle.block_store.specs.Payload.{payloadLength}
+use Rattle.payload.specs.Answers.{asPayloadLength}
+use Rattle.store_layout.specs.Payload.{payloadLength}
 use Rattle.host_lib.specs.Payload.{locatorOf, payloadLengthCall}
 use Rattle.host_lib.specs.Calls.{encoded}
 use Rattle.host_lib.proofs.Locators.{asked-most, length-most}

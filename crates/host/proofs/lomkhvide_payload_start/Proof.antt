@@ -3,7 +3,7 @@ use lib.Seq.{length-take-le}
 use lib.ListN.{take}
 use native.Mathlib.Omega.{arith}
 use borrow.Author.Needs.{needs}
-use Rattle.block_store.specs.Answers.{asPlace, payloadPlace}
+use Rattle.payload.specs.Answers.{asPlace, payloadPlace}
 use Rattle.host_lib.specs.Payload.{locatorOf, startOf, payloadStartCall}
 use Rattle.host_lib.specs.Calls.{encoded}
 use Rattle.host_lib.proofs.Locators.{asked-most, place-most}

@@ -2,7 +2,7 @@ use Rattle.host_lib.proofs.Standings.{pending-most}
 use Rattle.host_lib.specs.Calls.{encoded}
 use Rattle.host_lib.specs.Pending.{votersOf, pendingVotersCall}
 use Rattle.host_lib.specs.Payload.{locatorOf}
-use Rattle.aggregator.specs.Answers.{asPending}
+use Rattle.pending.specs.Answers.{asPending}
 use native.Mathlib.Omega.{arith}
 use lib.ListN.{take}
 use lib.Seq.{length-take-le}

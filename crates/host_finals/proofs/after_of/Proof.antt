@@ -1,6 +1,6 @@
 use Rattle.host_lib.proofs.Locators.{locator-none, locator-read}
 use Rattle.host_finals.specs.NextFinal.{afterOf, asAfter, afterLocator}
-use Rattle.finalization_interpreter.specs.Answers.{asMaybe}
+use Rattle.vote_starts.specs.Answers.{asMaybe}
 use lib.ListN.{length}
 use borrow.Author.Tests.{eq-eqb, ne-eqb}
 use borrow.Author.Needs.{needs}

@@ -2,7 +2,8 @@ use Rattle.host_finals.proofs.NextFinals.{next-malformed, next-unsized,
 use Rattle.host_lib.proofs.Locators.{before-most}
 use Rattle.host_finals.specs.NextFinal.{NextFinalCall, asAfter, afterOf, foundIn}
 use Rattle.host_lib.specs.Calls.{encoded}
-use Rattle.finalization_interpreter.specs.Answers.{asNextFinal, asMaybe}
+use Rattle.vote_starts.specs.Answers.{asMaybe}
+use Rattle.next_final.specs.Answers.{asNextFinal}
 use native.Mathlib.Omega.{arith}
 use mathlib.Core.Path.{sym, ap, _∙_}
 use borrow.Author.Needs.{needs}

@@ -1,5 +1,5 @@
 use mathlib.Core.Path.{sym, ap, _∙_}
-use Rattle.finalization_interpreter.specs.Answers.{asMaybe}
+use Rattle.vote_starts.specs.Answers.{asMaybe}
 use Rattle.host_finals.specs.Stretches.{StretchesCall, stretchesNumber}
 use Rattle.host_finals.proofs.Stretched.{stretches-in, counts-fit}
 use borrow.Author.Needs.{needs}

@@ -1,5 +1,5 @@
 use Rattle.host_finals.proofs.Written.{locator-written, length-digestBytes}
-use Rattle.types.specs.Reference.{locator}
+use Rattle.blocks.specs.Reference.{locator}
 use Rattle.types.specs.Values.{asLocator, asReference}
 use mathlib.Core.Path.{_∙_}
 use borrow.Author.Needs.{needs}

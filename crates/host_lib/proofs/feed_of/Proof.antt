@@ -2,7 +2,7 @@ use Rattle.host_lib.proofs.Feeds.{feed-unsized, feed-eventless, feed-si
 use Rattle.host_lib.specs.Feed.{FeedCall, refusedCall, fedCall, fedWith}
 use Rattle.base.specs.Checks.{refused}
 use Rattle.words.specs.Words.{wordsOf, bytesOf}
-use Rattle.aggregator.specs.Feed.{Fed}
+use Rattle.feeds.specs.Feed.{Fed}
 use Rattle.feeding.specs.Answers.{asFeedAnswer}
 use mathlib.Core.Path.{sym, ap, _∙_}
 use borrow.Author.Needs.{needs}

@@ -1,6 +1,6 @@
 use Rattle.host_lib.proofs.Feeds.{fed-lent}
 use Rattle.words.specs.Words.{bytesOf}
-use Rattle.aggregator.specs.Feed.{Fed}
+use Rattle.feeds.specs.Feed.{Fed}
 use Prim.Native.Nat.{ℕ}
 use lib.ListN.{length-replicate}
 use mathlib.Core.Path.{sym, ap, _∙_}

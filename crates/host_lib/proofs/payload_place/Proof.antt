@@ -1,6 +1,6 @@
 use mathlib.Core.Path.{ap}
 use borrow.Author.Needs.{needs}
-use Rattle.block_store.specs.Answers.{asPlace}
+use Rattle.payload.specs.Answers.{asPlace}
 use Rattle.base.specs.Checks.{refused}
 use Rattle.host_lib.specs.Payload.{asked}
 use Rattle.host_lib.proofs.Locators.{locator-none, locator-read}

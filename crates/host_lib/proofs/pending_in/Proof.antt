@@ -1,7 +1,7 @@
 use Rattle.host_lib.proofs.Locators.{locator-none, locator-read}
 use Rattle.host_lib.specs.Pending.{pendingIn}
 use Rattle.base.specs.Checks.{refused}
-use Rattle.aggregator.specs.Answers.{asPending}
+use Rattle.pending.specs.Answers.{asPending}
 use mathlib.Core.Path.{ap}
 use borrow.Author.Needs.{needs}
 use Rattle.host_lib.proofs.pending_in.Statement.{statement}

@@ -1,7 +1,7 @@
 use Rattle.host_lib.proofs.Standings.{pending-sized, pending-other}
 use Rattle.host_lib.specs.Payload.{locatorOf}
 use Rattle.base.specs.Checks.{refused}
-use Rattle.aggregator.specs.Answers.{asPending}
+use Rattle.pending.specs.Answers.{asPending}
 use mathlib.Core.Path.{ap, sym, _∙_}
 use borrow.Author.Needs.{needs}
 use Rattle.host_lib.proofs.pending_of.Statement.{statement}

@@ -1,4 +1,4 @@
--- `interpreter::next_final` meets its contract: a walk of its MIR, by hand. The struct is taken apart, and `finalization_interpreter::next_final` is called on the stakes, the slice that it holds and the place to go on from. What the
+-- `interpreter::next_final` meets its contract: a walk of its MIR, by hand. The struct is taken apart, and `next_final::next_final` is called on the stakes, the slice that it holds and the place to go on from. What the
 -- stakes and the struct own is had twice, and one copy is kept for the exit. All that the proof knows of the callee is that it meets its contract.
 -- Assumes nothing.
 use mathlib.Core.Path.{_≡_, refl}
@@ -42,18 +42,19 @@ use denote.Triple.Table.{entered, cited}
 use denote.Triple.Walked.{says, Stays, stay-none, stay-none-slice, walkOf, goes-none, goes-none-slice, Walks, ends-at, walked, walk-meets}
 use denote.Exit.{yes}
 use denote.Triple.Clauses.{ensured, lasts}
-use Rattle.finalization_interpreter.specs.declared.MaybeLocator.{MaybeLocator}
-use Rattle.finalization_interpreter.specs.declared.NextFinalAnswer.{NextFinalAnswer}
-use Rattle.finalization_interpreter.specs.NextFinal as meant
-use Rattle.finalization_interpreter.specs.Answers.{asMaybe, asNextFinal}
-use Rattle.finalization_interpreter.proofs.MaybeLocator as G
-use Rattle.finalization_interpreter.proofs.MaybeLocator.Laws as G′
-use Rattle.finalization_interpreter.proofs.NextFinalAnswer as E
-use Rattle.finalization_interpreter.proofs.NextFinalAnswer.Laws as E′
-use Rattle.finalization_interpreter.proofs.next_final as question
-use Rattle.finalization_interpreter.proofs.next_final.Symbol as question-def
-use Rattle.finalization_interpreter.proofs.next_final.Symbol.{name as #question}
-use Rattle.finalization_interpreter.proofs.next_final.Met as question-thm
+use Rattle.vote_starts.specs.declared.MaybeLocator.{MaybeLocator}
+use Rattle.next_final.specs.declared.NextFinalAnswer.{NextFinalAnswer}
+use Rattle.finality.specs.NextFinal as meant
+use Rattle.vote_starts.specs.Answers.{asMaybe}
+use Rattle.next_final.specs.Answers.{asNextFinal}
+use Rattle.vote_starts.proofs.MaybeLocator as G
+use Rattle.vote_starts.proofs.MaybeLocator.Laws as G′
+use Rattle.next_final.proofs.NextFinalAnswer as E
+use Rattle.next_final.proofs.NextFinalAnswer.Laws as E′
+use Rattle.next_final.proofs.next_final as question
+use Rattle.next_final.proofs.next_final.Symbol as question-def
+use Rattle.next_final.proofs.next_final.Symbol.{name as #question}
+use Rattle.next_final.proofs.next_final.Met as question-thm
 use Rattle.interpreter.specs.declared.Interpreter.{Interpreter}
 use Rattle.interpreter.proofs.Interpreter as T
 use Rattle.interpreter.proofs.Interpreter.Laws as T′
@@ -203,4 +204,4 @@ next-final-spec 𝓤 H 𝓜 𝓖 𝓡 =
     entered 𝓤 H (tripleOf 𝓤 H (𝓖 .A) next.signature (next.spec 𝓤 H (𝓖 .A) (𝓜 .mem) (𝓡 .run)))
     (tables 𝓤 H 𝓜 𝓡 code.env .C) (tables 𝓤 H 𝓜 𝓡 code.env .Λ) #interpreter·next-final code.function (code.unfolded 𝓤 H 𝓜 𝓡)
     (next-meets 𝓤 H (𝓖 .A) (givenOf 𝓤 H 𝓜 𝓖) (𝓜 .mem) (𝓡 .run) (tablesOf 𝓤 H 𝓜 (tables 𝓤 H 𝓜 𝓡 code.env))
-    (cited 𝓤 H (Asks 𝓤 H (𝓖 .A) (𝓜 .mem) (𝓡 .run)) 𝓜 𝓡 code.env #question question-def.routine code.calls-finalization-interpreter·next-final (question-thm.met 𝓤 H 𝓜 𝓖 𝓡)))
+    (cited 𝓤 H (Asks 𝓤 H (𝓖 .A) (𝓜 .mem) (𝓡 .run)) 𝓜 𝓡 code.env #question question-def.routine code.calls-next-final·next-final (question-thm.met 𝓤 H 𝓜 𝓖 𝓡)))

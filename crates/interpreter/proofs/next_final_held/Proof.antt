@@ -38,14 +38,15 @@ use denote.Triple.Table.{entered, cited}
 use denote.Triple.Walked.{says, Stays, stay-none, stay-none-slice, walkOf, goes-none, goes-none-slice, Walks, ends-at, walked, walk-meets}
 use denote.Exit.{yes}
 use denote.Triple.Clauses.{ensured, lasts}
-use Rattle.finalization_interpreter.specs.declared.MaybeLocator.{MaybeLocator}
-use Rattle.finalization_interpreter.specs.declared.NextFinalAnswer.{NextFinalAnswer}
-use Rattle.finalization_interpreter.specs.NextFinal as meant
-use Rattle.finalization_interpreter.specs.Answers.{asMaybe, asNextFinal}
-use Rattle.finalization_interpreter.proofs.MaybeLocator as G
-use Rattle.finalization_interpreter.proofs.MaybeLocator.Laws as G′
-use Rattle.finalization_interpreter.proofs.NextFinalAnswer as E
-use Rattle.finalization_interpreter.proofs.NextFinalAnswer.Laws as E′
+use Rattle.vote_starts.specs.declared.MaybeLocator.{MaybeLocator}
+use Rattle.next_final.specs.declared.NextFinalAnswer.{NextFinalAnswer}
+use Rattle.finality.specs.NextFinal as meant
+use Rattle.vote_starts.specs.Answers.{asMaybe}
+use Rattle.next_final.specs.Answers.{asNextFinal}
+use Rattle.vote_starts.proofs.MaybeLocator as G
+use Rattle.vote_starts.proofs.MaybeLocator.Laws as G′
+use Rattle.next_final.proofs.NextFinalAnswer as E
+use Rattle.next_final.proofs.NextFinalAnswer.Laws as E′
 use Rattle.interpreter.specs.declared.Interpreter.{Interpreter}
 use Rattle.interpreter.proofs.Interpreter as T
 use Rattle.interpreter.proofs.Interpreter.Laws as T′

@@ -1,10 +1,10 @@
 use Prim.Native.Nat.{_-_, _^_, _<_}
 use native.Mathlib.Omega.{arith}
 use borrow.Author.Needs.{needs}
-use Rattle.range_map.specs.Items.{noItem}
-use Rattle.range_map.specs.Table.{itemsOf}
-use Rattle.range_map.specs.Answers.{asItem}
-use Rattle.range_map.proofs.Halves.{holds-full}
+use Rattle.pending_items.specs.Items.{noItem}
+use Rattle.pending_items.specs.Table.{itemsOf}
+use Rattle.table_words.specs.Answers.{asItem}
+use Rattle.table_words.proofs.Halves.{holds-full}
 use Rattle.base.proofs.Places.{every-place}
 use mathlib.Core.Path.{_≡_, refl, sym, ap, _∙_}
 use lib.ListN.{length}

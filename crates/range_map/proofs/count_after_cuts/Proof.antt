@@ -2,7 +2,7 @@ use mathlib.Core.Path.{sym, ap, _∙_}
 use native.Mathlib.Omega.{arith}
 use lib.ListN.{length}
 use borrow.Author.Needs.{needs}
-use Rattle.range_map.proofs.Slots.{holds-holding}
+use Rattle.table_words.proofs.Slots.{holds-holding}
 use Rattle.range_map.proofs.Cuts.{uncut, length-bothCuts}
 use Rattle.range_map.proofs.count_after_cuts.Statement.{statement}
 use Rattle.range_map.proofs.count_after_cuts.Tie as tie

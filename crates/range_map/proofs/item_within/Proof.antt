@@ -1,6 +1,6 @@
 use borrow.Author.Tests.{eq-eqb, ne-eqb, le-leb, lt-leb}
-use Rattle.range_map.specs.Items.{itemWithin}
-use Rattle.range_map.specs.Answers.{asItem}
+use Rattle.pending_items.specs.Items.{itemWithin}
+use Rattle.table_words.specs.Answers.{asItem}
 use Rattle.range_map.proofs.item_within.Statement.{statement}
 use Rattle.range_map.proofs.item_within.Tie as tie
 

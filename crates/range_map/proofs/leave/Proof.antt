@@ -3,10 +3,10 @@ use Prim.Native.Nat.{_≤_, _-_}
 use native.Mathlib.Omega.{arith}
 use lib.ListN.{length-set}
 use borrow.Author.Needs.{needs}
-use Rattle.range_map.specs.Items.{stays}
-use Rattle.range_map.specs.Table.{itemsOf}
-use Rattle.range_map.proofs.Moves.{Kept, kept-none, kept-more, kept-table}
-use Rattle.range_map.proofs.Slots.{holds-holding}
+use Rattle.pending_items.specs.Items.{stays}
+use Rattle.pending_items.specs.Table.{itemsOf}
+use Rattle.table_words.proofs.Moves.{Kept, kept-none, kept-more, kept-table}
+use Rattle.table_words.proofs.Slots.{holds-holding}
 use Rattle.range_map.proofs.leave.Statement.{statement}
 use Rattle.range_map.proofs.leave.Tie as tie
 

@@ -7,8 +7,8 @@ use Rattle.committee.proofs.Adding.{vote-fits}
 use Rattle.committee.proofs.Aggregators.{noVotes-order}
 use Rattle.committee.proofs.Answers.{known-sound, unknown-sound}
 use Rattle.range_map.proofs.Voting.{room-words, first-vote}
-use Rattle.range_map.proofs.Moves.{added-table}
-use Rattle.range_map.proofs.Slots.{holds-holding}
+use Rattle.table_words.proofs.Moves.{added-table}
+use Rattle.table_words.proofs.Slots.{holds-holding}
 use Rattle.range_map.proofs.register.Statement.{statement}
 use Rattle.range_map.proofs.register.Tie as tie
 

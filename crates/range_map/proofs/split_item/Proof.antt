@@ -2,9 +2,9 @@ use mathlib.Core.Path.{ap, _∙_}
 use native.Mathlib.Omega.{arith}
 use lib.ListN.{length-set}
 use borrow.Author.Needs.{needs}
-use Rattle.range_map.specs.Items.{frontOf, backOf}
+use Rattle.pending_items.specs.Items.{frontOf, backOf}
 use Rattle.range_map.proofs.Cuts.{split-table}
-use Rattle.range_map.proofs.Slots.{holds-holding}
+use Rattle.table_words.proofs.Slots.{holds-holding}
 use Rattle.range_map.proofs.split_item.Statement.{statement}
 use Rattle.range_map.proofs.split_item.Tie as tie
 

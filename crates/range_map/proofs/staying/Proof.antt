@@ -2,8 +2,8 @@ use mathlib.Core.Path.{sym, _∙_}
 use native.Mathlib.Omega.{arith}
 use borrow.Author.Tests.{not-true, not-false}
 use borrow.Author.Needs.{needs}
-use Rattle.range_map.specs.Items.{stays}
-use Rattle.range_map.specs.Answers.{asItem}
+use Rattle.pending_items.specs.Items.{stays}
+use Rattle.table_words.specs.Answers.{asItem}
 use Rattle.range_map.proofs.staying.Statement.{statement}
 use Rattle.range_map.proofs.staying.Tie as tie
 

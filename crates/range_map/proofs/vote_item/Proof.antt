@@ -1,8 +1,8 @@
 use mathlib.Core.Path.{sym, _∙_}
 use borrow.Author.Tests.{not-true, not-false}
 use borrow.Author.Needs.{needs}
-use Rattle.range_map.specs.Answers.{asItem}
-use Rattle.range_map.specs.Step.{votedIn}
+use Rattle.table_words.specs.Answers.{asItem}
+use Rattle.table_words.specs.Step.{votedIn}
 use Rattle.range_map.proofs.vote_item.Statement.{statement}
 use Rattle.range_map.proofs.vote_item.Tie as tie
 

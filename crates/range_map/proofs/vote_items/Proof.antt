@@ -3,11 +3,11 @@ use Prim.Native.Nat.{_≤_, _-_}
 use native.Mathlib.Omega.{arith}
 use lib.ListN.{length}
 use borrow.Author.Needs.{needs}
-use Rattle.range_map.specs.Table.{itemsOf}
-use Rattle.range_map.specs.Step.{votedIn}
+use Rattle.pending_items.specs.Table.{itemsOf}
+use Rattle.table_words.specs.Step.{votedIn}
 use Rattle.range_map.proofs.Voting.{vote-item-fits}
-use Rattle.range_map.proofs.Moves.{Mapped, mapped-none, mapped-more, mapped-table}
-use Rattle.range_map.proofs.Slots.{holds-holding, item-fits}
+use Rattle.table_words.proofs.Moves.{Mapped, mapped-none, mapped-more, mapped-table}
+use Rattle.table_words.proofs.Slots.{holds-holding, item-fits}
 use Rattle.range_map.proofs.vote_items.Statement.{statement}
 use Rattle.range_map.proofs.vote_items.Tie as tie
 

@@ -1,7 +1,7 @@
 use mathlib.Core.Path.{sym, _∙_}
 use borrow.Author.Tests.{eq-eqb, ne-eqb}
 use Rattle.base.proofs.Refusals.{zero-passes}
-use Rattle.types.specs.Record.{blockIn}
+use Rattle.blocks.specs.Record.{blockIn}
 use Rattle.types.proofs.References.{as-round}
 use Rattle.threshold_clock.proofs.Checking.{ofIncludes, ofStatements, includes-numbered, body-includes, body-statements, body-clock}
 use borrow.Author.Needs.{needs}

@@ -1,7 +1,7 @@
 use mathlib.Core.Path.{sym, _∙_}
 use lib.ListN.{length}
 use borrow.Author.Tests.{eq-eqb, ne-eqb}
-use Rattle.types.specs.Record.{blockIn}
+use Rattle.blocks.specs.Record.{blockIn}
 use Rattle.types.proofs.References.{as-author, as-round}
 use Rattle.threshold_clock.proofs.Checking.{lookup-known, lookup-unknown, head-is}
 use borrow.Author.Needs.{needs}

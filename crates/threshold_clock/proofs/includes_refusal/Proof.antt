@@ -2,7 +2,7 @@ use mathlib.Core.Path.{_≡_, refl, sym, _∙_}
 use Prim.Native.Nat.{_-_, _≤_, _<_}
 use native.Mathlib.Omega.{arith}
 use lib.ListN.{length, getD, drop}
-use Rattle.types.specs.Record.{blockIn, noReference}
+use Rattle.blocks.specs.Record.{blockIn, noReference}
 use Rattle.types.proofs.References.{as-author, as-round}
 use Rattle.threshold_clock.proofs.Checking.{lookup-known, lookup-unknown, ofIncludes, include-unknown, include-high, include-on, include-end}
 use borrow.Author.Needs.{needs}

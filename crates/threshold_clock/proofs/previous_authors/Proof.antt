@@ -3,8 +3,8 @@ use Prim.Native.Nat.{_-_, _≤_}
 use native.Mathlib.Omega.{arith}
 use lib.ListN.{length, getD, drop}
 use Rattle.committee.proofs.Aggregators.{few-members}
-use Rattle.types.specs.Record.{blockIn, noReference}
-use Rattle.types.specs.Verify.{previousAuthors}
+use Rattle.blocks.specs.Record.{blockIn, noReference}
+use Rattle.blocks.specs.Verify.{previousAuthors}
 use Rattle.types.proofs.References.{as-author, as-round}
 use Rattle.threshold_clock.proofs.Checking.{include-passes, authors-on, authors-none}
 use borrow.Author.Needs.{needs}

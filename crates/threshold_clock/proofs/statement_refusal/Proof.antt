@@ -1,7 +1,8 @@
 use Rattle.base.specs.Checks.{refusal}
-use Rattle.types.specs.Reference.{locator, newRange}
-use Rattle.types.specs.Values.{asStatement, asLocator, asRange}
-use Rattle.types.specs.Verify.{statementChecks}
+use Rattle.blocks.specs.Reference.{locator, newRange}
+use Rattle.types.specs.Values.{asLocator, asRange}
+use Rattle.block_record.specs.Values.{asStatement}
+use Rattle.blocks.specs.Verify.{statementChecks}
 use borrow.Author.Needs.{needs}
 use Rattle.threshold_clock.proofs.statement_refusal.Statement.{statement}
 use Rattle.threshold_clock.proofs.statement_refusal.Tie as tie

@@ -3,11 +3,11 @@ use Prim.Native.Nat.{_+_, _-_, _≤_, _<_}
 use native.Mathlib.Omega.{arith}
 use lib.ListN.{length, drop}
 use Rattle.base.specs.Checks.{refusal}
-use Rattle.types.specs.Block.{Statement}
-use Rattle.types.specs.Record.{blockIn}
-use Rattle.types.specs.Cursor.{cursorAt}
-use Rattle.types.specs.Verify.{statementChecks}
-use Rattle.types.proofs.Walk.{placed-index, placed}
+use Rattle.blocks.specs.Block.{Statement}
+use Rattle.blocks.specs.Record.{blockIn}
+use Rattle.block_record.specs.Cursor.{cursorAt}
+use Rattle.blocks.specs.Verify.{statementChecks}
+use Rattle.shared_ranges.proofs.Walk.{placed-index, placed}
 use Rattle.threshold_clock.proofs.Checking.{ofStatements, statement-refused, statement-on, statement-end}
 use borrow.Author.Needs.{needs}
 use Rattle.threshold_clock.proofs.statements_refusal.Statement.{statement}

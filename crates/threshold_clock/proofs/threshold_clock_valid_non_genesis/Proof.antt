@@ -2,7 +2,7 @@ use mathlib.Core.Path.{_∙_}
 use Rattle.base.proofs.Tests.{not-both}
 use Rattle.committee.specs.Committee.{isQuorum}
 use Rattle.committee.proofs.Answers.{taken-sound, broken-sound}
-use Rattle.types.specs.Verify.{clockValid}
+use Rattle.blocks.specs.Verify.{clockValid}
 use borrow.Author.Needs.{needs}
 use Rattle.threshold_clock.proofs.threshold_clock_valid_non_genesis.Statement.{statement}
 use Rattle.threshold_clock.proofs.threshold_clock_valid_non_genesis.Tie as tie

@@ -2,10 +2,11 @@ use mathlib.Core.Path.{_≡_}
 use Prim.Native.Nat.{_-_, _≤_}
 use native.Mathlib.Omega.{arith}
 use lib.ListN.{length}
-use Rattle.types.specs.Record.{blockIn}
-use Rattle.types.specs.Cursor.{cursorAt, FurtherOn}
-use Rattle.types.specs.declared.SharedRange.the-variants.{Run}
-use Rattle.types.proofs.Walk.{placed-index, placed}
+use Rattle.blocks.specs.Record.{blockIn}
+use Rattle.block_record.specs.Cursor.{cursorAt}
+use Rattle.shared_ranges.specs.Cursor.{FurtherOn}
+use Rattle.shared_ranges.specs.declared.SharedRange.the-variants.{Run}
+use Rattle.shared_ranges.proofs.Walk.{placed-index, placed}
 use borrow.Author.Needs.{needs}
 use Rattle.types_cards.proofs.print_runs.Statement.{statement}
 use Rattle.types_cards.proofs.print_runs.Tie as tie

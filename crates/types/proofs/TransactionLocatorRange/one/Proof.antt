@@ -1,5 +1,5 @@
 use mathlib.Core.Path.{refl}
-use Rattle.types.specs.Reference.{locator, oneRange}
+use Rattle.blocks.specs.Reference.{locator, oneRange}
 use Rattle.types.specs.Values.{asRange, asLocator}
 use borrow.Author.Needs.{needs}
 use Rattle.types.proofs.TransactionLocatorRange.one.Statement.{statement}

@@ -1,0 +1,4 @@
+pub mod Steps
+pub mod Formed
+pub mod Shape
+pub mod Statements

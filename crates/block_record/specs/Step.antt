@@ -1,0 +1,25 @@
+-- Machinery for the contracts of private functions: what stands at a position of a record. Assumes nothing: these are definitions.
+use Prim.Native.Nat.{ℕ, _≤_}
+use mathlib.Core.Path.{_≡_}
+use mathlib.Core.Bool.{Bool, true, not}
+use mathlib.Core.Option.{none, some}
+use lib.ListN.{length, drop}
+use Rattle.base.specs.Lists.{isNone}
+use Rattle.base.specs.Le.{Bytes}
+use Rattle.base.specs.Read.{repeated, complete}
+use Rattle.blocks.specs.Record.{readStatement}
+use Rattle.block_record.specs.Values.{asStatement}
+use Rattle.block_record.specs.Cursor.{payloadBetween}
+use Rattle.block_record.specs.declared.Taken.{Taken}
+use Rattle.block_record.specs.declared.Taken.the-variants.{Statement, Malformed}
+
+-- what was taken at a position is the statement that is read there, and ends where the rest begins; or nothing is read there
+unfoldable pub Took : Bytes → ℕ → Taken → Type 0
+Took s p (Statement st next) =
+    (readStatement (drop p s) ≡ some (record { value = asStatement s st; rest = drop next s }))
+    × ((next ≤ length s) × (payloadBetween p next st ≡ true))
+Took s p Malformed = readStatement (drop p s) ≡ none
+
+-- n statements and nothing after them
+unfoldable pub statementsOnly : ℕ → Bytes → Bool
+statementsOnly n s = not (isNone (complete (repeated n readStatement s)))

@@ -1,9 +1,0 @@
-use Rattle.block_store.proofs.Claimed.{chain-meant, fresh-in-order, accepting-keeps-order}
-use Rattle.block_store.proofs.claims.Statement.{statement}
-use Rattle.block_store.proofs.claims.Tie as tie
-
-returns : tie.Need-returns
-returns c = record { chain = chain-meant; fresh = fresh-in-order; accepting = accepting-keeps-order }
-
-pub claims-spec : {M : Type 1} → statement M
-claims-spec = tie.close (tie.spec returns)

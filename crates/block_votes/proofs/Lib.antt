@@ -1,0 +1,5 @@
+pub mod Computing
+pub mod Compared
+pub mod Reading
+pub mod Sorting
+pub mod Along

@@ -1,0 +1,116 @@
+-- Reading the votes of a block, statement by statement. Assumes nothing.
+use mathlib.Core.Path.{_≡_, refl, sym, ap, _∙_}
+use mathlib.Core.Bool.{Bool, true, false, _&&_, _||_}
+use mathlib.Core.List.{List, [], _∷_, _++_, Option·toList}
+use mathlib.Core.Option.{Option, none, some}
+use Prim.Native.Nat.{ℕ, _+_, _≤_, _<_}
+use native.Mathlib.Omega.{arith}
+use native.Mathlib.Numerals.{add-one}
+use lib.Dec.{ltb, leb, eqb}
+use lib.ListN.{length, getD, drop, drop-of-length-le}
+use lib.Seq.{drop-cons}
+use borrow.Author.Tests.{le-leb, lt-leb, leb-true, lt-ltb, ltb-true, eqb-true, eq-eqb}
+use Rattle.base.specs.Lists.{pick, anyOf}
+use Rattle.base.proofs.Tests.{same-test, and-both, and-left, and-right}
+use Rattle.blocks.specs.Reference.{BlockReference, TransactionLocator, TransactionLocatorRange, locator, newRange, oneRange, within, sameReference, covers}
+use Rattle.blocks.specs.Block.{Statement, share, accept, reject, voteRange, Block, isShare, votedRange, spansFrom, spans}
+use Rattle.blocks.specs.Record.{noStatement}
+use Rattle.finality.specs.Voters.{votesFor}
+use Rattle.block_votes.specs.Walk.{spanOf, statementVotes}
+
+-- ---- one locator, one range
+
+within-one : (o p : ℕ) → within o (o + 1) p ≡ eqb o p
+unfolding within
+within-one o p =
+    same-test _ _
+    (λ h. let a = leb-true o p (and-left (leb o p) _ h) in let b = ltb-true p (o + 1) (and-right (leb o p) _ h) in eq-eqb o p (omega arith))
+    (λ h. let e = eqb-true o p h in and-both _ _ (le-leb o p (omega arith)) (lt-ltb p (o + 1) (omega arith)))
+
+pub covers-one : (r : BlockReference) (o : ℕ) (l : TransactionLocator) → sameReference r (l .block) ≡ true → covers (oneRange (locator r o)) l ≡ eqb o (l .offset)
+unfolding covers oneRange newRange locator
+covers-one r o l h = rw (h, within-one o (l .offset))
+
+pub covers-other : (q : TransactionLocatorRange) (l : TransactionLocator) → sameReference (q .block) (l .block) ≡ false → covers q l ≡ false
+unfolding covers
+covers-other q l h = rw h
+
+pub covers-early : (q : TransactionLocatorRange) (l : TransactionLocator) → l .offset < q .start → covers q l ≡ false
+unfolding covers within
+covers-early q l h = rw (lt-leb (q .start) (l .offset) h) (and-false (sameReference (q .block) (l .block)))
+  where
+    and-false : (t : Bool) → t && false ≡ false
+    and-false true = refl
+    and-false false = refl
+
+pub covers-from : (q : TransactionLocatorRange) (l : TransactionLocator) → sameReference (q .block) (l .block) ≡ true → q .start ≤ l .offset → covers q l ≡ ltb (l .offset) (q .end)
+unfolding covers within
+covers-from q l e h = rw (e, le-leb (q .start) (l .offset) h)
+
+-- ---- one statement
+
+pub or-false : (t : Bool) → t || false ≡ t
+or-false true = refl
+or-false false = refl
+
+module _ (r : BlockReference) (o : ℕ) (l : TransactionLocator) where
+  pub votes-share : (p : List ℕ) → statementVotes r o (share p) l ≡ covers (oneRange (locator r o)) l
+  unfolding statementVotes spanOf isShare anyOf
+  votes-share p = or-false _
+
+  pub votes-accept : (m : TransactionLocator) → statementVotes r o (accept m) l ≡ covers (oneRange m) l
+  unfolding statementVotes spanOf isShare votedRange Option·toList anyOf
+  votes-accept m = or-false _
+
+  pub votes-reject : (m : TransactionLocator) (other : Option TransactionLocator) → statementVotes r o (reject m other) l ≡ false
+  unfolding statementVotes spanOf isShare votedRange Option·toList anyOf
+  votes-reject m other = refl
+
+  pub votes-range : (q : TransactionLocatorRange) → statementVotes r o (voteRange q) l ≡ covers q l
+  unfolding statementVotes spanOf isShare votedRange Option·toList anyOf
+  votes-range q = or-false _
+
+-- ---- the statements from one on
+
+pub any-append : {A : Type 0} (p : A → Bool) (xs ys : List A) → anyOf p (xs ++ ys) ≡ anyOf p xs || anyOf p ys
+unfolding anyOf
+any-append p [] ys = refl
+any-append p (x ∷ xs) ys = go (p x) (any-append p xs ys)
+  where
+    go : (t : Bool) → anyOf p (xs ++ ys) ≡ anyOf p xs || anyOf p ys → t || anyOf p (xs ++ ys) ≡ (t || anyOf p xs) || anyOf p ys
+    go true h = refl
+    go false h = h
+
+-- the votes of the statements from index i on
+abbrev pub votesFrom : Block → TransactionLocator → ℕ → Bool
+votesFrom b l i = anyOf (λ q. covers q l) (spansFrom (b .reference) i (drop i (b .statements)))
+
+pub spans-on : (r : BlockReference) (ss : List Statement) (i : ℕ) → i < length ss
+    → spansFrom r i (drop i ss) ≡ spanOf r i (getD ss i noStatement) ++ spansFrom r (i + 1) (drop (i + 1) ss)
+unfolding spansFrom spanOf
+spans-on r ss i h = rw (drop-cons ss i noStatement h, add-one i)
+
+pub spans-end : (r : BlockReference) (ss : List Statement) (i : ℕ) → length ss ≤ i → spansFrom r i (drop i ss) ≡ []
+unfolding spansFrom
+spans-end r ss i h = rw (drop-of-length-le ss h)
+
+module _ (b : Block) (l : TransactionLocator) where
+  pub votes-start : votesFor b l ≡ votesFrom b l 0
+  unfolding votesFor spans
+  votes-start = refl
+
+  pub votes-on : (i : ℕ) → i < length (b .statements) → votesFrom b l i ≡ statementVotes (b .reference) i (getD (b .statements) i noStatement) l || votesFrom b l (i + 1)
+  unfolding statementVotes
+  votes-on i h =
+      let p : TransactionLocatorRange → Bool = λ q. covers q l in
+      ap (anyOf p) (spans-on (b .reference) (b .statements) i h) ∙ any-append p (spanOf (b .reference) i (getD (b .statements) i noStatement)) _
+
+  pub votes-end : (i : ℕ) → length (b .statements) ≤ i → votesFrom b l i ≡ false
+  unfolding anyOf
+  votes-end i h = ap (anyOf (λ q. covers q l)) (spans-end (b .reference) (b .statements) i h)
+
+  pub votes-found : (i : ℕ) → i < length (b .statements) → statementVotes (b .reference) i (getD (b .statements) i noStatement) l ≡ true → true ≡ votesFrom b l i
+  votes-found i h e = sym (votes-on i h ∙ ap (λ (t : Bool). t || votesFrom b l (i + 1)) e)
+
+  pub votes-passed : (i : ℕ) → i < length (b .statements) → statementVotes (b .reference) i (getD (b .statements) i noStatement) l ≡ false → votesFrom b l i ≡ votesFrom b l (i + 1)
+  votes-passed i h e = votes-on i h ∙ ap (λ (t : Bool). t || votesFrom b l (i + 1)) e

@@ -1,0 +1,184 @@
+// The vote of one stored block, and the stored blocks in ascending reference order. Follows finalization_interpreter.rs.
+use block_record::BaseStatement;
+use committee::AuthoritySet;
+use types::BlockReference;
+use types::Ordering;
+use types::TransactionLocator;
+use types::TransactionLocatorRange;
+ghost use mathlib.Core.Path.{_≡_};
+ghost use mathlib.Core.Bool.{true};
+ghost use Prim.Native.Nat.{_≤_, _<_};
+ghost use lib.ListN.{length, getD, take};
+ghost use Rattle.base.specs.Le.{Bytes};
+ghost use Rattle.blocks.specs.Reference.{locator as newLocator, oneRange, covers, sameReference};
+ghost use Rattle.blocks.specs.Record.{wellFormed, blockIn, noReference};
+ghost use Rattle.types.specs.Values.{asReference, asLocator, asRange};
+ghost use Rattle.block_record.specs.Values.{asStatement};
+ghost use Rattle.store_layout.specs.Store.{recordsOf};
+ghost use Rattle.store_layout.specs.Accept.{isStored};
+ghost use Rattle.store_order.specs.Entry.{blockAt, laidOut, sortedPositions, isEntry};
+ghost use Rattle.finality.specs.Voters.{votesFor, ownVote};
+ghost use Rattle.block_votes.specs.Walk.{statementVotes, SortedStore, blockAtPlace};
+
+// ---- the vote of one block
+
+// Whether two references are the same.
+pub fn same_reference(a: BlockReference, b: BlockReference) -> bool
+    ensures { λ r. ⌜ r ≡ sameReference (asReference a) (asReference b) ⌝ }
+{
+    let order = types::compare(a, b);
+    match order {
+        Ordering::Less => false,
+        Ordering::Equal => true,
+        Ordering::Greater => false,
+    }
+}
+
+// Whether the locator is the one of a block and an offset.
+fn is_at(block: BlockReference, offset: u64, locator: TransactionLocator) -> bool
+    ensures { λ r. ⌜ r ≡ covers (oneRange (newLocator (asReference block) offset)) (asLocator locator) ⌝ }
+{
+    if !same_reference(block, locator.block) {
+        return false;
+    }
+    offset == locator.offset
+}
+
+// Whether the range covers the locator.
+pub fn covers(range: TransactionLocatorRange, locator: TransactionLocator) -> bool
+    ensures { λ r. ⌜ r ≡ covers (asRange range) (asLocator locator) ⌝ }
+{
+    if !same_reference(range.block, locator.block) {
+        return false;
+    }
+    if locator.offset < range.offset_start_inclusive {
+        return false;
+    }
+    locator.offset < range.offset_end_exclusive
+}
+
+// Whether the statement at an offset of a block votes for the locator: the share, an accept or a range covering it.
+fn statement_votes(
+    block: BlockReference,
+    offset: u64,
+    statement: BaseStatement,
+    locator: TransactionLocator,
+) -> bool
+    ensures { λ r. ⌜ ((s : Bytes) → r ≡ statementVotes (asReference block) offset (asStatement s statement) (asLocator locator)) ⌝ }
+{
+    match statement {
+        BaseStatement::Share(_, _) => is_at(block, offset, locator),
+        BaseStatement::Accept(l) => is_at(l.block, l.offset, locator),
+        BaseStatement::Reject(_) => false,
+        BaseStatement::RejectFor(_, _) => false,
+        BaseStatement::VoteRange(r) => covers(r, locator),
+    }
+}
+
+// Whether the block of a record votes for the locator.
+fn votes_for(rec: &[u8], locator: TransactionLocator) -> bool
+    requires { ⌜ wellFormed (now rec) ≡ true ⌝ }
+    ensures { λ r. ⌜ r ≡ votesFor (blockIn (now (rec .entry))) (asLocator locator) ⌝ }
+{
+    let count = block_record::statement_count(rec);
+    let block = block_record::reference(rec);
+    let mut cursor = block_record::first_statement(rec);
+    while cursor.index < count {
+        let next = block_record::next_statement(rec, cursor);
+        let statement = next.statement;
+        if statement_votes(block, cursor.index as u64, statement, locator) {
+            return true;
+        }
+        cursor = next.next;
+    }
+    false
+}
+
+// ---- the block at a position
+
+// Its author, if it votes for the locator; else nobody.
+pub fn own_vote_at(store: &[u8], at: usize, locator: TransactionLocator) -> AuthoritySet
+    requires { ⌜ (isEntry (now store) at ≡ true) × (blockAt (now store) at .reference .authority < 128) ⌝ }
+    ensures { λ r. ⌜ r ≡ ownVote (blockAt (now (store .entry)) at) (asLocator locator) ⌝ }
+{
+    let from = at + 8;
+    let end = store_order::record_end(store, at);
+    if !votes_for(&store[from..end], locator) {
+        return AuthoritySet::new();
+    }
+    let block = store_order::reference_at(store, at);
+    AuthoritySet::new().insert(block.authority)
+}
+
+// The number of its includes.
+pub fn include_count_at(store: &[u8], at: usize) -> usize
+    requires { ⌜ isEntry (now store) at ≡ true ⌝ }
+    ensures { λ r. ⌜ r ≡ length (blockAt (now (store .entry)) at .includes) ⌝ }
+{
+    let from = at + 8;
+    let end = store_order::record_end(store, at);
+    block_record::include_count(&store[from..end])
+}
+
+// Its include of that index.
+pub fn include_at(store: &[u8], at: usize, j: usize) -> BlockReference
+    requires { ⌜ (isEntry (now store) at ≡ true) × (j < length (blockAt (now store) at .includes)) ⌝ }
+    ensures { λ r. ⌜ asReference r ≡ getD (blockAt (now (store .entry)) at .includes) j noReference ⌝ }
+{
+    let from = at + 8;
+    let end = store_order::record_end(store, at);
+    block_record::include(&store[from..end], j)
+}
+
+// Its epoch mark.
+pub fn epoch_changed_at(store: &[u8], at: usize) -> bool
+    requires { ⌜ isEntry (now store) at ≡ true ⌝ }
+    ensures { λ r. ⌜ r ≡ blockAt (now (store .entry)) at .marked ⌝ }
+{
+    let from = at + 8;
+    let end = store_order::record_end(store, at);
+    block_record::epoch_changed(&store[from..end])
+}
+
+// The positions of the entries in ascending reference order, along the chain; the answer is their number.
+pub fn sorted_positions(store: &[u8], order: &mut [u64]) -> usize
+    requires { ⌜ (laidOut (now store) ≡ true) × (1024 ≤ length (now order)) ⌝ }
+    ensures { λ r. ⌜ (r ≤ 1024) × ((r ≡ length (recordsOf (now (store .entry)))) × (take r (now (order .exit)) ≡ sortedPositions (recordsOf (now (store .entry))))) ⌝ }
+{
+    let count = base::read_u16(store, 8) as usize;
+    let mut at = base::read_u32(store, 0) as usize;
+    let mut k: usize = 0;
+    while k < count {
+        order[k] = at as u64;
+        at = base::read_u32(store, at) as usize;
+        k += 1;
+    }
+    count
+}
+
+// The place of a stored block among the positions in ascending reference order, by binary search.
+pub fn place_of(store: &[u8], order: &[u64], block: BlockReference) -> usize
+    requires { ⌜ SortedStore (now store) (now order) × (isStored (recordsOf (now store)) (asReference block) ≡ true) ⌝ }
+    ensures { λ r. ⌜ (r < length (now (order .entry))) × (blockAtPlace (now (store .entry)) (now (order .entry)) r .reference ≡ asReference block) ⌝ }
+{
+    let mut low = 0;
+    let mut high = order.len();
+    while low < high {
+        let middle = low + (high - low) / 2;
+        let at = order[middle] as usize;
+        let compared = types::compare(store_order::reference_at(store, at), block);
+        match compared {
+            Ordering::Equal => {
+                return middle;
+            }
+            Ordering::Less => {
+                low = middle + 1;
+            }
+            Ordering::Greater => {
+                high = middle;
+            }
+        }
+    }
+    // Never so: the block is stored.
+    0
+}

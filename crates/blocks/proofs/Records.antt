@@ -1,0 +1,324 @@
+-- Block records there and back: what is written is read, and what is read had been written so. Assumes nothing.
+use mathlib.Core.Path.{_≡_, refl, sym}
+use mathlib.Core.List.{List, [], _∷_, _++_, map, append-assoc, flatten}
+use mathlib.Core.Option.{Option, none, some}
+use mathlib.Core.Bool.{Bool, true, false, _&&_}
+use Prim.Native.Nat.{ℕ, zero, suc, _*_, _%_, _^_, _≤_, _<_}
+use native.Mathlib.Omega.{arith}
+use lib.Dec.{leb, eqb, lit<}
+use lib.ListN.{length, replicate, length-append}
+use borrow.Author.Tests.{le-leb, leb-true, eqb-true, eqb-false}
+use Rattle.base.specs.Lists.{pick, allOf}
+use Rattle.base.specs.Le.{leBytes}
+use Rattle.base.specs.Read.{Read, give, fail, onward, _>>=_, number, given}
+use Rattle.base.proofs.Tests.{and-left, and-right}
+use Rattle.base.proofs.Lists.{append-nil, Every, none-of, and, every}
+use Rattle.base.proofs.Le.{AllBytes, length-leBytes}
+use Rattle.base.proofs.Read.{part, items-reads, number-reads, ReadsBack, repeated-reads, complete-reads, Back, give-back, fail-back, given-back, bind-back, map-back, Items, items-back, Number, number-back, One, Many, repeated-back, complete-back}
+use Rattle.blocks.specs.Reference.{BlockReference, TransactionLocator, TransactionLocatorRange, newRange}
+use Rattle.blocks.specs.Block.{Statement, share, accept, reject, voteRange, Block}
+use Rattle.blocks.specs.Record.{readReference, readLocator, readShare, readAccept, readOther, readReject, readRange, readKind, readStatement, readBlock, blockOf}
+use Rattle.blocks.specs.Record.{referenceBytes, locatorBytes, otherBytes, statementBytes, blockBytes}
+
+-- ---- the limits: what fits a record
+
+pub record ReferenceFits (r : BlockReference) : Type 0 where
+  pub author : r .authority < 256 ^ 8
+  pub round : r .round < 256 ^ 8
+  pub size : length (r .digest) ≡ 32
+  pub bytes : AllBytes (r .digest)
+
+pub record LocatorFits (l : TransactionLocator) : Type 0 where
+  pub block : ReferenceFits (l .block)
+  pub offset : l .offset < 256 ^ 8
+
+pub record RangeFits (r : TransactionLocatorRange) : Type 0 where
+  pub block : ReferenceFits (r .block)
+  pub start : r .start < 256 ^ 8
+  pub end : r .end < 256 ^ 8
+
+abbrev pub OtherFits : Option TransactionLocator → Type 0
+OtherFits none = Unit {0}
+OtherFits (some l) = LocatorFits l
+
+abbrev pub StatementFits : Statement → Type 0
+StatementFits (share payload) = (length payload < 256 ^ 2) × AllBytes payload
+StatementFits (accept l) = LocatorFits l
+StatementFits (reject l other) = LocatorFits l × OtherFits other
+StatementFits (voteRange r) = RangeFits r
+
+pub record BlockFits (b : Block) : Type 0 where
+  pub reference : ReferenceFits (b .reference)
+  pub fewIncludes : length (b .includes) ≤ 256
+  pub fewStatements : length (b .statements) ≤ 1024
+  pub includes : Every ReferenceFits (b .includes)
+  pub statements : Every StatementFits (b .statements)
+
+-- ---- forward
+
+pub reference-reads : (r : BlockReference) → ReferenceFits r → ReadsBack readReference referenceBytes r
+unfolding readReference referenceBytes _>>=_ onward give
+reference-reads r h t =
+    rw (
+      append-assoc (leBytes 8 (r .authority)) (leBytes 8 (r .round) ++ r .digest) t,
+      number-reads 8 (r .authority) (leBytes 8 (r .round) ++ r .digest ++ t) (h .author),
+      append-assoc (leBytes 8 (r .round)) (r .digest) t,
+      number-reads 8 (r .round) (r .digest ++ t) (h .round),
+      items-reads 32 (r .digest) t (h .size),
+    )
+
+pub locator-reads : (l : TransactionLocator) → LocatorFits l → ReadsBack readLocator locatorBytes l
+unfolding readLocator locatorBytes _>>=_ onward give
+locator-reads l h t =
+    rw (
+      append-assoc (referenceBytes (l .block)) (leBytes 8 (l .offset)) t,
+      reference-reads (l .block) (h .block) (leBytes 8 (l .offset) ++ t),
+      number-reads 8 (l .offset) t (h .offset),
+    )
+
+-- a byte, as a number of one byte
+one-byte : (k : ℕ) → k < 256 → leBytes 1 k ≡ k ∷ []
+unfolding leBytes
+one-byte k h = let e : k % 256 ≡ k = omega arith in rw e
+
+byte-reads : (k : ℕ) (t : List ℕ) → k < 256 → number 1 (k ∷ t) ≡ some (part k t)
+byte-reads k t h = rw (one-byte k h) at (number-reads 1 k t h)
+
+pub statement-reads : (s : Statement) → StatementFits s → ReadsBack readStatement statementBytes s
+unfolding readStatement statementBytes otherBytes readOther readKind readShare readAccept readReject readRange newRange _>>=_ onward give
+statement-reads (share v) h t =
+    rw (
+      append-assoc (leBytes 2 (length v)) v t,
+      byte-reads 0 (leBytes 2 (length v) ++ (v ++ t)) (lit< tt),
+      number-reads 2 (length v) (v ++ t) (h .0),
+      items-reads (length v) v t refl,
+    )
+statement-reads (accept l) h t = rw (byte-reads 1 (locatorBytes l ++ t) (lit< tt), locator-reads l h t)
+statement-reads (reject l none) h t =
+    rw (
+      append-assoc (locatorBytes l) (0 ∷ []) t,
+      byte-reads 2 (locatorBytes l ++ 0 ∷ t) (lit< tt),
+      locator-reads l (h .0) (0 ∷ t),
+      byte-reads 0 t (lit< tt),
+    )
+statement-reads (reject l (some m)) h t =
+    rw (
+      append-assoc (locatorBytes l) (1 ∷ locatorBytes m) t,
+      byte-reads 2 (locatorBytes l ++ 1 ∷ (locatorBytes m ++ t)) (lit< tt),
+      locator-reads l (h .0) (1 ∷ (locatorBytes m ++ t)),
+      byte-reads 1 (locatorBytes m ++ t) (lit< tt),
+      locator-reads m (h .1) t,
+    )
+statement-reads (voteRange r) h t =
+    rw (
+      append-assoc (referenceBytes (r .block)) (leBytes 8 (r .start) ++ leBytes 8 (r .end)) t,
+      append-assoc (leBytes 8 (r .start)) (leBytes 8 (r .end)) t,
+      byte-reads 3 (referenceBytes (r .block) ++ (leBytes 8 (r .start) ++ (leBytes 8 (r .end) ++ t))) (lit< tt),
+      reference-reads (r .block) (h .block) (leBytes 8 (r .start) ++ (leBytes 8 (r .end) ++ t)),
+      number-reads 8 (r .start) (leBytes 8 (r .end) ++ t) (h .start),
+      number-reads 8 (r .end) t (h .end),
+    )
+
+-- the mark's byte
+mark-fits : (m : Bool) → pick m 1 0 < 256
+mark-fits true = lit< tt
+mark-fits false = lit< tt
+
+mark-low : (m : Bool) → leb (pick m 1 0) 1 ≡ true
+mark-low true = refl
+mark-low false = refl
+
+mark-back : (m : Bool) → eqb (pick m 1 0) 1 ≡ m
+mark-back true = refl
+mark-back false = refl
+
+-- every block within the limits is read back from its bytes
+pub block-reads : (b : Block) → BlockFits b → readBlock (blockBytes b) ≡ some (part b [])
+unfolding readBlock blockBytes flatten given allOf _>>=_ onward give
+block-reads b h =
+    let is : List ℕ = flatten (map referenceBytes (b .includes)) in
+    let ss : List ℕ = flatten (map statementBytes (b .statements)) in
+    let counts : List ℕ = leBytes 2 (length (b .statements)) ++ (0 ∷ 0 ∷ 0 ∷ (is ++ (ss ++ []))) in
+    rw (
+      reference-reads (b .reference) (h .reference) (pick (b .marked) 1 0 ∷ (leBytes 2 (length (b .includes)) ++ counts)),
+      byte-reads (pick (b .marked) 1 0) (leBytes 2 (length (b .includes)) ++ counts) (mark-fits (b .marked)),
+      number-reads 2 (length (b .includes)) counts (omega (arith, h .fewIncludes)),
+      number-reads 2 (length (b .statements)) (0 ∷ 0 ∷ 0 ∷ (is ++ (ss ++ []))) (omega (arith, h .fewStatements)),
+      items-reads 3 (0 ∷ 0 ∷ 0 ∷ []) (is ++ (ss ++ [])) refl,
+      mark-low (b .marked),
+      le-leb (length (b .includes)) 256 (h .fewIncludes),
+      le-leb (length (b .statements)) 1024 (h .fewStatements),
+      mark-back (b .marked),
+      repeated-reads readReference referenceBytes (b .includes) (every reference-reads (b .includes) (h .includes)) (ss ++ []),
+      repeated-reads readStatement statementBytes (b .statements) (every statement-reads (b .statements) (h .statements)) [],
+    )
+
+pub blockOf-blockBytes : (b : Block) → BlockFits b → blockOf (blockBytes b) ≡ some b
+unfolding blockOf
+blockOf-blockBytes b h = complete-reads readBlock (blockBytes b) b (block-reads b h)
+
+-- ---- back
+
+pub reference-back : Back readReference (One referenceBytes ReferenceFits)
+unfolding readReference referenceBytes
+reference-back =
+    bind-back _ _ (Number 8) (One referenceBytes ReferenceFits) (number-back 8) λ a x p.
+    bind-back _ _ (Number 8) _ (number-back 8) λ n y q.
+    map-back _ (λ d. record { authority = a; round = n; digest = d }) (Items 32) _ (items-back 32) λ d z r.
+    record {
+      are = rw (p .are, q .are, r .are);
+      right = record { author = p .fits; round = q .fits; size = r .many; bytes = r .bytes };
+    }
+
+pub locator-back : Back readLocator (One locatorBytes LocatorFits)
+unfolding readLocator locatorBytes
+locator-back =
+    bind-back _ _ (One referenceBytes ReferenceFits) (One locatorBytes LocatorFits) reference-back λ b x p.
+    map-back _ (λ o. record { block = b; offset = o }) (Number 8) _ (number-back 8) λ o y q.
+    record { are = rw (p .are, q .are); right = record { block = p .right; offset = q .fits } }
+
+-- what follows the kind byte k is a statement of that kind
+abbrev After : ℕ → List ℕ → Statement → Type 0
+After k y s = One statementBytes StatementFits (k ∷ y) s
+
+share-back : Back readShare (After 0)
+unfolding readShare statementBytes
+share-back =
+    bind-back _ _ (Number 2) (After 0) (number-back 2) λ n x p.
+    map-back _ share (Items n) _ (items-back n) λ v y q.
+    record { are = rw (p .are, q .are, q .many); right = (rw (q .many) (p .fits), q .bytes) }
+
+accept-back : Back readAccept (After 1)
+unfolding readAccept statementBytes
+accept-back =
+    map-back _ accept (One locatorBytes LocatorFits) (After 1) locator-back λ l x p.
+    record { are = rw (p .are); right = p .right }
+
+other-back : (k : ℕ) → Back (readOther k) (λ y o. One otherBytes OtherFits (k ∷ y) o)
+unfolding readOther otherBytes
+other-back zero = give-back _ none (record { are = refl; right = tt })
+other-back (suc zero) =
+    map-back _ some (One locatorBytes LocatorFits) (λ y o. One otherBytes OtherFits (1 ∷ y) o) locator-back λ l x p.
+    record { are = rw (p .are); right = p .right }
+other-back (suc (suc k)) = fail-back _
+
+reject-back : Back readReject (After 2)
+unfolding readReject statementBytes
+reject-back =
+    bind-back _ _ (One locatorBytes LocatorFits) (After 2) locator-back λ l x p.
+    bind-back _ _ (Number 1) _ (number-back 1) λ k y q.
+    map-back _ (reject l) (λ z o. One otherBytes OtherFits (k ∷ z) o) _ (other-back k) λ o z r.
+    record { are = rw (p .are, q .are, one-byte k (q .fits), ← r .are); right = (p .right, r .right) }
+
+range-back : Back readRange (After 3)
+unfolding readRange statementBytes newRange
+range-back =
+    bind-back _ _ (One referenceBytes ReferenceFits) (After 3) reference-back λ b x p.
+    bind-back _ _ (Number 8) _ (number-back 8) λ s y q.
+    map-back _ (λ e. voteRange (newRange b s e)) (Number 8) _ (number-back 8) λ e z r.
+    record { are = rw (p .are, q .are, r .are); right = record { block = p .right; start = q .fits; end = r .fits } }
+
+kind-back : (k : ℕ) → Back (readKind k) (After k)
+unfolding readKind
+kind-back k = go (eqb k 0) (eqb k 1) (eqb k 2) (eqb k 3) refl refl refl refl
+  where
+    at : (n : ℕ) (m : Read Statement) → eqb k n ≡ true → Back m (After n) → Back m (After k)
+    at n m e h = rw (eqb-true k n e) h
+
+    go : (t0 t1 t2 t3 : Bool) → eqb k 0 ≡ t0 → eqb k 1 ≡ t1 → eqb k 2 ≡ t2 → eqb k 3 ≡ t3
+        → Back (pick t0 readShare (pick t1 readAccept (pick t2 readReject (pick t3 readRange fail)))) (After k)
+    go true t1 t2 t3 e0 e1 e2 e3 = at 0 readShare e0 share-back
+    go false true t2 t3 e0 e1 e2 e3 = at 1 readAccept e1 accept-back
+    go false false true t3 e0 e1 e2 e3 = at 2 readReject e2 reject-back
+    go false false false true e0 e1 e2 e3 = at 3 readRange e3 range-back
+    go false false false false e0 e1 e2 e3 = fail-back (After k)
+
+pub statement-back : Back readStatement (One statementBytes StatementFits)
+unfolding readStatement
+statement-back =
+    bind-back _ readKind (Number 1) (One statementBytes StatementFits) (number-back 1) λ k x p.
+    rw (p .are, one-byte k (p .fits)) (kind-back k)
+
+-- what the tests of a block's head say
+record Head (mark ins sts : ℕ) (zeros : List ℕ) : Type 0 where
+  low : mark ≤ 1
+  few-includes : ins ≤ 256
+  few-statements : sts ≤ 1024
+  zero-bytes : allOf (λ z. eqb z 0) zeros ≡ true
+
+head-tests : (m i s : ℕ) (zs : List ℕ) → leb m 1 && leb i 256 && leb s 1024 && allOf (λ z. eqb z 0) zs ≡ true → Head m i s zs
+head-tests m i s zs h =
+    let three : leb m 1 && leb i 256 && leb s 1024 ≡ true = and-left (leb m 1 && leb i 256 && leb s 1024) _ h in
+    let two : leb m 1 && leb i 256 ≡ true = and-left (leb m 1 && leb i 256) _ three in
+    record {
+      low = leb-true m 1 (and-left (leb m 1) _ two);
+      few-includes = leb-true i 256 (and-right (leb m 1) _ two);
+      few-statements = leb-true s 1024 (and-right (leb m 1 && leb i 256) _ three);
+      zero-bytes = and-right (leb m 1 && leb i 256 && leb s 1024) _ h;
+    }
+
+-- a mark of at most 1 is the byte of its test
+mark-byte : (m : ℕ) → m ≤ 1 → m ≡ pick (eqb m 1) 1 0
+mark-byte m h = go (eqb m 1) refl
+  where
+    go : (t : Bool) → eqb m 1 ≡ t → m ≡ pick t 1 0
+    go true e = eqb-true m 1 e
+    go false e = let ne : m ≡ 1 → ⊥ = eqb-false m 1 e in omega (arith, ne)
+
+zeros-are : (n : ℕ) (zs : List ℕ) → length zs ≡ n → allOf (λ z. eqb z 0) zs ≡ true → zs ≡ replicate n 0
+unfolding allOf
+zeros-are n [] e h = rw (← e)
+zeros-are n (z ∷ zs) e h =
+    rw (← e) (rw (eqb-true z 0 (and-left (eqb z 0) _ h), ← zeros-are (length zs) zs refl (and-right (eqb z 0) _ h)))
+
+pub block-back : Back readBlock (One blockBytes BlockFits)
+unfolding readBlock blockBytes flatten
+block-back =
+    bind-back _ _ (One referenceBytes ReferenceFits) (One blockBytes BlockFits) reference-back λ r x₁ p₁.
+    bind-back _ _ (Number 1) _ (number-back 1) λ m x₂ p₂.
+    bind-back _ _ (Number 2) _ (number-back 2) λ i x₃ p₃.
+    bind-back _ _ (Number 2) _ (number-back 2) λ s x₄ p₄.
+    bind-back _ _ (Items 3) _ (items-back 3) λ zs x₅ p₅.
+    given-back _ _ _ λ h.
+    bind-back _ _ (Many referenceBytes ReferenceFits i) _ (repeated-back referenceBytes ReferenceFits readReference i reference-back) λ is x₆ p₆.
+    map-back _ (λ ss. record { reference = r; marked = eqb m 1; includes = is; statements = ss }) (Many statementBytes StatementFits s) _ (repeated-back statementBytes StatementFits readStatement s statement-back) λ ss x₇ p₇.
+    let t : Head m i s zs = head-tests m i s zs h in
+    record {
+      are =
+          rw (
+            p₁ .are,
+            p₂ .are,
+            one-byte m (p₂ .fits),
+            ← mark-byte m (t .low),
+            p₃ .are,
+            p₄ .are,
+            p₅ .are,
+            zeros-are 3 zs (p₅ .many) (t .zero-bytes),
+            p₆ .are,
+            p₇ .are,
+            p₆ .many,
+            p₇ .many,
+            append-nil (flatten (map statementBytes ss)),
+          );
+      right = record { reference = p₁ .right; fewIncludes = rw (p₆ .many) (t .few-includes); fewStatements = rw (p₇ .many) (t .few-statements); includes = p₆ .right; statements = p₇ .right };
+    }
+
+-- what a record is read as is what was written, and it is within the limits
+pub blockBytes-blockOf : (r : List ℕ) (b : Block) → AllBytes r → blockOf r ≡ some b → blockBytes b ≡ r
+unfolding blockOf
+blockBytes-blockOf r b h k = sym (complete-back readBlock (One blockBytes BlockFits) block-back r b h k .are)
+
+pub blockOf-fits : (r : List ℕ) (b : Block) → AllBytes r → blockOf r ≡ some b → BlockFits b
+unfolding blockOf
+blockOf-fits r b h k = complete-back readBlock (One blockBytes BlockFits) block-back r b h k .right
+
+-- ---- lengths
+
+pub length-reference : (r : BlockReference) → ReferenceFits r → length (referenceBytes r) ≡ 48
+unfolding referenceBytes
+length-reference r h = simp (length-append, length-leBytes, h .size)
+
+pub length-includes : (is : List BlockReference) → Every ReferenceFits is → length (flatten (map referenceBytes is)) ≡ 48 * length is
+unfolding flatten
+length-includes [] none-of = refl
+length-includes (i ∷ is) (and h hs) = omega (arith, length-append (referenceBytes i) (flatten (map referenceBytes is)), length-reference i h, length-includes is hs)

@@ -1,0 +1,232 @@
+-- Events written one after the other. Assumes nothing.
+use mathlib.Core.Path.{_≡_, refl, sym, ap, _∙_}
+use mathlib.Core.Bool.{Bool, true, false}
+use mathlib.Core.List.{List, [], _∷_, _++_, map, map-append, append-assoc, flatten}
+use mathlib.Core.Option.{Option, none, some}
+use Prim.Native.Nat.{ℕ, zero, suc, _+_, _-_, _*_, _≤_, _<_, max}
+use native.Mathlib.Decide.{decLt}
+use native.Mathlib.Omega.{arith}
+use lib.ListN.{length, length-map, length-append}
+use lib.Seq.{sets, length-sets}
+use Rattle.base.specs.Lists.{pick, countFrom}
+use Rattle.base.proofs.Le.{sets-append}
+use Rattle.base.proofs.Lists.{length-flatten, length-countFrom, countFrom-add}
+use Rattle.committee.specs.Committee.{Committee, Stake, totalStake, isQuorum, quorumOf}
+use Rattle.committee.specs.StakeAggregator.{hasQuorum}
+use Rattle.blocks.specs.Reference.{BlockReference}
+use Rattle.store_layout.specs.Layout.{Entry}
+use Rattle.pending_items.specs.Items.{Item, itemAt}
+use Rattle.feeds.specs.ProcessBlock.{Event, eventWords, missed, eventOf}
+use Rattle.events.specs.Step.{eventsBy, wordsOf, toldAt, eventsBetween, SameItem, StatedAt, told}
+
+event : ℕ → ℕ → ℕ → Event
+event kind i o = record { kind = kind; statement = i; offset = o }
+
+-- ---- words
+
+flat-append : {A : Type 0} (xss yss : List (List A)) → flatten (xss ++ yss) ≡ flatten xss ++ flatten yss
+unfolding flatten
+flat-append [] yss = refl
+flat-append (xs ∷ xss) yss = rw (flat-append xss yss, append-assoc)
+
+words-append : (vs ws : List Event) → wordsOf (vs ++ ws) ≡ wordsOf vs ++ wordsOf ws
+unfolding wordsOf
+words-append vs ws = rw (map-append eventWords vs ws) (flat-append (map eventWords vs) (map eventWords ws))
+
+pub length-words : (vs : List Event) → length (wordsOf vs) ≡ 3 * length vs
+unfolding wordsOf flatten eventWords
+length-words [] = refl
+length-words (v ∷ vs) = omega (arith, length-words vs)
+
+one-event : (k j i o : ℕ) → k ≡ j → _≡_ {A = List ℕ} (k ∷ i ∷ o ∷ []) (wordsOf (event j i o ∷ []))
+unfolding wordsOf flatten eventWords event
+one-event k j i o e = rw e
+
+-- events written after others
+pub words-on : (ev : List ℕ) (n : ℕ) (vs ws : List Event) → sets (sets ev (3 * n) (wordsOf vs)) (3 * (n + length vs)) (wordsOf ws) ≡ sets ev (3 * n) (wordsOf (vs ++ ws))
+words-on ev n vs ws =
+    let e : 3 * (n + length vs) ≡ 3 * n + length (wordsOf vs) = omega (arith, length-words vs) in
+    rw (e, words-append vs ws, sets-append (wordsOf vs) (wordsOf ws) ev (3 * n))
+
+-- ---- an event for each offset
+
+module _ (f : ℕ → ℕ) (i start : ℕ) where
+  pub length-eventsBy : (end : ℕ) → length (eventsBy f i start end) ≡ end - start
+  unfolding eventsBy
+  length-eventsBy end = length-map (countFrom start (end - start)) _ ∙ length-countFrom start (end - start)
+
+  none-yet : eventsBy f i start start ≡ []
+  unfolding eventsBy countFrom
+  none-yet = let e : start - start ≡ 0 = omega arith in rw e
+
+  one-more : (o : ℕ) → start ≤ o → eventsBy f i start (o + 1) ≡ eventsBy f i start o ++ (event (f o) i o ∷ [])
+  unfolding eventsBy countFrom event
+  one-more o h =
+      let e : o + 1 - start ≡ (o - start) + 1 = omega arith in
+      let u : start + (o - start) ≡ o = omega arith in
+      rw (e, countFrom-add start (o - start) 1, u) (map-append _ (countFrom start (o - start)) (o ∷ []))
+
+-- the events of the offsets from `start` up to o are written, after n others
+pub record Telling (f : ℕ → ℕ) (i start end n : ℕ) (before : List ℕ) (o k : ℕ) (now : List ℕ) : Type 0 where
+  pub from : start ≤ o
+  pub most : o ≤ end
+  pub many : k ≡ n + (o - start)
+  pub words : now ≡ sets before (3 * n) (wordsOf (eventsBy f i start o))
+
+module _ (f : ℕ → ℕ) (i start end n : ℕ) (ev : List ℕ) where
+  pub telling-start : start ≤ end → Telling f i start end n ev start n ev
+  unfolding wordsOf flatten
+  telling-start h = record { from = omega arith; most = h; many = omega arith; words = rw (none-yet f i start) }
+
+  pub telling-long : (o k : ℕ) (now : List ℕ) → Telling f i start end n ev o k now → length now ≡ length ev
+  telling-long o k now t = rw (t .words) (length-sets ev (3 * n) (wordsOf (eventsBy f i start o)))
+
+  pub telling-on : (o k : ℕ) (now after : List ℕ) (kind : ℕ) → Telling f i start end n ev o k now → o < end → kind ≡ f o
+      → after ≡ sets now (3 * k) (kind ∷ i ∷ o ∷ []) → Telling f i start end n ev (o + 1) (k + 1) after
+  unfolding event
+  telling-on o k now after kind t h e w =
+      record {
+        from = omega (arith, t .from);
+        most = omega arith;
+        many = omega (arith, t .many, t .from);
+        words = w ∙ ap (λ (x : List ℕ). sets now (3 * k) x) (one-event kind (f o) i o e) ∙ at-end;
+      }
+    where
+      at-end : sets now (3 * k) (wordsOf (event (f o) i o ∷ [])) ≡ sets ev (3 * n) (wordsOf (eventsBy f i start (o + 1)))
+      at-end =
+          let c : k ≡ n + length (eventsBy f i start o) = omega (arith, t .many, length-eventsBy f i start o) in
+          rw (t .words, c, one-more f i start o (t .from)) (words-on ev n (eventsBy f i start o) (event (f o) i o ∷ []))
+
+  pub telling-end : (o k : ℕ) (now : List ℕ) → Telling f i start end n ev o k now → end ≤ o → (k ≡ n + (end - start)) × (now ≡ sets ev (3 * n) (wordsOf (eventsBy f i start end)))
+  telling-end o k now t h =
+      let z : o ≡ end = omega (arith, t .most) in
+      (rw (← z) (t .many), rw (← z) (t .words))
+
+-- kinds that are the same give the same events
+pub same-kinds : (f g : ℕ → ℕ) (i start end : ℕ) → ((o : ℕ) → f o ≡ g o) → eventsBy f i start end ≡ eventsBy g i start end
+unfolding eventsBy
+same-kinds f g i start end h = go (countFrom start (end - start))
+  where
+    go : (os : List ℕ) → _≡_ {A = List Event} (map (λ o. record { kind = f o; statement = i; offset = o }) os) (map (λ o. record { kind = g o; statement = i; offset = o }) os)
+    go [] = refl
+    go (o ∷ os) = rw (h o, go os)
+
+-- ---- the events of a vote, stretch by stretch
+
+flat-one : {A : Type 0} (g : ℕ → List A) (h : ℕ → A) (start n : ℕ) → ((o : ℕ) → start ≤ o → o < start + n → g o ≡ h o ∷ []) → flatten (map g (countFrom start n)) ≡ map h (countFrom start n)
+unfolding flatten countFrom
+flat-one g h start zero e = refl
+flat-one g h start (suc n) e = rw (e start (omega arith) (omega arith), flat-one g h (start + 1) n (λ o (l : start + 1 ≤ o) (u : o < start + 1 + n). e o (omega arith) (omega arith)))
+
+flat-empty : {A : Type 0} (g : ℕ → List A) (start n : ℕ) → ((o : ℕ) → start ≤ o → o < start + n → g o ≡ []) → flatten (map g (countFrom start n)) ≡ []
+unfolding flatten countFrom
+flat-empty g start zero e = refl
+flat-empty g start (suc n) e = rw (e start (omega arith) (omega arith), flat-empty g (start + 1) n (λ o (l : start + 1 ≤ o) (u : o < start + 1 + n). e o (omega arith) (omega arith)))
+
+module _ (total : Stake) (es : List Entry) (r : BlockReference) (i : ℕ) (xs : List Item) (p : ℕ) where
+  pub between-append : (start middle end : ℕ) → start ≤ middle → middle ≤ end
+      → eventsBetween total es r i xs p start end ≡ eventsBetween total es r i xs p start middle ++ eventsBetween total es r i xs p middle end
+  unfolding eventsBetween
+  between-append start middle end h k =
+      let g : ℕ → List Event = λ o. toldAt total es r i o (itemAt xs p o) in
+      let e : end - start ≡ (middle - start) + (end - middle) = omega arith in
+      let u : start + (middle - start) ≡ middle = omega arith in
+      rw (e, countFrom-add start (middle - start) (end - middle), u, map-append g (countFrom start (middle - start)) (countFrom middle (end - middle)))
+      (flat-append (map g (countFrom start (middle - start))) (map g (countFrom middle (end - middle))))
+
+  pub between-empty : (start end : ℕ) → end ≤ start → eventsBetween total es r i xs p start end ≡ []
+  unfolding eventsBetween flatten countFrom
+  between-empty start end h = let e : end - start ≡ 0 = omega arith in rw e
+
+  module _ (start end : ℕ) (same : SameItem xs p start end) where
+    pub between-missed : itemAt xs p start ≡ none → eventsBetween total es r i xs p start end ≡ eventsBy (missed es r) i start end
+    unfolding eventsBetween eventsBy toldAt
+    between-missed e = flat-one _ _ start (end - start) (λ o l (u : o < start + (end - start)). rw (same o l (omega arith), e))
+
+    pub between-processed : (x : Item) → itemAt xs p start ≡ some x → quorumOf total (x .aggregator .stake) ≡ true → eventsBetween total es r i xs p start end ≡ eventsBy (λ _. 1) i start end
+    unfolding eventsBetween eventsBy toldAt
+    between-processed x e q = flat-one _ _ start (end - start) (λ o l (u : o < start + (end - start)). rw (same o l (omega arith), e, q))
+
+    pub between-silent : (x : Item) → itemAt xs p start ≡ some x → quorumOf total (x .aggregator .stake) ≡ false → eventsBetween total es r i xs p start end ≡ []
+    unfolding eventsBetween toldAt
+    between-silent x e q = flat-empty _ start (end - start) (λ o l (u : o < start + (end - start)). rw (same o l (omega arith), e, q))
+
+pub told-none : (telling : Bool) → told telling [] ≡ []
+told-none true = refl
+told-none false = refl
+
+-- events of a stretch as written
+pub stated : (n k : ℕ) (vs ws : List Event) (before after : List ℕ) → ws ≡ vs → k ≡ n + length vs → after ≡ sets before (3 * n) (wordsOf vs) → StatedAt n ws before k after
+stated n k vs ws before after e m w = record { many = rw e m; words = rw e w }
+
+pub stated-none : (n : ℕ) (ws : List Event) (before : List ℕ) → ws ≡ [] → StatedAt n ws before n before
+unfolding wordsOf flatten
+stated-none n ws before e = record { many = rw e (omega arith); words = rw e }
+
+pub stated-on : (n k m : ℕ) (vs ws : List Event) (before now after : List ℕ) → StatedAt n vs before k now → StatedAt k ws now m after → StatedAt n (vs ++ ws) before m after
+stated-on n k m vs ws before now after s t =
+    record {
+      many = rw (length-append vs ws) (omega (arith, s .many, t .many));
+      words = t .words ∙ rw (s .words, s .many) (words-on before n vs ws);
+    }
+
+pub stated-long : (n k : ℕ) (vs : List Event) (before after : List ℕ) → StatedAt n vs before k after → length after ≡ length before
+stated-long n k vs before after s = rw (s .words) (length-sets before (3 * n) (wordsOf vs))
+
+-- events by another way to say their kinds
+pub retold : (f g : ℕ → ℕ) (i start end n : ℕ) (before after : List ℕ) → ((o : ℕ) → f o ≡ g o) → after ≡ sets before (3 * n) (wordsOf (eventsBy f i start end))
+    → after ≡ sets before (3 * n) (wordsOf (eventsBy g i start end))
+retold f g i start end n before after h w = w ∙ ap (λ (vs : List Event). sets before (3 * n) (wordsOf vs)) (same-kinds f g i start end h)
+
+-- a stretch, as an event for each offset
+pub stated-by : (f : ℕ → ℕ) (i start end n k : ℕ) (ws : List Event) (before after : List ℕ) → ws ≡ eventsBy f i start end → k ≡ n + (end - start)
+    → after ≡ sets before (3 * n) (wordsOf (eventsBy f i start end)) → StatedAt n ws before k after
+stated-by f i start end n k ws before after e m w = record { many = rw e (omega (arith, m, length-eventsBy f i start end)); words = rw e w }
+
+-- at most one event an offset
+one-told : (total : Stake) (es : List Entry) (r : BlockReference) (i o : ℕ) (x : Option Item) → length (toldAt total es r i o x) ≤ 1
+unfolding toldAt
+one-told total es r i o none = omega arith
+one-told total es r i o (some x) = go (quorumOf total (x .aggregator .stake))
+  where
+    go : (t : Bool) → length {A = Event} (pick t (record { kind = 1; statement = i; offset = o } ∷ []) []) ≤ 1
+    go true = omega arith
+    go false = omega arith
+
+-- the events of the offsets from `start` up to o are written, after n others
+pub record Announcing (total : Stake) (es : List Entry) (r : BlockReference) (i : ℕ) (xs : List Item) (p start end n : ℕ) (before : List ℕ) (o k : ℕ) (now : List ℕ) : Type 0 where
+  pub stated : StatedAt n (eventsBetween total es r i xs p start o) before k now
+  pub from : start ≤ o
+  pub most : o ≤ max start end
+  pub enough : 3 * (k + (end - o)) ≤ length before
+
+module _ (total : Stake) (es : List Entry) (r : BlockReference) (i : ℕ) (xs : List Item) (p start end n : ℕ) (ev : List ℕ) where
+  pub announcing-start : 3 * (n + (end - start)) ≤ length ev → Announcing total es r i xs p start end n ev start n ev
+  announcing-start h =
+      record { stated = stated-none n _ ev (between-empty total es r i xs p start start (omega arith)); from = omega arith; most = omega arith; enough = h }
+
+  pub announcing-on : (o k m e : ℕ) (now after : List ℕ) → Announcing total es r i xs p start end n ev o k now → o < e → e ≤ end
+      → StatedAt k (eventsBetween total es r i xs p o e) now m after → Announcing total es r i xs p start end n ev e m after
+  unfolding eventsBetween
+  announcing-on o k m e now after a l u s =
+      record {
+        stated = rw (between-append total es r i xs p start o e (a .from) (omega arith)) (stated-on n k m _ _ ev now after (a .stated) s);
+        from = omega (arith, a .from);
+        most = omega arith;
+        enough = omega (arith, a .enough, s .many, length-flatten (λ q. toldAt total es r i q (itemAt xs p q)) (λ q. one-told total es r i q (itemAt xs p q)) (countFrom o (e - o)), length-countFrom o (e - o));
+      }
+
+  pub announcing-end : (o k : ℕ) (now : List ℕ) → Announcing total es r i xs p start end n ev o k now → end ≤ o → StatedAt n (eventsBetween total es r i xs p start end) ev k now
+  announcing-end o k now a l = go (decLt start end)
+    where
+      go : Dec (start < end) → StatedAt n (eventsBetween total es r i xs p start end) ev k now
+      go (yes h) = let z : o ≡ end = omega (arith, a .most) in rw (← z) (a .stated)
+      go (no h) =
+          let z : o ≡ start = omega (arith, a .most, a .from) in
+          rw (between-empty total es r i xs p start end (omega arith), ← between-empty total es r i xs p start start (omega arith)) (rw z at (a .stated))
+
+-- the events as `process_block` says them
+pub told-event : (c : Committee) (es : List Entry) (r : BlockReference) (i o : ℕ) (x : Option Item) → eventOf c es r i o x ≡ toldAt (totalStake c) es r i o x
+unfolding eventOf toldAt hasQuorum isQuorum
+told-event c es r i o none = refl
+told-event c es r i o (some x) = refl

@@ -1,0 +1,53 @@
+-- Machinery for the contracts of private functions: how far a walk over entries and statements has come, events written one after the other,
+-- votes counted one after the other. Assumes nothing: these are definitions.
+use Prim.Native.Nat.{ℕ, _+_, _-_, _*_, _≤_, _<_}
+use mathlib.Core.Path.{_≡_}
+use mathlib.Core.Bool.{Bool}
+use mathlib.Core.List.{List, [], _∷_, map, flatten}
+use mathlib.Core.Option.{Option, none, some}
+use lib.ListN.{length}
+use lib.Seq.{sets}
+use Rattle.base.specs.Lists.{pick, countFrom}
+use Rattle.base.specs.Le.{Bytes}
+use Rattle.committee.specs.Committee.{Stake, quorumOf}
+use Rattle.blocks.specs.Reference.{BlockReference}
+use Rattle.store_layout.specs.Layout.{Entry, entries}
+use Rattle.store_layout.specs.Store.{recordsOf, recordIn}
+use Rattle.pending_items.specs.Items.{Item, itemAt}
+use Rattle.feeds.specs.ProcessBlock.{Event, eventWords, missed}
+use Rattle.pending.specs.Step.{Placed}
+
+-- ---- events
+-- the entries once the record is stored: 01, "the block being fed counts as stored"
+abbrev pub withNew : Bytes → Bytes → List Entry
+withNew s rec = entries (recordIn rec ∷ recordsOf s)
+
+-- an event for each offset in start..end, of the kind that f says
+unfoldable pub eventsBy : (ℕ → ℕ) → ℕ → ℕ → ℕ → List Event
+eventsBy f i start end = map (λ o. record { kind = f o; statement = i; offset = o }) (countFrom start (end - start))
+
+-- the words of events
+unfoldable pub wordsOf : List Event → List ℕ
+wordsOf vs = flatten (map eventWords vs)
+
+-- the event of an offset where quorum is of the total stake: `eventOf`
+unfoldable pub toldAt : Stake → List Entry → BlockReference → ℕ → ℕ → Option Item → List Event
+toldAt total es r i o none = record { kind = missed es r o; statement = i; offset = o } ∷ []
+toldAt total es r i o (some x) = pick (quorumOf total (x .aggregator .stake)) (record { kind = 1; statement = i; offset = o } ∷ []) []
+
+-- the events for start..end of the block at p, among items that have the vote
+unfoldable pub eventsBetween : Stake → List Entry → BlockReference → ℕ → List Item → ℕ → ℕ → ℕ → List Event
+eventsBetween total es r i xs p start end = flatten (map (λ o. toldAt total es r i o (itemAt xs p o)) (countFrom start (end - start)))
+
+-- the same stands at each offset in start..end
+abbrev pub SameItem : List Item → ℕ → ℕ → ℕ → Type 0
+SameItem xs p start end = (q : ℕ) → start ≤ q → q < end → itemAt xs p q ≡ itemAt xs p start
+
+-- the events are written after the n that are there
+pub record StatedAt (n : ℕ) (vs : List Event) (before : List ℕ) (r : ℕ) (after : List ℕ) : Type 0 where
+  pub many : r ≡ n + length vs
+  pub words : after ≡ sets before (3 * n) (wordsOf vs)
+
+-- events that are told, or none where the votes are only tried
+abbrev pub told : Bool → List Event → List Event
+told telling vs = pick telling vs []

@@ -1,0 +1,84 @@
+-- Feeding a record: the first refusal or the number of events, and every lent slice afterwards. Assumes nothing: these are definitions.
+use Prim.Native.Nat.{ℕ}
+use mathlib.Core.Bool.{true, not}
+use mathlib.Core.List.{List, [], _∷_, _++_, map, flatten}
+use mathlib.Core.Option.{Option, none, some}
+use lib.Dec.{ltb}
+use lib.ListN.{length, drop}
+use Rattle.base.specs.Lists.{pick}
+use Rattle.base.specs.Le.{Bytes}
+use Rattle.base.specs.Checks.{Check, _⇒_, refusal, passes, Answer, refused, answered}
+use Rattle.committee.specs.Committee.{Committee, broken}
+use Rattle.blocks.specs.Block.{eventRoom}
+use Rattle.store_layout.specs.Layout.{Record, readRecord, entries}
+use Rattle.store_layout.specs.Accept.{blockChecks}
+use Rattle.store_layout.specs.Store.{recordsOf, storeInOrder, storeFull, storeHolding}
+use Rattle.pending_items.specs.Table.{tableOf, itemsOf, tableInOrder, room}
+use Rattle.feeds.specs.ProcessBlock.{eventWords, Processing, processBlock}
+
+-- what a feed is lent, and the record; the work slice's content is free, and no answer reads it
+pub record Lent : Type 0 where
+  pub store : Bytes
+  pub table : List ℕ
+  pub work : List ℕ
+  pub events : List ℕ
+
+abbrev pub lentOf : Bytes → List ℕ → List ℕ → List ℕ → Lent
+lentOf s t w v = record { store = s; table = t; work = w; events = v }
+
+-- what a feed answers, and what it leaves of the slices that it was lent
+pub record Fed : Type 0 where
+  pub answer : Answer ℕ
+  pub store : Bytes
+  pub table : List ℕ
+  pub events : List ℕ
+
+-- the pending items and events once the record is stored
+unfoldable pub processed : Committee → Lent → Record → Processing
+processed c m r = processBlock c (entries (r ∷ recordsOf (m .store))) (r .block) (itemsOf (m .table))
+
+-- 01: "Feeding checks 5, 10, 11, 12, .."
+unfoldable pub lentChecks : Committee → Lent → List Check
+lentChecks c m =
+    (broken c ⇒ 5)
+    ∷ (not (storeInOrder c (m .store)) ⇒ 10)
+    ∷ (not (tableInOrder c (entries (recordsOf (m .store))) (m .table)) ⇒ 11)
+    ∷ (ltb (length (m .work)) (length (m .table)) ⇒ 12)
+    ∷ []
+
+-- 01: ".. 20 to 30 ascending, 15, 13, 14"
+unfoldable pub recordChecks : Committee → Lent → Option Record → List Check
+recordChecks c m none = (true ⇒ 20) ∷ []
+recordChecks c m (some r) =
+    blockChecks c (recordsOf (m .store)) (r .block)
+    ++ ((ltb (length (m .events)) (eventRoom (r .block)) ⇒ 15)
+    ∷ (storeFull (m .store) r ⇒ 13)
+    ∷ (ltb (room (m .table)) (processed c m r .most) ⇒ 14)
+    ∷ [])
+
+unfoldable pub feedChecks : Committee → Lent → Option Record → List Check
+feedChecks c m r = lentChecks c m ++ recordChecks c m r
+
+-- 01: "A refusal writes nothing but the work slice"
+unfoldable pub refusedFeed : Lent → ℕ → Fed
+refusedFeed m n = record { answer = refused n; store = m .store; table = m .table; events = m .events }
+
+-- 01: "Feeding answers the number of events; words past them keep their content"
+unfoldable pub acceptedFeed : Committee → Lent → Record → Fed
+acceptedFeed c m r =
+    let z : Processing = processed c m r in
+    let words : List ℕ = flatten (map eventWords (z .events)) in
+    record {
+      answer = answered (length (z .events));
+      store = storeHolding (r ∷ recordsOf (m .store)) (m .store);
+      table = tableOf (length (m .table)) (z .items);
+      events = words ++ drop (length words) (m .events);
+    }
+
+unfoldable pub feedRecord : Committee → Lent → Option Record → Fed
+feedRecord c m none = refusedFeed m (refusal (feedChecks c m none))
+feedRecord c m (some r) =
+    pick (passes (feedChecks c m (some r))) (acceptedFeed c m r) (refusedFeed m (refusal (feedChecks c m (some r))))
+
+unfoldable pub feed : Committee → Lent → Bytes → Fed
+feed c m bytes = feedRecord c m (readRecord bytes)

@@ -1,0 +1,98 @@
+-- The certifying blocks of the finality question: in ascending reference order, each of them once. Assumes nothing.
+use mathlib.Core.Path.{_≡_, refl, ap, _∙_}
+use mathlib.Core.Bool.{Bool, true, false}
+use mathlib.Core.List.{List, [], _∷_}
+use Prim.Native.Nat.{suc}
+use lib.ListN.{length, length-map}
+use Rattle.base.specs.Lists.{pick, keep, _∈_, here, there}
+use Rattle.base.specs.Le.{Bytes}
+use Rattle.base.proofs.Lists.{Every, none-of, and, every-in, pairs-keep}
+use Rattle.committee.specs.Committee.{Committee}
+use Rattle.blocks.specs.Reference.{TransactionLocator, referenceBefore}
+use Rattle.blocks.specs.Block.{Block}
+use Rattle.store_layout.specs.Layout.{Record, Entry, referenceOf, usedBy, entries, placed, ascending}
+use Rattle.store_layout.specs.Store.{recordsOf, storeInOrder}
+use Rattle.store_layout.proofs.Store.{in-order}
+use Rattle.store_layout.proofs.Chain.{Ascending, ascending-every, ascending-ascends, distinct}
+use Rattle.store_layout.proofs.Accepted.{blocks}
+use Rattle.finality.specs.Voters.{certifies, certifiers}
+use Rattle.finality.specs.Finality.{blocksOf, certifyingPositions}
+
+placed-self : (e : Entry) (ds : List Entry) → e ∈ placed e ds
+unfolding placed
+placed-self e [] = here
+placed-self e (d ∷ ds) = split (referenceBefore (referenceOf e) (referenceOf d)) (placed-self e ds)
+  where
+    split : (t : Bool) → e ∈ placed e ds → e ∈ pick t (e ∷ d ∷ ds) (d ∷ placed e ds)
+    split true k = here
+    split false k = there k
+
+placed-other : (e x : Entry) (ds : List Entry) → x ∈ ds → x ∈ placed e ds
+unfolding placed
+placed-other e x (d ∷ ds) here = split (referenceBefore (referenceOf e) (referenceOf x))
+  where
+    split : (t : Bool) → x ∈ pick t (e ∷ x ∷ ds) (x ∷ placed e ds)
+    split true = there here
+    split false = here
+placed-other e x (d ∷ ds) (there m) = split (referenceBefore (referenceOf e) (referenceOf d)) (placed-other e x ds m)
+  where
+    split : (t : Bool) → x ∈ placed e ds → x ∈ pick t (e ∷ d ∷ ds) (d ∷ placed e ds)
+    split true k = there (there m)
+    split false k = there k
+
+pub ascending-in : (x : Entry) (es : List Entry) → x ∈ ascending es → x ∈ es
+ascending-in x es m = every-in (ascending es) x (ascending-every es (each es (λ y k. k))) m
+  where
+    each : (ds : List Entry) → ((y : Entry) → y ∈ ds → y ∈ es) → Every (λ y. y ∈ es) ds
+    each [] f = none-of
+    each (d ∷ ds) f = and (f d here) (each ds (λ y k. f y (there k)))
+
+pub in-ascending : (x : Entry) (es : List Entry) → x ∈ es → x ∈ ascending es
+unfolding ascending
+in-ascending x (e ∷ es) here = placed-self e (ascending es)
+in-ascending x (e ∷ es) (there m) = placed-other e x (ascending es) (in-ascending x es m)
+
+-- the certifying blocks of a store in order, in ascending reference order
+pub certifying-ascends : (c : Committee) (s : Bytes) (l : TransactionLocator) → storeInOrder c s ≡ true
+    → Ascending (keep (λ e. certifies c (blocksOf s) l (e .block)) (ascending (entries (recordsOf s))))
+certifying-ascends c s l h =
+    pairs-keep (λ e. certifies c (blocksOf s) l (e .block)) (ascending (entries (recordsOf s)))
+    (ascending-ascends (entries (recordsOf s)) (distinct c (recordsOf s) (in-order c s h .accepted)))
+
+-- 01: "the number of certifying blocks": as many positions as certifiers
+placed-count : (p : Entry → Bool) (e : Entry) (ds : List Entry) → length (keep p (placed e ds)) ≡ length (keep p (e ∷ ds))
+unfolding placed keep
+placed-count p e [] = refl
+placed-count p e (d ∷ ds) = split (referenceBefore (referenceOf e) (referenceOf d)) (p d) (p e) refl refl (placed-count p e ds)
+  where
+    split : (t u v : Bool) → p d ≡ u → p e ≡ v → length (keep p (placed e ds)) ≡ length (pick v (e ∷ keep p ds) (keep p ds))
+        → length (keep p (pick t (e ∷ d ∷ ds) (d ∷ placed e ds))) ≡ length (pick v (e ∷ pick u (d ∷ keep p ds) (keep p ds)) (pick u (d ∷ keep p ds) (keep p ds)))
+    split true u v a b ih = rw (a, b)
+    split false true true a b ih = rw a (ap suc ih)
+    split false true false a b ih = rw a (ap suc ih)
+    split false false v a b ih = rw a ih
+
+ascending-count : (p : Entry → Bool) (es : List Entry) → length (keep p (ascending es)) ≡ length (keep p es)
+unfolding ascending keep
+ascending-count p [] = refl
+ascending-count p (e ∷ es) = placed-count p e (ascending es) ∙ split (p e) (ascending-count p es)
+  where
+    split : (t : Bool) → length (keep p (ascending es)) ≡ length (keep p es) → length (pick t (e ∷ keep p (ascending es)) (keep p (ascending es))) ≡ length (pick t (e ∷ keep p es) (keep p es))
+    split true ih = ap suc ih
+    split false ih = ih
+
+entries-count : (p : Block → Bool) (rs : List Record) → length (keep (λ e. p (e .block)) (entries rs)) ≡ length (keep p (blocks rs))
+unfolding entries keep
+entries-count p [] = refl
+entries-count p (r ∷ rs) = split (p (r .block)) (entries-count p rs)
+  where
+    split : (t : Bool) → length (keep (λ e. p (e .block)) (entries rs)) ≡ length (keep p (blocks rs))
+        → length (pick t (record { position = usedBy rs; bytes = r .bytes; block = r .block } ∷ keep (λ e. p (e .block)) (entries rs)) (keep (λ e. p (e .block)) (entries rs))) ≡ length (pick t (r .block ∷ keep p (blocks rs)) (keep p (blocks rs)))
+    split true ih = ap suc ih
+    split false ih = ih
+
+pub certifying-count : (c : Committee) (s : Bytes) (l : TransactionLocator) → length (certifyingPositions c s l) ≡ length (certifiers c (blocksOf s) l)
+unfolding certifyingPositions certifiers blocksOf
+certifying-count c s l =
+    let p : (Entry → Bool) = λ e. certifies c (blocksOf s) l (e .block) in
+    length-map (keep p (ascending (entries (recordsOf s)))) (λ e. e .position) ∙ ascending-count p (entries (recordsOf s)) ∙ entries-count (certifies c (blocksOf s) l) (recordsOf s)

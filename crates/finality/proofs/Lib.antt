@@ -1,0 +1,14 @@
+pub mod Computing
+pub mod Cards
+pub mod ByHand
+pub mod Ancestors
+pub mod Votes
+pub mod Voters
+pub mod Finals
+pub mod Growing
+pub mod Least
+pub mod Candidates
+pub mod FinalList
+pub mod Asked
+pub mod Certifying
+pub mod Claimed

@@ -1,0 +1,192 @@
+-- The payload that a locator names, as the code finds it. Assumes nothing.
+use mathlib.Core.Path.{_≡_, refl, sym, ap, _∙_}
+use mathlib.Core.List.{List, [], _∷_}
+use mathlib.Core.Option.{Option, none, some, Option·map, Option·getD}
+use mathlib.Core.Bool.{Bool, true, false}
+use Prim.Native.Nat.{ℕ, zero, suc, _+_, _<_, _≤_}
+use native.Mathlib.Omega.{arith}
+use lib.Dec.{eqb}
+use lib.ListN.{length, take, drop, getD, getElem?, length-drop}
+use lib.Seq.{length-take-le}
+use borrow.Author.Tests.{le-leb, eqb-true}
+use Rattle.base.specs.Lists.{pick, allOf, isNone, _∈_, here, there}
+use Rattle.base.specs.Le.{Bytes}
+use Rattle.base.specs.Checks.{_⇒_, passes, refusal, refused, answered, checked}
+use Rattle.base.proofs.Tests.{and-left, and-right, not-both}
+use Rattle.base.proofs.Lists.{every-in}
+use Rattle.base.proofs.Checks.{passes-none}
+use Rattle.base.proofs.Le.{AllBytes}
+use Rattle.committee.specs.Committee.{Committee, broken}
+use Rattle.blocks.specs.Reference.{TransactionLocator}
+use Rattle.blocks.specs.Block.{Statement, share, accept, reject, voteRange, Block}
+use Rattle.blocks.specs.Record.{wellFormed, blockIn, noStatement, statementStart}
+use Rattle.block_record.specs.Values.{asStatement}
+use Rattle.block_record.specs.Cursor.{cursorAt, payloadBetween}
+use Rattle.block_record.specs.declared.StatementCursor.{StatementCursor}
+use Rattle.block_record.specs.declared.NextStatement.{NextStatement}
+use Rattle.block_record.specs.declared.BaseStatement.{BaseStatement}
+use Rattle.block_record.specs.declared.BaseStatement.the-variants.{Share, Accept, Reject, RejectFor, VoteRange}
+use Rattle.block_record.proofs.Statements.{start-inside}
+use Rattle.store_layout.specs.Layout.{Entry, entries, positionOf, lookup}
+use Rattle.store_layout.specs.Store.{recordsOf, storeInOrder}
+use Rattle.store_order.specs.Entry.{blockAt, laidOut, isEntry}
+use Rattle.store_layout.specs.Payload.{Stretch, shareStretch, payloadOf, payloadAt, payloadChecks, stretchOf, payload, payloadLength}
+use Rattle.payload.specs.Answers.{asShare, shareWithin, payloadPlace}
+use Rattle.payload.specs.declared.SharePlace.{SharePlace}
+use Rattle.payload.specs.declared.SharePlace.the-variants.{Payload as PayloadOf, NoShare}
+use Rattle.store_layout.proofs.Store.{entries-within}
+use Rattle.store_order.proofs.Loops.{is-entry, block-of-entry}
+use Rattle.store_order.proofs.Lookups.{lookup-in}
+use Rattle.store_order.proofs.Search.{laid-out}
+
+-- ---- as the code finds it
+
+element-past : {A : Type 0} (xs : List A) (i : ℕ) → length xs ≤ i → getElem? xs i ≡ none
+element-past [] i h = refl
+element-past (x ∷ xs) zero h = absurd (omega arith)
+element-past (x ∷ xs) (suc i) h = element-past xs i (omega arith)
+
+element-at : {A : Type 0} (xs : List A) (i : ℕ) (d : A) → i < length xs → getElem? xs i ≡ some (getD xs i d)
+element-at [] i d h = absurd (omega arith)
+element-at (x ∷ xs) zero d h = refl
+element-at (x ∷ xs) (suc i) d h = element-at xs i d (omega arith)
+
+pub share-past : (b : Block) (o : ℕ) → length (b .statements) ≤ o → asShare NoShare ≡ shareStretch (statementStart b o) (getElem? (b .statements) o)
+unfolding asShare shareStretch
+share-past b o h = rw (element-past (b .statements) o h)
+
+-- what is answered for a statement
+unfoldable pub shareTold : BaseStatement → SharePlace
+shareTold (Share start len) = PayloadOf start len
+shareTold (Accept l) = NoShare
+shareTold (Reject l) = NoShare
+shareTold (RejectFor l other) = NoShare
+shareTold (VoteRange r) = NoShare
+
+share-told : (rec : Bytes) → AllBytes rec → wellFormed rec ≡ true → (o next : ℕ) (st : BaseStatement) → o < length (blockIn rec .statements)
+    → asStatement rec st ≡ getD (blockIn rec .statements) o noStatement → payloadBetween (statementStart (blockIn rec) o) next st ≡ true → next ≡ statementStart (blockIn rec) (o + 1)
+    → (asShare (shareTold st) ≡ shareStretch (statementStart (blockIn rec) o) (getElem? (blockIn rec .statements) o)) × (shareWithin (length rec) (shareTold st) ≡ true)
+unfolding asShare shareStretch shareWithin shareTold asStatement payloadBetween
+share-told rec bs w o next st h e p q = go st e p
+  where
+    at-is : getElem? (blockIn rec .statements) o ≡ some (getD (blockIn rec .statements) o noStatement)
+    at-is = element-at (blockIn rec .statements) o noStatement h
+
+    go : (t : BaseStatement) → asStatement rec t ≡ getD (blockIn rec .statements) o noStatement → payloadBetween (statementStart (blockIn rec) o) next t ≡ true
+        → (asShare (shareTold t) ≡ shareStretch (statementStart (blockIn rec) o) (getElem? (blockIn rec .statements) o)) × (shareWithin (length rec) (shareTold t) ≡ true)
+    go (Share start len) e p =
+        let k : ℕ = statementStart (blockIn rec) o in
+        let begins : start ≡ k + 3 = eqb-true start (k + 3) (and-left (eqb start (k + 3)) _ p) in
+        let ends : start + len ≡ next = eqb-true (start + len) next (and-right (eqb start (k + 3)) _ p) in
+        let inside : start + len ≤ length rec = omega (arith, start-inside rec bs w (o + 1)) in
+        let many : length (take len (drop start rec)) ≡ len = length-take-le len (drop start rec) (omega (arith, length-drop start rec)) in
+        (rw (at-is, ← e, many, begins), le-leb (start + len) (length rec) inside)
+    go (Accept l) e p = (rw (at-is, ← e), refl)
+    go (Reject l) e p = (rw (at-is, ← e), refl)
+    go (RejectFor l other) e p = (rw (at-is, ← e), refl)
+    go (VoteRange r) e p = (rw (at-is, ← e), refl)
+
+-- the statement that stands at a place, as next_statement tells it
+pub share-found : (rec : Bytes) → AllBytes rec → wellFormed rec ≡ true → (o : ℕ) (k : StatementCursor) (r : NextStatement) → k ≡ cursorAt (blockIn rec) o → o < length (blockIn rec .statements)
+    → (asStatement rec (r .statement) ≡ getD (blockIn rec .statements) (k .index) noStatement) × ((r .next ≡ cursorAt (blockIn rec) (k .index + 1)) × (payloadBetween (k .at) (r .next .at) (r .statement) ≡ true))
+    → (st : BaseStatement) → r .statement ≡ st
+    → (asShare (shareTold st) ≡ shareStretch (statementStart (blockIn rec) o) (getElem? (blockIn rec .statements) o)) × (shareWithin (length rec) (shareTold st) ≡ true)
+unfolding cursorAt
+share-found rec bs w o k r q h f st e =
+    let i : k .index ≡ o = ap (λ (x : StatementCursor). x .index) q in
+    let p : k .at ≡ statementStart (blockIn rec) o = ap (λ (x : StatementCursor). x .at) q in
+    let n : r .next .at ≡ statementStart (blockIn rec) (o + 1) = ap (λ (x : StatementCursor). x .at) (f .1 .0) ∙ ap (λ (x : ℕ). statementStart (blockIn rec) (x + 1)) i in
+    share-told rec bs w o (r .next .at) st h
+    (ap (asStatement rec) (sym e) ∙ f .0 ∙ ap (λ (x : ℕ). getD (blockIn rec .statements) x noStatement) i)
+    (ap (λ (x : ℕ). payloadBetween x (r .next .at) st) (sym p) ∙ ap (λ (x : BaseStatement). payloadBetween (k .at) (r .next .at) x) (sym e) ∙ f .1 .1) n
+
+-- ---- the answer, refusal by refusal
+
+module _ (c : Committee) (s : Bytes) (l : TransactionLocator) where
+  pub place-broken : broken c ≡ true → refused 5 ≡ payloadPlace c s l
+  unfolding payloadPlace payloadChecks checked passes refusal allOf
+  place-broken h = rw h
+
+  pub place-disordered : broken c ≡ false → storeInOrder c s ≡ false → refused 10 ≡ payloadPlace c s l
+  unfolding payloadPlace payloadChecks checked passes refusal allOf
+  place-disordered h k = rw (h, k)
+
+  pub place-none : broken c ≡ false → storeInOrder c s ≡ true → payloadAt s l ≡ none → refused 41 ≡ payloadPlace c s l
+  unfolding payloadPlace payloadChecks checked passes refusal allOf isNone
+  place-none h k n = rw (h, k, n)
+
+  pub place-some : broken c ≡ false → storeInOrder c s ≡ true → (t : Stretch) → payloadAt s l ≡ some t → answered t ≡ payloadPlace c s l
+  unfolding payloadPlace payloadChecks checked passes refusal allOf isNone
+  place-some h k t n = rw (h, k, n)
+
+  -- what the answer says of the payload and of its length
+  pub place-refused : (k : ℕ) → refused k ≡ payloadPlace c s l → ([] ≡ payload c s l) × (refused k ≡ payloadLength c s l)
+  unfolding payloadPlace payload payloadLength checked
+  place-refused k h = go (passes (payloadChecks c s l)) h
+    where
+      go : (t : Bool) → refused k ≡ pick t (answered (Option·getD (payloadAt s l) (record { start = 0; count = 0 }))) (refused (refusal (payloadChecks c s l)))
+          → ([] ≡ pick t (stretchOf (payloadAt s l) s) []) × (refused k ≡ pick t (answered (length (stretchOf (payloadAt s l) s))) (refused (refusal (payloadChecks c s l))))
+      go true e = absurd (let z : _≡_ {A = ℕ} 0 1 = cc in omega arith)
+      go false e = (refl, let same : k ≡ refusal (payloadChecks c s l) = cc in ap refused same)
+
+  pub place-stands : (start count : ℕ) → answered (record { start = start; count = count }) ≡ payloadPlace c s l → start + count ≤ length s
+      → (take count (drop start s) ≡ payload c s l) × (answered count ≡ payloadLength c s l)
+  unfolding payloadPlace payload payloadLength checked payloadChecks stretchOf isNone
+  place-stands start count h inside = go (passes (payloadChecks c s l)) refl h
+    where
+      by-place : (o : Option Stretch) → payloadAt s l ≡ o → passes (payloadChecks c s l) ≡ true → _≡_ {A = Stretch} (record { start = start; count = count }) (Option·getD o (record { start = 0; count = 0 }))
+          → (take count (drop start s) ≡ stretchOf o s) × (answered count ≡ answered (length (stretchOf o s)))
+      by-place none q p e = absurd (not-both (ap isNone q) (passes-none (payloadChecks c s l) p (isNone (payloadAt s l) ⇒ 41) (there (there here))))
+      by-place (some t) q p e =
+          rw (← e) (refl, ap answered (sym (length-take-le count (drop start s) (omega (arith, length-drop start s)))))
+
+      go : (t : Bool) → passes (payloadChecks c s l) ≡ t → answered (record { start = start; count = count }) ≡ pick t (answered (Option·getD (payloadAt s l) (record { start = 0; count = 0 }))) (refused (refusal (payloadChecks c s l)))
+          → (take count (drop start s) ≡ pick t (stretchOf (payloadAt s l) s) []) × (answered count ≡ pick t (answered (length (stretchOf (payloadAt s l) s))) (refused (refusal (payloadChecks c s l))))
+      go false p e = absurd (let z : _≡_ {A = ℕ} 0 1 = cc in omega arith)
+      go true p e = let same : _≡_ {A = Stretch} (record { start = start; count = count }) (Option·getD (payloadAt s l) (record { start = 0; count = 0 })) = cc in by-place (payloadAt s l) refl p same
+
+-- ---- where the store has it
+
+shifted : (q p : ℕ) (o : Option Statement) (t : Option Stretch) → t ≡ shareStretch p o → shareStretch (q + p) o ≡ Option·map (λ (x : Stretch). record { start = q + x .start; count = x .count }) t
+unfolding shareStretch
+shifted q p none t h = rw h
+shifted q p (some (share v)) t h = let e : q + p + 3 ≡ q + (p + 3) = omega arith in rw (h, e)
+shifted q p (some (accept l)) t h = rw h
+shifted q p (some (reject l other)) t h = rw h
+shifted q p (some (voteRange r)) t h = rw h
+
+module _ (s : Bytes) (laid : laidOut s ≡ true) (l : TransactionLocator) (at : ℕ) (found : at ≡ positionOf (lookup (entries (recordsOf s)) (l .block))) where
+  pub payload-unknown : at ≡ 0 → payloadAt s l ≡ none
+  unfolding payloadAt payloadOf positionOf
+  payload-unknown z = go (lookup (entries (recordsOf s)) (l .block)) refl (sym found ∙ z)
+    where
+      go : (o : Option Entry) → lookup (entries (recordsOf s)) (l .block) ≡ o → positionOf o ≡ 0 → payloadOf o (l .offset) ≡ none
+      go none q k = refl
+      go (some e) q k = absurd (omega (arith, every-in (entries (recordsOf s)) e (entries-within (recordsOf s)) (lookup-in (entries (recordsOf s)) (l .block) e q .0) .from))
+
+  -- the entry that was found
+  record FoundEntry : Type 0 where
+    entry : Entry
+    is : lookup (entries (recordsOf s)) (l .block) ≡ some entry
+    stored : entry ∈ entries (recordsOf s)
+    place : entry .position ≡ at
+
+  found-entry : (at ≡ 0 → ⊥) → FoundEntry
+  unfolding positionOf
+  found-entry f = go (lookup (entries (recordsOf s)) (l .block)) refl found
+    where
+      go : (o : Option Entry) → lookup (entries (recordsOf s)) (l .block) ≡ o → at ≡ positionOf o → FoundEntry
+      go none q k = absurd (f k)
+      go (some e) q k = record { entry = e; is = q; stored = lookup-in (entries (recordsOf s)) (l .block) e q .0; place = sym k }
+
+  pub payload-entry : (at ≡ 0 → ⊥) → isEntry s at ≡ true
+  payload-entry f = let e : FoundEntry = found-entry f in rw (← e .place) (is-entry s (e .entry) (laid-out s laid .tested) (e .stored))
+
+  -- from what the record has
+  pub payload-found : (at ≡ 0 → ⊥) → (t : Option Stretch) → t ≡ shareStretch (statementStart (blockAt s at) (l .offset)) (getElem? (blockAt s at .statements) (l .offset))
+      → payloadAt s l ≡ Option·map (λ (x : Stretch). record { start = at + 8 + x .start; count = x .count }) t
+  unfolding payloadAt payloadOf
+  payload-found f t h =
+      let e : FoundEntry = found-entry f in
+      let b : blockAt s at ≡ e .entry .block = ap (λ (n : ℕ). blockAt s n) (sym (e .place)) ∙ block-of-entry s (laid-out s laid .reads) (e .entry) (e .stored) in
+      rw (e .is, e .place, ← b) (shifted (at + 8) (statementStart (blockAt s at) (l .offset)) (getElem? (blockAt s at .statements) (l .offset)) t h)

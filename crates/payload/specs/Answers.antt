@@ -1,0 +1,45 @@
+-- What the code's enums say, in the values and refusal numbers of document 01. Assumes nothing: these are definitions.
+use Prim.Native.Nat.{ℕ, _+_}
+use mathlib.Core.Bool.{Bool, true}
+use mathlib.Core.Option.{Option, none, some, Option·getD}
+use lib.Dec.{leb}
+use Rattle.base.specs.Le.{Bytes}
+use Rattle.base.specs.Checks.{Answer, refused, answered, checked}
+use Rattle.committee.specs.Committee.{Committee}
+use Rattle.blocks.specs.Reference.{TransactionLocator}
+use Rattle.store_layout.specs.Payload.{Stretch, payloadAt, payloadChecks}
+use Rattle.payload.specs.declared.SharePlace.{SharePlace}
+use Rattle.payload.specs.declared.SharePlace.the-variants.{Payload, NoShare}
+use Rattle.payload.specs.declared.PayloadPlace.{PayloadPlace}
+use Rattle.payload.specs.declared.PayloadPlace.the-variants.{Stands, Refused}
+use Rattle.payload.specs.declared.PayloadLength.{PayloadLength}
+use Rattle.payload.specs.declared.PayloadLength.the-variants.{Bytes as Counted, Refused as Unanswered}
+
+-- a payload's length, or 5, 10, 41
+unfoldable pub asPayloadLength : PayloadLength → Answer ℕ
+asPayloadLength (Counted n) = answered n
+asPayloadLength (Unanswered k) = refused k
+
+-- ---- machinery for the contracts of private functions
+
+-- where a record has a share's payload
+unfoldable pub asShare : SharePlace → Option Stretch
+asShare (Payload start count) = some (record { start = start; count = count })
+asShare NoShare = none
+
+-- it lies in so many bytes
+unfoldable pub shareWithin : ℕ → SharePlace → Bool
+shareWithin n (Payload start count) = leb (start + count) n
+shareWithin n NoShare = true
+
+-- where the store has it, or 5, 10, 41
+unfoldable pub asPlace : PayloadPlace → Answer Stretch
+asPlace (Stands start count) = answered (record { start = start; count = count })
+asPlace (Refused k) = refused k
+
+unfoldable pub placeWithin : ℕ → PayloadPlace → Bool
+placeWithin n (Stands start count) = leb (start + count) n
+placeWithin n (Refused k) = true
+
+unfoldable pub payloadPlace : Committee → Bytes → TransactionLocator → Answer Stretch
+payloadPlace c s l = checked (payloadChecks c s l) (Option·getD (payloadAt s l) (record { start = 0; count = 0 }))

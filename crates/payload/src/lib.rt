@@ -1,0 +1,103 @@
+// A stored share's payload, as the part of the store that holds it. Follows block_store.rs.
+use block_record::BaseStatement;
+use committee::NewCommittee;
+use types::TransactionLocator;
+ghost use mathlib.Core.Path.{_≡_};
+ghost use mathlib.Core.Bool.{true};
+ghost use lib.ListN.{length, getElem?};
+ghost use Rattle.blocks.specs.Record.{wellFormed, blockIn, statementStart};
+ghost use Rattle.types.specs.Values.{asLocator};
+ghost use Rattle.store_layout.specs.Payload.{shareStretch, payload, payloadLength};
+ghost use Rattle.payload.specs.Answers.{asShare, shareWithin, asPlace, placeWithin, payloadPlace, asPayloadLength};
+
+// ---- payload
+
+// Where a record has a share's payload, its start and its length; or the statement is no share.
+enum SharePlace {
+    Payload(usize, usize),
+    NoShare,
+}
+
+// Where the store has a share's payload, or the refusal.
+pub enum PayloadPlace {
+    Stands(usize, usize),
+    Refused(u64),
+}
+
+// The length of a share's payload, or the refusal.
+pub enum PayloadLength {
+    Bytes(u64),
+    Refused(u64),
+}
+
+// The payload of the share of that offset in a well-formed record.
+fn find_share(rec: &[u8], offset: u64) -> SharePlace
+    requires { ⌜ wellFormed (now rec) ≡ true ⌝ }
+    ensures { λ r. ⌜ asShare r ≡ shareStretch (statementStart (blockIn (now (rec .entry))) offset) (getElem? (blockIn (now (rec .entry)) .statements) offset) ⌝ }
+    ensures { λ r. ⌜ shareWithin (length (now (rec .entry))) r ≡ true ⌝ }
+{
+    if block_record::statement_count(rec) as u64 <= offset {
+        return SharePlace::NoShare;
+    }
+    let mut cursor = block_record::first_statement(rec);
+    let mut i: u64 = 0;
+    while i < offset {
+        let passed = block_record::next_statement(rec, cursor);
+        cursor = passed.next;
+        i = i + 1;
+    }
+    let found = block_record::next_statement(rec, cursor);
+    let statement = found.statement;
+    match statement {
+        BaseStatement::Share(start, len) => SharePlace::Payload(start, len),
+        BaseStatement::Accept(_) => SharePlace::NoShare,
+        BaseStatement::Reject(_) => SharePlace::NoShare,
+        BaseStatement::RejectFor(_, _) => SharePlace::NoShare,
+        BaseStatement::VoteRange(_) => SharePlace::NoShare,
+    }
+}
+
+// The payload that a locator names (5, 10, 41).
+pub fn find_payload(stakes: &[u64], store: &[u8], locator: TransactionLocator) -> PayloadPlace
+    ensures { λ r. ⌜ asPlace r ≡ payloadPlace (now (stakes .entry)) (now (store .entry)) (asLocator locator) ⌝ }
+    ensures { λ r. ⌜ placeWithin (length (now (store .entry))) r ≡ true ⌝ }
+{
+    let NewCommittee::Taken(_) = committee::new_committee(stakes) else {
+        return PayloadPlace::Refused(5);
+    };
+    if !store_order::in_order(stakes, store) {
+        return PayloadPlace::Refused(10);
+    }
+    let at = block_store::lookup(store, locator.block);
+    if at == 0 {
+        return PayloadPlace::Refused(41);
+    }
+    let from = at + 8;
+    let end = store_order::record_end(store, at);
+    let SharePlace::Payload(start, len) = find_share(&store[from..end], locator.offset) else {
+        return PayloadPlace::Refused(41);
+    };
+    PayloadPlace::Stands(from + start, len)
+}
+
+// A share's payload, as the part of the store that holds it; empty where there is none or the call is refused.
+pub fn payload<'a>(stakes: &'a [u64], store: &'a [u8], locator: TransactionLocator) -> &'a [u8]
+    ensures { λ r. ⌜ now r ≡ payload (now (stakes .entry)) (now (store .entry)) (asLocator locator) ⌝ }
+{
+    let PayloadPlace::Stands(start, len) = find_payload(stakes, store, locator) else {
+        return &store[0..0];
+    };
+    let end = start + len;
+    &store[start..end]
+}
+
+// Its length, or 5, 10, 41.
+pub fn payload_length(stakes: &[u64], store: &[u8], locator: TransactionLocator) -> PayloadLength
+    ensures { λ r. ⌜ asPayloadLength r ≡ payloadLength (now (stakes .entry)) (now (store .entry)) (asLocator locator) ⌝ }
+{
+    let found = find_payload(stakes, store, locator);
+    match found {
+        PayloadPlace::Stands(_, len) => PayloadLength::Bytes(len as u64),
+        PayloadPlace::Refused(number) => PayloadLength::Refused(number),
+    }
+}

@@ -1,0 +1,4 @@
+pub mod Offsets
+pub mod Entries
+pub mod Checked
+pub mod Lending

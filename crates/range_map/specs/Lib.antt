@@ -1,4 +1,0 @@
-pub mod Items
-pub mod Table
-pub mod Answers
-pub mod Step

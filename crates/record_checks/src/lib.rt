@@ -1,0 +1,55 @@
+// What is checked of a record before it is stored and counted.
+ghost use mathlib.Core.Path.{_≡_};
+ghost use mathlib.Core.Bool.{true, false};
+ghost use Rattle.base.specs.Checks.{refusal};
+ghost use Rattle.committee.specs.Committee.{broken};
+ghost use Rattle.blocks.specs.Record.{wellFormed, blockIn};
+ghost use Rattle.store_layout.specs.Accept.{blockChecks};
+ghost use Rattle.store_layout.specs.Store.{recordsOf};
+ghost use Rattle.store_order.specs.Entry.{laidOut};
+ghost use Rattle.record_checks.specs.Step.{acceptChecks};
+
+// ---- feeding
+
+// 21 to 30: what is checked of a well-formed record before the store; 0 where none applies.
+pub fn block_refusal(stakes: &[u64], store: &[u8], rec: &[u8]) -> u64
+    requires { ⌜ (broken (now stakes) ≡ false) × (laidOut (now store) ≡ true) × (wellFormed (now rec) ≡ true) ⌝ }
+    ensures { λ r. ⌜ r ≡ refusal (blockChecks (now (stakes .entry)) (recordsOf (now (store .entry))) (blockIn (now (rec .entry)))) ⌝ }
+{
+    let head = threshold_clock::head_refusal(stakes, rec);
+    if head != 0 {
+        return head;
+    }
+    if block_store::lookup(store, block_record::reference(rec)) != 0 {
+        return 23;
+    }
+    let body = threshold_clock::body_refusal(stakes, rec);
+    if body != 0 {
+        return body;
+    }
+    if block_store::first_missing(store, rec) < block_record::include_count(rec) {
+        return 30;
+    }
+    0
+}
+
+// 20 to 30, 15 and 13: what is checked of a record, for which there are so many words for events; 0 where none applies.
+pub fn record_refusal(stakes: &[u64], store: &[u8], rec: &[u8], words: usize) -> u64
+    requires { ⌜ (broken (now stakes) ≡ false) × (laidOut (now store) ≡ true) ⌝ }
+    ensures { λ r. ⌜ r ≡ refusal (acceptChecks (now (stakes .entry)) (now (store .entry)) words (now (rec .entry))) ⌝ }
+{
+    if !block_record::well_formed(rec) {
+        return 20;
+    }
+    let refusal = block_refusal(stakes, store, rec);
+    if refusal != 0 {
+        return refusal;
+    }
+    if (words as u64) < shared_ranges::event_words(rec) {
+        return 15;
+    }
+    if block_store::is_full(store, rec) {
+        return 13;
+    }
+    0
+}

@@ -1,0 +1,13 @@
+-- Every definition of the crate and of those below it at once, for evaluated examples: `unfolding computing`. Assumes nothing.
+use Rattle.base.proofs.Computing.{computing as computing-base}
+use Rattle.committee.proofs.Computing.{computing as computing-committee}
+use Rattle.blocks.proofs.Computing.{computing as computing-blocks}
+use Rattle.store_layout.specs.Layout.{readRecord, usedBy, entries, lesser, least, positionOf, firstPosition, nextPosition, entryBytes, bodyBytes, headerBytes, layout, lookup, placed, ascending}
+use Rattle.store_layout.specs.Accept.{isStored, blockChecks, allAccepted}
+use Rattle.store_layout.specs.Store.{usedLength, blockCount, giveRecord, readEntry, readEntries, recordsRead, recordsOf, allowedLength, storeInOrder, storeFull, storeHolding}
+use Rattle.store_layout.specs.Payload.{shareStretch, payloadOf, payloadAt, payloadChecks, stretchOf, payload, payloadLength}
+use Rattle.store_layout.specs.Claims.{ChainMeant, FreshInOrder, AcceptingKeepsOrder}
+
+unfoldable pub computing : Unit {0}
+unfolding computing-base computing-committee computing-blocks readRecord usedBy entries lesser least positionOf firstPosition nextPosition entryBytes bodyBytes headerBytes layout lookup placed ascending isStored blockChecks allAccepted usedLength blockCount giveRecord readEntry readEntries recordsRead recordsOf allowedLength storeInOrder storeFull storeHolding shareStretch payloadOf payloadAt payloadChecks stretchOf payload payloadLength ChainMeant FreshInOrder AcceptingKeepsOrder
+computing = tt

@@ -1,0 +1,9 @@
+pub mod Computing
+pub mod Stored
+pub mod Accepted
+pub mod Store
+pub mod Chain
+pub mod Splice
+pub mod Payloads
+pub mod Holding
+pub mod Claimed

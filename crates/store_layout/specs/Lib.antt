@@ -1,0 +1,6 @@
+pub mod Layout
+pub mod Accept
+pub mod Store
+pub mod Step
+pub mod Payload
+pub mod Claims

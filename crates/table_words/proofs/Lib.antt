@@ -1,0 +1,4 @@
+pub mod Slots
+pub mod Moves
+pub mod Halves
+pub mod Finds

@@ -1,0 +1,80 @@
+-- The least of some locators, found one after the other. Assumes nothing.
+use mathlib.Core.Path.{_≡_, refl, sym, ap, _∙_}
+use mathlib.Core.Logic.{_⊎_, inl, inr}
+use mathlib.Core.Bool.{Bool, true, false}
+use mathlib.Core.List.{List, [], _∷_, _++_, map, map-append, Option·toList}
+use mathlib.Core.Option.{Option, none, some}
+use Prim.Native.Nat.{ℕ, _+_, _≤_, _<_}
+use lib.ListN.{length, getD, drop}
+use Rattle.base.specs.Lists.{pick, keep}
+use Rattle.base.proofs.Tests.{fails, not-both}
+use Rattle.base.proofs.Lists.{keep-append}
+use Rattle.blocks.specs.Reference.{TransactionLocator, TransactionLocatorRange, locatorBefore}
+use Rattle.blocks.specs.Block.{Block, spansFrom, spans}
+use Rattle.blocks.specs.Record.{noStatement}
+use Rattle.blocks.proofs.References.{locator-trans, locator-total}
+use Rattle.finality.specs.NextFinal.{lesserLocator, leastLocator}
+use Rattle.block_votes.specs.Walk.{spanOf}
+use Rattle.vote_starts.specs.Walk.{startOf, lesserOf}
+use Rattle.block_votes.proofs.Reading.{spans-on, spans-end}
+
+pub lesser-none : (o : Option TransactionLocator) → lesserOf o none ≡ o
+unfolding lesserOf lesserLocator
+lesser-none none = refl
+lesser-none (some l) = refl
+
+lesser-three : (l x m : TransactionLocator) → lesserOf (pick (locatorBefore l x) (some l) (some x)) (some m) ≡ lesserLocator l (pick (locatorBefore x m) (some x) (some m))
+unfolding lesserOf lesserLocator
+lesser-three l x m = go (locatorBefore l x) (locatorBefore x m) refl refl
+  where
+    not-below : locatorBefore l x ≡ false → locatorBefore x m ≡ false → (t : Bool) → locatorBefore x l ≡ t → locatorBefore l m ≡ false
+    not-below h k true e = fails (locatorBefore l m) (λ q. not-both (locator-trans x l m e q) k)
+    not-below h k false e = rw (locator-total l x h e) k
+
+    go : (t u : Bool) → locatorBefore l x ≡ t → locatorBefore x m ≡ u → lesserOf (pick t (some l) (some x)) (some m) ≡ lesserLocator l (pick u (some x) (some m))
+    go true true h k = rw (locator-trans l x m h k, h)
+    go true false h k = refl
+    go false true h k = rw (h, k)
+    go false false h k = rw (k, not-below h k (locatorBefore x l) refl)
+
+pub lesser-assoc : (a b o : Option TransactionLocator) → lesserOf (lesserOf a b) o ≡ lesserOf a (lesserOf b o)
+unfolding lesserOf lesserLocator
+lesser-assoc none b o = refl
+lesser-assoc (some l) none o = refl
+lesser-assoc (some l) (some x) none = lesser-none (lesserOf (some l) (some x))
+lesser-assoc (some l) (some x) (some m) = lesser-three l x m
+
+pub least-append : (xs ys : List TransactionLocator) → leastLocator (xs ++ ys) ≡ lesserOf (leastLocator xs) (leastLocator ys)
+unfolding leastLocator lesserOf
+least-append [] ys = refl
+least-append (x ∷ xs) ys = ap (lesserLocator x) (least-append xs ys) ∙ sym (lesser-assoc (some x) (leastLocator xs) (leastLocator ys))
+
+-- ---- the starts of a block, statement by statement
+
+module _ (b : Block) (p : TransactionLocator → Bool) where
+  -- the least where a vote of the statements from index i on begins
+  abbrev pub leastFrom : ℕ → Option TransactionLocator
+  leastFrom i = leastLocator (keep p (map startOf (spansFrom (b .reference) i (drop i (b .statements)))))
+
+  pub least-start : leastLocator (keep p (map startOf (spans b))) ≡ leastFrom 0
+  unfolding spans
+  least-start = refl
+
+  pub least-end : (i : ℕ) (o : Option TransactionLocator) → length (b .statements) ≤ i → lesserOf o (leastFrom i) ≡ o
+  unfolding leastLocator keep
+  least-end i o h = rw (spans-end (b .reference) (b .statements) i h) (lesser-none o)
+
+  pub least-on : (i : ℕ) (start best next : Option TransactionLocator) → i < length (b .statements)
+      → Option·toList start ≡ map startOf (spanOf (b .reference) i (getD (b .statements) i noStatement))
+      → next ≡ lesserOf best (leastLocator (keep p (Option·toList start)))
+      → lesserOf best (leastFrom i) ≡ lesserOf next (leastFrom (i + 1))
+  least-on i start best next h e f =
+      let here : List TransactionLocatorRange = spanOf (b .reference) i (getD (b .statements) i noStatement) in
+      let rest : List TransactionLocatorRange = spansFrom (b .reference) (i + 1) (drop (i + 1) (b .statements)) in
+      let one : leastFrom i ≡ lesserOf (leastLocator (keep p (Option·toList start))) (leastFrom (i + 1)) =
+      ap (λ (qs : List TransactionLocatorRange). leastLocator (keep p (map startOf qs))) (spans-on (b .reference) (b .statements) i h)
+      ∙ ap (λ (ls : List TransactionLocator). leastLocator (keep p ls)) (map-append startOf here rest)
+      ∙ ap leastLocator (keep-append p (map startOf here) (map startOf rest))
+      ∙ least-append (keep p (map startOf here)) (keep p (map startOf rest))
+      ∙ ap (λ (ls : List TransactionLocator). lesserOf (leastLocator (keep p ls)) (leastFrom (i + 1))) (sym e) in
+      ap (lesserOf best) one ∙ sym (lesser-assoc best (leastLocator (keep p (Option·toList start))) (leastFrom (i + 1))) ∙ ap (λ (o : Option TransactionLocator). lesserOf o (leastFrom (i + 1))) (sym f)

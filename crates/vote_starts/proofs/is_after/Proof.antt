@@ -1,0 +1,25 @@
+use Rattle.finality.specs.NextFinal.{isAfter}
+use Rattle.vote_starts.specs.Answers.{asMaybe}
+use borrow.Author.Needs.{needs}
+use Rattle.vote_starts.proofs.is_after.Statement.{statement}
+use Rattle.vote_starts.proofs.is_after.Tie as tie
+
+enum-known-last : tie.Need-enum-known-last
+enum-known-last c = search needs
+
+enum-told : tie.Need-enum-told
+enum-told c = search needs
+
+returns : tie.Need-returns
+unfolding asMaybe isAfter
+returns c = rw (c .enum-told .given .1)
+
+is-before-requires : tie.Need-is-before-requires
+is-before-requires c κs = search needs
+
+returns-2 : tie.Need-returns-2
+unfolding asMaybe isAfter
+returns-2 c = rw (c .before .before .last .given .1) (c .is-before .ensures)
+
+pub is-after-spec : {M : Type 1} → statement M
+is-after-spec = tie.close (tie.spec enum-known-last enum-told returns is-before-requires returns-2)
