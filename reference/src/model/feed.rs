@@ -89,10 +89,9 @@ fn process(committee: &Committee, stores: &Stores, table: &mut Table, block: &Bl
         };
         let voted = stored(stores, block, &reference);
         if start == end {
-            let item = voted.and_then(|(position, _)| table.find(position, start)).map(|i| table.items[i]);
-            match item {
-                Some(item) if item.start == start && committee.makes(Mistake::EmptyRange) => end = item.end,
-                _ => continue,
+            match voted.and_then(|(position, _)| table.starting(position, start)) {
+                Some(item) if committee.makes(Mistake::EmptyRange) => end = item.end,
+                _ => continue, // an empty range does nothing
             }
         }
         if let Some((position, _)) = voted {
