@@ -18,7 +18,7 @@ use Rattle.types.specs.Values.{asRange}
 use Rattle.store_layout.specs.Layout.{entries}
 use Rattle.store_layout.specs.Store.{recordsOf}
 use Rattle.store_layout.specs.Accept.{blockChecks}
-use Rattle.store_order.specs.Entry.{laidOut}
+use Rattle.store_layout.specs.Entry.{laidOut}
 use Rattle.pending_items.specs.Items.{Item, itemBefore, itemFull}
 use Rattle.pending_items.specs.Table.{tableOf, room, tableInOrder}
 use Rattle.feeds.specs.ProcessBlock.{Processing}

@@ -1,7 +1,7 @@
 -- A record that is well formed: where each part of its block stands in it. Assumes nothing.
 use mathlib.Core.Path.{_≡_, refl, sym, ap, _∙_}
 use mathlib.Core.List.{List, []}
-use mathlib.Core.Option.{Option, none, some, Option·getD}
+use mathlib.Core.Option.{Option, none, some}
 use mathlib.Core.Bool.{Bool, true, false, not}
 use Prim.Native.Nat.{ℕ, _+_, _*_, _≤_, _<_}
 use native.Mathlib.Omega.{arith}
@@ -18,7 +18,8 @@ use Rattle.base.proofs.Read.{part}
 use Rattle.base.proofs.Fixed.{fixed-repeated, valuesOf, length-valuesOf, getD-valuesOf, reads-at, map-some, complete-some, repeated-length}
 use Rattle.blocks.specs.Reference.{BlockReference}
 use Rattle.blocks.specs.Block.{Statement, Block}
-use Rattle.blocks.specs.Record.{readReference, readStatement, readBlock, blockOf, wellFormed, noReference, noBlock, blockIn}
+use Rattle.blocks.specs.Record.{readReference, readStatement, readBlock, blockOf, wellFormed, noReference, blockIn}
+use Rattle.blocks.proofs.Records.{block-of}
 use Rattle.types.specs.Step.{referenceAt}
 use Rattle.block_record.proofs.Steps.{fixed-reference, reference-value}
 use Rattle.block_record.proofs.Formed.{headRight, Head, head-back, readBody, block-short, block-head, block-refused, block-cut}
@@ -40,15 +41,6 @@ body-some s r m i n b k h =
     map-some (repeated n readStatement) (λ ss. record { reference = r; marked = eqb m 1; includes = valuesOf i 48 (fixed-reference .value) (drop 56 s); statements = ss })
     (drop (56 + i * 48) s) b []
     (rw (reads-at (repeated i readReference) (i * 48) (fixed-repeated readReference 48 fixed-reference i) s 56 k) at h)
-
--- a record that is well formed is read as the block in it
-pub block-of : (s : List ℕ) → wellFormed s ≡ true → blockOf s ≡ some (blockIn s)
-unfolding wellFormed blockIn isNone
-block-of s h = go (blockOf s) refl h
-  where
-    go : (o : Option Block) → blockOf s ≡ o → not (isNone o) ≡ true → blockOf s ≡ some (Option·getD (blockOf s) noBlock)
-    go none e k = absurd (not-both k refl)
-    go (some b) e k = rw e
 
 pub shape-in : (s : List ℕ) → wellFormed s ≡ true → Shape s (blockIn s)
 unfolding blockOf given

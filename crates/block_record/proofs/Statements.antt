@@ -22,7 +22,8 @@ use Rattle.block_record.specs.Cursor.{payloadBetween}
 use Rattle.block_record.specs.Step.{Took}
 use Rattle.block_record.specs.declared.BaseStatement.{BaseStatement}
 use Rattle.block_record.specs.declared.Taken as taken
-use Rattle.block_record.proofs.Shape.{block-of, shape-in, include-count}
+use Rattle.blocks.proofs.Records.{block-of}
+use Rattle.block_record.proofs.Shape.{shape-in, include-count}
 
 -- ---- one after the other
 

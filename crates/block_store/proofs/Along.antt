@@ -18,15 +18,15 @@ use Rattle.types.specs.declared.Ordering.the-variants.{Less, Equal, Greater}
 use Rattle.blocks.proofs.References.{reference-irrefl, reference-trans}
 use Rattle.store_layout.specs.Layout.{Entry, referenceOf, entries, positionOf, firstPosition, ascending, lookup}
 use Rattle.store_layout.specs.Store.{blockCount, recordsOf}
-use Rattle.store_order.specs.Entry.{blockAt, laidOut, isEntry}
+use Rattle.store_layout.specs.Entry.{blockAt, laidOut, isEntry}
 use Rattle.store_layout.specs.Step.{first}
 use Rattle.block_store.specs.Step.{LastAt, none-last, last-at, Between}
 use Rattle.store_layout.proofs.Chain.{lower, Ascending, least-first, ascending-ascends, next-after}
-use Rattle.store_order.proofs.Visit.{ascending-in, in-ascending, length-ascending, length-entries}
+use Rattle.store_layout.proofs.Visit.{ascending-in, in-ascending, length-ascending, length-entries}
 use Rattle.store_order.proofs.Compared.{compared-less, compared-equal, compared-greater}
-use Rattle.store_order.proofs.Loops.{is-entry, block-of-entry}
-use Rattle.store_order.proofs.Lookups.{lookup-hit, lookup-miss}
-use Rattle.store_order.proofs.Search.{laid-out}
+use Rattle.store_layout.proofs.Loops.{is-entry, block-of-entry}
+use Rattle.store_layout.proofs.Lookups.{lookup-hit, lookup-miss}
+use Rattle.store_layout.proofs.Search.{laid-out}
 
 -- the entries passed are lower than the reference; `left` more are to come, the first at a position
 pub record Along (s : Bytes) (r : BlockReference) (at left : ℕ) : Type 0 where

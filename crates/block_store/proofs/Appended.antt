@@ -22,16 +22,16 @@ use Rattle.blocks.specs.Record.{blockIn}
 use Rattle.blocks.proofs.References.{reference-irrefl, reference-same}
 use Rattle.store_layout.specs.Layout.{Record, usedBy, Entry, referenceOf, entries, positionOf, firstPosition, nextPosition, entryBytes, bodyBytes, layout, ascending}
 use Rattle.store_layout.specs.Store.{usedLength, blockCount, recordsOf, recordIn, storeFull, storeHolding}
-use Rattle.store_order.specs.Entry.{laidOut}
+use Rattle.store_layout.specs.Entry.{laidOut}
 use Rattle.store_layout.specs.Step.{first}
 use Rattle.block_store.specs.Step.{LastAt, none-last, last-at, Between}
 use Rattle.store_layout.proofs.Store.{laid, length-body, length-layout, Within, entries-within}
 use Rattle.store_layout.proofs.Chain.{Distinct, next-new, next-higher, first-new, first-same}
 use Rattle.store_layout.proofs.Splice.{sets-left, sets-seam, sets-right, body-same, body-patched, entries-apart, ascending-apart, one-changed}
-use Rattle.store_order.proofs.Walk.{walked-inside}
-use Rattle.store_order.proofs.Check.{in-every, laid-used}
-use Rattle.store_order.proofs.Visit.{ascending-in, in-ascending}
-use Rattle.store_order.proofs.Search.{laid-out}
+use Rattle.store_layout.proofs.Walk.{walked-inside}
+use Rattle.store_layout.proofs.Check.{in-every, laid-used}
+use Rattle.store_layout.proofs.Visit.{ascending-in, in-ascending}
+use Rattle.store_layout.proofs.Search.{laid-out}
 
 -- ---- the writes, on parts of known lengths
 

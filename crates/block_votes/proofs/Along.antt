@@ -14,11 +14,11 @@ use Rattle.base.proofs.Places.{in-place}
 use Rattle.blocks.specs.Record.{noBlock}
 use Rattle.store_layout.specs.Layout.{Entry, entries, positionOf, firstPosition, ascending}
 use Rattle.store_layout.specs.Store.{blockCount, recordsOf}
-use Rattle.store_order.specs.Entry.{sortedPositions, laidOut, isEntry}
+use Rattle.store_layout.specs.Entry.{sortedPositions, laidOut, isEntry}
 use Rattle.store_layout.specs.Step.{first}
 use Rattle.store_layout.proofs.Chain.{least-first, next-after}
-use Rattle.store_order.proofs.Search.{LaidOut, laid-out, order-entry}
-use Rattle.store_order.proofs.Visit.{ascending-in, length-ascending, length-entries}
+use Rattle.store_layout.proofs.Search.{LaidOut, laid-out, order-entry}
+use Rattle.store_layout.proofs.Visit.{ascending-in, length-ascending, length-entries}
 
 first-place : (ys : List Entry) → positionOf (first ys) ≡ getD (map (λ e. e .position) ys) 0 0
 unfolding positionOf first

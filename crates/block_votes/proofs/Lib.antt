@@ -1,4 +1,3 @@
-pub mod Computing
 pub mod Compared
 pub mod Reading
 pub mod Sorting

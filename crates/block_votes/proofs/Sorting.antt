@@ -19,7 +19,7 @@ use Rattle.base.proofs.Members.{in-empty, in-left, in-right, in-flatten, in-map
 use Rattle.base.proofs.Checks.{passes-none}
 use Rattle.base.proofs.Places.{in-place}
 use Rattle.committee.specs.Committee.{Committee}
-use Rattle.committee.specs.AuthoritySet.{nobody, inserted, united}
+use Rattle.authority_set.specs.AuthoritySet.{nobody, inserted, united}
 use Rattle.blocks.specs.Reference.{BlockReference, TransactionLocator, referenceKey, sameReference, referenceBefore}
 use Rattle.blocks.specs.Block.{Block, author, round}
 use Rattle.blocks.specs.Record.{noReference}
@@ -28,13 +28,13 @@ use Rattle.blocks.specs.Verify.{headChecks, includeChecks, bodyChecks}
 use Rattle.store_layout.specs.Layout.{Record, Entry, entries, positionOf, lookup}
 use Rattle.store_layout.specs.Store.{recordsOf}
 use Rattle.store_layout.specs.Accept.{isStored, blockChecks, allAccepted}
-use Rattle.store_order.specs.Entry.{blockAt, isEntry}
+use Rattle.store_layout.specs.Entry.{blockAt, isEntry}
 use Rattle.store_layout.proofs.Stored.{WellStored, include-stored}
 use Rattle.store_layout.proofs.Accepted.{blocks}
 use Rattle.store_layout.proofs.Store.{in-order, entries-within}
-use Rattle.store_order.proofs.Loops.{EntryAt, entry-at, block-of-entry}
-use Rattle.store_order.proofs.Lookups.{lookup-in, lookup-stored}
-use Rattle.store_order.proofs.Search.{referenceIn, order-entry, order-rises}
+use Rattle.store_layout.proofs.Loops.{EntryAt, entry-at, block-of-entry}
+use Rattle.store_layout.proofs.Lookups.{lookup-in, lookup-stored}
+use Rattle.store_layout.proofs.Search.{referenceIn, order-entry, order-rises}
 use Rattle.finality.specs.Voters.{votesFor, ownVote, unions, voters}
 use Rattle.finality.specs.Finality.{blocksOf}
 use Rattle.finality.specs.Claims.{Stored}

@@ -7,11 +7,11 @@ use lib.ListN.{getD}
 use Rattle.base.specs.Lists.{pick, anyOf}
 use Rattle.base.specs.Le.{Bytes}
 use Rattle.committee.specs.Committee.{Committee, broken}
-use Rattle.committee.specs.AuthoritySet.{AuthoritySet}
+use Rattle.authority_set.specs.AuthoritySet.{AuthoritySet}
 use Rattle.blocks.specs.Reference.{BlockReference, TransactionLocator, TransactionLocatorRange, locator, oneRange, covers}
 use Rattle.blocks.specs.Block.{Statement, Block, isShare, votedRange}
 use Rattle.store_layout.specs.Store.{recordsOf, storeInOrder}
-use Rattle.store_order.specs.Entry.{blockAt, laidOut, sortedPositions}
+use Rattle.store_layout.specs.Entry.{blockAt, laidOut, sortedPositions}
 use Rattle.finality.specs.Voters.{voters}
 use Rattle.finality.specs.Finality.{blocksOf}
 

@@ -1,6 +1,6 @@
 // The vote of one stored block, and the stored blocks in ascending reference order. Follows finalization_interpreter.rs.
+use authority_set::AuthoritySet;
 use block_record::BaseStatement;
-use committee::AuthoritySet;
 use types::BlockReference;
 use types::Ordering;
 use types::TransactionLocator;
@@ -16,7 +16,7 @@ ghost use Rattle.types.specs.Values.{asReference, asLocator, asRange};
 ghost use Rattle.block_record.specs.Values.{asStatement};
 ghost use Rattle.store_layout.specs.Store.{recordsOf};
 ghost use Rattle.store_layout.specs.Accept.{isStored};
-ghost use Rattle.store_order.specs.Entry.{blockAt, laidOut, sortedPositions, isEntry};
+ghost use Rattle.store_layout.specs.Entry.{blockAt, laidOut, sortedPositions, isEntry};
 ghost use Rattle.finality.specs.Voters.{votesFor, ownVote};
 ghost use Rattle.block_votes.specs.Walk.{statementVotes, SortedStore, blockAtPlace};
 

@@ -1,6 +1,5 @@
 -- Every definition of the crate and of those below it at once, for evaluated examples: `unfolding computing`. Assumes nothing.
-use Rattle.base.proofs.Computing.{computing as computing-base}
-use Rattle.committee.proofs.Computing.{computing as computing-committee}
+use Rattle.authority_set.proofs.Computing.{computing as computing-authority-set}
 use Rattle.blocks.specs.Reference.{referenceKey, sameReference, referenceBefore, locator, sameLocator, locatorBefore, newRange, oneRange, within, offsets, locators, covers}
 use Rattle.blocks.specs.Block.{isShare, isShareAt, votedRange, countedOffsets, eventRoom, spansFrom, spans, joined, runsFrom, sharedRanges}
 use Rattle.blocks.specs.Record.{readReference, readLocator, readShare, readAccept, readOther, readReject, readRange, readKind, readStatement, readBlock, blockOf, wellFormed, noReference, noStatement, noBlock, blockIn, referenceBytes, locatorBytes, otherBytes, statementBytes, statementStart, blockBytes}
@@ -8,5 +7,5 @@ use Rattle.blocks.specs.Verify.{headChecks, includeChecks, statementChec
 use Rattle.blocks.specs.Claims.{areBytes, fitsReference, fitsLocator, fitsOther, fitsStatement, fitsBlock, ReadsWhatIsWritten, WritesWhatIsRead}
 
 unfoldable pub computing : Unit {0}
-unfolding computing-base computing-committee referenceKey sameReference referenceBefore locator sameLocator locatorBefore newRange oneRange within offsets locators covers isShare isShareAt votedRange countedOffsets eventRoom spansFrom spans joined runsFrom sharedRanges readReference readLocator readShare readAccept readOther readReject readRange readKind readStatement readBlock blockOf wellFormed noReference noStatement noBlock blockIn referenceBytes locatorBytes otherBytes statementBytes statementStart blockBytes headChecks includeChecks statementChecks previousAuthors clockValid bodyChecks areBytes fitsReference fitsLocator fitsOther fitsStatement fitsBlock ReadsWhatIsWritten WritesWhatIsRead
+unfolding computing-authority-set referenceKey sameReference referenceBefore locator sameLocator locatorBefore newRange oneRange within offsets locators covers isShare isShareAt votedRange countedOffsets eventRoom spansFrom spans joined runsFrom sharedRanges readReference readLocator readShare readAccept readOther readReject readRange readKind readStatement readBlock blockOf wellFormed noReference noStatement noBlock blockIn referenceBytes locatorBytes otherBytes statementBytes statementStart blockBytes headChecks includeChecks statementChecks previousAuthors clockValid bodyChecks areBytes fitsReference fitsLocator fitsOther fitsStatement fitsBlock ReadsWhatIsWritten WritesWhatIsRead
 computing = tt

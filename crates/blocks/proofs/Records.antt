@@ -1,23 +1,23 @@
 -- Block records there and back: what is written is read, and what is read had been written so. Assumes nothing.
 use mathlib.Core.Path.{_≡_, refl, sym}
 use mathlib.Core.List.{List, [], _∷_, _++_, map, append-assoc, flatten}
-use mathlib.Core.Option.{Option, none, some}
-use mathlib.Core.Bool.{Bool, true, false, _&&_}
+use mathlib.Core.Option.{Option, none, some, Option·getD}
+use mathlib.Core.Bool.{Bool, true, false, not, _&&_}
 use Prim.Native.Nat.{ℕ, zero, suc, _*_, _%_, _^_, _≤_, _<_}
 use native.Mathlib.Omega.{arith}
 use lib.Dec.{leb, eqb, lit<}
 use lib.ListN.{length, replicate, length-append}
 use borrow.Author.Tests.{le-leb, leb-true, eqb-true, eqb-false}
-use Rattle.base.specs.Lists.{pick, allOf}
+use Rattle.base.specs.Lists.{pick, allOf, isNone}
 use Rattle.base.specs.Le.{leBytes}
 use Rattle.base.specs.Read.{Read, give, fail, onward, _>>=_, number, given}
-use Rattle.base.proofs.Tests.{and-left, and-right}
+use Rattle.base.proofs.Tests.{and-left, and-right, not-both}
 use Rattle.base.proofs.Lists.{append-nil, Every, none-of, and, every}
 use Rattle.base.proofs.Le.{AllBytes, length-leBytes}
 use Rattle.base.proofs.Read.{part, items-reads, number-reads, ReadsBack, repeated-reads, complete-reads, Back, give-back, fail-back, given-back, bind-back, map-back, Items, items-back, Number, number-back, One, Many, repeated-back, complete-back}
 use Rattle.blocks.specs.Reference.{BlockReference, TransactionLocator, TransactionLocatorRange, newRange}
 use Rattle.blocks.specs.Block.{Statement, share, accept, reject, voteRange, Block}
-use Rattle.blocks.specs.Record.{readReference, readLocator, readShare, readAccept, readOther, readReject, readRange, readKind, readStatement, readBlock, blockOf}
+use Rattle.blocks.specs.Record.{readReference, readLocator, readShare, readAccept, readOther, readReject, readRange, readKind, readStatement, readBlock, blockOf, wellFormed, noBlock, blockIn}
 use Rattle.blocks.specs.Record.{referenceBytes, locatorBytes, otherBytes, statementBytes, blockBytes}
 
 -- ---- the limits: what fits a record
@@ -322,3 +322,12 @@ pub length-includes : (is : List BlockReference) → Every ReferenceFits is → 
 unfolding flatten
 length-includes [] none-of = refl
 length-includes (i ∷ is) (and h hs) = omega (arith, length-append (referenceBytes i) (flatten (map referenceBytes is)), length-reference i h, length-includes is hs)
+
+-- a record that is well formed is read as the block in it
+pub block-of : (s : List ℕ) → wellFormed s ≡ true → blockOf s ≡ some (blockIn s)
+unfolding wellFormed blockIn isNone
+block-of s h = go (blockOf s) refl h
+  where
+    go : (o : Option Block) → blockOf s ≡ o → not (isNone o) ≡ true → blockOf s ≡ some (Option·getD (blockOf s) noBlock)
+    go none e k = absurd (not-both k refl)
+    go (some b) e k = rw e

@@ -6,7 +6,7 @@ use lib.Dec.{ltb, leb, eqb}
 use Rattle.base.specs.Lists.{isEmpty, keep}
 use Rattle.base.specs.Checks.{Check, _⇒_}
 use Rattle.committee.specs.Committee.{Committee, isQuorum, known}
-use Rattle.committee.specs.AuthoritySet.{AuthoritySet, setOf, stakeOf}
+use Rattle.authority_set.specs.AuthoritySet.{AuthoritySet, setOf, stakeOf}
 use Rattle.blocks.specs.Reference.{BlockReference, maxLen}
 use Rattle.blocks.specs.Block.{Statement, share, accept, reject, voteRange, Block, author, round}
 

@@ -1,20 +1,13 @@
 -- What the code's structs and enums say, in the values and refusal numbers of document 01. Assumes nothing: these are definitions.
-use Prim.Native.Nat.{ℕ}
-use mathlib.Core.Bool.{Bool}
 use lib.Dec.{ltb}
 use Rattle.base.specs.Lists.{pick}
 use Rattle.base.specs.Checks.{Answer, refused, answered}
 use Rattle.committee.specs.declared.Stake as code-stake
-use Rattle.committee.specs.declared.StakeAggregator as code-aggregator
 use Rattle.committee.specs.declared.NewCommittee.{NewCommittee}
 use Rattle.committee.specs.declared.NewCommittee.the-variants.{Taken, Broken}
 use Rattle.committee.specs.declared.FoundStake.{FoundStake}
 use Rattle.committee.specs.declared.FoundStake.the-variants.{Known, Unknown}
-use Rattle.committee.specs.declared.AddAnswer.{AddAnswer}
-use Rattle.committee.specs.declared.AddAnswer.the-variants.{Counted, Refused}
-use Rattle.committee.specs.declared.Added as code-added
 use Rattle.committee.specs.Committee.{AuthorityIndex, Stake, Committee, totalStake, known, getStake}
-use Rattle.committee.specs.StakeAggregator.{StakeAggregator, Added}
 
 -- a committee that is taken, with its total, or 1 to 4
 unfoldable pub asNewCommittee : NewCommittee → Answer Stake
@@ -27,19 +20,6 @@ stakeValue n = record { 0 = n }
 -- the stake of an author whom the committee knows
 unfoldable pub foundStake : Committee → AuthorityIndex → FoundStake
 foundStake c a = pick (known c a) (Known (stakeValue (getStake c a))) Unknown
-
--- an aggregator's voters and stake
-abbrev pub asAggregator : code-aggregator.StakeAggregator → StakeAggregator
-asAggregator g = record { votes = g .votes; stake = g .stake .0 }
-
--- whether quorum holds now, or 5, 6, 21
-unfoldable pub asAddAnswer : AddAnswer → Answer Bool
-asAddAnswer (Counted t) = answered t
-asAddAnswer (Refused n) = refused n
-
--- the answer of `add` and the aggregator afterwards
-unfoldable pub asAdded : code-added.Added → Added
-asAdded r = record { answer = asAddAnswer (r .answer); aggregator = asAggregator (r .aggregator) }
 
 -- the total of stakes, or 4 where it is over 2^63 - 1
 unfoldable pub totalFound : Committee → NewCommittee

@@ -1,11 +1,11 @@
 // The edge cards of document 01 that are run, a line each: what the engine answers.
-use committee::AddAnswer;
+use authority_set::AuthoritySet;
 use committee::AuthorityIndex;
-use committee::AuthoritySet;
 use committee::NewCommittee;
 use committee::Stake;
-use committee::StakeAggregator;
 use libc::STDOUT_FILENO;
+use stake_aggregator::AddAnswer;
+use stake_aggregator::StakeAggregator;
 
 fn print(text: &[u8]) {
     io::write_all(STDOUT_FILENO, text);

@@ -18,11 +18,11 @@ use Rattle.types.specs.declared.Ordering.{Ordering}
 use Rattle.types.specs.declared.Ordering.the-variants.{Less, Equal, Greater}
 use Rattle.store_layout.specs.Layout.{Record, usedBy, Entry, entries, positionOf, lookup}
 use Rattle.store_layout.specs.Store.{recordsOf, recordIn}
-use Rattle.store_order.specs.Entry.{readable, isEntry, blockAt}
+use Rattle.store_layout.specs.Entry.{readable, isEntry, blockAt}
 use Rattle.store_layout.proofs.Store.{entries-below, entries-within}
-use Rattle.store_order.proofs.Loops.{EntryAt, entry-at, is-entry, block-at}
-use Rattle.store_order.proofs.Lookups.{lookup-in}
-use Rattle.store_order.proofs.Visit.{one-position}
+use Rattle.store_layout.proofs.Loops.{EntryAt, entry-at, is-entry, block-at}
+use Rattle.store_layout.proofs.Lookups.{lookup-in}
+use Rattle.store_layout.proofs.Visit.{one-position}
 use Rattle.store_order.proofs.Compared.{compared-equal}
 use Rattle.feeds.specs.ProcessBlock.{missed}
 use Rattle.events.specs.Step.{withNew}

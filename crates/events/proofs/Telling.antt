@@ -12,7 +12,7 @@ use Rattle.base.specs.Lists.{pick, countFrom}
 use Rattle.base.proofs.Le.{sets-append}
 use Rattle.base.proofs.Lists.{length-flatten, length-countFrom, countFrom-add}
 use Rattle.committee.specs.Committee.{Committee, Stake, totalStake, isQuorum, quorumOf}
-use Rattle.committee.specs.StakeAggregator.{hasQuorum}
+use Rattle.stake_aggregator.specs.StakeAggregator.{hasQuorum}
 use Rattle.blocks.specs.Reference.{BlockReference}
 use Rattle.store_layout.specs.Layout.{Entry}
 use Rattle.pending_items.specs.Items.{Item, itemAt}

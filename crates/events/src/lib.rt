@@ -14,7 +14,7 @@ ghost use Rattle.blocks.specs.Block.{isShareAt};
 ghost use Rattle.blocks.specs.Record.{wellFormed, blockIn};
 ghost use Rattle.types.specs.Values.{asReference};
 ghost use Rattle.store_layout.specs.Layout.{positionOf, lookup};
-ghost use Rattle.store_order.specs.Entry.{laidOut};
+ghost use Rattle.store_layout.specs.Entry.{laidOut};
 ghost use Rattle.pending_items.specs.Table.{itemsOf};
 ghost use Rattle.feeds.specs.ProcessBlock.{missed};
 ghost use Rattle.events.specs.Step.{withNew, eventsBy, eventsBetween, wordsOf, StatedAt};

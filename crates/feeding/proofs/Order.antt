@@ -20,11 +20,11 @@ use Rattle.base.proofs.Refusals.{Numbered, zero-passes, passes-zero, refusal-fi
 use Rattle.committee.specs.Committee.{Committee}
 use Rattle.blocks.specs.Block.{Block, eventRoom}
 use Rattle.blocks.specs.Record.{blockOf, wellFormed, blockIn}
-use Rattle.block_record.proofs.Shape.{block-of}
+use Rattle.blocks.proofs.Records.{block-of}
 use Rattle.store_layout.specs.Layout.{Record, readRecord, entries}
 use Rattle.store_layout.specs.Accept.{blockChecks}
 use Rattle.store_layout.specs.Store.{recordsOf, recordIn, storeFull, storeHolding}
-use Rattle.store_order.specs.Entry.{laidOut}
+use Rattle.store_layout.specs.Entry.{laidOut}
 use Rattle.pending_items.specs.Table.{itemsOf, room}
 use Rattle.feeds.specs.Pending.{pendingChecks}
 use Rattle.feeds.specs.Feed.{Lent, processed, lentChecks, recordChecks, feedChecks, refusedFeed, acceptedFeed, feedRecord, feed}

@@ -1,14 +1,10 @@
 -- Every definition of the crate and of those below it at once, for evaluated examples: `unfolding computing`. Assumes nothing.
-use Rattle.base.proofs.Computing.{computing as computing-base}
-use Rattle.committee.proofs.Computing.{computing as computing-committee}
-use Rattle.blocks.proofs.Computing.{computing as computing-blocks}
-use Rattle.blocks.specs.Block.{countedOffsets, eventRoom}
-use Rattle.store_layout.proofs.Computing.{computing as computing-store-layout}
 use Rattle.pending_items.proofs.Computing.{computing as computing-pending-items}
+use Rattle.blocks.specs.Block.{countedOffsets, eventRoom}
 use Rattle.feeds.specs.ProcessBlock.{eventWords, missed, eventOf, vote, votes, registering, processBlock}
 use Rattle.feeds.specs.Feed.{processed, lentChecks, recordChecks, feedChecks, refusedFeed, acceptedFeed, feedRecord, feed}
 use Rattle.feeds.specs.Pending.{pendingChecks, standingOf, pending}
 
 unfoldable pub computing : Unit {0}
-unfolding computing-base computing-committee computing-blocks computing-store-layout computing-pending-items eventWords missed eventOf vote votes registering processBlock countedOffsets eventRoom processed lentChecks recordChecks feedChecks refusedFeed acceptedFeed feedRecord feed pendingChecks standingOf pending
+unfolding computing-pending-items eventWords missed eventOf vote votes registering processBlock countedOffsets eventRoom processed lentChecks recordChecks feedChecks refusedFeed acceptedFeed feedRecord feed pendingChecks standingOf pending
 computing = tt

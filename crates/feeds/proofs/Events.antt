@@ -14,13 +14,13 @@ use Rattle.base.specs.Checks.{passes}
 use Rattle.base.proofs.Members.{in-empty, in-cases, in-append, flatten-in, map-in}
 use Rattle.base.proofs.Lists.{Every, every-in, find-passes, find-every, find-in}
 use Rattle.committee.specs.Committee.{AuthorityIndex, Committee, known}
-use Rattle.committee.specs.StakeAggregator.{hasQuorum}
+use Rattle.stake_aggregator.specs.StakeAggregator.{hasQuorum}
 use Rattle.blocks.specs.Reference.{BlockReference, TransactionLocatorRange, sameReference, offsets}
 use Rattle.blocks.specs.Block.{Statement, author, isShareAt, votedRange}
 use Rattle.blocks.proofs.References.{reference-same}
 use Rattle.store_layout.specs.Layout.{Record, Entry, referenceOf, entries, positionOf, lookup}
 use Rattle.store_layout.specs.Store.{recordsOf}
-use Rattle.store_order.proofs.Visit.{one-position}
+use Rattle.store_layout.proofs.Visit.{one-position}
 use Rattle.store_layout.proofs.Accepted.{known-author}
 use Rattle.store_layout.proofs.Store.{entries-within}
 use Rattle.pending_items.specs.Items.{Item, itemHolds, itemAt, voteOver}

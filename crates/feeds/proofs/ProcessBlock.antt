@@ -10,7 +10,7 @@ use Rattle.base.specs.Lists.{pick, find, sumOf}
 use Rattle.base.proofs.Lists.{Every, length-flatten, length-countFrom}
 use Rattle.base.proofs.Orders.{same-refl}
 use Rattle.committee.specs.Committee.{AuthorityIndex, Committee, known}
-use Rattle.committee.specs.StakeAggregator.{hasQuorum}
+use Rattle.stake_aggregator.specs.StakeAggregator.{hasQuorum}
 use Rattle.blocks.specs.Reference.{BlockReference, sameReference, TransactionLocatorRange, offsets}
 use Rattle.blocks.specs.Block.{Statement, Block, author, votedRange, countedOffsets, eventRoom}
 use Rattle.store_layout.specs.Layout.{Entry, positionOf, lookup}

@@ -14,8 +14,8 @@ use Rattle.base.specs.Checks.{passes, refused, answered}
 use Rattle.base.proofs.Tests.{and-left, and-right, same-test}
 use Rattle.base.proofs.Lists.{Every, every, every-in, find-passes, find-in, keep-append}
 use Rattle.committee.specs.Committee.{AuthorityIndex, Committee, broken}
-use Rattle.committee.specs.AuthoritySet.{numberOfVoters}
-use Rattle.committee.specs.StakeAggregator.{StakeAggregator, noVotes, counted, hasQuorum}
+use Rattle.authority_set.specs.AuthoritySet.{numberOfVoters}
+use Rattle.stake_aggregator.specs.StakeAggregator.{StakeAggregator, noVotes, counted, hasQuorum}
 use Rattle.blocks.specs.Reference.{BlockReference, TransactionLocator, TransactionLocatorRange, sameReference, within, offsets, covers}
 use Rattle.blocks.specs.Block.{author, isShareAt}
 use Rattle.blocks.proofs.Ranges.{within-yes, within-no, within-true}
@@ -29,7 +29,7 @@ use Rattle.pending_items.proofs.Items.{Ordered, heldAt, unless, held-voteOver, 
 use Rattle.pending_items.proofs.Order.{Pending, pending-position}
 use Rattle.feeds.specs.ProcessBlock.{Event, missed, eventOf, Processing, vote, registering}
 use Rattle.feeds.specs.Pending.{pendingChecks, standingOf, pending}
-use Rattle.store_order.proofs.Visit.{one-position}
+use Rattle.store_layout.proofs.Visit.{one-position}
 use Rattle.feeds.proofs.Keeping.{State}
 use Rattle.feeds.proofs.ProcessBlock.{lookup-new}
 

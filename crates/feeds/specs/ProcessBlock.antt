@@ -5,7 +5,7 @@ use mathlib.Core.Option.{Option, none, some}
 use lib.ListN.{length}
 use Rattle.base.specs.Lists.{pick, holds}
 use Rattle.committee.specs.Committee.{AuthorityIndex, Committee}
-use Rattle.committee.specs.StakeAggregator.{hasQuorum}
+use Rattle.stake_aggregator.specs.StakeAggregator.{hasQuorum}
 use Rattle.blocks.specs.Reference.{BlockReference, TransactionLocatorRange, offsets}
 use Rattle.blocks.specs.Block.{Statement, Block, author, isShareAt, votedRange, sharedRanges}
 use Rattle.store_layout.specs.Layout.{Entry, positionOf, lookup}

@@ -12,7 +12,7 @@ use Rattle.base.specs.Le.{Bytes}
 use Rattle.base.proofs.Tests.{same-test}
 use Rattle.base.proofs.Members.{map-in, countFrom-in}
 use Rattle.committee.specs.Committee.{Committee, isQuorum}
-use Rattle.committee.specs.AuthoritySet.{setOf, stakeOf}
+use Rattle.authority_set.specs.AuthoritySet.{setOf, stakeOf}
 use Rattle.blocks.specs.Reference.{TransactionLocator, TransactionLocatorRange, locator, newRange, offsets, locators}
 use Rattle.blocks.specs.Block.{Block, author, spans}
 use Rattle.store_layout.specs.Layout.{entries, ascending}

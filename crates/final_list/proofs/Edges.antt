@@ -20,7 +20,7 @@ use Rattle.blocks.specs.Reference.{BlockReference, TransactionLocator, Transact
 use Rattle.blocks.specs.Block.{Block, spans, spansFrom}
 use Rattle.blocks.specs.Record.{noStatement}
 use Rattle.blocks.proofs.References.{same-reference}
-use Rattle.store_order.specs.Entry.{blockAt}
+use Rattle.store_layout.specs.Entry.{blockAt}
 use Rattle.finality.specs.Finality.{blocksOf}
 use Rattle.block_votes.specs.Walk.{spanOf, Sorted}
 use Rattle.block_votes.proofs.Reading.{spans-on, spans-end}

@@ -12,7 +12,7 @@ use Rattle.base.specs.Lists.{isNone}
 use Rattle.base.specs.Le.{Bytes}
 use Rattle.base.proofs.Lists.{append-nil}
 use Rattle.committee.specs.Committee.{Committee, Stake}
-use Rattle.committee.specs.AuthoritySet.{setOf, stakeOf}
+use Rattle.authority_set.specs.AuthoritySet.{setOf, stakeOf}
 use Rattle.blocks.specs.Reference.{TransactionLocator}
 use Rattle.blocks.specs.Block.{Block, author}
 use Rattle.finality.specs.Voters.{certifiers, isFinal}

@@ -14,7 +14,7 @@ use Rattle.base.proofs.Members.{in-empty, in-map, map-in, in-flatten, flatten-i
 use Rattle.committee.specs.Committee.{Committee}
 use Rattle.blocks.specs.Reference.{BlockReference, TransactionLocator, TransactionLocatorRange, locator}
 use Rattle.blocks.specs.Block.{Block, spans}
-use Rattle.store_order.specs.Entry.{blockAt}
+use Rattle.store_layout.specs.Entry.{blockAt}
 use Rattle.finality.specs.Finality.{blocksOf}
 use Rattle.finality.specs.NextFinal.{justAfter, candidates, leastLocator}
 use Rattle.block_votes.specs.Walk.{Sorted, blockAtPlace}

@@ -9,7 +9,7 @@ use Rattle.base.specs.Lists.{pick, isNone}
 use Rattle.base.specs.Le.{Bytes, leNumber}
 use Rattle.base.specs.Checks.{passes, Answer, checked}
 use Rattle.committee.specs.Committee.{Committee, Stake}
-use Rattle.committee.specs.AuthoritySet.{setOf, stakeOf}
+use Rattle.authority_set.specs.AuthoritySet.{setOf, stakeOf}
 use Rattle.blocks.specs.Reference.{BlockReference, TransactionLocator, TransactionLocatorRange, locator, newRange, sameReference, locators}
 use Rattle.blocks.specs.Block.{Block, author, spans}
 use Rattle.finality.specs.Voters.{certifiers}

@@ -214,7 +214,7 @@ fn put_stretch(
         locator,
         &mut positions,
     );
-    let stake = committee::stake_of(stakes, found.authors);
+    let stake = authority_set::stake_of(stakes, found.authors);
     let end = stretch_end(store, order, locator);
     write_stretch(out, n, locator, end, found.blocks as u64, stake);
     end
@@ -349,7 +349,7 @@ fn final_start(
             places,
             locator,
         );
-        if committee::is_quorum(total, committee::stake_of(stakes, found.authors)) {
+        if committee::is_quorum(total, authority_set::stake_of(stakes, found.authors)) {
             return NextStretch::At(FoundFinal { locator, found });
         }
         last = start;
@@ -383,7 +383,7 @@ fn final_after(
         offset: given.offset + 1,
     };
     let found = final_walk::certifiers_of(stakes, total, store, order, votes, m, places, locator);
-    if committee::is_quorum(total, committee::stake_of(stakes, found.authors)) {
+    if committee::is_quorum(total, authority_set::stake_of(stakes, found.authors)) {
         return NextStretch::At(FoundFinal { locator, found });
     }
     final_start(stakes, total, store, order, votes, m, places, after)
@@ -418,7 +418,7 @@ fn fill_by_tables(
         }
         let locator = at.locator;
         let found = at.found;
-        let stake = committee::stake_of(stakes, found.authors);
+        let stake = authority_set::stake_of(stakes, found.authors);
         let end = table_end(votes, m, locator);
         write_stretch(out, n, locator, end, found.blocks as u64, stake);
         let block = locator.block;

@@ -10,7 +10,7 @@ use lib.ListN.{length, getD, set, length-set}
 use lib.Seq.{getD-set-same, getD-set-other}
 use Rattle.base.specs.Le.{Bytes}
 use Rattle.base.proofs.Tests.{not-both}
-use Rattle.committee.specs.AuthoritySet.{AuthoritySet, united}
+use Rattle.authority_set.specs.AuthoritySet.{AuthoritySet, united}
 use Rattle.blocks.specs.Reference.{TransactionLocator, covers}
 use Rattle.blocks.specs.Record.{noReference}
 use Rattle.block_votes.specs.Walk.{blockAtPlace}

@@ -15,12 +15,12 @@ use Rattle.base.specs.Le.{Bytes}
 use Rattle.base.proofs.Tests.{same-test}
 use Rattle.base.proofs.Members.{any-in, in-any}
 use Rattle.committee.specs.Committee.{Committee, isQuorum}
-use Rattle.committee.specs.AuthoritySet.{AuthoritySet, nobody, inserted, united, stakeOf}
-use Rattle.committee.proofs.Words.{united-assoc, united-nobody}
+use Rattle.authority_set.specs.AuthoritySet.{AuthoritySet, nobody, inserted, united, stakeOf}
+use Rattle.authority_set.proofs.Words.{united-assoc, united-nobody}
 use Rattle.blocks.specs.Reference.{BlockReference, TransactionLocator, TransactionLocatorRange, covers}
 use Rattle.blocks.specs.Block.{Block, author, spans}
 use Rattle.blocks.specs.Record.{noReference}
-use Rattle.store_order.specs.Entry.{blockAt}
+use Rattle.store_layout.specs.Entry.{blockAt}
 use Rattle.finality.specs.Voters.{votesFor, ownVote, unions, voters, certifies}
 use Rattle.finality.specs.Finality.{blocksOf}
 use Rattle.block_votes.specs.Walk.{SortedStore, blockAtPlace, votersAt}

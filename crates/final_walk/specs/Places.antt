@@ -8,7 +8,7 @@ use lib.ListN.{length, getD, set}
 use Rattle.base.specs.Lists.{pick}
 use Rattle.base.specs.Le.{Bytes}
 use Rattle.committee.specs.Committee.{Committee, AuthorityIndex, isQuorum}
-use Rattle.committee.specs.AuthoritySet.{AuthoritySet, nobody, inserted, united, setOf, stakeOf}
+use Rattle.authority_set.specs.AuthoritySet.{AuthoritySet, nobody, inserted, united, setOf, stakeOf}
 use Rattle.blocks.specs.Reference.{BlockReference, TransactionLocator, covers}
 use Rattle.blocks.specs.Record.{noReference}
 use Rattle.blocks.specs.Block.{author}

@@ -1,7 +1,7 @@
 // Finality of one locator after another: the votes and the includes of a store read once, then a walk over words.
+use authority_set::AuthoritySet;
 use block_record::BaseStatement;
 use committee::AuthorityIndex;
-use committee::AuthoritySet;
 use committee::RoundNumber;
 use committee::Stake;
 use finalization_interpreter::Certifiers;
@@ -19,12 +19,12 @@ ghost use lib.Seq.{sets};
 ghost use Rattle.base.specs.Lists.{pick};
 ghost use Rattle.base.specs.Le.{Bytes};
 ghost use Rattle.committee.specs.Committee.{broken, totalStake};
-ghost use Rattle.committee.specs.AuthoritySet.{nobody, inserted, united};
+ghost use Rattle.authority_set.specs.AuthoritySet.{nobody, inserted, united};
 ghost use Rattle.blocks.specs.Block.{author, spans};
 ghost use Rattle.blocks.specs.Record.{wellFormed, blockIn};
 ghost use Rattle.types.specs.Values.{asReference, asLocator, asRange};
 ghost use Rattle.block_record.specs.Values.{asStatement};
-ghost use Rattle.store_order.specs.Entry.{blockAt, isEntry};
+ghost use Rattle.store_layout.specs.Entry.{blockAt, isEntry};
 ghost use Rattle.block_votes.specs.Walk.{spanOf, Sorted, SortedStore, blockAtPlace};
 ghost use Rattle.final_walk.specs.Table.{voteWords, placeAt, rangeAt, votedBy, EndsFit, RecordedBy, Tabled, TabledBy};
 ghost use Rattle.final_walk.specs.Places.{Noted, Placed, withVoters, gathered, Sure, Marks, Certify, CertifyMarked};
@@ -206,7 +206,7 @@ fn check(stakes: &[u64], total: Stake, last: Checked, voters: AuthoritySet) -> C
             return last;
         }
     }
-    let quorum = committee::is_quorum(total, committee::stake_of(stakes, voters));
+    let quorum = committee::is_quorum(total, authority_set::stake_of(stakes, voters));
     Checked { voters, quorum }
 }
 
@@ -293,7 +293,7 @@ fn walk(
     let mut authors = AuthoritySet::new();
     let mut blocks: usize = 0;
     let voters = AuthoritySet::new();
-    let quorum = committee::is_quorum(total, committee::stake_of(stakes, voters));
+    let quorum = committee::is_quorum(total, authority_set::stake_of(stakes, voters));
     let mut checked = Checked { voters, quorum };
     let mut i: usize = 0;
     let mut k: usize = 0;

@@ -5,7 +5,7 @@ use mathlib.Core.Bool.{Bool, true, false}
 use mathlib.Core.List.{List, [], _∷_}
 use mathlib.Core.Option.{none, some}
 use Rattle.committee.specs.Committee.{Committee}
-use Rattle.committee.specs.AuthoritySet.{members}
+use Rattle.authority_set.specs.AuthoritySet.{members}
 use Rattle.blocks.specs.Reference.{BlockReference, TransactionLocator, newRange}
 use Rattle.blocks.specs.Block.{Statement, share, accept, voteRange, Block}
 use Rattle.finality.specs.Voters.{voters, certifies}

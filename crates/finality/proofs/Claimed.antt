@@ -9,7 +9,7 @@ use Rattle.base.specs.Checks.{passes}
 use Rattle.base.proofs.Tests.{and-left, and-right}
 use Rattle.base.proofs.Members.{in-empty}
 use Rattle.committee.specs.Committee.{Committee, known}
-use Rattle.committee.proofs.Aggregators.{few-members, known-below}
+use Rattle.committee.proofs.Bounds.{few-members, known-below}
 use Rattle.blocks.specs.Block.{Block, author}
 use Rattle.store_layout.specs.Layout.{Record}
 use Rattle.store_layout.specs.Accept.{blockChecks, allAccepted}

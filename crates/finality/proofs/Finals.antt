@@ -9,10 +9,10 @@ use Rattle.base.specs.Lists.{_∈_, there}
 use Rattle.base.proofs.Tests.{and-left, and-right, same-test}
 use Rattle.base.proofs.Members.{any-in, in-any, in-map, map-in, in-keep, keep-in}
 use Rattle.committee.specs.Committee.{AuthorityIndex, Committee}
-use Rattle.committee.specs.AuthoritySet.{member, setOf}
+use Rattle.authority_set.specs.AuthoritySet.{member, setOf}
 use Rattle.committee.specs.Quorum.{HoldQuorum}
-use Rattle.committee.proofs.Votes.{member-setOf}
-use Rattle.committee.proofs.Quorums.{quorum-counted, counted-quorum, quorum-mono}
+use Rattle.authority_set.proofs.Votes.{member-setOf}
+use Rattle.authority_set.proofs.Quorums.{quorum-counted, counted-quorum, quorum-mono}
 use Rattle.blocks.specs.Reference.{TransactionLocator}
 use Rattle.blocks.specs.Block.{Block, author}
 use Rattle.finality.specs.Voters.{voters, certifies, certifiers, isFinal}

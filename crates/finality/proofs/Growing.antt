@@ -12,9 +12,9 @@ use Rattle.base.specs.Lists.{pick, anyOf, _∈_, here, there}
 use Rattle.base.proofs.Tests.{and-both, and-left, and-right, or-cases, or-left, or-right, not-both}
 use Rattle.base.proofs.Members.{any-in, in-any, in-map, map-in, in-keep, keep-in}
 use Rattle.committee.specs.Committee.{AuthorityIndex, Committee, Stake, totalStake, isQuorum}
-use Rattle.committee.specs.AuthoritySet.{AuthoritySet, nobody, member, inserted, united, setOf, stakeOf}
-use Rattle.committee.proofs.Votes.{member-nobody, member-united, member-setOf}
-use Rattle.committee.proofs.Quorums.{stake-mono, counted-quorum, quorum-member}
+use Rattle.authority_set.specs.AuthoritySet.{AuthoritySet, nobody, member, inserted, united, setOf, stakeOf}
+use Rattle.authority_set.proofs.Votes.{member-nobody, member-united, member-setOf}
+use Rattle.authority_set.proofs.Quorums.{stake-mono, counted-quorum, quorum-member}
 use Rattle.blocks.specs.Reference.{BlockReference, TransactionLocator, sameReference}
 use Rattle.blocks.specs.Block.{Block, author}
 use Rattle.finality.specs.Voters.{votesFor, ownVote, unions, voters, certifies, certifiers, isFinal}

@@ -9,9 +9,9 @@ use Rattle.base.specs.Lists.{pick, anyOf, _∈_, here, there}
 use Rattle.base.proofs.Tests.{or-cases, or-left, or-right, not-both, same-test}
 use Rattle.base.proofs.Members.{in-empty, any-in, in-any, in-map, map-in}
 use Rattle.committee.specs.Committee.{AuthorityIndex}
-use Rattle.committee.specs.AuthoritySet.{AuthoritySet, nobody, member, inserted, united}
-use Rattle.committee.proofs.Words.{Small, small-nobody, small-united, small-inserted, set-ext}
-use Rattle.committee.proofs.Votes.{member-nobody, member-united, member-inserted}
+use Rattle.authority_set.specs.AuthoritySet.{AuthoritySet, nobody, member, inserted, united}
+use Rattle.authority_set.proofs.Words.{Small, small-nobody, small-united, small-inserted, set-ext}
+use Rattle.authority_set.proofs.Votes.{member-nobody, member-united, member-inserted}
 use Rattle.blocks.specs.Reference.{BlockReference, TransactionLocator, sameReference}
 use Rattle.blocks.specs.Block.{Block, author}
 use Rattle.blocks.proofs.References.{reference-refl, other-reference}

@@ -7,7 +7,7 @@ use mathlib.Core.Option.{Option}
 use Rattle.base.specs.Lists.{_∈_}
 use Rattle.base.specs.Le.{Bytes}
 use Rattle.committee.specs.Committee.{AuthorityIndex, Committee, broken}
-use Rattle.committee.specs.AuthoritySet.{member}
+use Rattle.authority_set.specs.AuthoritySet.{member}
 use Rattle.blocks.specs.Reference.{TransactionLocator}
 use Rattle.blocks.specs.Block.{Block}
 use Rattle.store_layout.specs.Layout.{Record}

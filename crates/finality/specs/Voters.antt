@@ -3,7 +3,7 @@ use mathlib.Core.Bool.{Bool, not, _&&_}
 use mathlib.Core.List.{List, [], _∷_, map}
 use Rattle.base.specs.Lists.{pick, anyOf, keep}
 use Rattle.committee.specs.Committee.{Committee, isQuorum}
-use Rattle.committee.specs.AuthoritySet.{AuthoritySet, nobody, inserted, united, setOf, stakeOf}
+use Rattle.authority_set.specs.AuthoritySet.{AuthoritySet, nobody, inserted, united, setOf, stakeOf}
 use Rattle.blocks.specs.Reference.{BlockReference, TransactionLocator, sameReference, covers}
 use Rattle.blocks.specs.Block.{Block, author, spans}
 

@@ -10,7 +10,7 @@ use Rattle.base.specs.Lists.{allOf}
 use Rattle.base.specs.Le.{Bytes}
 use Rattle.base.specs.Checks.{refusal, passes, refused, answered, checked}
 use Rattle.committee.specs.Committee.{Stake, Committee, totalStake, broken, quorumOf, isQuorum}
-use Rattle.committee.specs.AuthoritySet.{AuthoritySet, setOf, stakeOf}
+use Rattle.authority_set.specs.AuthoritySet.{AuthoritySet, setOf, stakeOf}
 use Rattle.blocks.specs.Reference.{TransactionLocator}
 use Rattle.blocks.specs.Block.{author}
 use Rattle.store_layout.specs.Store.{recordsOf, storeInOrder}

@@ -15,17 +15,17 @@ use Rattle.base.proofs.Tests.{same-test}
 use Rattle.base.proofs.Lists.{append-nil, length-keep, keep-append}
 use Rattle.base.proofs.Members.{any-in, in-any, in-map, map-in, in-keep, keep-in}
 use Rattle.committee.specs.Committee.{AuthorityIndex, Committee, isQuorum}
-use Rattle.committee.specs.AuthoritySet.{AuthoritySet, nobody, member, inserted, setOf, stakeOf}
-use Rattle.committee.proofs.Words.{Small, small-nobody, small-inserted, set-ext}
-use Rattle.committee.proofs.Votes.{member-nobody, member-inserted, member-setOf}
+use Rattle.authority_set.specs.AuthoritySet.{AuthoritySet, nobody, member, inserted, setOf, stakeOf}
+use Rattle.authority_set.proofs.Words.{Small, small-nobody, small-inserted, set-ext}
+use Rattle.authority_set.proofs.Votes.{member-nobody, member-inserted, member-setOf}
 use Rattle.blocks.specs.Reference.{TransactionLocator}
 use Rattle.blocks.specs.Block.{Block, author}
 use Rattle.store_layout.specs.Layout.{Record, usedBy, Entry, entries, ascending}
 use Rattle.store_layout.specs.Store.{recordsOf}
-use Rattle.store_order.specs.Entry.{blockAt, sortedPositions, laidOut}
-use Rattle.store_order.proofs.Loops.{block-of-entry}
-use Rattle.store_order.proofs.Search.{laid-out}
-use Rattle.store_order.proofs.Visit.{ascending-in, in-ascending}
+use Rattle.store_layout.specs.Entry.{blockAt, sortedPositions, laidOut}
+use Rattle.store_layout.proofs.Loops.{block-of-entry}
+use Rattle.store_layout.proofs.Search.{laid-out}
+use Rattle.store_layout.proofs.Visit.{ascending-in, in-ascending}
 use Rattle.finality.specs.Voters.{certifies, certifiers}
 use Rattle.finality.specs.Finality.{blocksOf, certifyingPositions}
 use Rattle.block_votes.specs.Walk.{Sorted, blockAtPlace, votersAt}

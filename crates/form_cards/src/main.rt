@@ -1,15 +1,15 @@
 // The forms over a reference beside the calls by value, a line for each card: the two answers are the same.
-use committee::AddAnswer;
-use committee::Added;
+use authority_set::AuthoritySet;
 use committee::AuthorityIndex;
-use committee::AuthoritySet;
 use committee::RoundNumber;
 use committee::Stake;
-use committee::StakeAggregator;
 use feeding::FeedAnswer;
 use finalization_interpreter::FinalityAnswer;
 use libc::STDOUT_FILENO;
 use next_final::NextFinalAnswer;
+use stake_aggregator::AddAnswer;
+use stake_aggregator::Added;
+use stake_aggregator::StakeAggregator;
 use types::BlockDigest;
 use types::BlockReference;
 use types::TransactionLocator;

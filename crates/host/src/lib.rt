@@ -13,7 +13,6 @@ ghost use Rattle.host_finals.specs.NextFinal.{nextFinalCall};
 ghost use Rattle.host_lib.specs.Payload.{payloadLengthCall, payloadStartCall};
 ghost use Rattle.host_finals.specs.Finality.{finalityCall};
 ghost use Rattle.host_finals.specs.Stretches.{stretchesCall};
-use committee::AddAnswer;
 use committee::NewCommittee;
 use committee::Stake;
 use feeding::FeedAnswer;
@@ -21,6 +20,7 @@ use finalization_interpreter::FinalityAnswer;
 use payload::PayloadLength;
 use payload::PayloadPlace;
 use pending::PendingAnswer;
+use stake_aggregator::AddAnswer;
 
 const REFUSED: u64 = 9223372036854775808;
 

@@ -14,7 +14,7 @@ use Rattle.base.specs.Checks.{_⇒_, refusal, passes, refused, answered, checke
 use Rattle.base.proofs.Lists.{append-nil}
 use Rattle.base.proofs.Le.{AllBytes, length-leBytes, sets-append}
 use Rattle.committee.specs.Committee.{Committee, broken}
-use Rattle.committee.specs.StakeAggregator.{StakeAggregator, add, addChecks, hasQuorum, counted}
+use Rattle.stake_aggregator.specs.StakeAggregator.{StakeAggregator, add, addChecks, hasQuorum, counted}
 use Rattle.words.specs.Words.{wordsIn, bytesOf}
 use Rattle.words.proofs.Stores.{sets-complete}
 use Rattle.words.proofs.Words.{length-bytesOf, bytesOf-wordsIn}

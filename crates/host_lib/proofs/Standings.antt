@@ -15,9 +15,10 @@ use Rattle.base.proofs.Tests.{and-right}
 use Rattle.base.proofs.Lists.{none-of, and, every-in, find-in}
 use Rattle.base.proofs.Refusals.{Numbered, passes-zero, refusal-first, refusal-then}
 use Rattle.committee.specs.Committee.{Committee, known}
-use Rattle.committee.specs.AuthoritySet.{members, stakeOf}
-use Rattle.committee.specs.StakeAggregator.{aggregatorInOrder}
-use Rattle.committee.proofs.Sums.{stake-most, total-most}
+use Rattle.authority_set.specs.AuthoritySet.{members, stakeOf}
+use Rattle.stake_aggregator.specs.StakeAggregator.{aggregatorInOrder}
+use Rattle.committee.proofs.Bounds.{total-most}
+use Rattle.authority_set.proofs.Sums.{stake-most}
 use Rattle.blocks.specs.Reference.{TransactionLocator}
 use Rattle.words.specs.Words.{wordsIn, wordsOf}
 use Rattle.store_layout.specs.Layout.{entries, positionOf, lookup}

@@ -8,7 +8,7 @@ use Rattle.base.specs.Lists.{pick}
 use Rattle.base.specs.Le.{Bytes, leAt}
 use Rattle.base.specs.Checks.{_⇒_, refusal, Answer, refused, answered}
 use Rattle.committee.specs.Committee.{AuthorityIndex, Committee, broken}
-use Rattle.committee.specs.StakeAggregator.{StakeAggregator, add}
+use Rattle.stake_aggregator.specs.StakeAggregator.{StakeAggregator, add}
 use Rattle.words.specs.Words.{bytesOf}
 use Rattle.host_lib.specs.Calls.{flag, committeeOf}
 

@@ -11,7 +11,7 @@ ghost use Rattle.words.specs.Words.{wordsOf, bytesOf};
 ghost use Rattle.store_layout.specs.Payload.{payloadLength};
 ghost use Rattle.payload.specs.Answers.{asPayloadLength, asPlace, payloadPlace};
 ghost use Rattle.committee.specs.Committee.{broken};
-ghost use Rattle.committee.specs.Answers.{asAggregator, asAddAnswer};
+ghost use Rattle.stake_aggregator.specs.Answers.{asAggregator, asAddAnswer};
 ghost use Rattle.pending.specs.Answers.{asPending};
 ghost use Rattle.feeds.specs.Pending.{pendingChecks};
 ghost use Rattle.host_lib.specs.Calls.{flag, committeeOf};
@@ -21,16 +21,16 @@ ghost use Rattle.feeding.specs.Answers.{asFeedAnswer};
 ghost use Rattle.feeding.specs.Refusals.{earlyChecks};
 ghost use Rattle.host_lib.specs.Feed.{fedWith, feedOf};
 ghost use Rattle.host_lib.specs.Payload.{locatorOf, refusalBefore, asked};
-use committee::AddAnswer;
+use authority_set::AuthoritySet;
 use committee::AuthorityIndex;
-use committee::AuthoritySet;
 use committee::NewCommittee;
 use committee::Stake;
-use committee::StakeAggregator;
 use feeding::FeedAnswer;
 use payload::PayloadLength;
 use payload::PayloadPlace;
 use pending::PendingAnswer;
+use stake_aggregator::AddAnswer;
+use stake_aggregator::StakeAggregator;
 
 // Whether one of the words is zero.
 pub fn has_zero_word(bytes: &[u8]) -> bool

@@ -40,7 +40,7 @@ fn is_final(
         locator,
         &mut positions,
     );
-    committee::is_quorum(total, committee::stake_of(stakes, found.authors))
+    committee::is_quorum(total, authority_set::stake_of(stakes, found.authors))
 }
 
 // The least final locator after the given one among those at which a vote begins.

@@ -29,15 +29,15 @@ use Rattle.block_record.specs.declared.BaseStatement.the-variants.{Share, Accep
 use Rattle.block_record.proofs.Statements.{start-inside}
 use Rattle.store_layout.specs.Layout.{Entry, entries, positionOf, lookup}
 use Rattle.store_layout.specs.Store.{recordsOf, storeInOrder}
-use Rattle.store_order.specs.Entry.{blockAt, laidOut, isEntry}
+use Rattle.store_layout.specs.Entry.{blockAt, laidOut, isEntry}
 use Rattle.store_layout.specs.Payload.{Stretch, shareStretch, payloadOf, payloadAt, payloadChecks, stretchOf, payload, payloadLength}
 use Rattle.payload.specs.Answers.{asShare, shareWithin, payloadPlace}
 use Rattle.payload.specs.declared.SharePlace.{SharePlace}
 use Rattle.payload.specs.declared.SharePlace.the-variants.{Payload as PayloadOf, NoShare}
 use Rattle.store_layout.proofs.Store.{entries-within}
-use Rattle.store_order.proofs.Loops.{is-entry, block-of-entry}
-use Rattle.store_order.proofs.Lookups.{lookup-in}
-use Rattle.store_order.proofs.Search.{laid-out}
+use Rattle.store_layout.proofs.Loops.{is-entry, block-of-entry}
+use Rattle.store_layout.proofs.Lookups.{lookup-in}
+use Rattle.store_layout.proofs.Search.{laid-out}
 
 -- ---- as the code finds it
 

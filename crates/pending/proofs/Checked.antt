@@ -21,10 +21,10 @@ use Rattle.block_record.specs.Cursor.{cursorAt}
 use Rattle.block_record.specs.declared.StatementCursor.{StatementCursor}
 use Rattle.store_layout.specs.Layout.{Entry, entries, usedBy}
 use Rattle.store_layout.specs.Store.{recordsOf}
-use Rattle.store_order.specs.Entry.{readable, isEntry, recordAt, blockAt}
+use Rattle.store_layout.specs.Entry.{readable, isEntry, recordAt, blockAt}
 use Rattle.store_layout.proofs.Store.{entries-below, entries-within}
-use Rattle.store_order.proofs.Loops.{EntryAt, entry-at, is-entry, entry-room, block-at}
-use Rattle.store_order.proofs.Visit.{one-position}
+use Rattle.store_layout.proofs.Loops.{EntryAt, entry-at, is-entry, entry-room, block-at}
+use Rattle.store_layout.proofs.Visit.{one-position}
 use Rattle.pending_items.specs.Items.{Item, noItem, itemBefore}
 use Rattle.pending_items.specs.Table.{itemsOf, itemSuits, itemStored, tableStored}
 use Rattle.pending_items.proofs.Items.{Ordered, before-facts}

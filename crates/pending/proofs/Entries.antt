@@ -11,11 +11,11 @@ use Rattle.base.specs.Le.{Bytes, leAt}
 use Rattle.base.proofs.Lists.{every-in}
 use Rattle.store_layout.specs.Layout.{Record, usedBy, Entry, entries}
 use Rattle.store_layout.specs.Store.{recordsOf, usedLength}
-use Rattle.store_order.specs.Entry.{isEntry, readable}
-use Rattle.store_order.proofs.Check.{is-readable}
+use Rattle.store_layout.specs.Entry.{isEntry, readable}
+use Rattle.store_layout.proofs.Check.{is-readable}
 use Rattle.store_layout.proofs.Store.{entries-below}
-use Rattle.store_order.proofs.Loops.{EntryAt, entry-at, is-entry}
-use Rattle.store_order.proofs.Lookups.{Split, split-at-entry}
+use Rattle.store_layout.proofs.Loops.{EntryAt, entry-at, is-entry}
+use Rattle.store_layout.proofs.Lookups.{Split, split-at-entry}
 use Rattle.pending.specs.Step.{OnEntry, Passed}
 
 used-grows : (newer older : List Record) → usedBy older ≤ usedBy (newer ++ older)

@@ -15,12 +15,12 @@ use Rattle.base.proofs.Lists.{Every, none-of, and}
 use Rattle.base.proofs.Checks.{passes-first, passes-others}
 use Rattle.base.proofs.Refusals.{zero-passes, passes-zero}
 use Rattle.committee.specs.Committee.{Committee, broken}
-use Rattle.committee.specs.AuthoritySet.{numberOfVoters}
+use Rattle.authority_set.specs.AuthoritySet.{numberOfVoters}
 use Rattle.blocks.specs.Reference.{TransactionLocator}
 use Rattle.store_layout.specs.Layout.{entries, positionOf, lookup}
 use Rattle.store_layout.specs.Store.{recordsOf, storeInOrder}
-use Rattle.store_order.specs.Entry.{readable, chained, laidOut}
-use Rattle.store_order.proofs.Check.{order-checked}
+use Rattle.store_layout.specs.Entry.{readable, chained, laidOut}
+use Rattle.store_layout.proofs.Check.{order-checked}
 use Rattle.pending_items.specs.Items.{Item, noItem, itemHolds, itemAt}
 use Rattle.pending_items.specs.Table.{HoldsItems, itemsOf, tableInOrder}
 use Rattle.table_words.specs.Answers.{FoundBy, atIndex, nowhere, foundItem}

@@ -9,14 +9,14 @@ use lib.ListN.{length}
 use Rattle.base.specs.Lists.{_∈_}
 use Rattle.base.specs.Le.{Bytes}
 use Rattle.base.specs.Checks.{Answer}
-use Rattle.committee.specs.AuthoritySet.{member}
+use Rattle.authority_set.specs.AuthoritySet.{member}
 use Rattle.blocks.specs.Reference.{TransactionLocator}
 use Rattle.blocks.specs.Block.{Block, author}
 use Rattle.block_record.specs.Cursor.{cursorAt}
 use Rattle.block_record.specs.declared.StatementCursor.{StatementCursor}
 use Rattle.store_layout.specs.Layout.{Entry, entries, usedBy, positionOf, lookup}
 use Rattle.store_layout.specs.Store.{recordsOf}
-use Rattle.store_order.specs.Entry.{blockAt, isEntry}
+use Rattle.store_layout.specs.Entry.{blockAt, isEntry}
 use Rattle.pending_items.specs.Items.{Item, itemAt}
 use Rattle.pending_items.specs.Table.{itemsOf, sharesIn}
 use Rattle.feeds.specs.Pending.{Standing, standingOf}

@@ -16,7 +16,7 @@ ghost use Rattle.block_record.specs.Cursor.{cursorAt};
 ghost use Rattle.types.specs.Values.{asLocator};
 ghost use Rattle.store_layout.specs.Layout.{entries};
 ghost use Rattle.store_layout.specs.Store.{recordsOf};
-ghost use Rattle.store_order.specs.Entry.{readable, laidOut};
+ghost use Rattle.store_layout.specs.Entry.{readable, laidOut};
 ghost use Rattle.pending_items.specs.Table.{HoldsItems, sharesIn, itemStored, tableStored, tableInOrder};
 ghost use Rattle.table_words.specs.Answers.{asItem};
 ghost use Rattle.feeds.specs.Pending.{pending};

@@ -14,7 +14,7 @@ use Rattle.base.specs.Lists.{pick, anyOf, find, keep}
 use Rattle.base.proofs.Tests.{and-left, and-right}
 use Rattle.base.proofs.Lists.{Every, none-of, and, every, every-one, every-keep, every-map, every-flatten, Pairs, no-pairs, with-later, pairs-keep, pairs-map, pairs-flatten}
 use Rattle.committee.specs.Committee.{AuthorityIndex, Committee, totalStake, isQuorum}
-use Rattle.committee.specs.StakeAggregator.{StakeAggregator, noVotes, counted, hasQuorum}
+use Rattle.stake_aggregator.specs.StakeAggregator.{StakeAggregator, noVotes, counted, hasQuorum}
 use Rattle.blocks.specs.Reference.{TransactionLocatorRange, within}
 use Rattle.blocks.specs.Block.{Block, isShareAt, sharedRanges}
 use Rattle.blocks.proofs.Ranges.{within-yes, within-no, within-true, within-parts}

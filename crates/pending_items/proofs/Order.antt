@@ -14,9 +14,9 @@ use Rattle.base.proofs.Tests.{and-left, and-right}
 use Rattle.base.proofs.Orders.{same-true, same-refl}
 use Rattle.base.proofs.Lists.{Every, every, every-append, every-keep, every-map, every-all, all-every, countFrom-every, every-countFrom, pairs-append, pairs-map, pairwise-pairs, pairs-pairwise, find-passes, find-every, holds-some, length-keep}
 use Rattle.committee.specs.Committee.{AuthorityIndex, Committee, known}
-use Rattle.committee.specs.AuthoritySet.{member}
-use Rattle.committee.specs.StakeAggregator.{noVotes, aggregatorInOrder}
-use Rattle.committee.proofs.Aggregators.{counted-in-order, counted-member, counted-keeps, noVotes-order}
+use Rattle.authority_set.specs.AuthoritySet.{member}
+use Rattle.stake_aggregator.specs.StakeAggregator.{noVotes, aggregatorInOrder}
+use Rattle.stake_aggregator.proofs.Aggregators.{counted-in-order, counted-member, counted-keeps, noVotes-order}
 use Rattle.blocks.specs.Reference.{TransactionLocatorRange}
 use Rattle.blocks.specs.Block.{Block, author, isShareAt, sharedRanges}
 use Rattle.blocks.proofs.Runs.{SharedRun, shared-runs, shared-below}

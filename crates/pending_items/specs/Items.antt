@@ -6,7 +6,7 @@ use mathlib.Core.Option.{Option}
 use lib.Dec.{ltb, leb, eqb}
 use Rattle.base.specs.Lists.{pick, find, keep}
 use Rattle.committee.specs.Committee.{AuthorityIndex, Stake, Committee, totalStake, quorumOf}
-use Rattle.committee.specs.StakeAggregator.{StakeAggregator, noVotes, counted}
+use Rattle.stake_aggregator.specs.StakeAggregator.{StakeAggregator, noVotes, counted}
 use Rattle.blocks.specs.Reference.{TransactionLocatorRange, within}
 
 -- 01: "entry position, start, end, votes low, votes high, stake"

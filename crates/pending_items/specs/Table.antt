@@ -9,8 +9,8 @@ use lib.ListN.{length, drop, getD, replicate}
 use Rattle.base.specs.Lists.{allOf, pairwise, find, holds, same, countFrom}
 use Rattle.base.specs.Read.{Part, Read, give, _>>=_, items, repeated}
 use Rattle.committee.specs.Committee.{Committee}
-use Rattle.committee.specs.AuthoritySet.{member}
-use Rattle.committee.specs.StakeAggregator.{aggregatorInOrder}
+use Rattle.authority_set.specs.AuthoritySet.{member}
+use Rattle.stake_aggregator.specs.StakeAggregator.{aggregatorInOrder}
 use Rattle.blocks.specs.Block.{Block, author, isShareAt}
 use Rattle.store_layout.specs.Layout.{Entry}
 use Rattle.pending_items.specs.Items.{Item, itemBefore, itemFull}

@@ -14,9 +14,9 @@ use Rattle.base.proofs.Tests.{not-both, fails, and-left, and-right, or-cases, h
 use Rattle.base.proofs.Lists.{Every}
 use Rattle.base.proofs.Members.{any-in, in-any, in-map}
 use Rattle.committee.specs.Committee.{Committee, broken}
-use Rattle.committee.specs.AuthoritySet.{numberOfVoters}
-use Rattle.committee.specs.StakeAggregator.{noVotes, counted}
-use Rattle.committee.proofs.Tallies.{Counting, counts-first}
+use Rattle.authority_set.specs.AuthoritySet.{numberOfVoters}
+use Rattle.stake_aggregator.specs.StakeAggregator.{noVotes, counted}
+use Rattle.stake_aggregator.proofs.Tallies.{Counting, counts-first}
 use Rattle.blocks.specs.Reference.{TransactionLocator, sameReference}
 use Rattle.blocks.specs.Block.{Block, author, isShareAt}
 use Rattle.blocks.proofs.References.{reference-same}

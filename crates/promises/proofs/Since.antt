@@ -13,7 +13,7 @@ use Rattle.base.proofs.Lists.{holds-some}
 use Rattle.base.proofs.Members.{in-empty, in-left, in-right, in-append, in-map, in-cases, any-in, in-any}
 use Rattle.committee.specs.Committee.{AuthorityIndex, Committee, broken}
 use Rattle.committee.specs.Quorum.{HoldQuorum}
-use Rattle.committee.proofs.Quorums.{quorum-mono, quorum-member}
+use Rattle.authority_set.proofs.Quorums.{quorum-mono, quorum-member}
 use Rattle.blocks.specs.Reference.{TransactionLocator, sameReference, newRange, oneRange, covers}
 use Rattle.blocks.specs.Block.{Statement, Block, author, isShareAt, votedRange}
 use Rattle.blocks.proofs.References.{reference-same, same-reference}

@@ -9,10 +9,11 @@ use Rattle.base.specs.Lists.{pick}
 use Rattle.base.proofs.Tests.{not-both}
 use Rattle.base.proofs.Ends.{split-not-empty, ended}
 use Rattle.committee.specs.Committee.{AuthorityIndex, Committee, known, broken}
-use Rattle.committee.specs.AuthoritySet.{members, numberOfVoters}
-use Rattle.committee.specs.StakeAggregator.{StakeAggregator, counted, hasQuorum}
-use Rattle.committee.proofs.Aggregators.{few-members, known-below}
-use Rattle.committee.proofs.Tallies.{members-once, members-in, in-members, stake-members, Counting, stake-right, counts-more, counts-quorum, quorum-counts}
+use Rattle.authority_set.specs.AuthoritySet.{members, numberOfVoters}
+use Rattle.stake_aggregator.specs.StakeAggregator.{StakeAggregator, counted, hasQuorum}
+use Rattle.committee.proofs.Bounds.{few-members, known-below}
+use Rattle.authority_set.proofs.Members.{members-once, members-in, in-members, stake-members}
+use Rattle.stake_aggregator.proofs.Tallies.{Counting, stake-right, counts-more, counts-quorum, quorum-counts}
 use Rattle.blocks.specs.Reference.{TransactionLocator}
 use Rattle.pending_items.proofs.Items.{unless}
 use Rattle.promises.specs.Shares.{Place, Vote, countedVoters, LeftQuorum, NoneLeft, Tally}

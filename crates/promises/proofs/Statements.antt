@@ -8,7 +8,7 @@ use native.Mathlib.Omega.{arith}
 use lib.ListN.{getElem?}
 use Rattle.base.specs.Lists.{pick, keep, holds}
 use Rattle.committee.specs.Committee.{AuthorityIndex, Committee, known}
-use Rattle.committee.specs.StakeAggregator.{StakeAggregator, counted, hasQuorum}
+use Rattle.stake_aggregator.specs.StakeAggregator.{StakeAggregator, counted, hasQuorum}
 use Rattle.blocks.specs.Reference.{BlockReference, TransactionLocator, TransactionLocatorRange, sameReference, covers}
 use Rattle.blocks.specs.Block.{Statement, Block, votedRange}
 use Rattle.store_layout.specs.Layout.{Record, Entry, entries, lookup}

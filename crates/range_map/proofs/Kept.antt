@@ -8,8 +8,8 @@ use lib.ListN.{length}
 use Rattle.base.specs.Lists.{pick}
 use Rattle.base.proofs.Lists.{append-nil, Every, none-of, and, every, every-append, every-keep, every-map, no-pairs, with-later, pairs-append}
 use Rattle.committee.specs.Committee.{AuthorityIndex, Committee, known}
-use Rattle.committee.specs.StakeAggregator.{noVotes, aggregatorInOrder}
-use Rattle.committee.proofs.Aggregators.{counted-in-order, noVotes-order}
+use Rattle.stake_aggregator.specs.StakeAggregator.{noVotes, aggregatorInOrder}
+use Rattle.stake_aggregator.proofs.Aggregators.{counted-in-order, noVotes-order}
 use Rattle.blocks.specs.Reference.{TransactionLocatorRange}
 use Rattle.pending_items.specs.Items.{Item, itemBefore, cutAt, bothCuts, itemWithin, votedItem, voteOver, stays, afterLeaving, firstVote, registered, register}
 use Rattle.pending_items.specs.Table.{tableOf, itemsOf, tableFormed}

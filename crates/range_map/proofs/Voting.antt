@@ -13,10 +13,10 @@ use Rattle.base.proofs.Lists.{Every, none-of, and, every, all-every, every-all,
 use Rattle.base.proofs.Orders.{same-true, same-refl}
 use Rattle.base.proofs.Places.{every-place}
 use Rattle.committee.specs.Committee.{AuthorityIndex, Stake, Committee, broken, known, getStake}
-use Rattle.committee.specs.StakeAggregator.{StakeAggregator, noVotes, withVote, counted, aggregatorInOrder}
-use Rattle.committee.specs.Answers.{asAggregator}
-use Rattle.committee.proofs.Adding.{vote-fits}
-use Rattle.committee.proofs.Aggregators.{noVotes-order}
+use Rattle.stake_aggregator.specs.StakeAggregator.{StakeAggregator, noVotes, withVote, counted, aggregatorInOrder}
+use Rattle.stake_aggregator.specs.Answers.{asAggregator}
+use Rattle.stake_aggregator.proofs.Adding.{vote-fits}
+use Rattle.stake_aggregator.proofs.Aggregators.{noVotes-order}
 use Rattle.table_words.specs.declared.Item as declared
 use Rattle.pending_items.specs.Items.{Item, noItem, itemBefore, itemFull, cutItem, cutAt, bothCuts, itemWithin, votedItem, voteOver, firstVote}
 use Rattle.pending_items.specs.Table.{tableOf, room, itemsOf, HoldsItems, tableFormed}

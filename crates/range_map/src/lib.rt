@@ -2,7 +2,7 @@
 use committee::AuthorityIndex;
 use committee::FoundStake;
 use committee::Stake;
-use committee::StakeAggregator;
+use stake_aggregator::StakeAggregator;
 use table_words::Found;
 use table_words::Item;
 ghost use mathlib.Core.Path.{_≡_};

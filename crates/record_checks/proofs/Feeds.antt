@@ -22,7 +22,7 @@ use Rattle.threshold_clock.proofs.Checking.{includes-numbered, statements-numbe
 use Rattle.store_layout.specs.Layout.{Record, Entry, entries, positionOf, lookup}
 use Rattle.store_layout.specs.Accept.{isStored, firstMissing, blockChecks}
 use Rattle.store_layout.specs.Store.{recordsOf, recordIn, storeFull}
-use Rattle.store_order.proofs.Lookups.{lookup-stored, lookup-in, missing-test}
+use Rattle.store_layout.proofs.Lookups.{lookup-stored, lookup-in, missing-test}
 use Rattle.store_layout.proofs.Store.{entries-within}
 use Rattle.record_checks.specs.Step.{acceptChecks}
 

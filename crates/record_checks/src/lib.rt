@@ -6,7 +6,7 @@ ghost use Rattle.committee.specs.Committee.{broken};
 ghost use Rattle.blocks.specs.Record.{wellFormed, blockIn};
 ghost use Rattle.store_layout.specs.Accept.{blockChecks};
 ghost use Rattle.store_layout.specs.Store.{recordsOf};
-ghost use Rattle.store_order.specs.Entry.{laidOut};
+ghost use Rattle.store_layout.specs.Entry.{laidOut};
 ghost use Rattle.record_checks.specs.Step.{acceptChecks};
 
 // ---- feeding

@@ -1,6 +1,4 @@
 -- Every definition of the crate and of those below it at once, for evaluated examples: `unfolding computing`. Assumes nothing.
-use Rattle.base.proofs.Computing.{computing as computing-base}
-use Rattle.committee.proofs.Computing.{computing as computing-committee}
 use Rattle.blocks.proofs.Computing.{computing as computing-blocks}
 use Rattle.store_layout.specs.Layout.{readRecord, usedBy, entries, lesser, least, positionOf, firstPosition, nextPosition, entryBytes, bodyBytes, headerBytes, layout, lookup, placed, ascending}
 use Rattle.store_layout.specs.Accept.{isStored, blockChecks, allAccepted}
@@ -9,5 +7,5 @@ use Rattle.store_layout.specs.Payload.{shareStretch, payloadOf, payloadA
 use Rattle.store_layout.specs.Claims.{ChainMeant, FreshInOrder, AcceptingKeepsOrder}
 
 unfoldable pub computing : Unit {0}
-unfolding computing-base computing-committee computing-blocks readRecord usedBy entries lesser least positionOf firstPosition nextPosition entryBytes bodyBytes headerBytes layout lookup placed ascending isStored blockChecks allAccepted usedLength blockCount giveRecord readEntry readEntries recordsRead recordsOf allowedLength storeInOrder storeFull storeHolding shareStretch payloadOf payloadAt payloadChecks stretchOf payload payloadLength ChainMeant FreshInOrder AcceptingKeepsOrder
+unfolding computing-blocks readRecord usedBy entries lesser least positionOf firstPosition nextPosition entryBytes bodyBytes headerBytes layout lookup placed ascending isStored blockChecks allAccepted usedLength blockCount giveRecord readEntry readEntries recordsRead recordsOf allowedLength storeInOrder storeFull storeHolding shareStretch payloadOf payloadAt payloadChecks stretchOf payload payloadLength ChainMeant FreshInOrder AcceptingKeepsOrder
 computing = tt

@@ -9,7 +9,7 @@ use Rattle.base.proofs.Members.{map-in, in-map}
 use Rattle.committee.specs.Committee.{Committee}
 use Rattle.blocks.specs.Block.{Block}
 use Rattle.blocks.specs.Record.{wellFormed, blockIn}
-use Rattle.block_record.proofs.Shape.{block-of}
+use Rattle.blocks.proofs.Records.{block-of}
 use Rattle.store_layout.specs.Layout.{Record, readRecord}
 use Rattle.store_layout.specs.Accept.{blockChecks}
 use Rattle.store_layout.specs.Store.{recordsOf, recordIn, storeInOrder, storeFull}

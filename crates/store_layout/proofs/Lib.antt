@@ -7,3 +7,10 @@ pub mod Splice
 pub mod Payloads
 pub mod Holding
 pub mod Claimed
+pub mod Walk
+pub mod Check
+pub mod Visit
+pub mod Loops
+pub mod Lookups
+pub mod Search
+pub mod Sorted

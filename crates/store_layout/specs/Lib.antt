@@ -4,3 +4,5 @@ pub mod Store
 pub mod Step
 pub mod Payload
 pub mod Claims
+pub mod Entry
+pub mod Check

@@ -20,12 +20,12 @@ use Rattle.threshold_clock.proofs.Checking.{head-passes, body-passes}
 use Rattle.store_layout.specs.Layout.{Record, usedBy, Entry, referenceOf, entries}
 use Rattle.store_layout.specs.Accept.{isStored, blockChecks, allAccepted}
 use Rattle.store_layout.specs.Store.{recordsOf}
-use Rattle.store_order.specs.Entry.{blockAt, positions, laidOut, isEntry}
-use Rattle.store_order.specs.Check.{storedBefore, acceptedAt}
+use Rattle.store_layout.specs.Entry.{blockAt, positions, laidOut, isEntry}
+use Rattle.store_layout.specs.Check.{storedBefore, acceptedAt}
 use Rattle.store_layout.proofs.Chain.{Distinct}
-use Rattle.store_order.proofs.Loops.{EntryAt, entry-at, block-of-entry}
-use Rattle.store_order.proofs.Lookups.{entry-stored, stored-older, Split, split-at-entry, accepted-at, checks-new, accepted-older, position-at}
-use Rattle.store_order.proofs.Search.{laid-out}
+use Rattle.store_layout.proofs.Loops.{EntryAt, entry-at, block-of-entry}
+use Rattle.store_layout.proofs.Lookups.{entry-stored, stored-older, Split, split-at-entry, accepted-at, checks-new, accepted-older, position-at}
+use Rattle.store_layout.proofs.Search.{laid-out}
 
 -- ---- one record
 

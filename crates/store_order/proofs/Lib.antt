@@ -1,9 +1,2 @@
-pub mod Walk
 pub mod Compared
-pub mod Check
-pub mod Visit
-pub mod Sorted
-pub mod Loops
-pub mod Lookups
-pub mod Search
 pub mod Accepting

@@ -14,8 +14,8 @@ ghost use Rattle.types.specs.Values.{asReference};
 ghost use Rattle.store_layout.specs.Layout.{entries, positionOf, lookup};
 ghost use Rattle.store_layout.specs.Accept.{allAccepted};
 ghost use Rattle.store_layout.specs.Store.{blockCount, recordsOf, storeInOrder};
-ghost use Rattle.store_order.specs.Entry.{blockAt, positions, sortedPositions, isIn, headerRight, readable, chained, laidOut, isEntry, noneOrEntry, follows};
-ghost use Rattle.store_order.specs.Check.{storedBefore, acceptedAt};
+ghost use Rattle.store_layout.specs.Entry.{blockAt, positions, sortedPositions, isIn, headerRight, readable, chained, laidOut, isEntry, noneOrEntry, follows};
+ghost use Rattle.store_layout.specs.Check.{storedBefore, acceptedAt};
 
 // ---- entries
 

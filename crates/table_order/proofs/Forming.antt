@@ -18,7 +18,7 @@ use Rattle.base.proofs.Orders.{same-true, same-refl}
 use Rattle.base.proofs.Places.{pairs-places}
 use Rattle.base.proofs.Index.{any-no, any-at, all-yes, all-at, all-and, at-pairs}
 use Rattle.committee.specs.Committee.{Committee}
-use Rattle.committee.specs.StakeAggregator.{aggregatorInOrder}
+use Rattle.stake_aggregator.specs.StakeAggregator.{aggregatorInOrder}
 use Rattle.store_layout.specs.Layout.{Entry}
 use Rattle.pending_items.specs.Items.{Item, noItem, itemBefore, itemFull}
 use Rattle.pending_items.specs.Table.{tableOf, itemsOf, Laid, itemStored, itemInOrder, tableInOrder, tableFormed, tableStored, itemFrom}

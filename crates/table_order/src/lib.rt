@@ -7,7 +7,7 @@ ghost use lib.Dec.{ltb};
 ghost use lib.ListN.{length, drop};
 ghost use Rattle.base.specs.Lists.{anyOf, allOf, pairwise, same};
 ghost use Rattle.committee.specs.Committee.{broken};
-ghost use Rattle.committee.specs.StakeAggregator.{aggregatorInOrder};
+ghost use Rattle.stake_aggregator.specs.StakeAggregator.{aggregatorInOrder};
 ghost use Rattle.pending_items.specs.Items.{itemBefore, itemFull};
 ghost use Rattle.pending_items.specs.Table.{tableOf, itemsOf, Laid, tableFormed};
 ghost use Rattle.table_words.specs.Answers.{asItem};

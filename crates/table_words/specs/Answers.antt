@@ -5,7 +5,7 @@ use mathlib.Core.Bool.{Bool, true, false}
 use mathlib.Core.List.{List}
 use mathlib.Core.Option.{Option, none, some}
 use lib.ListN.{length, getD}
-use Rattle.committee.specs.Answers.{asAggregator}
+use Rattle.stake_aggregator.specs.Answers.{asAggregator}
 use Rattle.table_words.specs.declared.Item as code-item
 use Rattle.table_words.specs.declared.Found.{Found}
 use Rattle.table_words.specs.declared.Found.the-variants.{At, Nothing}

@@ -8,7 +8,7 @@ use lib.Dec.{ltb, leb, eqb}
 use lib.ListN.{length, getD, take, drop}
 use Rattle.base.specs.Lists.{pick}
 use Rattle.committee.specs.Committee.{AuthorityIndex, Stake}
-use Rattle.committee.specs.StakeAggregator.{withVote}
+use Rattle.stake_aggregator.specs.StakeAggregator.{withVote}
 use Rattle.pending_items.specs.Items.{Item, noItem, itemBefore, itemFull, frontOf, backOf, itemWithin}
 use Rattle.pending_items.specs.Table.{itemFrom}
 

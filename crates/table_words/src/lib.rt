@@ -1,7 +1,7 @@
 // The words of a pending table, item by item.
-use committee::AuthoritySet;
+use authority_set::AuthoritySet;
 use committee::Stake;
-use committee::StakeAggregator;
+use stake_aggregator::StakeAggregator;
 ghost use mathlib.Core.Path.{_≡_};
 ghost use Prim.Native.Nat.{ℕ, _+_, _*_, _≤_, _<_};
 ghost use lib.ListN.{length, getD};

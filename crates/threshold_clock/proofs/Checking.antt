@@ -16,7 +16,7 @@ use Rattle.base.proofs.Lists.{none-of, and, every-one, every-append, every-flat
 use Rattle.base.proofs.Checks.{passes-first, passes-others, passes-left, passes-right}
 use Rattle.base.proofs.Refusals.{Numbered, zero-passes, refusal-first, refusal-then}
 use Rattle.committee.specs.Committee.{AuthorityIndex, Committee, known, getStake}
-use Rattle.committee.specs.AuthoritySet.{nobody, inserted, setOf}
+use Rattle.authority_set.specs.AuthoritySet.{nobody, inserted, setOf}
 use Rattle.committee.specs.Answers.{foundStake}
 use Rattle.committee.specs.declared.Stake as stakes
 use Rattle.committee.specs.declared.FoundStake.the-variants.{Known, Unknown}

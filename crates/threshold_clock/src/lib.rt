@@ -1,6 +1,6 @@
 // What is checked of a record by itself: 21, 22, 24 to 28, and the clock, 29. Follows threshold_clock.rs, and `verify` of types.rs.
+use authority_set::AuthoritySet;
 use block_record::BaseStatement;
-use committee::AuthoritySet;
 use committee::FoundStake;
 use committee::NewCommittee;
 use committee::RoundNumber;
@@ -16,7 +16,7 @@ ghost use Rattle.base.specs.Lists.{pick};
 ghost use Rattle.base.specs.Le.{Bytes};
 ghost use Rattle.base.specs.Checks.{refusal, passes};
 ghost use Rattle.committee.specs.Committee.{broken};
-ghost use Rattle.committee.specs.AuthoritySet.{inserted};
+ghost use Rattle.authority_set.specs.AuthoritySet.{inserted};
 ghost use Rattle.blocks.specs.Record.{wellFormed, blockIn};
 ghost use Rattle.block_record.specs.Values.{asStatement};
 ghost use Rattle.blocks.specs.Verify.{headChecks, includeChecks, statementChecks, previousAuthors, clockValid, bodyChecks};
@@ -155,7 +155,7 @@ pub fn threshold_clock_valid_non_genesis(stakes: &[u64], rec: &[u8]) -> bool
         return false;
     };
     let voters = previous_authors(stakes, rec);
-    let stake = committee::stake_of(stakes, voters);
+    let stake = authority_set::stake_of(stakes, voters);
     committee::is_quorum(total, stake)
 }
 

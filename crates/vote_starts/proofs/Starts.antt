@@ -17,7 +17,7 @@ use Rattle.committee.specs.Committee.{Committee}
 use Rattle.blocks.specs.Reference.{TransactionLocator, TransactionLocatorRange, locator, locatorBefore}
 use Rattle.blocks.specs.Block.{Block, spans}
 use Rattle.blocks.proofs.References.{locator-irrefl, locator-trans, locator-total}
-use Rattle.store_order.specs.Entry.{blockAt}
+use Rattle.store_layout.specs.Entry.{blockAt}
 use Rattle.finality.specs.Voters.{isFinal}
 use Rattle.finality.specs.Finality.{blocksOf}
 use Rattle.finality.specs.NextFinal.{isAfter, justAfter, candidates, leastLocator}

@@ -9,8 +9,8 @@ use lib.Bits.{or-zero-l}
 use lib.ListN.{length, getD, set, drop, replicate, length-set, getD-replicate, drop-of-length-le}
 use lib.Seq.{drop-cons, getD-set-same, getD-set-other}
 use Rattle.base.specs.Le.{Bytes}
-use Rattle.committee.specs.AuthoritySet.{AuthoritySet, nobody, united}
-use Rattle.committee.proofs.Words.{united-assoc, united-nobody}
+use Rattle.authority_set.specs.AuthoritySet.{AuthoritySet, nobody, united}
+use Rattle.authority_set.proofs.Words.{united-assoc, united-nobody}
 use Rattle.blocks.specs.Reference.{BlockReference, TransactionLocator}
 use Rattle.blocks.specs.Record.{noReference}
 use Rattle.finality.specs.Voters.{unions}

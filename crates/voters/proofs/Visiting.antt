@@ -4,7 +4,7 @@ use mathlib.Core.List.{List, map}
 use Prim.Native.Nat.{ℕ, _≤_}
 use lib.ListN.{length, drop}
 use Rattle.base.specs.Le.{Bytes}
-use Rattle.committee.specs.AuthoritySet.{AuthoritySet, united}
+use Rattle.authority_set.specs.AuthoritySet.{AuthoritySet, united}
 use Rattle.blocks.specs.Reference.{TransactionLocator}
 use Rattle.finality.specs.Voters.{unions, voters}
 use Rattle.finality.specs.Finality.{blocksOf}

@@ -4,7 +4,7 @@ use mathlib.Core.Path.{_≡_}
 use mathlib.Core.List.{List}
 use lib.ListN.{length, getD, set}
 use Rattle.base.specs.Le.{Bytes}
-use Rattle.committee.specs.AuthoritySet.{AuthoritySet}
+use Rattle.authority_set.specs.AuthoritySet.{AuthoritySet}
 use Rattle.blocks.specs.Reference.{TransactionLocator}
 use Rattle.block_votes.specs.Walk.{votersAt}
 

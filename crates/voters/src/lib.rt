@@ -1,12 +1,12 @@
 // The voters of a stored block: reading a block first reads its includes, and remembers what was read. Follows finalization_interpreter.rs.
-use committee::AuthoritySet;
+use authority_set::AuthoritySet;
 use types::TransactionLocator;
 ghost use mathlib.Core.Path.{_≡_};
 ghost use mathlib.Core.List.{map};
 ghost use Prim.Native.Nat.{_+_, _*_, _≤_, _<_};
 ghost use lib.Dec.{eqb};
 ghost use lib.ListN.{length, getD};
-ghost use Rattle.committee.specs.AuthoritySet.{united};
+ghost use Rattle.authority_set.specs.AuthoritySet.{united};
 ghost use Rattle.types.specs.Values.{asLocator};
 ghost use Rattle.finality.specs.Voters.{unions, voters};
 ghost use Rattle.finality.specs.Finality.{blocksOf};

@@ -6,7 +6,7 @@ use Rattle.committee.specs.Answers.{asNewCommittee}
 use Rattle.committee.proofs.Answers.{taken-sound, broken-sound}
 use Rattle.store_layout.specs.Store.{usedLength}
 use Rattle.store_layout.proofs.Accepted.{known-author}
-use Rattle.store_order.proofs.Check.{is-readable}
+use Rattle.store_layout.proofs.Check.{is-readable}
 use Rattle.pending.proofs.Lending.{laid-readable}
 use Rattle.aggregator.proofs.Votes.{order-holds}
 use Rattle.record_checks.proofs.Process.{statements-pass}

@@ -9,8 +9,8 @@ use Rattle.blocks.specs.Record.{blockIn}
 use Rattle.types.specs.Values.{asReference}
 use Rattle.store_layout.specs.Store.{recordsOf}
 use Rattle.block_store.specs.Step.{Between}
-use Rattle.store_order.proofs.Lookups.{not-stored-none}
-use Rattle.store_order.proofs.Search.{laid-out}
+use Rattle.store_layout.proofs.Lookups.{not-stored-none}
+use Rattle.store_layout.proofs.Search.{laid-out}
 use Rattle.block_store.proofs.Appended.{roomy, reach, appended-so}
 use Rattle.block_store.proofs.append.Statement.{statement}
 use Rattle.block_store.proofs.append.Tie as tie

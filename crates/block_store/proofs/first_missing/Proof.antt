@@ -11,9 +11,9 @@ use Rattle.types.specs.Values.{asReference}
 use Rattle.store_layout.specs.Layout.{Record, entries, lookup}
 use Rattle.store_layout.specs.Store.{blockCount, recordsOf}
 use Rattle.store_layout.specs.Accept.{firstMissing}
-use Rattle.store_order.proofs.Loops.{entry-room}
-use Rattle.store_order.proofs.Lookups.{missing-on, missing-there, missing-none, none-is}
-use Rattle.store_order.proofs.Search.{laid-out}
+use Rattle.store_layout.proofs.Loops.{entry-room}
+use Rattle.store_layout.proofs.Lookups.{missing-on, missing-there, missing-none, none-is}
+use Rattle.store_layout.proofs.Search.{laid-out}
 use Rattle.block_store.proofs.Along.{Along, along-start, along-entry, along-end, met-found, met-past, met-on}
 use Rattle.block_store.proofs.first_missing.Statement.{statement}
 use Rattle.block_store.proofs.first_missing.Tie as tie

@@ -2,7 +2,7 @@ use borrow.Author.Needs.{needs}
 use mathlib.Core.Path.{sym}
 use native.Mathlib.Omega.{arith}
 use Rattle.store_layout.specs.Store.{usedLength}
-use Rattle.store_order.proofs.Search.{laid-out}
+use Rattle.store_layout.proofs.Search.{laid-out}
 use Rattle.block_store.proofs.Appended.{full-bytes, full-blocks}
 use Rattle.block_store.proofs.is_full.Statement.{statement}
 use Rattle.block_store.proofs.is_full.Tie as tie

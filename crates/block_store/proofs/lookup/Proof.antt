@@ -4,8 +4,8 @@ use native.Mathlib.Omega.{arith}
 use Rattle.types.specs.Values.{asReference}
 use Rattle.store_layout.specs.Layout.{positionOf}
 use Rattle.store_layout.specs.Store.{blockCount}
-use Rattle.store_order.proofs.Loops.{entry-room}
-use Rattle.store_order.proofs.Search.{laid-out}
+use Rattle.store_layout.proofs.Loops.{entry-room}
+use Rattle.store_layout.proofs.Search.{laid-out}
 use Rattle.block_store.proofs.Along.{Along, along-start, along-entry, along-end, met-hit, met-past, met-on}
 use Rattle.block_store.proofs.lookup.Statement.{statement}
 use Rattle.block_store.proofs.lookup.Tie as tie

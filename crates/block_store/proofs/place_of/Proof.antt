@@ -6,9 +6,9 @@ use Rattle.types.specs.Values.{asReference}
 use Rattle.store_layout.specs.Layout.{entries, lookup}
 use Rattle.store_layout.specs.Store.{blockCount, recordsOf}
 use Rattle.block_store.specs.Step.{LastAt}
-use Rattle.store_order.proofs.Loops.{entry-room}
-use Rattle.store_order.proofs.Lookups.{none-is}
-use Rattle.store_order.proofs.Search.{laid-out}
+use Rattle.store_layout.proofs.Loops.{entry-room}
+use Rattle.store_layout.proofs.Lookups.{none-is}
+use Rattle.store_layout.proofs.Search.{laid-out}
 use Rattle.block_store.proofs.Along.{Along, along-start, along-start-last, along-entry, met-found, met-on, met-last, between-met, between-end}
 use Rattle.block_store.proofs.place_of.Statement.{statement}
 use Rattle.block_store.proofs.place_of.Tie as tie

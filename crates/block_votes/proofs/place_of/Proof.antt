@@ -9,7 +9,7 @@ use Rattle.blocks.specs.Reference.{BlockReference, referenceBefore}
 use Rattle.types.specs.Values.{asReference}
 use Rattle.blocks.proofs.References.{reference-trans}
 use Rattle.store_order.proofs.Compared.{compared-less, compared-equal, compared-greater}
-use Rattle.store_order.proofs.Search.{referenceIn, order-entry, order-rises, found-nowhere}
+use Rattle.store_layout.proofs.Search.{referenceIn, order-entry, order-rises, found-nowhere}
 use Rattle.block_votes.specs.Walk.{SortedStore, blockAtPlace}
 use Rattle.block_votes.proofs.Sorting.{stored-somewhere}
 use Rattle.store_layout.specs.Store.{recordsOf}

@@ -4,9 +4,9 @@ use mathlib.Core.Path.{_≡_, refl, sym, ap, _∙_}
 use native.Mathlib.Omega.{arith}
 use lib.ListN.{length, take}
 use Rattle.store_layout.specs.Store.{blockCount, recordsOf}
-use Rattle.store_order.specs.Entry.{sortedPositions}
-use Rattle.store_order.proofs.Loops.{entry-room}
-use Rattle.store_order.proofs.Search.{laid-out}
+use Rattle.store_layout.specs.Entry.{sortedPositions}
+use Rattle.store_layout.proofs.Loops.{entry-room}
+use Rattle.store_layout.proofs.Search.{laid-out}
 use Rattle.block_votes.proofs.Along.{block-count, sorted-count, chain-first, sorted-entry, Walked, walked-step, walked-end}
 use Rattle.block_votes.proofs.sorted_positions.Statement.{statement}
 use Rattle.block_votes.proofs.sorted_positions.Tie as tie

@@ -5,9 +5,9 @@ use Rattle.base.specs.Le.{Bytes}
 use Rattle.blocks.specs.Block.{isShareAt}
 use Rattle.blocks.specs.Record.{blockIn}
 use Rattle.store_layout.specs.Store.{usedLength}
-use Rattle.store_order.specs.Entry.{blockAt}
-use Rattle.store_order.proofs.Check.{is-readable}
-use Rattle.store_order.proofs.Loops.{entry-room, record-part}
+use Rattle.store_layout.specs.Entry.{blockAt}
+use Rattle.store_layout.proofs.Check.{is-readable}
+use Rattle.store_layout.proofs.Loops.{entry-room, record-part}
 use Rattle.pending.proofs.Lending.{laid-readable}
 use Rattle.events.proofs.Missing.{missed-unknown, missed-own, stored-at, missed-stored}
 use Rattle.events.proofs.Telling.{retold}

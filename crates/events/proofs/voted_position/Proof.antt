@@ -3,7 +3,7 @@ use native.Mathlib.Omega.{arith}
 use Rattle.blocks.specs.Reference.{BlockReference}
 use Rattle.types.specs.Values.{asReference, referenceOrder}
 use Rattle.store_layout.specs.Store.{usedLength}
-use Rattle.store_order.proofs.Check.{is-readable}
+use Rattle.store_layout.proofs.Check.{is-readable}
 use Rattle.pending.proofs.Lending.{laid-readable}
 use Rattle.events.proofs.Missing.{position-own, position-less, position-greater}
 use borrow.Author.Needs.{needs}

@@ -5,7 +5,7 @@ use mathlib.Core.Option.{none, some}
 use native.Mathlib.Omega.{arith}
 use lib.ListN.{length}
 use Rattle.base.specs.Checks.{Answer, answered}
-use Rattle.committee.specs.AuthoritySet.{stakeOf}
+use Rattle.authority_set.specs.AuthoritySet.{stakeOf}
 use Rattle.blocks.specs.Reference.{locator}
 use Rattle.types.specs.Values.{asLocator}
 use Rattle.finality.specs.Finality.{blocksOf}

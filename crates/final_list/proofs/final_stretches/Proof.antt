@@ -6,7 +6,7 @@ use borrow.Author.Tests.{not-true, not-false}
 use Rattle.committee.specs.Answers.{asNewCommittee}
 use Rattle.committee.proofs.Answers.{taken-sound, broken-sound}
 use Rattle.store_layout.specs.Store.{storeInOrder}
-use Rattle.store_order.proofs.Check.{order-laid}
+use Rattle.store_layout.proofs.Check.{order-laid}
 use Rattle.vote_starts.specs.Answers.{asMaybe}
 use Rattle.block_votes.proofs.Along.{sorted-count}
 use Rattle.final_list.specs.Stretches.{AskedBulk}

@@ -1,7 +1,7 @@
 use Prim.Native.Nat.{_*_}
 use mathlib.Core.Path.{_≡_, ap, _∙_}
 use lib.Seq.{sets}
-use Rattle.committee.specs.AuthoritySet.{stakeOf}
+use Rattle.authority_set.specs.AuthoritySet.{stakeOf}
 use Rattle.types.specs.Values.{asLocator}
 use Rattle.block_votes.proofs.Sorting.{some-committee}
 use Rattle.final_list.specs.Stretches.{FinalStretch, stretchWords}

@@ -4,8 +4,8 @@ use mathlib.Core.Path.{_≡_, refl, sym, ap, subst, _∙_}
 use native.Mathlib.Omega.{arith}
 use lib.ListN.{length, getD}
 use Rattle.base.proofs.Le.{bytes-of}
-use Rattle.store_order.specs.Entry.{blockAt}
-use Rattle.store_order.proofs.Loops.{entry-room, record-part}
+use Rattle.store_layout.specs.Entry.{blockAt}
+use Rattle.store_layout.proofs.Loops.{entry-room, record-part}
 use Rattle.block_votes.specs.Walk.{blockAtPlace}
 use Rattle.block_votes.proofs.Sorting.{some-committee, place-entry, place-stored}
 use Rattle.final_walk.specs.Table.{EndsFit, RecordedBy, Tabled, TabledBy}

@@ -7,11 +7,11 @@ use lib.ListN.{length, getD}
 use borrow.Author.Tests.{not-true, not-false}
 use Rattle.base.specs.Lists.{pick}
 use Rattle.committee.specs.Committee.{isQuorum}
-use Rattle.committee.specs.AuthoritySet.{nobody, inserted, united}
+use Rattle.authority_set.specs.AuthoritySet.{nobody, inserted, united}
 use Rattle.blocks.specs.Reference.{TransactionLocator}
 use Rattle.blocks.specs.Block.{author}
 use Rattle.types.specs.Values.{asReference}
-use Rattle.store_order.specs.Entry.{blockAt}
+use Rattle.store_layout.specs.Entry.{blockAt}
 use Rattle.block_votes.specs.Walk.{blockAtPlace, votersAt}
 use Rattle.block_votes.proofs.Sorting.{some-committee, place-entry, place-author}
 use Rattle.finalization_interpreter.proofs.Certify.{found, found-all, authors-all}

@@ -1,6 +1,6 @@
 use mathlib.Core.Path.{_≡_, refl, ap, _∙_}
 use borrow.Author.Tests.{eq-eqb, ne-eqb}
-use Rattle.committee.specs.AuthoritySet.{AuthoritySet, united}
+use Rattle.authority_set.specs.AuthoritySet.{AuthoritySet, united}
 use Rattle.blocks.specs.Reference.{BlockReference}
 use Rattle.types.specs.Values.{asReference}
 use borrow.Author.Needs.{needs}

@@ -8,7 +8,7 @@ use lib.ListN.{length, getD, length-append, length-drop, length-set}
 use borrow.Author.Tests.{not-true, not-false}
 use Rattle.types.specs.Values.{asReference, asLocator}
 use Rattle.blocks.specs.Block.{author}
-use Rattle.store_order.specs.Entry.{blockAt}
+use Rattle.store_layout.specs.Entry.{blockAt}
 use Rattle.finality.specs.Voters.{certifies}
 use Rattle.finality.specs.Finality.{blocksOf}
 use Rattle.block_votes.specs.Walk.{votersAt, blockAtPlace}

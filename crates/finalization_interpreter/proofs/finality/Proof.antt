@@ -1,4 +1,4 @@
-use Rattle.committee.specs.AuthoritySet.{stakeOf}
+use Rattle.authority_set.specs.AuthoritySet.{stakeOf}
 use Prim.Native.Nat.{_<_, _≤_}
 use mathlib.Core.Path.{_≡_, refl, sym, ap, _∙_}
 use mathlib.Core.Bool.{true, false}
@@ -10,8 +10,8 @@ use Rattle.committee.specs.Answers.{asNewCommittee}
 use Rattle.committee.proofs.Answers.{taken-sound, broken-sound}
 use Rattle.types.specs.Values.{asLocator}
 use Rattle.store_layout.specs.Store.{recordsOf, storeInOrder}
-use Rattle.store_order.specs.Entry.{sortedPositions}
-use Rattle.store_order.proofs.Check.{order-laid}
+use Rattle.store_layout.specs.Entry.{sortedPositions}
+use Rattle.store_layout.proofs.Check.{order-laid}
 use Rattle.finality.specs.Finality.{Asked}
 use Rattle.finalization_interpreter.specs.Answers.{asFinality}
 use Rattle.block_votes.proofs.Along.{sorted-count}

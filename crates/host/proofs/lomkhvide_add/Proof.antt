@@ -1,7 +1,7 @@
 use Rattle.host_lib.proofs.Added.{added-most}
 use Rattle.host_lib.specs.Calls.{encoded}
 use Rattle.host_lib.specs.Add.{flagged, addCall}
-use Rattle.committee.specs.Answers.{asAddAnswer}
+use Rattle.stake_aggregator.specs.Answers.{asAddAnswer}
 use native.Mathlib.Omega.{arith}
 use lib.ListN.{take}
 use lib.Seq.{length-take-le}

@@ -1,7 +1,7 @@
-use Rattle.committee.specs.StakeAggregator.{Added}
+use Rattle.stake_aggregator.specs.StakeAggregator.{Added}
 use Rattle.host_lib.proofs.Added.{added-other, added-sized}
 use Rattle.host_lib.specs.Add.{AddCall, flagged, aggregatorBytes}
-use Rattle.committee.specs.Answers.{asAddAnswer, asAdded}
+use Rattle.stake_aggregator.specs.Answers.{asAddAnswer, asAdded}
 use mathlib.Core.Path.{ap, sym, _∙_}
 use borrow.Author.Needs.{needs}
 use Rattle.host_lib.proofs.add_of.Statement.{statement}

@@ -1,4 +1,4 @@
--- `lent_forms::add_lent` meets its contract: a walk of its MIR, by hand. The aggregator lies in a local, which is lent for a lifetime of the call's own to `committee::add`; the lifetime is ended, and the local taken back at its last value,
+-- `lent_forms::add_lent` meets its contract: a walk of its MIR, by hand. The aggregator lies in a local, which is lent for a lifetime of the call's own to `stake_aggregator::add`; the lifetime is ended, and the local taken back at its last value,
 -- which `added` is passed beside the answer. What the slice of stakes owns is had twice: for the call, and for the exit. All that the proof knows of the two callees is that each meets its contract.
 -- Assumes nothing.
 use mathlib.Core.Path.{_≡_, refl, ap, _∙_}
@@ -43,24 +43,24 @@ use denote.Triple.Table.{entered, cited}
 use denote.Triple.Walked.{says, Stays, stay-none, stay-none-slice, walkOf, goes-none, goes-none-slice, Walks, ends-at, walked, walk-meets}
 use denote.Triple.Clauses.{ensured, lasts}
 use denote.Exit.{yes}
-use Rattle.committee.specs.declared.StakeAggregator.{StakeAggregator}
+use Rattle.stake_aggregator.specs.declared.StakeAggregator.{StakeAggregator}
 use Rattle.committee.specs.declared.AuthorityIndex.{AuthorityIndex}
-use Rattle.committee.specs.declared.AddAnswer.{AddAnswer}
-use Rattle.committee.specs.declared.Added.{Added}
-use Rattle.committee.specs.StakeAggregator as meant
-use Rattle.committee.specs.Answers.{asAggregator, asAddAnswer, asAdded}
-use Rattle.committee.proofs.Added as R
-use Rattle.committee.proofs.Added.Laws as R′
-use Rattle.committee.proofs.AddAnswer as E
-use Rattle.committee.proofs.AddAnswer.Laws as E′
-use Rattle.committee.proofs.StakeAggregator as T
-use Rattle.committee.proofs.StakeAggregator.Laws as T′
+use Rattle.stake_aggregator.specs.declared.AddAnswer.{AddAnswer}
+use Rattle.stake_aggregator.specs.declared.Added.{Added}
+use Rattle.stake_aggregator.specs.StakeAggregator as meant
+use Rattle.stake_aggregator.specs.Answers.{asAggregator, asAddAnswer, asAdded}
+use Rattle.stake_aggregator.proofs.Added as R
+use Rattle.stake_aggregator.proofs.Added.Laws as R′
+use Rattle.stake_aggregator.proofs.AddAnswer as E
+use Rattle.stake_aggregator.proofs.AddAnswer.Laws as E′
+use Rattle.stake_aggregator.proofs.StakeAggregator as T
+use Rattle.stake_aggregator.proofs.StakeAggregator.Laws as T′
 use Rattle.committee.proofs.AuthorityIndex as I
 use Rattle.committee.proofs.AuthorityIndex.Laws as I′
-use Rattle.committee.proofs.add as add
-use Rattle.committee.proofs.add.Symbol as add-def
-use Rattle.committee.proofs.add.Symbol.{name as #committee·add}
-use Rattle.committee.proofs.add.Met as add-thm
+use Rattle.stake_aggregator.proofs.add as add
+use Rattle.stake_aggregator.proofs.add.Symbol as add-def
+use Rattle.stake_aggregator.proofs.add.Symbol.{name as #committee·add}
+use Rattle.stake_aggregator.proofs.add.Met as add-thm
 use Rattle.lent_forms.proofs.added as added
 use Rattle.lent_forms.proofs.added.Symbol as added-def
 use Rattle.lent_forms.proofs.added.Symbol.{name as #lent-forms·added}
@@ -119,7 +119,7 @@ module _ {M : Type 1} (𝓤 : URA M) (H : Heap 𝓤) (A : Atoms 𝓤) (W : Given
   abbrev Shr : Fml
   Shr = ShrSlice (named 0) κ u64 .own c (vc ∷ [])
 
-  -- the call of `committee::add`, at a lifetime α, with the local at (b, 0) under the name δ
+  -- the call of `stake_aggregator::add`, at a lifetime α, with the local at (b, 0) under the name δ
   abbrev x : ℕ → GName → RefT StakeAggregator
   x b δ = record { ptr = (b, 0); name = δ; now = h }
 
@@ -236,5 +236,5 @@ add-lent-spec 𝓤 H 𝓜 𝓖 𝓡 =
     entered 𝓤 H (tripleOf 𝓤 H (𝓖 .A) lent.signature (lent.spec 𝓤 H (𝓖 .A) (𝓜 .mem) (𝓡 .run)))
     (tables 𝓤 H 𝓜 𝓡 code.env .C) (tables 𝓤 H 𝓜 𝓡 code.env .Λ) #lent-forms·add-lent code.function (code.unfolded 𝓤 H 𝓜 𝓡)
     (lent-meets 𝓤 H (𝓖 .A) (givenOf 𝓤 H 𝓜 𝓖) (𝓜 .mem) (𝓡 .run) (tablesOf 𝓤 H 𝓜 (tables 𝓤 H 𝓜 𝓡 code.env))
-    (cited 𝓤 H (Adds 𝓤 H (𝓖 .A) (𝓜 .mem) (𝓡 .run)) 𝓜 𝓡 code.env #committee·add add-def.routine code.calls-committee·add (add-thm.met 𝓤 H 𝓜 𝓖 𝓡))
+    (cited 𝓤 H (Adds 𝓤 H (𝓖 .A) (𝓜 .mem) (𝓡 .run)) 𝓜 𝓡 code.env #committee·add add-def.routine code.calls-stake-aggregator·add (add-thm.met 𝓤 H 𝓜 𝓖 𝓡))
     (cited 𝓤 H (Makes 𝓤 H (𝓖 .A) (𝓜 .mem) (𝓡 .run)) 𝓜 𝓡 code.env #lent-forms·added added-def.routine code.calls-lent-forms·added (added-thm.met 𝓤 H 𝓜 𝓖 𝓡)))

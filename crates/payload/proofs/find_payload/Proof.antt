@@ -10,11 +10,11 @@ use Rattle.committee.proofs.Answers.{taken-sound, broken-sound}
 use Rattle.blocks.specs.Reference.{locator}
 use Rattle.blocks.specs.Record.{blockIn, statementStart}
 use Rattle.types.specs.Values.{asLocator}
-use Rattle.store_order.specs.Entry.{blockAt}
+use Rattle.store_layout.specs.Entry.{blockAt}
 use Rattle.store_layout.specs.Payload.{shareStretch}
 use Rattle.payload.specs.Answers.{asShare, shareWithin, asPlace, placeWithin}
-use Rattle.store_order.proofs.Check.{order-laid}
-use Rattle.store_order.proofs.Loops.{entry-room, record-part}
+use Rattle.store_layout.proofs.Check.{order-laid}
+use Rattle.store_layout.proofs.Loops.{entry-room, record-part}
 use Rattle.payload.proofs.Located.{place-broken, place-disordered, place-none, place-some, payload-unknown, payload-entry, payload-found}
 use borrow.Author.Needs.{needs}
 use Rattle.payload.proofs.find_payload.Statement.{statement}

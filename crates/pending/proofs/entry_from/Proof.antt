@@ -3,7 +3,7 @@ use Prim.Native.Nat.{_-_}
 use native.Mathlib.Omega.{arith}
 use borrow.Author.Needs.{needs}
 use Rattle.store_layout.specs.Store.{usedLength}
-use Rattle.store_order.proofs.Check.{is-readable}
+use Rattle.store_layout.proofs.Check.{is-readable}
 use Rattle.pending.specs.Step.{OnEntry, Passed}
 use Rattle.pending.proofs.Entries.{entry-next, passed-next, inner, ended}
 use Rattle.pending.proofs.entry_from.Statement.{statement}

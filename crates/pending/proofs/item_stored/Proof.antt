@@ -3,8 +3,8 @@ use Rattle.store_layout.specs.Store.{usedLength}
 use Rattle.pending.proofs.Entries.{stands-on}
 use mathlib.Core.Path.{_≡_, sym, ap, _∙_}
 use native.Mathlib.Omega.{arith}
-use Rattle.store_order.proofs.Check.{is-readable}
-use Rattle.store_order.proofs.Loops.{entry-room, record-part, refuses}
+use Rattle.store_layout.proofs.Check.{is-readable}
+use Rattle.store_layout.proofs.Loops.{entry-room, record-part, refuses}
 use Rattle.table_words.specs.Answers.{asItem}
 use Rattle.pending.proofs.Checked.{not-there, not-past}
 use borrow.Author.Needs.{needs}

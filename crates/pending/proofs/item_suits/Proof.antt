@@ -1,9 +1,9 @@
 use mathlib.Core.Path.{_≡_, sym, ap, _∙_}
 use borrow.Author.Tests.{not-true, not-false}
-use Rattle.committee.specs.AuthoritySet.{member}
+use Rattle.authority_set.specs.AuthoritySet.{member}
 use Rattle.blocks.specs.Reference.{BlockReference}
 use Rattle.types.specs.Values.{asReference}
-use Rattle.store_order.proofs.Loops.{refuses}
+use Rattle.store_layout.proofs.Loops.{refuses}
 use Rattle.table_words.specs.Answers.{asItem}
 use Rattle.pending.specs.Step.{suits}
 use borrow.Author.Needs.{needs}

@@ -2,9 +2,9 @@ use mathlib.Core.Path.{sym, ap, _∙_}
 use native.Mathlib.Omega.{arith}
 use borrow.Author.Needs.{needs}
 use Rattle.base.proofs.Tests.{not-both}
-use Rattle.committee.specs.StakeAggregator.{noVotes}
-use Rattle.committee.proofs.Adding.{vote-fits}
-use Rattle.committee.proofs.Aggregators.{noVotes-order}
+use Rattle.stake_aggregator.specs.StakeAggregator.{noVotes}
+use Rattle.stake_aggregator.proofs.Adding.{vote-fits}
+use Rattle.stake_aggregator.proofs.Aggregators.{noVotes-order}
 use Rattle.committee.proofs.Answers.{known-sound, unknown-sound}
 use Rattle.range_map.proofs.Voting.{room-words, first-vote}
 use Rattle.table_words.proofs.Moves.{added-table}

@@ -7,11 +7,11 @@ use lib.ListN.{length, getD}
 use borrow.Author.Tests.{not-true, not-false}
 use Rattle.store_layout.specs.Layout.{Record}
 use Rattle.store_layout.specs.Store.{recordsOf}
-use Rattle.store_order.specs.Check.{acceptedAt}
-use Rattle.store_order.specs.Entry.{positions}
-use Rattle.store_order.proofs.Loops.{place-entry, length-positions}
-use Rattle.store_order.proofs.Sorted.{is-in}
-use Rattle.store_order.proofs.Search.{laid-out}
+use Rattle.store_layout.specs.Check.{acceptedAt}
+use Rattle.store_layout.specs.Entry.{positions}
+use Rattle.store_layout.proofs.Loops.{place-entry, length-positions}
+use Rattle.store_layout.proofs.Sorted.{is-in}
+use Rattle.store_layout.proofs.Search.{laid-out}
 use Rattle.store_order.proofs.Accepting.{Accepting, accepting-start, accepting-on, accepting-stop, accepting-end}
 use Rattle.store_order.proofs.all_accepted.Statement.{statement}
 use Rattle.store_order.proofs.all_accepted.Tie as tie

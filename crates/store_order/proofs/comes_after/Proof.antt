@@ -6,9 +6,9 @@ use Rattle.blocks.specs.Reference.{BlockReference, referenceBefore}
 use Rattle.base.proofs.Tests.{fails}
 use Rattle.blocks.proofs.References.{reference-irrefl, reference-asymmetric}
 use Rattle.types.specs.Values.{asReference}
-use Rattle.store_order.specs.Entry.{follows}
+use Rattle.store_layout.specs.Entry.{follows}
 use Rattle.store_order.proofs.Compared.{compared-less, compared-equal, compared-greater}
-use Rattle.store_order.proofs.Loops.{none-entry, follows-by}
+use Rattle.store_layout.proofs.Loops.{none-entry, follows-by}
 use Rattle.store_order.proofs.comes_after.Statement.{statement}
 use Rattle.store_order.proofs.comes_after.Tie as tie
 

@@ -7,8 +7,8 @@ use borrow.Author.Tests.{not-true, not-false}
 use Rattle.base.proofs.Tests.{not-both}
 use Rattle.blocks.specs.Record.{wellFormed}
 use Rattle.store_layout.specs.Store.{blockCount, usedLength}
-use Rattle.store_order.proofs.Check.{header-right}
-use Rattle.store_order.proofs.Loops.{formed-at, record-part, refuses, walking-done, Walking, walking-start, walking-on, walking-stop}
+use Rattle.store_layout.proofs.Check.{header-right}
+use Rattle.store_layout.proofs.Loops.{formed-at, record-part, refuses, walking-done, Walking, walking-start, walking-on, walking-stop}
 use Rattle.store_order.proofs.entries_readable.Statement.{statement}
 use Rattle.store_order.proofs.entries_readable.Tie as tie
 

@@ -8,9 +8,9 @@ use Rattle.blocks.specs.Record.{blockIn}
 use Rattle.blocks.specs.Verify.{headChecks, bodyChecks}
 use Rattle.store_layout.specs.Layout.{entries}
 use Rattle.store_layout.specs.Store.{recordsOf}
-use Rattle.store_order.specs.Entry.{blockAt}
-use Rattle.store_order.specs.Check.{storedBefore}
-use Rattle.store_order.proofs.Loops.{entry-room, record-part}
+use Rattle.store_layout.specs.Entry.{blockAt}
+use Rattle.store_layout.specs.Check.{storedBefore}
+use Rattle.store_layout.proofs.Loops.{entry-room, record-part}
 use Rattle.store_order.proofs.Accepting.{head-refused, body-refused, includes-decide}
 use Rattle.store_order.proofs.entry_accepted.Statement.{statement}
 use Rattle.store_order.proofs.entry_accepted.Tie as tie

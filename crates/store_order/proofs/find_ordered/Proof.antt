@@ -9,7 +9,7 @@ use Rattle.blocks.specs.Reference.{BlockReference, referenceBefore}
 use Rattle.types.specs.Values.{asReference}
 use Rattle.blocks.proofs.References.{reference-trans}
 use Rattle.store_order.proofs.Compared.{compared-less, compared-equal, compared-greater}
-use Rattle.store_order.proofs.Search.{referenceIn, order-entry, order-rises, found-there, found-nowhere}
+use Rattle.store_layout.proofs.Search.{referenceIn, order-entry, order-rises, found-there, found-nowhere}
 use Rattle.store_order.proofs.find_ordered.Statement.{statement}
 use Rattle.store_order.proofs.find_ordered.Tie as tie
 

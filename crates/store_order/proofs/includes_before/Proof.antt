@@ -10,8 +10,8 @@ use Rattle.blocks.specs.Record.{blockIn, noReference}
 use Rattle.blocks.specs.Reference.{BlockReference}
 use Rattle.store_layout.specs.Layout.{Record, entries, positionOf, lookup}
 use Rattle.store_layout.specs.Store.{recordsOf}
-use Rattle.store_order.specs.Check.{storedBefore}
-use Rattle.store_order.proofs.Lookups.{before-none, before-late, before-early, all-on, all-stop, all-end}
+use Rattle.store_layout.specs.Check.{storedBefore}
+use Rattle.store_layout.proofs.Lookups.{before-none, before-late, before-early, all-on, all-stop, all-end}
 use Rattle.store_order.proofs.includes_before.Statement.{statement}
 use Rattle.store_order.proofs.includes_before.Tie as tie
 

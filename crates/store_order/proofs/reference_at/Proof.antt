@@ -3,8 +3,8 @@ use mathlib.Core.Path.{ap, _∙_}
 use native.Mathlib.Omega.{arith}
 use Rattle.base.specs.Le.{Bytes}
 use Rattle.blocks.specs.Record.{blockIn}
-use Rattle.store_order.specs.Entry.{blockAt}
-use Rattle.store_order.proofs.Loops.{entry-room, record-part}
+use Rattle.store_layout.specs.Entry.{blockAt}
+use Rattle.store_layout.proofs.Loops.{entry-room, record-part}
 use Rattle.store_order.proofs.reference_at.Statement.{statement}
 use Rattle.store_order.proofs.reference_at.Tie as tie
 

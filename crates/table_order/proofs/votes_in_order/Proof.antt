@@ -7,7 +7,7 @@ use borrow.Author.Needs.{needs}
 use borrow.Author.Count.{below-more}
 use borrow.Author.Tests.{not-true, not-false}
 use Rattle.base.proofs.Index.{all-yes, all-not}
-use Rattle.committee.specs.StakeAggregator.{aggregatorInOrder}
+use Rattle.stake_aggregator.specs.StakeAggregator.{aggregatorInOrder}
 use Rattle.pending_items.specs.Items.{noItem}
 use Rattle.pending_items.specs.Table.{itemsOf}
 use Rattle.table_words.specs.Answers.{asItem}

@@ -2,7 +2,7 @@ use mathlib.Core.Path.{_≡_, sym, _∙_}
 use Prim.Native.Nat.{_-_, _≤_}
 use native.Mathlib.Omega.{arith}
 use lib.ListN.{length, getD, drop}
-use Rattle.committee.proofs.Aggregators.{few-members}
+use Rattle.committee.proofs.Bounds.{few-members}
 use Rattle.blocks.specs.Record.{blockIn, noReference}
 use Rattle.blocks.specs.Verify.{previousAuthors}
 use Rattle.types.proofs.References.{as-author, as-round}

@@ -8,8 +8,8 @@ use Rattle.base.specs.Lists.{keep}
 use Rattle.base.specs.Le.{Bytes}
 use Rattle.blocks.specs.Block.{spans}
 use Rattle.blocks.specs.Record.{blockIn}
-use Rattle.store_order.specs.Entry.{blockAt}
-use Rattle.store_order.proofs.Loops.{entry-room, record-part}
+use Rattle.store_layout.specs.Entry.{blockAt}
+use Rattle.store_layout.proofs.Loops.{entry-room, record-part}
 use Rattle.finality.specs.NextFinal.{isAfter, leastLocator}
 use Rattle.vote_starts.specs.Answers.{asMaybe}
 use Rattle.block_votes.specs.Walk.{SortedStore}

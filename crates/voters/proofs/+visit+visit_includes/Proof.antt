@@ -1,6 +1,6 @@
 use lib.ListN.{getD}
 use borrow.Author.Tests.{eqb-true}
-use Rattle.committee.specs.AuthoritySet.{AuthoritySet, united}
+use Rattle.authority_set.specs.AuthoritySet.{AuthoritySet, united}
 use Rattle.blocks.specs.Reference.{BlockReference}
 use Rattle.blocks.specs.Record.{noReference}
 use Rattle.types.specs.Values.{asReference}
@@ -26,7 +26,7 @@ use Rattle.voters.proofs.+visit+visit_includes.Lts-visit as visit-lts
 use Rattle.voters.proofs.visit_includes.Reads as visit-includes
 use Rattle.voters.proofs.visit_includes.Kinds as visit-includes-kinds
 use Rattle.voters.proofs.+visit+visit_includes.Lts-visit_includes as visit-includes-lts
-use Rattle.committee.proofs.AuthoritySet.new.Reads as new-reads
+use Rattle.authority_set.proofs.AuthoritySet.new.Reads as new-reads
 use Rattle.block_votes.proofs.include_at.Reads as include-at-reads
 use Rattle.block_votes.proofs.include_count_at.Reads as include-count-at-reads
 use Rattle.voters.proofs.is_known.Reads as is-known-reads

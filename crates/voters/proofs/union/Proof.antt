@@ -1,4 +1,4 @@
-use Rattle.committee.specs.AuthoritySet.{united}
+use Rattle.authority_set.specs.AuthoritySet.{united}
 use mathlib.Core.Path.{refl}
 use Rattle.voters.proofs.union.Statement.{statement}
 use Rattle.voters.proofs.union.Tie as tie

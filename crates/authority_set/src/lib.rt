@@ -1,0 +1,159 @@
+// The vote set and the stake of its members. Follows `AuthoritySet` of types.rs.
+use committee::AuthorityIndex;
+use committee::Stake;
+ghost use mathlib.Core.Path.{_≡_};
+ghost use mathlib.Core.Bool.{false};
+ghost use Prim.Native.Nat.{_^_, _<_};
+ghost use Rattle.committee.specs.Committee.{broken};
+ghost use Rattle.authority_set.specs.AuthoritySet.{nobody, member, inserted, numberOfVoters, stakeOf};
+
+// A vote set: 128 bits in two words.
+pub struct AuthoritySet {
+    pub low: u64,
+    pub high: u64,
+}
+
+// The one-bit masks of a word.
+const MASKS: [u64; 64] = [
+    1,
+    2,
+    4,
+    8,
+    16,
+    32,
+    64,
+    128,
+    256,
+    512,
+    1024,
+    2048,
+    4096,
+    8192,
+    16384,
+    32768,
+    65536,
+    131072,
+    262144,
+    524288,
+    1048576,
+    2097152,
+    4194304,
+    8388608,
+    16777216,
+    33554432,
+    67108864,
+    134217728,
+    268435456,
+    536870912,
+    1073741824,
+    2147483648,
+    4294967296,
+    8589934592,
+    17179869184,
+    34359738368,
+    68719476736,
+    137438953472,
+    274877906944,
+    549755813888,
+    1099511627776,
+    2199023255552,
+    4398046511104,
+    8796093022208,
+    17592186044416,
+    35184372088832,
+    70368744177664,
+    140737488355328,
+    281474976710656,
+    562949953421312,
+    1125899906842624,
+    2251799813685248,
+    4503599627370496,
+    9007199254740992,
+    18014398509481984,
+    36028797018963968,
+    72057594037927936,
+    144115188075855872,
+    288230376151711744,
+    576460752303423488,
+    1152921504606846976,
+    2305843009213693952,
+    4611686018427387904,
+    9223372036854775808,
+];
+
+// The word with bit i alone.
+fn mask(i: usize) -> u64
+    requires { ⌜ i < 64 ⌝ }
+    ensures { λ r. ⌜ r ≡ 2 ^ i ⌝ }
+{
+    MASKS[i]
+}
+
+impl AuthoritySet {
+    // The empty set.
+    pub fn new() -> AuthoritySet
+        ensures { λ r. ⌜ r ≡ nobody ⌝ }
+    {
+        AuthoritySet { low: 0, high: 0 }
+    }
+
+    // The set with the authority in it.
+    pub fn insert(self, v: AuthorityIndex) -> AuthoritySet
+        requires { ⌜ v .0 < 128 ⌝ }
+        ensures { λ r. ⌜ r ≡ inserted self (v .0) ⌝ }
+    {
+        let k = v.0;
+        if k < 64 {
+            AuthoritySet {
+                low: self.low | mask(k as usize),
+                high: self.high,
+            }
+        } else {
+            AuthoritySet {
+                low: self.low,
+                high: self.high | mask((k - 64) as usize),
+            }
+        }
+    }
+
+    // Whether the authority is in the set.
+    pub fn contains(self, v: AuthorityIndex) -> bool
+        ensures { λ r. ⌜ r ≡ member self (v .0) ⌝ }
+    {
+        let k = v.0;
+        if k < 64 {
+            let m = mask(k as usize);
+            return self.low & m == m;
+        }
+        if k < 128 {
+            let m = mask((k - 64) as usize);
+            return self.high & m == m;
+        }
+        false
+    }
+
+    // How many authorities are in the set: ones counted in its two words.
+    pub fn count(self) -> u64
+        ensures { λ r. ⌜ r ≡ numberOfVoters self ⌝ }
+    {
+        let low = u64::count_ones(self.low) as u64;
+        let high = u64::count_ones(self.high) as u64;
+        low + high
+    }
+}
+
+// The stake of the authorities in a set, each once.
+pub fn stake_of(stakes: &[u64], votes: AuthoritySet) -> Stake
+    requires { ⌜ broken (now stakes) ≡ false ⌝ }
+    ensures { λ r. ⌜ r .0 ≡ stakeOf (now (stakes .entry)) votes ⌝ }
+{
+    let mut stake: u64 = 0;
+    let mut i = 0;
+    while i < stakes.len() {
+        if votes.contains(AuthorityIndex(i as u64)) {
+            stake += stakes[i];
+        }
+        i += 1;
+    }
+    Stake(stake)
+}

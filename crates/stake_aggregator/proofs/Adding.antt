@@ -1,0 +1,48 @@
+-- `add`, case by case, as the code tells the cases apart. Assumes nothing.
+use mathlib.Core.Path.{_≡_}
+use mathlib.Core.Bool.{Bool, true, false}
+use Prim.Native.Nat.{_+_, _<_}
+use native.Mathlib.Omega.{arith}
+use borrow.Author.Tests.{eqb-true}
+use Rattle.base.specs.Lists.{allOf}
+use Rattle.base.specs.Checks.{refusal, passes, refused, answered, checked}
+use Rattle.base.proofs.Tests.{and-right}
+use Rattle.committee.specs.Committee.{AuthorityIndex, Committee, broken, isQuorum, known, getStake}
+use Rattle.authority_set.specs.AuthoritySet.{members, stakeOf}
+use Rattle.stake_aggregator.specs.StakeAggregator.{StakeAggregator, counted, hasQuorum, aggregatorInOrder, addChecks, add}
+use Rattle.stake_aggregator.specs.Answers.{asAggregator, asAddAnswer, asAdded}
+use Rattle.stake_aggregator.specs.declared.StakeAggregator as code-aggregator
+use Rattle.stake_aggregator.specs.declared.AddAnswer.the-variants.{Counted}
+use Rattle.committee.proofs.Bounds.{few-members, known-below, total-most, member-most}
+use Rattle.authority_set.proofs.Sums.{stake-most}
+
+module _ (c : Committee) (g : StakeAggregator) (a : AuthorityIndex) where
+  pub add-broken : broken c ≡ true → add c g a ≡ record { answer = refused 5; aggregator = g }
+  unfolding add addChecks checked passes refusal allOf
+  add-broken h = rw h
+
+  pub add-disordered : broken c ≡ false → aggregatorInOrder c g ≡ false → add c g a ≡ record { answer = refused 6; aggregator = g }
+  unfolding add addChecks checked passes refusal allOf
+  add-disordered h k = rw (h, k)
+
+  pub add-unknown : broken c ≡ false → aggregatorInOrder c g ≡ true → known c a ≡ false → add c g a ≡ record { answer = refused 21; aggregator = g }
+  unfolding add addChecks checked passes refusal allOf
+  add-unknown h k l = rw (h, k, l)
+
+  pub add-counts : broken c ≡ false → aggregatorInOrder c g ≡ true → known c a ≡ true
+      → add c g a ≡ record { answer = answered (hasQuorum c (counted c g a)); aggregator = counted c g a }
+  unfolding add addChecks checked passes allOf
+  add-counts h k l = rw (h, k, l)
+
+  -- an author whom the committee knows has a bit in the set, and his stake can be added
+  pub vote-fits : broken c ≡ false → aggregatorInOrder c g ≡ true → known c a ≡ true → (a < 128) × (g .stake + getStake c a < 18446744073709551616)
+  unfolding aggregatorInOrder
+  vote-fits h k l =
+      let held = eqb-true (g .stake) (stakeOf c (g .votes)) (and-right (allOf (known c) (members (g .votes))) _ k) in
+      (omega (arith, few-members c h, known-below c a l), omega (arith, held, stake-most c (g .votes), member-most c a, total-most c h))
+
+  -- what the code answers once the vote is counted
+  pub added-sound : (n : code-aggregator.StakeAggregator) (q : Bool) → broken c ≡ false → aggregatorInOrder c g ≡ true → known c a ≡ true
+      → asAggregator n ≡ counted c g a → q ≡ isQuorum c (n .stake .0) → asAdded (record { answer = Counted q; aggregator = n }) ≡ add c g a
+  unfolding asAdded asAddAnswer hasQuorum
+  added-sound n q h k l e f = rw (f, add-counts h k l, ← e)

@@ -1,0 +1,107 @@
+use Rattle.stake_aggregator.proofs.Adding.{add-broken, add-disordered, add-unknown, added-sound, vote-fits}
+use Rattle.committee.proofs.Answers.{taken-sound, broken-sound, known-sound, unknown-sound}
+use Rattle.committee.specs.Answers.{asNewCommittee}
+use Rattle.stake_aggregator.specs.Answers.{asAggregator, asAddAnswer, asAdded}
+use Rattle.stake_aggregator.specs.StakeAggregator.{counted}
+use Rattle.committee.specs.Committee.{isQuorum}
+use borrow.Author.Tests.{not-true, not-false}
+use mathlib.Core.Path.{sym, ap, _∙_}
+use borrow.Author.Needs.{needs}
+use Rattle.stake_aggregator.proofs.StakeAggregator.add.Statement.{statement}
+use Rattle.stake_aggregator.proofs.StakeAggregator.add.Tie as tie
+
+new-committee-requires : tie.Need-new-committee-requires
+new-committee-requires c κs = search needs
+
+enum-known-total : tie.Need-enum-known-total
+enum-known-total c = search needs
+
+enum-told : tie.Need-enum-told
+enum-told c = search needs
+
+returns : tie.Need-returns
+unfolding asAdded asAddAnswer
+returns c =
+    let start = c .before .before .before .before .args in
+    let answer = c .before .before .new-committee .ensures in
+    let told = c .enum-told .given in
+    sym (add-broken _ _ _ (broken-sound (start .stakes .now) (told .0 .0) (ap asNewCommittee (sym (told .1)) ∙ answer)))
+
+in-order-requires : tie.Need-in-order-requires
+in-order-requires c κs =
+    let start = c .before .before .before .before .before .args in
+    let told = c .before .total .given in
+    taken-sound (start .stakes .now) (told .0 .0) (ap asNewCommittee (sym (told .1)) ∙ c .before .before .before .new-committee .ensures) .0
+
+returns-2 : tie.Need-returns-2
+unfolding asAdded asAddAnswer
+returns-2 c =
+    let start = c .before .before .before .before .before .before .before .args in
+    let told = c .before .before .before .total .given in
+    let taken = taken-sound (start .stakes .now) (told .0 .0) (ap asNewCommittee (sym (told .1)) ∙ c .before .before .before .before .before .new-committee .ensures) in
+    sym (add-disordered _ _ _ (taken .0) (sym (c .before .in-order .ensures) ∙ not-true _ (c .if1 .taken)))
+
+get-stake-requires : tie.Need-get-stake-requires
+get-stake-requires c κs = search needs
+
+enum-known-stake : tie.Need-enum-known-stake
+enum-known-stake c = search needs
+
+enum-told-2 : tie.Need-enum-told-2
+enum-told-2 c = search needs
+
+returns-3 : tie.Need-returns-3
+unfolding asAdded asAddAnswer
+returns-3 c =
+    let start = c .before .before .before .before .before .before .before .before .before .before .args in
+    let told = c .before .before .before .before .before .before .total .given in
+    let taken = taken-sound (start .stakes .now) (told .0 .0) (ap asNewCommittee (sym (told .1)) ∙ c .before .before .before .before .before .before .before .before .new-committee .ensures) in
+    let ordered = sym (c .before .before .before .before .in-order .ensures) ∙ not-false _ (c .before .before .before .if1 .left) in
+    let unknown = unknown-sound (start .stakes .now) (start .vote .0) (sym (c .before .before .get-stake .ensures) ∙ c .enum-told2 .given .1) in
+    sym (add-unknown _ _ _ (taken .0) ordered unknown)
+
+with-vote-requires : tie.Need-with-vote-requires
+with-vote-requires c κs =
+    let start = c .before .before .before .before .before .before .before .before .before .before .before .args in
+    let told = c .before .before .before .before .before .before .before .total .given in
+    let taken = taken-sound (start .stakes .now) (told .0 .0) (ap asNewCommittee (sym (told .1)) ∙ c .before .before .before .before .before .before .before .before .before .new-committee .ensures) in
+    let ordered = sym (c .before .before .before .before .before .in-order .ensures) ∙ not-false _ (c .before .before .before .before .if1 .left) in
+    let found = c .before .stake .given in
+    let knows = known-sound (start .stakes .now) (start .vote .0) (found .0 .0) (sym (c .before .before .before .get-stake .ensures) ∙ found .1) in
+    let fits = vote-fits (start .stakes .now) (asAggregator (start .self)) (start .vote .0) (taken .0) ordered (knows .0) in
+    (fits .0, rw (knows .1) (fits .1))
+
+is-quorum-requires : tie.Need-is-quorum-requires
+is-quorum-requires c κs = search needs
+
+returns-4 : tie.Need-returns-4
+unfolding counted isQuorum
+returns-4 c =
+    let start = c .before .before .before .before .before .before .before .before .before .before .before .before .before .args in
+    let told = c .before .before .before .before .before .before .before .before .before .total .given in
+    let taken = taken-sound (start .stakes .now) (told .0 .0) (ap asNewCommittee (sym (told .1)) ∙ c .before .before .before .before .before .before .before .before .before .before .before .new-committee .ensures) in
+    let ordered = sym (c .before .before .before .before .before .before .before .in-order .ensures) ∙ not-false _ (c .before .before .before .before .before .before .if1 .left) in
+    let found = c .before .before .before .stake .given in
+    let knows = known-sound (start .stakes .now) (start .vote .0) (found .0 .0) (sym (c .before .before .before .before .before .get-stake .ensures) ∙ found .1) in
+    let next = c .before .with-vote .result in
+    added-sound (start .stakes .now) (asAggregator (start .self)) (start .vote .0) next (c .is-quorum .result) (taken .0) ordered (knows .0)
+    (c .before .with-vote .ensures ∙ rw (knows .1))
+    (c .is-quorum .ensures ∙ rw (taken .1))
+
+pub add-spec : {M : Type 1} → statement M
+add-spec =
+    tie.close
+    (tie.spec
+    new-committee-requires
+    enum-known-total
+    enum-told
+    returns
+    in-order-requires
+    returns-2
+    get-stake-requires
+    enum-known-stake
+    enum-told-2
+    returns-3
+    with-vote-requires
+    is-quorum-requires
+    returns-4)

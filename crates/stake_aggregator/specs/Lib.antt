@@ -1,0 +1,2 @@
+pub mod StakeAggregator
+pub mod Answers

@@ -1,0 +1,140 @@
+// The aggregator of stake. Follows `StakeAggregator` of committee.rs.
+use authority_set::AuthoritySet;
+use committee::AuthorityIndex;
+use committee::FoundStake;
+use committee::NewCommittee;
+use committee::Stake;
+ghost use mathlib.Core.Path.{_≡_};
+ghost use mathlib.Core.Bool.{false};
+ghost use Prim.Native.Nat.{_+_, _<_};
+ghost use Rattle.base.specs.Lists.{allOf};
+ghost use Rattle.committee.specs.Committee.{broken, known};
+ghost use Rattle.authority_set.specs.AuthoritySet.{members};
+ghost use Rattle.stake_aggregator.specs.StakeAggregator.{noVotes, withVote, aggregatorInOrder, add};
+ghost use Rattle.stake_aggregator.specs.Answers.{asAggregator, asAddAnswer, asAdded};
+
+// The authorities that voted, with the stake that they hold together.
+pub struct StakeAggregator {
+    pub votes: AuthoritySet,
+    pub stake: Stake,
+}
+
+// Whether quorum holds after a vote, or the refusal number.
+pub enum AddAnswer {
+    Counted(bool),
+    Refused(u64),
+}
+
+// What adding a vote answers, and the aggregator afterwards.
+pub struct Added {
+    pub answer: AddAnswer,
+    pub aggregator: StakeAggregator,
+}
+
+// Whether the committee knows every authority in the set.
+fn all_known(stakes: &[u64], votes: AuthoritySet) -> bool
+    ensures { λ r. ⌜ r ≡ allOf (known (now (stakes .entry))) (members votes) ⌝ }
+{
+    let mut i = stakes.len();
+    while i < 128 {
+        if votes.contains(AuthorityIndex(i as u64)) {
+            return false;
+        }
+        i += 1;
+    }
+    true
+}
+
+impl StakeAggregator {
+    // No votes yet.
+    pub fn new() -> StakeAggregator
+        ensures { λ r. ⌜ asAggregator r ≡ noVotes ⌝ }
+    {
+        StakeAggregator {
+            votes: AuthoritySet::new(),
+            stake: Stake(0),
+        }
+    }
+
+    // Whether the committee knows every voter, and the stake is the sum of theirs.
+    pub fn in_order(self, stakes: &[u64]) -> bool
+        requires { ⌜ broken (now stakes) ≡ false ⌝ }
+        ensures { λ r. ⌜ r ≡ aggregatorInOrder (now (stakes .entry)) (asAggregator self) ⌝ }
+    {
+        let votes = self.votes;
+        if !all_known(stakes, votes) {
+            return false;
+        }
+        let sum = authority_set::stake_of(stakes, votes);
+        self.stake.0 == sum.0
+    }
+
+    // The vote of an authority whose stake is given: stake grows only for a new voter.
+    pub fn with_vote(self, vote: AuthorityIndex, stake: Stake) -> StakeAggregator
+        requires { ⌜ (vote .0 < 128) × (self .stake .0 + stake .0 < 18446744073709551616) ⌝ }
+        ensures { λ r. ⌜ asAggregator r ≡ withVote (stake .0) (asAggregator self) (vote .0) ⌝ }
+    {
+        let votes = self.votes;
+        if votes.contains(vote) {
+            return self;
+        }
+        StakeAggregator {
+            votes: votes.insert(vote),
+            stake: Stake(self.stake.0 + stake.0),
+        }
+    }
+
+    // Adds a vote: 5, 6, 21 ascending, changing nothing; else whether quorum holds now.
+    pub fn add(self, stakes: &[u64], vote: AuthorityIndex) -> Added
+        ensures { λ r. ⌜ asAdded r ≡ add (now (stakes .entry)) (asAggregator self) (vote .0) ⌝ }
+    {
+        let NewCommittee::Taken(total) = committee::new_committee(stakes) else {
+            return Added {
+                answer: AddAnswer::Refused(5),
+                aggregator: self,
+            };
+        };
+        if !self.in_order(stakes) {
+            return Added {
+                answer: AddAnswer::Refused(6),
+                aggregator: self,
+            };
+        }
+        let FoundStake::Known(stake) = committee::get_stake(stakes, vote) else {
+            return Added {
+                answer: AddAnswer::Refused(21),
+                aggregator: self,
+            };
+        };
+        let next = self.with_vote(vote, stake);
+        Added {
+            answer: AddAnswer::Counted(committee::is_quorum(total, next.stake)),
+            aggregator: next,
+        }
+    }
+}
+
+// What `add` answers, whole.
+pub fn answer_of(stakes: &[u64], aggregator: StakeAggregator, vote: AuthorityIndex) -> AddAnswer
+    ensures { λ r. ⌜ asAddAnswer r ≡ add (now (stakes .entry)) (asAggregator aggregator) (vote .0) .answer ⌝ }
+{
+    let added = aggregator.add(stakes, vote);
+    added.answer
+}
+
+// The aggregator after `add`, whole: unchanged where the vote is refused.
+pub fn next_of(stakes: &[u64], aggregator: StakeAggregator, vote: AuthorityIndex) -> StakeAggregator
+    ensures { λ r. ⌜ asAggregator r ≡ add (now (stakes .entry)) (asAggregator aggregator) (vote .0) .aggregator ⌝ }
+{
+    let added = aggregator.add(stakes, vote);
+    added.aggregator
+}
+
+// Puts the vote into the aggregator that is lent: 5, 6, 21 ascending, changing nothing; else whether quorum holds now.
+pub fn add(aggregator: &mut StakeAggregator, stakes: &[u64], vote: AuthorityIndex) -> AddAnswer
+    ensures { λ r. ⌜ (asAddAnswer r ≡ add (now (stakes .entry)) (asAggregator (now (aggregator .entry))) (vote .0) .answer) × (asAggregator (now (aggregator .exit)) ≡ add (now (stakes .entry)) (asAggregator (now (aggregator .entry))) (vote .0) .aggregator) ⌝ }
+{
+    let old = *aggregator;
+    *aggregator = next_of(stakes, old, vote);
+    answer_of(stakes, old, vote)
+}
