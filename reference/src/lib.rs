@@ -9,6 +9,7 @@ pub mod engine;
 pub mod exhaustive;
 pub mod generate;
 pub mod graphs;
+pub mod inputs;
 pub mod list;
 pub mod model;
 pub mod program;

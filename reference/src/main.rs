@@ -19,6 +19,7 @@ fn main() {
         Some("boundary") => boundary(word(1) == Some("exact")),
         Some("listing") => listing(number(word(1), 1000), number(word(2), 1)),
         Some("model") => model(word(1).expect("a file")),
+        Some("inputs") => inputs(word(1) == Some("check")),
         #[cfg(has_rust)]
         Some("sample") => sample(word(1).expect("a folder"), word(2) == Some("check")),
         #[cfg(has_rust)]
@@ -142,6 +143,14 @@ fn listing(count: u64, seed: u64) {
 fn model(file: &str) {
     let input = std::fs::read(file).expect("the input");
     print!("{}", reference::model::listing::listing(&input));
+}
+
+/// Writes the inputs that are checked in, or checks them; and checks the tables of the course page.
+fn inputs(check: bool) {
+    let outcomes = reference::inputs::run(check);
+    let failed = outcomes.iter().filter_map(|outcome| outcome.as_ref().err());
+    failed.clone().for_each(|text| println!("{text}"));
+    end(outcomes.len() as u64, failed.count() as u64);
 }
 
 fn one(n: u64, seed: u64) {

@@ -42,7 +42,8 @@ fn table() {
         row(&format!("the same, the Rust with `verify` and its store, {name}"), engine, rust_feed_checked(&blocks));
     }
     println!();
-    check();
+    check(100);
+    check(1000);
     longest_listing();
     peak_memory();
 }
@@ -171,15 +172,15 @@ fn rust_feed_checked(_blocks: &[Block]) -> Option<f64> {
     None
 }
 
-/// The check of a store of 1,000 blocks, by a question that is refused right after it, beside one pass over its bytes.
-fn check() {
-    let memory = fed(&graphs::generated(1000));
+/// The check of a store of this many blocks, by a question that is refused right after it, beside one pass over its bytes.
+fn check(blocks: usize) {
+    let memory = fed(&graphs::generated(blocks));
     let used = number(&memory.store[4..8]) as usize;
     let locator = [0; 3];
     let check = least(|| engine::payload_length(&memory.stakes, &memory.store, &locator));
     let pass = least(|| memory.store[..used].iter().fold(0u64, |h, &b| h.wrapping_mul(31).wrapping_add(b as u64)));
     println!(
-        "check of a store of 1,000 blocks, {used} bytes: {}; one pass of a multiply and add over each byte: {}; ratio {:.2}",
+        "check of a store of {blocks} blocks, {used} bytes: {}; one pass of a multiply and add over each byte: {}; ratio {:.2}",
         time(check),
         time(pass),
         check / pass

@@ -1,5 +1,6 @@
 //! 01, "Committee and aggregator of stake".
 
+use super::mistake::Mistake;
 use super::record::number;
 
 pub const MOST_STAKE: u64 = u64::MAX / 2;
@@ -9,6 +10,8 @@ pub const MOST_STAKE: u64 = u64::MAX / 2;
 pub struct Committee {
     pub stakes: Vec<u64>,
     pub total: u64,
+    /// For the course page alone: a mistake in counting.
+    mistake: Option<Mistake>,
 }
 
 /// The voters of something and their stake. Authorities are the bits of a vote set.
@@ -27,7 +30,7 @@ impl Committee {
             _ if stakes.contains(&0) => Err(2),
             _ if stakes.len() > 128 => Err(3),
             _ if sum > MOST_STAKE as u128 => Err(4),
-            _ => Ok(Committee { stakes: stakes.to_vec(), total: sum as u64 }),
+            _ => Ok(Committee { stakes: stakes.to_vec(), total: sum as u64, mistake: None }),
         }
     }
 
@@ -42,6 +45,20 @@ impl Committee {
     /// The committee that a call is lent: 5 where it is broken.
     pub fn lent(bytes: &[u8]) -> Result<Committee, u64> {
         Committee::set_from_bytes(bytes).map_err(|_| 5)
+    }
+
+    /// The same committee, counting with this mistake.
+    pub fn mistaken(self, mistake: Option<Mistake>) -> Committee {
+        match mistake {
+            Some(Mistake::HeadsForStake) => {
+                Committee { total: self.stakes.len() as u64, stakes: vec![1; self.stakes.len()], mistake }
+            }
+            _ => Committee { mistake, ..self },
+        }
+    }
+
+    pub fn makes(&self, mistake: Mistake) -> bool {
+        self.mistake == Some(mistake)
     }
 
     pub fn knows(&self, authority: u64) -> bool {
@@ -64,8 +81,11 @@ impl Committee {
 
     /// Adds a known voter: stake grows only for a new one. Whether quorum holds now.
     pub fn vote(&self, votes: &mut Votes, voter: u64) -> bool {
-        votes.voters |= 1 << voter;
-        votes.stake = self.stake_of(votes.voters);
+        let is_new = votes.voters >> voter & 1 == 0;
+        if is_new || self.makes(Mistake::OwnerTwice) {
+            votes.voters |= 1 << voter;
+            votes.stake += self.stakes[voter as usize];
+        }
         self.is_quorum(votes.stake)
     }
 

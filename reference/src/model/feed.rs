@@ -1,6 +1,7 @@
 //! 01, "Aggregator" and the order of refusals: feeding a record.
 
 use super::committee::{Committee, Votes};
+use super::mistake::Mistake;
 use super::record::{Block, Reference, Statement};
 use super::store::Stores;
 use super::table::{capacity, Item, Table, TABLE_BYTES};
@@ -39,7 +40,10 @@ impl State {
 
     /// Feeds a record, lent a store and an event slice of these lengths; its events, or 20 to 30, 15, 13, 14.
     pub fn feed(&mut self, committee: &Committee, store: usize, events: usize, record: &[u8]) -> Result<Vec<Event>, u64> {
-        let block = self.stores.check(committee, record)?;
+        let mut block = self.stores.check(committee, record)?;
+        if committee.makes(Mistake::ShareOffsets) {
+            block.statements.sort_by_key(|statement| !matches!(statement, Statement::Share(_)));
+        }
         if events != EVENT_BYTES || 3 * room(&block) > EVENT_BYTES as u64 / 8 {
             return Err(15);
         }
@@ -77,15 +81,19 @@ fn process(committee: &Committee, stores: &Stores, table: &mut Table, block: &Bl
     }
     let mut events = Vec::new();
     for (index, statement) in block.statements.iter().enumerate() {
-        let (reference, start, end) = match statement {
+        let (reference, start, mut end) = match statement {
+            _ if block.marked && committee.makes(Mistake::MarkedBlock) => continue,
             Statement::Accept(locator) => (locator.block, locator.offset, locator.offset + 1),
             Statement::Range(reference, start, end) => (*reference, *start, *end),
             _ => continue,
         };
-        if start == end {
-            continue;
-        }
         let voted = stored(stores, block, &reference);
+        if start == end {
+            match voted.and_then(|(position, _)| table.starting(position, start)) {
+                Some(item) if committee.makes(Mistake::EmptyRange) => end = item.end,
+                _ => continue, // an empty range does nothing
+            }
+        }
         if let Some((position, _)) = voted {
             table.cut(position, start);
             table.cut(position, end);

@@ -2,7 +2,8 @@
 
 use std::collections::BTreeSet;
 
-use super::committee::Committee;
+use super::committee::{Committee, Votes};
+use super::mistake::Mistake;
 use super::record::{Block, Locator, Reference, Statement};
 use super::store::Stores;
 
@@ -27,6 +28,10 @@ impl<'a> Graph<'a> {
         let blocks: Vec<&Block> = stores.index.values().map(|i| &stores.blocks[*i].block).collect();
         let mut ancestries: Vec<Vec<usize>> = Vec::new();
         for (place, block) in blocks.iter().enumerate() {
+            if block.marked && committee.makes(Mistake::MarkedBlock) {
+                ancestries.push(vec![]);
+                continue;
+            }
             let mut ancestry = vec![false; place + 1];
             ancestry[place] = true;
             for include in &block.includes {
@@ -41,17 +46,17 @@ impl<'a> Graph<'a> {
     pub fn finality(&self, locator: &Locator) -> Finality {
         let votes: Vec<bool> = self.blocks.iter().map(|block| votes_for(block, locator)).collect();
         let mut certifying = Vec::new();
-        let mut authors = 0u128;
+        let mut authors = Votes::default();
+        let mut is_final = false;
         for (block, ancestry) in self.blocks.iter().zip(&self.ancestries) {
             let voting = ancestry.iter().filter(|below| votes[**below]);
             let voters = voting.fold(0u128, |voters, below| voters | 1 << self.blocks[*below].reference.author);
             if !block.marked && self.committee.is_quorum(self.committee.stake_of(voters)) {
                 certifying.push(block.reference);
-                authors |= 1 << block.reference.author;
+                is_final = self.committee.vote(&mut authors, block.reference.author);
             }
         }
-        let stake = self.committee.stake_of(authors);
-        Finality { is_final: self.committee.is_quorum(stake), certifying, stake }
+        Finality { is_final, certifying, stake: authors.stake }
     }
 
     /// Every locator with a vote, ascending: no other can be final.

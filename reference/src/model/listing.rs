@@ -3,6 +3,7 @@
 use super::committee::{Committee, COURSE};
 use super::feed::{Event, Kind, State, EVENT_BYTES};
 use super::finality::Graph;
+use super::mistake::Mistake;
 use super::record::{number, Locator};
 
 /// The store that `listing` lends.
@@ -69,10 +70,15 @@ pub fn read(input: &[u8]) -> (Vec<u64>, Vec<&[u8]>, bool) {
 
 /// What `listing` prints for an input.
 pub fn listing(input: &[u8]) -> String {
+    mistaken_listing(input, None)
+}
+
+/// What it would print, did it make this mistake.
+pub fn mistaken_listing(input: &[u8], mistake: Option<Mistake>) -> String {
     let (stakes, records, broken) = read(input);
     let mut lines = Lines::default();
     let committee = match Committee::new(&stakes) {
-        Ok(committee) => committee,
+        Ok(committee) => committee.mistaken(mistake),
         Err(number) => {
             lines.refused(0, number);
             lines.end(0, 0);

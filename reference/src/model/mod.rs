@@ -1,11 +1,13 @@
 //! A model of document 01, written from its text and as plainly as it reads (`lent`, the host's calls over bytes, from lomkhvide.h):
-//! no part of it looks at the code of the engine or of the Rust. Where the Rust has no answer (damaged records, broken memory, rejects, empty ranges) the engine is held to it.
+//! no part of it looks at the code of the engine or of the Rust. Where the Rust has no answer (damaged records, broken memory,
+//! rejects, empty ranges) the engine is held to it. It also says what `listing` prints on the inputs that are checked in.
 
 pub mod committee;
 pub mod feed;
 pub mod finality;
 pub mod lent;
 pub mod listing;
+pub mod mistake;
 pub mod record;
 pub mod store;
 pub mod table;

@@ -74,6 +74,11 @@ impl Table {
         self.items.insert(self.items.iter().take_while(after).count(), item);
     }
 
+    /// The item that starts at an offset of a block.
+    pub fn starting(&self, position: u64, offset: u64) -> Option<Item> {
+        self.items.iter().copied().find(|item| (item.position, item.start) == (position, offset))
+    }
+
     /// The index of the item that holds an offset of a block.
     pub fn find(&self, position: u64, offset: u64) -> Option<usize> {
         self.items.iter().position(|item| item.position == position && item.start <= offset && offset < item.end)

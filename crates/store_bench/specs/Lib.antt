@@ -1,1 +1,0 @@
--- No definitions of its own: the contract cites those of block_store.

@@ -1,0 +1,98 @@
+//! The course run of 01 and the five exercises of docs/COURSE.md.
+
+use super::input::{accept, range, reject, share, Input};
+use super::{named, Named};
+use crate::model::committee::COURSE;
+use crate::model::mistake::Mistake;
+
+pub fn inputs() -> Vec<Named> {
+    named![course_run, heads_for_stake, owner_twice, marked_block, share_offsets, empty_range]
+}
+
+/// The mistake that each exercise shows.
+pub const MISTAKES: [(&str, Mistake); 5] = [
+    ("heads_for_stake", Mistake::HeadsForStake),
+    ("owner_twice", Mistake::OwnerTwice),
+    ("marked_block", Mistake::MarkedBlock),
+    ("share_offsets", Mistake::ShareOffsets),
+    ("empty_range", Mistake::EmptyRange),
+];
+
+const FOUR: [u64; 4] = [1; 4];
+
+fn course_run() -> Vec<u8> {
+    let mut i = Input::new(&FOUR);
+    let first = i.round(0, 0..4, &[], &[]);
+    let one = i.round(1, 0..3, &first[..3], &[(0, vec![share(b"gain")])]);
+    let vote = vec![accept(one[0], 0)];
+    let two = i.round(2, 0..3, &one, &[(1, vote.clone()), (2, vote)]);
+    i.round(3, 0..3, &two, &[]);
+    i.bytes
+}
+
+/// The course committee: five owners of seven hold 9 of 17, four others 12.
+fn heads_for_stake() -> Vec<u8> {
+    let mut i = Input::new(&COURSE);
+    let first = i.round(0, 0..7, &[], &[]);
+    let one = i.round(1, 0..7, &first, &[(6, vec![share(b"by heads")]), (0, vec![share(b"by stake")])]);
+    let (by_heads, by_stake) = (accept(one[6], 0), accept(one[0], 0));
+    let two = i.round(
+        2,
+        0..7,
+        &one,
+        &[
+            (1, vec![by_stake.clone()]),
+            (2, vec![by_heads.clone(), by_stake.clone()]),
+            (3, vec![by_heads.clone()]),
+            (4, vec![by_heads.clone()]),
+            (5, vec![by_heads]),
+            (6, vec![by_stake]),
+        ],
+    );
+    i.round(3, 0..7, &two, &[]);
+    i.bytes
+}
+
+/// Three of four are quorum. Owner 1 votes twice for the share of owner 0; owner 3 certifies the share of owner 2 twice.
+fn owner_twice() -> Vec<u8> {
+    let mut i = Input::new(&FOUR);
+    let first = i.round(0, 0..4, &[], &[]);
+    let one = i.round(1, 0..4, &first, &[(0, vec![share(b"two owners vote")]), (2, vec![share(b"two owners certify")])]);
+    let (mine, other) = (vec![accept(one[0], 0)], vec![accept(one[2], 0)]);
+    let two = i.round(2, 0..4, &one, &[(0, other.clone()), (1, mine.clone()), (3, other)]);
+    i.add(1, 2, &one, &mine); // a second block of owner 1 in round 2
+    i.round(3, [3, 3, 0], &two, &[]);
+    i.bytes
+}
+
+/// The votes of owners 1, 2 and 3 stand in marked blocks, and round 3 reaches the share through these alone.
+fn marked_block() -> Vec<u8> {
+    let mut i = Input::new(&FOUR);
+    let first = i.round(0, 0..4, &[], &[]);
+    let one = i.round(1, 0..4, &first, &[(0, vec![share(b"gain")])]);
+    let two = [1, 2, 3].map(|author| i.add_marked(author, 2, &one, &[accept(one[0], 0)]));
+    i.round(3, 0..3, &two, &[]);
+    i.bytes
+}
+
+/// Shares at statements 1 and 3 of a block; the votes go to offsets 1 and 3.
+fn share_offsets() -> Vec<u8> {
+    let mut i = Input::new(&FOUR);
+    let first = i.round(0, 0..4, &[], &[]);
+    let shares = vec![range(first[0], 0, 0), share(b"first"), reject(first[1], 0), share(b"second")];
+    let one = i.round(1, 0..4, &first, &[(0, shares)]);
+    let votes = vec![accept(one[0], 1), range(one[0], 3, 4)];
+    let two = i.round(2, 0..4, &one, &[(1, votes.clone()), (2, votes)]);
+    i.round(3, 0..4, &two, &[]);
+    i.bytes
+}
+
+/// Item 0..8, a vote 3..5 of owner 1, then a vote 3..3 of owner 2.
+fn empty_range() -> Vec<u8> {
+    let mut i = Input::new(&FOUR);
+    let first = i.round(0, 0..4, &[], &[]);
+    let one = i.round(1, 0..4, &first, &[(0, vec![share(b""); 8])]);
+    let two = i.round(2, 0..4, &one, &[(1, vec![range(one[0], 3, 5)]), (2, vec![range(one[0], 3, 3)])]);
+    i.round(3, 0..4, &two, &[(3, vec![range(one[0], 3, 4)])]);
+    i.bytes
+}

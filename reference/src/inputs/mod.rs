@@ -1,0 +1,96 @@
+//! The inputs of `listing` that are checked in, what it has to print on them by the model, and the tables of docs/COURSE.md.
+
+mod counted;
+mod course;
+mod input;
+mod refused;
+
+use std::fs;
+use std::path::Path;
+
+use crate::model::listing::{listing, mistaken_listing};
+use crate::model::mistake::Mistake;
+
+const ROOT: &str = concat!(env!("CARGO_MANIFEST_DIR"), "/..");
+
+/// An input by its name, as its bytes.
+type Named = (&'static str, Vec<u8>);
+
+/// Names inputs by the functions that make them.
+macro_rules! named {
+    ($($make:ident),* $(,)?) => { vec![$((stringify!($make), $make())),*] };
+}
+use named;
+
+/// Every input, in the order in which `listing_runs` runs them.
+fn inputs() -> Vec<Named> {
+    [course::inputs(), refused::inputs(), counted::inputs()].concat()
+}
+
+/// Every file that is made, by its place below crates/.
+fn files(inputs: &[Named]) -> Vec<(String, Vec<u8>)> {
+    let course_run = &inputs[0].1;
+    let args: String = inputs.iter().map(|(name, _)| format!("{name}.bin\n")).collect();
+    let stdout: String = inputs.iter().map(|(name, input)| format!("== {name}.bin\n{}", listing(input))).collect();
+    let mut files = vec![
+        ("listing/stdin".into(), course_run.clone()),
+        ("listing/stdout".into(), listing(course_run).into_bytes()),
+        ("listing_runs/args".into(), args.into_bytes()),
+        ("listing_runs/stdout".into(), stdout.into_bytes()),
+    ];
+    files.extend(inputs.iter().map(|(name, input)| (format!("listing_runs/data/{name}.bin"), input.clone())));
+    files
+}
+
+/// The two columns of the table below an exercise's heading: the lines of `listing` and the mistaken ones.
+fn columns(page: &str, name: &str) -> [String; 2] {
+    let exercise = page.split_once(&format!("`{name}.bin`\n")).map_or("", |(_, rest)| rest);
+    let table = exercise.split_once("\n01:").map_or("", |(table, _)| table);
+    let rows = table.lines().filter(|line| line.starts_with('|')).skip(2);
+    let mut columns = [String::new(), String::new()];
+    for row in rows {
+        for (column, cell) in columns.iter_mut().zip(row.split('|').skip(1)) {
+            let line = cell.trim_matches([' ', '`']);
+            if !line.is_empty() {
+                *column += &format!("{line}\n");
+            }
+        }
+    }
+    columns
+}
+
+/// What is wrong with an exercise of the course page, if anything.
+fn exercise(page: &str, name: &str, input: &[u8], mistake: Mistake) -> Result<(), String> {
+    let lines = [listing(input), mistaken_listing(input, Some(mistake))];
+    if lines[0] == lines[1] {
+        return Err(format!("{name}: the mistake shows nowhere"));
+    }
+    if columns(page, name) != lines {
+        return Err(format!("docs/COURSE.md has other lines for {name}:\n{}\nand mistaken\n{}", lines[0], lines[1]));
+    }
+    Ok(())
+}
+
+/// Writes a file, or checks that it is what is made.
+fn file(place: &str, content: &[u8], check: bool) -> Result<(), String> {
+    let path = Path::new(ROOT).join("crates").join(place);
+    if check {
+        return match fs::read(&path) {
+            Ok(found) if found == content => Ok(()),
+            _ => Err(format!("crates/{place} is not what is made")),
+        };
+    }
+    fs::write(&path, content).map_err(|e| format!("{}: {e}", path.display()))
+}
+
+/// Writes or checks every file, and checks the course page: what came of each.
+pub fn run(check: bool) -> Vec<Result<(), String>> {
+    let inputs = inputs();
+    let page = fs::read_to_string(Path::new(ROOT).join("docs/COURSE.md")).unwrap_or_default();
+    let exercises = course::MISTAKES.iter().map(|(name, mistake)| {
+        let (_, input) = inputs.iter().find(|(made, _)| made == name).expect("an input of this name");
+        exercise(&page, name, input, *mistake)
+    });
+    let files = files(&inputs);
+    exercises.chain(files.iter().map(|(place, content)| file(place, content, check))).collect()
+}
