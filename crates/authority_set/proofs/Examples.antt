@@ -1,4 +1,4 @@
--- A vote set and `add` at small values, evaluated. Assumes nothing.
+-- A vote set at small values, evaluated. Assumes nothing.
 use mathlib.Core.Path.{_≡_, refl}
 use mathlib.Core.List.{[], _∷_}
 use Rattle.authority_set.specs.AuthoritySet.{inserted, nobody, members}

@@ -1,1 +1,1 @@
--- No definitions of its own: the contract cites those of committee.
+-- No definitions of its own: the contract cites those of stake_aggregator.

@@ -1,4 +1,4 @@
--- A vote set and `add` at small values, evaluated. Assumes nothing.
+-- `add` at small values, evaluated. Assumes nothing.
 use Prim.Native.Nat.{ℕ}
 use mathlib.Core.Path.{_≡_, refl}
 use mathlib.Core.Bool.{true, false}

@@ -114,27 +114,12 @@ impl StakeAggregator {
     }
 }
 
-// What `add` answers, whole.
-pub fn answer_of(stakes: &[u64], aggregator: StakeAggregator, vote: AuthorityIndex) -> AddAnswer
-    ensures { λ r. ⌜ asAddAnswer r ≡ add (now (stakes .entry)) (asAggregator aggregator) (vote .0) .answer ⌝ }
-{
-    let added = aggregator.add(stakes, vote);
-    added.answer
-}
-
-// The aggregator after `add`, whole: unchanged where the vote is refused.
-pub fn next_of(stakes: &[u64], aggregator: StakeAggregator, vote: AuthorityIndex) -> StakeAggregator
-    ensures { λ r. ⌜ asAggregator r ≡ add (now (stakes .entry)) (asAggregator aggregator) (vote .0) .aggregator ⌝ }
-{
-    let added = aggregator.add(stakes, vote);
-    added.aggregator
-}
-
 // Puts the vote into the aggregator that is lent: 5, 6, 21 ascending, changing nothing; else whether quorum holds now.
 pub fn add(aggregator: &mut StakeAggregator, stakes: &[u64], vote: AuthorityIndex) -> AddAnswer
     ensures { λ r. ⌜ (asAddAnswer r ≡ add (now (stakes .entry)) (asAggregator (now (aggregator .entry))) (vote .0) .answer) × (asAggregator (now (aggregator .exit)) ≡ add (now (stakes .entry)) (asAggregator (now (aggregator .entry))) (vote .0) .aggregator) ⌝ }
 {
     let old = *aggregator;
-    *aggregator = next_of(stakes, old, vote);
-    answer_of(stakes, old, vote)
+    let added = old.add(stakes, vote);
+    *aggregator = added.aggregator;
+    added.answer
 }

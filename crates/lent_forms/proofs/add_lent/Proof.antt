@@ -59,7 +59,7 @@ use Rattle.committee.proofs.AuthorityIndex as I
 use Rattle.committee.proofs.AuthorityIndex.Laws as I′
 use Rattle.stake_aggregator.proofs.add as add
 use Rattle.stake_aggregator.proofs.add.Symbol as add-def
-use Rattle.stake_aggregator.proofs.add.Symbol.{name as #committee·add}
+use Rattle.stake_aggregator.proofs.add.Symbol.{name as #stake-aggregator·add}
 use Rattle.stake_aggregator.proofs.add.Met as add-thm
 use Rattle.lent_forms.proofs.added as added
 use Rattle.lent_forms.proofs.added.Symbol as added-def
@@ -170,7 +170,7 @@ module _ {M : Type 1} (𝓤 : URA M) (H : Heap 𝓤) (A : Atoms 𝓤) (W : Given
       nothing ! $ owned ! I.the-row (Is I.the-row) (LL.makes I.the-type I′.the-plain 𝓤 H A) i _ gi $ fjoin ! $ owned ! T.the-row (Is T.the-row) (LL.makes T.the-type T′.the-plain 𝓤 H A) h _ gh $ fjoin ! $
       move ! (2 ∷ 0 ∷ []) $ fjoin ! $ done !
 
-  module _ (C : Calls 𝓤 H) (Λ : Loops 𝓤 H) (fm : FmC 𝓤 H (W .laws) C) (known : Triple 𝓤 (C #committee·add) (Adds 𝓤 H A at-mem run)) (known-added : Triple 𝓤 (C #lent-forms·added) (Makes 𝓤 H A at-mem run)) where
+  module _ (C : Calls 𝓤 H) (Λ : Loops 𝓤 H) (fm : FmC 𝓤 H (W .laws) C) (known : Triple 𝓤 (C #stake-aggregator·add) (Adds 𝓤 H A at-mem run)) (known-added : Triple 𝓤 (C #lent-forms·added) (Makes 𝓤 H A at-mem run)) where
     walk : Is (ShrSlice (named 0) κ u64) c (vc ∷ []) → Is T.the-row h (mach h ∷ []) → Is I.the-row i (voter i ∷ []) → ent 𝓤 (onEntry 𝓤 H A lent.signature (κ, tt) (q, tt) a vals) (WpFn 𝓤 H C Λ code.function (vc ∷ mach h ∷ voter i ∷ []) Post)
     walk pc gh gi =
         qed W ((‵ (flft κ q) ⊛ ‵ ftrue) ∷ ‵ (owns (ShrSlice (named 0) κ u64 ∷ T.the-row ∷ I.the-row ∷ []) a vals) ∷ []) ∵
@@ -216,14 +216,14 @@ module _ {M : Type 1} (𝓤 : URA M) (H : Heap 𝓤) (A : Atoms 𝓤) (W : Given
         keep ! (1 ∷ 0 ∷ 3 ∷ []) $ by ! (exits t u gh gi (told t r (zs .0) e f))))))))))))))))))))))
 
 module _ {M : Type 1} (𝓤 : URA M) (H : Heap 𝓤) (A : Atoms 𝓤) (W : Given 𝓤 H A) (at-mem : Memory → SProp 𝓤) (run : Routine → Fun 𝓤) where
-  lent-walks : (C : Calls 𝓤 H) (Λ : Loops 𝓤 H) → FmC 𝓤 H (W .laws) C → Triple 𝓤 (C #committee·add) (Adds 𝓤 H A at-mem run) → Triple 𝓤 (C #lent-forms·added) (Makes 𝓤 H A at-mem run)
+  lent-walks : (C : Calls 𝓤 H) (Λ : Loops 𝓤 H) → FmC 𝓤 H (W .laws) C → Triple 𝓤 (C #stake-aggregator·add) (Adds 𝓤 H A at-mem run) → Triple 𝓤 (C #lent-forms·added) (Makes 𝓤 H A at-mem run)
       → Walks 𝓤 H A lent.ended stayed (WpFn 𝓤 H C Λ code.function) (lent.clauses 𝓤 H A at-mem run)
   lent-walks C Λ fm known known-added = walked 𝓤 H A lent.ended stayed (lent.clauses 𝓤 H A at-mem run) (WpFn 𝓤 H C Λ code.function)
       (λ κs. (slice-vals, (LL.vals T.the-type T′.the-laws, (LL.vals I.the-type I′.the-laws, tt)))) (λ κs. (shr-slice-tells (named 0) (κs .0) u64, (LL.tells T.the-type T′.the-laws, (LL.tells I.the-type I′.the-laws, tt))))
       (λ κs qs bounds a g are. via 𝓤 _ (fst∗ 𝓤 _ (emp 𝓤)) (walk 𝓤 H A W at-mem run (κs .0) (qs .0) (a .0) (a .1 .0) (a .1 .1 .0) C Λ fm known known-added (are .0) (are .1 .0) (are .1 .1 .0)))
 
 lent-meets : {M : Type 1} (𝓤 : URA M) (H : Heap 𝓤) (A : Atoms 𝓤) (W : Given 𝓤 H A) (at-mem : Memory → SProp 𝓤) (run : Routine → Fun 𝓤) (𝓣 : Tables 𝓤 H)
-    → Triple 𝓤 (𝓣 .C #committee·add) (Adds 𝓤 H A at-mem run) → Triple 𝓤 (𝓣 .C #lent-forms·added) (Makes 𝓤 H A at-mem run)
+    → Triple 𝓤 (𝓣 .C #stake-aggregator·add) (Adds 𝓤 H A at-mem run) → Triple 𝓤 (𝓣 .C #lent-forms·added) (Makes 𝓤 H A at-mem run)
     → Meets 𝓤 H A lent.signature (WpFn 𝓤 H (𝓣 .C) (𝓣 .Λ) code.function) (lent.spec 𝓤 H A at-mem run)
 lent-meets 𝓤 H A W at-mem run 𝓣 known known-added =
     walk-meets 𝓤 H A lent.ended stayed W (goes-none-slice 𝓤 H A W 1 (0 ∷ []) tt (plain (λ _. u64)) yes, (goes-none 𝓤 H A W 1 (λ _. T.the-row) yes (λ κs x f. refl), (goes-none 𝓤 H A W 1 (λ _. I.the-row) yes (λ κs x f. refl), tt)))
@@ -236,5 +236,5 @@ add-lent-spec 𝓤 H 𝓜 𝓖 𝓡 =
     entered 𝓤 H (tripleOf 𝓤 H (𝓖 .A) lent.signature (lent.spec 𝓤 H (𝓖 .A) (𝓜 .mem) (𝓡 .run)))
     (tables 𝓤 H 𝓜 𝓡 code.env .C) (tables 𝓤 H 𝓜 𝓡 code.env .Λ) #lent-forms·add-lent code.function (code.unfolded 𝓤 H 𝓜 𝓡)
     (lent-meets 𝓤 H (𝓖 .A) (givenOf 𝓤 H 𝓜 𝓖) (𝓜 .mem) (𝓡 .run) (tablesOf 𝓤 H 𝓜 (tables 𝓤 H 𝓜 𝓡 code.env))
-    (cited 𝓤 H (Adds 𝓤 H (𝓖 .A) (𝓜 .mem) (𝓡 .run)) 𝓜 𝓡 code.env #committee·add add-def.routine code.calls-stake-aggregator·add (add-thm.met 𝓤 H 𝓜 𝓖 𝓡))
+    (cited 𝓤 H (Adds 𝓤 H (𝓖 .A) (𝓜 .mem) (𝓡 .run)) 𝓜 𝓡 code.env #stake-aggregator·add add-def.routine code.calls-stake-aggregator·add (add-thm.met 𝓤 H 𝓜 𝓖 𝓡))
     (cited 𝓤 H (Makes 𝓤 H (𝓖 .A) (𝓜 .mem) (𝓡 .run)) 𝓜 𝓡 code.env #lent-forms·added added-def.routine code.calls-lent-forms·added (added-thm.met 𝓤 H 𝓜 𝓖 𝓡)))
