@@ -1,5 +1,4 @@
 pub mod Computing
-pub mod Examples
 pub mod Bits
 pub mod Votes
 pub mod Stakes
@@ -8,3 +7,4 @@ pub mod Words
 pub mod Counts
 pub mod Sums
 pub mod Members
+mod Claimed

@@ -1,1 +1,2 @@
 pub mod AuthoritySet
+pub mod Claims

@@ -6,6 +6,7 @@ ghost use mathlib.Core.Bool.{false};
 ghost use Prim.Native.Nat.{_^_, _<_};
 ghost use Rattle.committee.specs.Committee.{broken};
 ghost use Rattle.authority_set.specs.AuthoritySet.{nobody, member, inserted, numberOfVoters, stakeOf};
+ghost use Rattle.authority_set.specs.Claims.{Claims};
 
 // A vote set: 128 bits in two words.
 pub struct AuthoritySet {
@@ -157,3 +158,8 @@ pub fn stake_of(stakes: &[u64], votes: AuthoritySet) -> Stake
     }
     Stake(stake)
 }
+
+// The vote set at small values.
+pub fn claims()
+    ensures { λ _. ⌜ Claims ⌝ }
+{}

@@ -1,10 +1,10 @@
 -- What the answers of setting a committee and of looking a stake up tell. Assumes nothing.
-use mathlib.Core.Path.{_≡_, refl, sym, _∙_}
+use mathlib.Core.Path.{_≡_, refl}
 use mathlib.Core.Bool.{Bool, true, false, not}
 use Prim.Native.Nat.{ℕ}
 use native.Mathlib.Omega.{arith}
 use Rattle.base.specs.Lists.{pick}
-use Rattle.base.specs.Checks.{Answer, refused, answered, refusal, passes, checked}
+use Rattle.base.specs.Checks.{refused, answered, refusal, passes, checked}
 use Rattle.committee.specs.declared.Stake as code-stake
 use Rattle.committee.specs.declared.NewCommittee.the-variants.{Taken, Broken}
 use Rattle.committee.specs.declared.FoundStake.the-variants.{Known, Unknown}

@@ -1,5 +1,5 @@
 pub mod Computing
-pub mod Examples
 pub mod Aggregators
 pub mod Adding
 pub mod Tallies
+mod Claimed

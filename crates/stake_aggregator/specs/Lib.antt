@@ -1,2 +1,3 @@
 pub mod StakeAggregator
 pub mod Answers
+pub mod Claims

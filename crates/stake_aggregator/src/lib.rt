@@ -12,6 +12,7 @@ ghost use Rattle.committee.specs.Committee.{broken, known};
 ghost use Rattle.authority_set.specs.AuthoritySet.{members};
 ghost use Rattle.stake_aggregator.specs.StakeAggregator.{noVotes, withVote, aggregatorInOrder, add};
 ghost use Rattle.stake_aggregator.specs.Answers.{asAggregator, asAddAnswer, asAdded};
+ghost use Rattle.stake_aggregator.specs.Claims.{Claims};
 
 // The authorities that voted, with the stake that they hold together.
 pub struct StakeAggregator {
@@ -123,3 +124,8 @@ pub fn add(aggregator: &mut StakeAggregator, stakes: &[u64], vote: AuthorityInde
     *aggregator = added.aggregator;
     added.answer
 }
+
+// `add` at small values.
+pub fn claims()
+    ensures { λ _. ⌜ Claims ⌝ }
+{}
