@@ -152,7 +152,8 @@ pub fn stake_of(stakes: &[u64], votes: AuthoritySet) -> Stake
     let mut i = 0;
     while i < stakes.len() {
         if votes.contains(AuthorityIndex(i as u64)) {
-            stake += stakes[i];
+            let s = stakes[i];
+            stake += s;
         }
         i += 1;
     }

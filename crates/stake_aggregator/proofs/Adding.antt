@@ -1,7 +1,7 @@
 -- `add`, case by case, as the code tells the cases apart. Assumes nothing.
 use mathlib.Core.Path.{_≡_}
 use mathlib.Core.Bool.{Bool, true, false}
-use Prim.Native.Nat.{_+_, _<_}
+use Prim.Native.Nat.{ℕ, _+_, _<_}
 use native.Mathlib.Omega.{arith}
 use borrow.Author.Tests.{eqb-true}
 use Rattle.base.specs.Lists.{allOf}
@@ -12,9 +12,15 @@ use Rattle.authority_set.specs.AuthoritySet.{members, stakeOf}
 use Rattle.stake_aggregator.specs.StakeAggregator.{StakeAggregator, counted, hasQuorum, aggregatorInOrder, addChecks, add}
 use Rattle.stake_aggregator.specs.Answers.{asAggregator, asAddAnswer, asAdded}
 use Rattle.stake_aggregator.specs.declared.StakeAggregator as code-aggregator
-use Rattle.stake_aggregator.specs.declared.AddAnswer.the-variants.{Counted}
+use Rattle.stake_aggregator.specs.declared.AddAnswer.the-variants.{Counted, Refused}
+use Rattle.stake_aggregator.specs.declared.Added as code-added
 use Rattle.committee.proofs.Bounds.{few-members, known-below, total-most, member-most}
 use Rattle.authority_set.proofs.Sums.{stake-most}
+
+-- what the code answers where it refuses
+pub refused-sound : (d : code-added.Added) (g : code-aggregator.StakeAggregator) (n : ℕ) → (d .answer ≡ Refused n) × (d .aggregator ≡ g) → asAdded d ≡ record { answer = refused n; aggregator = asAggregator g }
+unfolding asAdded asAddAnswer
+refused-sound d g n e = rw (e .0, e .1)
 
 module _ (c : Committee) (g : StakeAggregator) (a : AuthorityIndex) where
   pub add-broken : broken c ≡ true → add c g a ≡ record { answer = refused 5; aggregator = g }

@@ -85,27 +85,28 @@ impl StakeAggregator {
         }
     }
 
+    // A refusal changes nothing.
+    fn refused(self, number: u64) -> Added
+        ensures { λ r. ⌜ (r .answer ≡ AddAnswer.Refused number) × (r .aggregator ≡ self) ⌝ }
+    {
+        Added {
+            answer: AddAnswer::Refused(number),
+            aggregator: self,
+        }
+    }
+
     // Adds a vote: 5, 6, 21 ascending, changing nothing; else whether quorum holds now.
     pub fn add(self, stakes: &[u64], vote: AuthorityIndex) -> Added
         ensures { λ r. ⌜ asAdded r ≡ add (now (stakes .entry)) (asAggregator self) (vote .0) ⌝ }
     {
         let NewCommittee::Taken(total) = committee::new_committee(stakes) else {
-            return Added {
-                answer: AddAnswer::Refused(5),
-                aggregator: self,
-            };
+            return self.refused(5);
         };
         if !self.in_order(stakes) {
-            return Added {
-                answer: AddAnswer::Refused(6),
-                aggregator: self,
-            };
+            return self.refused(6);
         }
         let FoundStake::Known(stake) = committee::get_stake(stakes, vote) else {
-            return Added {
-                answer: AddAnswer::Refused(21),
-                aggregator: self,
-            };
+            return self.refused(21);
         };
         let next = self.with_vote(vote, stake);
         Added {

@@ -23,11 +23,11 @@ loop-holds c = (omega arith, omega arith)
 contains-requires : tie.Need-contains-requires Inv-loop μ-loop
 contains-requires c κs = search needs
 
-mul-stake : tie.Need-mul-stake Inv-loop μ-loop
-mul-stake c = search needs
+mul-s : tie.Need-mul-s Inv-loop μ-loop
+mul-s c = search needs
 
-shared-slice-read-stake : tie.Need-shared-slice-read-stake Inv-loop μ-loop
-shared-slice-read-stake c = search needs
+shared-slice-read-s : tie.Need-shared-slice-read-s Inv-loop μ-loop
+shared-slice-read-s c = search needs
 
 add-stake : tie.Need-add-stake Inv-loop μ-loop
 add-stake c =
@@ -72,8 +72,8 @@ stake-of-spec =
     μ-loop
     loop-holds
     contains-requires
-    mul-stake
-    shared-slice-read-stake
+    mul-s
+    shared-slice-read-s
     add-stake
     add-i
     loop-less

@@ -1,7 +1,7 @@
-use Rattle.stake_aggregator.proofs.Adding.{add-broken, add-disordered, add-unknown, added-sound, vote-fits}
+use Rattle.stake_aggregator.proofs.Adding.{refused-sound, add-broken, add-disordered, add-unknown, added-sound, vote-fits}
 use Rattle.committee.proofs.Answers.{taken-sound, broken-sound, known-sound, unknown-sound}
 use Rattle.committee.specs.Answers.{asNewCommittee}
-use Rattle.stake_aggregator.specs.Answers.{asAggregator, asAddAnswer, asAdded}
+use Rattle.stake_aggregator.specs.Answers.{asAggregator}
 use Rattle.stake_aggregator.specs.StakeAggregator.{counted}
 use Rattle.committee.specs.Committee.{isQuorum}
 use borrow.Author.Tests.{not-true, not-false}
@@ -19,13 +19,15 @@ enum-known-total c = search needs
 enum-told : tie.Need-enum-told
 enum-told c = search needs
 
+refused-requires : tie.Need-refused-requires
+refused-requires c κs = search needs
+
 returns : tie.Need-returns
-unfolding asAdded asAddAnswer
 returns c =
-    let start = c .before .before .before .before .args in
-    let answer = c .before .before .new-committee .ensures in
-    let told = c .enum-told .given in
-    sym (add-broken _ _ _ (broken-sound (start .stakes .now) (told .0 .0) (ap asNewCommittee (sym (told .1)) ∙ answer)))
+    let start = c .before .before .before .before .before .args in
+    let answer = c .before .before .before .new-committee .ensures in
+    let told = c .before .enum-told .given in
+    refused-sound _ _ _ (c .refused .ensures) ∙ sym (add-broken _ _ _ (broken-sound (start .stakes .now) (told .0 .0) (ap asNewCommittee (sym (told .1)) ∙ answer)))
 
 in-order-requires : tie.Need-in-order-requires
 in-order-requires c κs =
@@ -33,13 +35,15 @@ in-order-requires c κs =
     let told = c .before .total .given in
     taken-sound (start .stakes .now) (told .0 .0) (ap asNewCommittee (sym (told .1)) ∙ c .before .before .before .new-committee .ensures) .0
 
+refused-requires-2 : tie.Need-refused-requires-2
+refused-requires-2 c κs = search needs
+
 returns-2 : tie.Need-returns-2
-unfolding asAdded asAddAnswer
 returns-2 c =
-    let start = c .before .before .before .before .before .before .before .args in
-    let told = c .before .before .before .total .given in
-    let taken = taken-sound (start .stakes .now) (told .0 .0) (ap asNewCommittee (sym (told .1)) ∙ c .before .before .before .before .before .new-committee .ensures) in
-    sym (add-disordered _ _ _ (taken .0) (sym (c .before .in-order .ensures) ∙ not-true _ (c .if1 .taken)))
+    let start = c .before .before .before .before .before .before .before .before .args in
+    let told = c .before .before .before .before .total .given in
+    let taken = taken-sound (start .stakes .now) (told .0 .0) (ap asNewCommittee (sym (told .1)) ∙ c .before .before .before .before .before .before .new-committee .ensures) in
+    refused-sound _ _ _ (c .refused2 .ensures) ∙ sym (add-disordered _ _ _ (taken .0) (sym (c .before .before .in-order .ensures) ∙ not-true _ (c .before .if1 .taken)))
 
 get-stake-requires : tie.Need-get-stake-requires
 get-stake-requires c κs = search needs
@@ -50,15 +54,17 @@ enum-known-stake c = search needs
 enum-told-2 : tie.Need-enum-told-2
 enum-told-2 c = search needs
 
+refused-requires-3 : tie.Need-refused-requires-3
+refused-requires-3 c κs = search needs
+
 returns-3 : tie.Need-returns-3
-unfolding asAdded asAddAnswer
 returns-3 c =
-    let start = c .before .before .before .before .before .before .before .before .before .before .args in
-    let told = c .before .before .before .before .before .before .total .given in
-    let taken = taken-sound (start .stakes .now) (told .0 .0) (ap asNewCommittee (sym (told .1)) ∙ c .before .before .before .before .before .before .before .before .new-committee .ensures) in
-    let ordered = sym (c .before .before .before .before .in-order .ensures) ∙ not-false _ (c .before .before .before .if1 .left) in
-    let unknown = unknown-sound (start .stakes .now) (start .vote .0) (sym (c .before .before .get-stake .ensures) ∙ c .enum-told2 .given .1) in
-    sym (add-unknown _ _ _ (taken .0) ordered unknown)
+    let start = c .before .before .before .before .before .before .before .before .before .before .before .args in
+    let told = c .before .before .before .before .before .before .before .total .given in
+    let taken = taken-sound (start .stakes .now) (told .0 .0) (ap asNewCommittee (sym (told .1)) ∙ c .before .before .before .before .before .before .before .before .before .new-committee .ensures) in
+    let ordered = sym (c .before .before .before .before .before .in-order .ensures) ∙ not-false _ (c .before .before .before .before .if1 .left) in
+    let unknown = unknown-sound (start .stakes .now) (start .vote .0) (sym (c .before .before .before .get-stake .ensures) ∙ c .before .enum-told2 .given .1) in
+    refused-sound _ _ _ (c .refused3 .ensures) ∙ sym (add-unknown _ _ _ (taken .0) ordered unknown)
 
 with-vote-requires : tie.Need-with-vote-requires
 with-vote-requires c κs =
@@ -95,12 +101,15 @@ add-spec =
     new-committee-requires
     enum-known-total
     enum-told
+    refused-requires
     returns
     in-order-requires
+    refused-requires-2
     returns-2
     get-stake-requires
     enum-known-stake
     enum-told-2
+    refused-requires-3
     returns-3
     with-vote-requires
     is-quorum-requires
