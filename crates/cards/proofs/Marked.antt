@@ -1,13 +1,11 @@
 -- The marked cards hold: evaluated, where a card is about given values. Assumes nothing.
 use mathlib.Core.Path.{refl}
 use Rattle.committee.specs.Committee.{isQuorum, isValid}
-use Rattle.blocks.proofs.Computing.{computing}
-use Rattle.feeds.proofs.Computing.{computing as counting}
-use Rattle.finality.proofs.Computing.{computing as certifying}
+use Rattle.promises.proofs.Computing.{computing}
 use Rattle.cards.specs.Marked.{MarkedCards}
 
 pub marked : MarkedCards
-unfolding computing counting certifying
+unfolding computing
 marked =
     record {
       four-quorum = λ c h. rw h;
@@ -28,8 +26,10 @@ marked =
       never-joined = refl;
       sole-final = refl;
       sole-pending = refl;
+      under-mark = refl;
       marked-not = refl;
       child-certifies = refl;
+      child-alone = refl;
       author-once = refl;
       third-author = refl;
     }

@@ -2,16 +2,20 @@
 use Prim.Native.Nat.{ℕ}
 use mathlib.Core.Path.{_≡_}
 use mathlib.Core.Bool.{Bool, true, false}
-use mathlib.Core.List.{List, [], _∷_}
+use mathlib.Core.List.{List, [], _∷_, _++_, map}
+use lib.ListN.{replicate}
 use Rattle.base.specs.Le.{Bytes}
-use Rattle.base.specs.Checks.{refusal, refused, answered}
+use Rattle.base.specs.Checks.{refusal, Answer, refused, answered}
 use Rattle.committee.specs.Committee.{Committee, totalStake, newCommittee, isQuorum, isValid}
 use Rattle.blocks.specs.Reference.{BlockReference, TransactionLocator, newRange}
 use Rattle.blocks.specs.Block.{Statement, share, accept, voteRange, Block, sharedRanges}
 use Rattle.blocks.specs.Verify.{statementChecks}
 use Rattle.pending_items.specs.Items.{Item, voteOver}
-use Rattle.feeds.specs.ProcessBlock.{processBlock}
-use Rattle.finality.specs.Voters.{certifies, isFinal}
+use Rattle.blocks.specs.Record.{blockBytes}
+use Rattle.feeds.specs.Pending.{pending}
+use Rattle.finality.specs.Voters.{certifies}
+use Rattle.finality.specs.Finality.{Finality, finality, blocksOf}
+use Rattle.promises.specs.Feeds.{Engine, fresh, run}
 
 -- ---- what the cards speak of
 
@@ -23,34 +27,68 @@ abbrev pub item : ℕ → ℕ → ℕ → ℕ → Item
 item start end votes stake =
     record { position = 16; start = start; end = end; aggregator = record { votes = record { low = votes; high = 0 }; stake = stake } }
 
--- author, round and the first byte of the digest
+-- author, round and the last byte of the digest
 abbrev pub ref : ℕ → ℕ → ℕ → BlockReference
-ref a r d = record { authority = a; round = r; digest = d ∷ [] }
+ref a r d = record { authority = a; round = r; digest = replicate 31 0 ++ (d ∷ []) }
 
 abbrev pub block : BlockReference → Bool → List BlockReference → List Statement → Block
 block r m is ss = record { reference = r; marked = m; includes = is; statements = ss }
 
--- a share of author 0 in round 1
-abbrev pub shared : Block
-shared = block (ref 0 1 5) false [] (share [] ∷ [])
+-- the engine that was fed the records of some blocks, the last first, from fresh
+abbrev pub fed : Committee → List Block → Engine
+fed c bs = run c (fresh (replicate 2500 0) 13) (map (λ b. record { bytes = blockBytes b; work = replicate 13 0; events = replicate 3 0 }) bs)
 
+-- a sole owner's share
+abbrev pub sole : Committee
+sole = 1 ∷ []
+
+abbrev pub soleShare : List Block
+soleShare = block (ref 0 1 2) false (ref 0 0 1 ∷ []) (share [] ∷ []) ∷ block (ref 0 0 1) false [] [] ∷ []
+
+-- the blocks of authors 0 to 2 in round 0; in round 1 that of author 0 shares; in round 2 those of authors 1 and 2 accept it, and author 3 has one
 abbrev pub it : TransactionLocator
-it = record { block = ref 0 1 5; offset = 0 }
+it = record { block = ref 0 1 0; offset = 0 }
 
--- authors 1 and 2 accept it in round 2
-abbrev pub acceptOf : ℕ → Block
-acceptOf a = block (ref a 2 a) false (ref 0 1 5 ∷ []) (accept it ∷ [])
+abbrev pub three : ℕ → List BlockReference
+three r = ref 0 r 0 ∷ ref 1 r 0 ∷ ref 2 r 0 ∷ []
 
-abbrev pub votes : List Block
-votes = acceptOf 2 ∷ acceptOf 1 ∷ shared ∷ []
+abbrev pub accepting : List Block
+accepting =
+    block (ref 3 2 0) false (three 1) []
+    ∷ block (ref 2 2 0) false (three 1) (accept it ∷ [])
+    ∷ block (ref 1 2 0) false (three 1) (accept it ∷ [])
+    ∷ block (ref 0 2 0) false (three 1) []
+    ∷ block (ref 2 1 0) false (three 0) []
+    ∷ block (ref 1 1 0) false (three 0) []
+    ∷ block (ref 0 1 0) false (three 0) (share [] ∷ [])
+    ∷ block (ref 2 0 0) false [] []
+    ∷ block (ref 1 0 0) false [] []
+    ∷ block (ref 0 0 0) false [] []
+    ∷ []
 
--- a block of round 3 on top of these votes, without statements
-abbrev pub above : ℕ → ℕ → Bool → Block
-above a d marked = block (ref a 3 d) marked (ref 1 2 1 ∷ ref 2 2 2 ∷ []) []
+-- in round 3 the block of author 0 includes both votes, those of authors 1 and 2 one of them; in round 4 a block includes these three
+abbrev pub marked : Block
+marked = block (ref 0 3 0) true (three 2) []
 
--- a block of round 4 on top of the one of author 0
+abbrev pub beside : ℕ → Block
+beside a = block (ref a 3 0) false (ref 0 2 0 ∷ ref 1 2 0 ∷ ref 3 2 0 ∷ []) []
+
 abbrev pub child : Block
-child = block (ref 1 4 1) false (ref 0 3 0 ∷ []) []
+child = block (ref 1 4 0) false (three 3) []
+
+abbrev pub underMark : List Block
+underMark = child ∷ beside 2 ∷ beside 1 ∷ marked ∷ accepting
+
+-- in round 3 one block of author 0 and two of author 1 include both votes
+abbrev pub above : ℕ → ℕ → Block
+above a d = block (ref a 3 d) false (three 2) []
+
+abbrev pub twice : List Block
+twice = above 1 1 ∷ above 1 0 ∷ above 0 0 ∷ accepting
+
+-- the answer of the finality question after these records
+abbrev pub asked : Committee → List Block → TransactionLocator → Answer Finality
+asked c bs l = finality c (fed c bs .store) (replicate 15 0) l .answer
 
 -- ---- the table
 
@@ -82,12 +120,14 @@ pub record MarkedCards : Type 0 where
   -- "Wrong turns: .. joining items after a vote": three items that have the same votes stay three
   pub never-joined : voteOver four 1 16 0 8 (item 0 3 1 1 ∷ item 3 5 3 2 ∷ item 5 8 1 1 ∷ []) ≡ item 0 3 3 2 ∷ item 3 5 3 2 ∷ item 5 8 3 2 ∷ []
   -- "sole owner shares: final, pending"
-  pub sole-final : isFinal (1 ∷ []) (shared ∷ []) it ≡ true
-  pub sole-pending : processBlock (1 ∷ []) (record { position = 16; bytes = []; block = shared } ∷ []) shared []
-      ≡ record { items = item 0 1 1 1 ∷ []; events = []; most = 1 }
-  -- "marked block with quorum below it: no certificate, its child certifies"
-  pub marked-not : certifies four (child ∷ above 0 0 true ∷ votes) it (above 0 0 true) ≡ false
-  pub child-certifies : certifies four (child ∷ above 0 0 true ∷ votes) it child ≡ true
+  pub sole-final : asked sole soleShare (record { block = ref 0 1 2; offset = 0 }) ≡ answered (record { final = true; certifying = 1 })
+  pub sole-pending : pending sole (fed sole soleShare .store) (fed sole soleShare .table) (record { block = ref 0 1 2; offset = 0 })
+      ≡ answered (record { stake = 1; voters = 1 })
+  -- "marked block with quorum below it: no certificate, its child certifies": all records are accepted, and the child is the only one that certifies
+  pub under-mark : blocksOf (fed four underMark .store) ≡ underMark
+  pub marked-not : certifies four underMark it marked ≡ false
+  pub child-certifies : certifies four underMark it child ≡ true
+  pub child-alone : asked four underMark it ≡ answered (record { final = false; certifying = 1 })
   -- "two blocks of one author: stake once": authors 0 and 1 certify, 1 with two blocks; and with author 2 it is final
-  pub author-once : isFinal four (above 1 9 false ∷ above 1 1 false ∷ above 0 0 false ∷ votes) it ≡ false
-  pub third-author : isFinal four (above 2 2 false ∷ above 1 9 false ∷ above 1 1 false ∷ above 0 0 false ∷ votes) it ≡ true
+  pub author-once : asked four twice it ≡ answered (record { final = false; certifying = 3 })
+  pub third-author : asked four (above 2 0 ∷ twice) it ≡ answered (record { final = true; certifying = 4 })

@@ -1,2 +1,3 @@
 mod Evaluated
 mod Excluded
+mod Witnessed

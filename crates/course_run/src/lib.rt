@@ -1,6 +1,8 @@
-// The course run of 01 and shares that are final but not announced, evaluated over the definitions: proofs/ has them, and there is no code.
+// The course run of 01, shares that are final but not announced, and records that meet the relations of the mission's statements, over the
+// definitions. The functions do nothing: their contracts are what was evaluated.
 ghost use Rattle.course_run.specs.Course.{Course};
 ghost use Rattle.course_run.specs.Exclusions.{Exclusions};
+ghost use Rattle.course_run.specs.Witnesses.{Witnesses};
 
 // The course run of 01 over bytes, as one list of feeds from a fresh engine of 2,304 bytes and 13 words.
 pub fn course_run()
@@ -10,4 +12,9 @@ pub fn course_run()
 // The two shares that the last sentence of the third statement leaves out: final, and pending without an announcement.
 pub fn left_out()
     ensures { λ _. ⌜ Exclusions ⌝ }
+{}
+
+// The relations of the mission's statements are met, by records of the course run.
+pub fn witnesses()
+    ensures { λ _. ⌜ Witnesses ⌝ }
 {}
