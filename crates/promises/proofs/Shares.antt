@@ -209,16 +209,3 @@ share-stands c b t l stored = go (f .stands)
         stays (record { stake = v .stake; voters = numberOfVoters (v .votes) }) none-left (tallied c (countedVoters l (countedVotes as′ l)) v b n) (asked ∙ standing-held xs p (l .offset) v e) quiet
     go (machine.gone e earlier v later whole none-left quorum told) =
         gone earlier v later whole none-left quorum (asked ∙ standing-none xs p (l .offset) e) told
-
--- "exactly when": the pending question is answered where no counted vote left quorum stake, and nowhere else
-pub pending-exactly : (c : Committee) → broken c ≡ false → (t : Start) (l : TransactionLocator) → isStoredShare (acceptedOf c t) l ≡ true
-    → ((st : Standing) × (pending c (engineOf c t .store) (engineOf c t .table) l ≡ answered st)) ↔ NoneLeft c l (countedVotes (acceptedOf c t) l)
-pending-exactly c b t l stored = (to (share-stands c b t l stored), from (share-stands c b t l stored))
-  where
-    to : ShareStands c (engineOf c t) (acceptedOf c t) l → (st : Standing) × (pending c (engineOf c t .store) (engineOf c t .table) l ≡ answered st) → NoneLeft c l (countedVotes (acceptedOf c t) l)
-    to (stays st n y p q) a = n
-    to (gone earlier v later e n left p q) a = let r = a .1 in let z : _≡_ {A = ℕ} 0 1 = cc in absurd (omega arith)
-
-    from : ShareStands c (engineOf c t) (acceptedOf c t) l → NoneLeft c l (countedVotes (acceptedOf c t) l) → (st : Standing) × (pending c (engineOf c t .store) (engineOf c t .table) l ≡ answered st)
-    from (stays st n y p q) m = (st, p)
-    from (gone earlier v later e n left p q) m = absurd (m earlier v later e left)

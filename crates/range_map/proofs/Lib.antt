@@ -1,4 +1,2 @@
-pub mod Stretches
 pub mod Cuts
 pub mod Voting
-pub mod Kept

@@ -72,12 +72,6 @@ formed c t h =
       votes = all-every (λ x. aggregatorInOrder c (x .aggregator)) (itemsOf t) (and-right d _ l);
     }
 
-pub from-formed : (c : Committee) (t : List ℕ) → Formed c t → tableFormed c t ≡ true
-unfolding tableFormed
-from-formed c t f =
-    let laid : same t (tableOf (length t) (itemsOf t)) ≡ true = ap (λ u. same t u) (sym (f .holds .laid)) ∙ same-refl t in
-    rw (laid, f .holds .ordered, f .holds .full) (every-all (λ x. aggregatorInOrder c (x .aggregator)) (itemsOf t) (f .votes))
-
 -- room for items is words for them
 pub room-words : (t : List ℕ) (n : ℕ) → HoldsItems t → n ≤ room t → 6 * n < length t
 unfolding room

@@ -175,10 +175,6 @@ distinct c (r ∷ rs) h =
     with-later (not-stored rs (r .block .reference) (accepted-new c rs (r .block) (and-left (passes (blockChecks c rs (r .block))) _ h)))
     (distinct c rs (and-right (passes (blockChecks c rs (r .block))) _ h))
 
--- so the chain of a store's accepted records is all its entries in ascending reference order
-pub chain-of : (c : Committee) (rs : List Record) → allAccepted c rs ≡ true → Chain (entries rs) (firstPosition (entries rs)) (ascending (entries rs))
-chain-of c rs h = chained (entries rs) (distinct c rs h)
-
 -- ---- a new entry is put into the chain: one next position changes, or the first
 
 placed-between : (e : Entry) (xs ys : List Entry) → Every (λ x. lower x e ≡ true) xs → Every (λ y. lower e y ≡ true) ys → placed e (xs ++ ys) ≡ xs ++ e ∷ ys

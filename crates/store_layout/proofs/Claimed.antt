@@ -9,7 +9,7 @@ use native.Mathlib.Omega.{arith}
 use lib.ListN.{length, drop, length-append}
 use lib.Seq.{take-at, drop-at}
 use borrow.Author.Tests.{le-leb, le-ltb, lt-leb}
-use Rattle.base.specs.Lists.{pick, keep, _∈_, here, there}
+use Rattle.base.specs.Lists.{pick, keep, isNone, allOf, _∈_, here, there}
 use Rattle.base.specs.Le.{Bytes}
 use Rattle.base.specs.Checks.{passes}
 use Rattle.base.proofs.Tests.{and-left, and-right, fails, not-both}
@@ -17,10 +17,13 @@ use Rattle.base.proofs.Lists.{Every, none-of, and}
 use Rattle.base.proofs.Members.{in-empty, in-cases, in-keep, keep-in}
 use Rattle.committee.specs.Committee.{Committee}
 use Rattle.blocks.proofs.References.{reference-trans}
+use Rattle.blocks.proofs.Claimed.{bytes-fit}
 use Rattle.store_layout.specs.Layout.{Record, Entry, referenceOf, lesser, least, positionOf, nextPosition, usedBy, layout}
 use Rattle.store_layout.specs.Accept.{blockChecks, allAccepted}
 use Rattle.store_layout.specs.Store.{usedLength, recordsOf, allowedLength, storeFull, storeHolding}
-use Rattle.store_layout.specs.Claims.{NextOf, next, last, ChainMeant, Accepts, from-fresh, accepting, InOrderAccepted, FreshInOrder, AcceptingKeepsOrder}
+use Rattle.store_layout.specs.Payload.{shareStretch, payloadOf, payloadAt, payloadChecks, payload}
+use Rattle.store_layout.specs.Claims.{NextOf, next, last, ChainMeant, Accepts, from-fresh, accepting, InOrderAccepted, FreshInOrder, AcceptingKeepsOrder, PayloadMeant}
+use Rattle.store_layout.proofs.Payloads.{payload-is}
 use Rattle.store_layout.proofs.Chain.{lower, lower-self}
 use Rattle.store_layout.proofs.Store.{Right, length-layout, readRecord-some, recordsOf-right, InOrder, in-order, used-within, used-is, Holding, holding, holding-again, accepting as accepting-holds, fresh-held}
 
@@ -133,3 +136,7 @@ in-order-accepted c s h f e =
       accepts = accepts-all c rs f (rw e (i .allowed)) (recordsOf-right s) (i .few) fits (i .accepted);
       used = take-at (layout rs) (drop (usedBy rs) f) (usedLength s) (length-layout rs ∙ sym (used-is c s i)) ∙ sym (i .used);
     }
+
+pub payload-meant : PayloadMeant
+unfolding PayloadMeant payload payloadChecks payloadAt payloadOf shareStretch isNone passes allOf
+payload-meant c s b n h l e v f g = rw (n, h, f, g) (rw (f, g) at (payload-is c s (bytes-fit s b) h l e v f g))

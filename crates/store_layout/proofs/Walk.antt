@@ -88,14 +88,6 @@ reads-stands s p q h =
       rest = given-rest (readRecord (c .0 .value)) (c .0 .rest) q (c .2) ∙ ap (λ (x : Part (List ℕ)). x .rest) e₃ ∙ ap (λ (k : ℕ). drop k s) end;
     }
 
--- where no record stands, none is read
-pub none-stands : (s : Bytes) (p : ℕ) → ((r : Record) → Stands s p r → ⊥) → readEntry (drop p s) ≡ none
-none-stands s p f = go (readEntry (drop p s)) refl
-  where
-    go : (o : Option (Part Record)) → readEntry (drop p s) ≡ o → readEntry (drop p s) ≡ none
-    go none e = e
-    go (some q) e = absurd (f (q .value) (reads-stands s p q e .stands))
-
 -- ---- all entries
 
 -- the records that stand one after the other from byte 16 on, the newest first

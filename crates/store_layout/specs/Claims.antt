@@ -4,14 +4,17 @@ use mathlib.Core.Path.{_≡_}
 use mathlib.Core.Bool.{true, false}
 use mathlib.Core.List.{List, [], _∷_, _++_}
 use mathlib.Core.Option.{some}
-use lib.ListN.{length, take}
+use lib.ListN.{length, take, getElem?}
 use Rattle.base.specs.Lists.{_∈_}
 use Rattle.base.specs.Le.{Bytes}
 use Rattle.base.specs.Checks.{passes}
-use Rattle.committee.specs.Committee.{Committee}
-use Rattle.blocks.specs.Reference.{referenceBefore}
-use Rattle.store_layout.specs.Layout.{Record, readRecord, Entry, referenceOf, nextPosition, layout}
+use Rattle.committee.specs.Committee.{Committee, broken}
+use Rattle.blocks.specs.Reference.{TransactionLocator, referenceBefore}
+use Rattle.blocks.specs.Block.{share}
+use Rattle.blocks.specs.Claims.{areBytes}
+use Rattle.store_layout.specs.Layout.{Record, readRecord, Entry, referenceOf, nextPosition, layout, entries, lookup}
 use Rattle.store_layout.specs.Accept.{blockChecks}
+use Rattle.store_layout.specs.Payload.{payload}
 use Rattle.store_layout.specs.Store.{usedLength, recordsOf, storeInOrder, storeFull, storeHolding}
 
 -- 01: "Next positions chain the entries in ascending reference order; zero ends the chain": no entry stands between e and the one at its next position
@@ -50,8 +53,15 @@ AcceptingKeepsOrder = (c : Committee) (s : Bytes) (r : Record) → storeInOrder 
     → passes (blockChecks c (recordsOf s) (r .block)) ≡ true → storeFull s r ≡ false
     → storeInOrder c (storeHolding (r ∷ recordsOf s) s) ≡ true
 
+-- 01: "A share's payload is given back as the part of the store that holds it"
+unfoldable pub PayloadMeant : Type 0
+PayloadMeant = (c : Committee) (s : Bytes) → areBytes s ≡ true → broken c ≡ false → storeInOrder c s ≡ true
+    → (l : TransactionLocator) (e : Entry) (v : Bytes) → lookup (entries (recordsOf s)) (l .block) ≡ some e
+    → getElem? (e .block .statements) (l .offset) ≡ some (share v) → payload c s l ≡ v
+
 pub record Claims : Type 0 where
   pub chain : ChainMeant
   pub accepted : InOrderAccepted
   pub fresh : FreshInOrder
   pub accepting : AcceptingKeepsOrder
+  pub payload : PayloadMeant

@@ -193,22 +193,6 @@ module _ (c : Committee) (b : Block) where
       (every-append (flatten (map statementChecks (b .statements))) clock (statements-numbered (b .statements)) (and (lit< tt) none-of)))
       e
 
-  pub body-includes-pass : refusal (bodyChecks c b) ≡ 0 → passes (flatten (map (includeChecks c b) (b .includes))) ≡ true
-  unfolding bodyChecks
-  body-includes-pass e = passes-left (flatten (map (includeChecks c b) (b .includes))) (flatten (map statementChecks (b .statements)) ++ clock) (body-passes e)
-
-  -- as the number of event words asks
-  pub body-statements-pass : refusal (bodyChecks c b) ≡ 0 → passes (flatten (map statementChecks (b .statements))) ≡ true
-  unfolding bodyChecks
-  body-statements-pass e =
-      passes-left (flatten (map statementChecks (b .statements))) clock
-      (passes-right (flatten (map (includeChecks c b) (b .includes))) (flatten (map statementChecks (b .statements)) ++ clock) (body-passes e))
-
   pub head-passes : refusal (headChecks c b) ≡ 0 → passes (headChecks c b) ≡ true
   unfolding headChecks
   head-passes e = zero-passes _ (and (lit< tt) (and (lit< tt) none-of)) e
-
-  -- the author is known
-  pub head-known : refusal (headChecks c b) ≡ 0 → known c (b .reference .authority) ≡ true
-  unfolding headChecks
-  head-known e = yes-then (known c (b .reference .authority)) (passes-first _ _ (head-passes e))
