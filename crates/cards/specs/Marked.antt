@@ -36,7 +36,7 @@ block r m is ss = record { reference = r; marked = m; includes = is; statements 
 
 -- the engine that was fed the records of some blocks, the last first, from fresh
 abbrev pub fed : Committee → List Block → Engine
-fed c bs = run c (fresh (replicate 2500 0) 13) (map (λ b. record { bytes = blockBytes b; work = replicate 13 0; events = replicate 3 0 }) bs)
+fed c bs = run c (fresh (replicate 2700 0) 13) (map (λ b. record { bytes = blockBytes b; work = replicate 13 0; events = replicate 3 0 }) bs)
 
 -- a sole owner's share
 abbrev pub sole : Committee
