@@ -1,12 +1,13 @@
 -- The witnesses: evaluated, and by the third statement. Assumes nothing.
-use mathlib.Core.Path.{_≡_, refl, subst}
-use mathlib.Core.Bool.{true}
-use mathlib.Core.List.{List, [], _∷_}
+use mathlib.Core.Path.{_≡_, refl, sym, ap, _∙_, subst}
+use mathlib.Core.Bool.{false}
+use mathlib.Core.List.{List, [], _∷_, _++_}
 use Prim.Native.Nat.{ℕ}
 use native.Mathlib.Omega.{arith}
-use lib.ListN.{length, drop, take, getD, replicate, length-replicate}
+use lib.ListN.{length, drop, take, getD, replicate, length-replicate, take-append-drop}
+use lib.Seq.{drop-cons}
 use Rattle.base.specs.Lists.{_∈_, here, there}
-use Rattle.base.proofs.Lists.{Every, none-of, and, every}
+use Rattle.base.proofs.Lists.{none-of, and, every-in}
 use Rattle.base.proofs.Members.{in-empty}
 use Rattle.blocks.specs.Reference.{TransactionLocator}
 use Rattle.blocks.specs.Block.{Statement, accept, voteRange, Block}
@@ -18,8 +19,9 @@ use Rattle.promises.specs.FirstStatement.{KeepsRules}
 use Rattle.promises.specs.ThirdStatement.{ShareStands, VotedOnlySince, Start}
 use Rattle.promises.proofs.ThirdStatement.{third-statement}
 use Rattle.promises.proofs.Computing.{computing}
-use Rattle.course_run.specs.Course.{four, ref, the, round1, feeds, start, after}
-use Rattle.course_run.specs.Witnesses.{fifth, lent, nine, Witnesses}
+use Rattle.course_run.specs.Course.{four, ref, the, feeds, start, after}
+use Rattle.course_run.specs.Exclusions.{sole, own}
+use Rattle.course_run.specs.Witnesses.{fifth, lent, nine, small, three, Witnesses}
 
 kept : KeepsRules four lent (fifth .bytes)
 unfolding computing recordIn
@@ -34,7 +36,7 @@ kept =
 -- ---- shares, by the third statement
 
 abbrev from : List Feed → Start
-from fs = record { past = replicate 2288 0; allowed = omega (arith, length-replicate 2288 0); words = 13; feeds = fs }
+from fs = record { past = replicate 2288 0; allowed = omega (arith, length-replicate {A = ℕ} 2288 0); words = 13; feeds = fs }
 
 gone-stands : ShareStands four after (accepted four start feeds) the
 unfolding computing
@@ -47,32 +49,41 @@ pending-stands = third-statement .every four refl (from nine) .shares the refl
 -- ---- a share that got its votes since it was stored
 
 abbrev all : List Accepted
-all = accepted four start feeds
+all = accepted sole small three
 
 -- a block without statements has no vote
-quiet : (b : Block) (l : TransactionLocator) → b .statements ≡ [] → VoteIn b l → ⊥
-quiet b l e (byAccept m) = in-empty (subst (λ (ss : List Statement). accept l ∈ ss) e m)
-quiet b l e (byRange r m f s u) = in-empty (subst (λ (ss : List Statement). voteRange r ∈ ss) e m)
+quiet : (b : Block) → b .statements ≡ [] → VoteIn b own → ⊥
+quiet b e (byAccept m) = in-empty (subst (λ (ss : List Statement). accept own ∈ ss) e m)
+quiet b e (byRange r m f s u) = in-empty (subst (λ (ss : List Statement). voteRange r ∈ ss) e m)
 
-quiet-all : (bs : List Block) → Every (λ b. b .statements ≡ []) bs → (b : Block) → b ∈ bs → VoteIn b the → ⊥
-quiet-all (b ∷ bs) (and e es) b here v = quiet b the e v
-quiet-all (b ∷ bs) (and e es) d (there m) v = quiet-all bs es d m v
+nothing : Accepted
+nothing = record { bytes = []; block = noBlock; events = [] }
 
-abbrev ninth : Block
-ninth = record { reference = ref 1 2 9; marked = false; includes = round1; statements = accept the ∷ [] }
+all-three : length all ≡ 3
+unfolding computing
+all-three = refl
 
-voted-since : VotedOnlySince all the
+in-parts : (xs : List Accepted) → length xs ≡ 3 → xs ≡ take 1 xs ++ getD xs 1 nothing ∷ drop 2 xs
+in-parts xs h = sym (take-append-drop 1 xs) ∙ ap (λ (ys : List Accepted). take 1 xs ++ ys) (drop-cons xs 1 nothing (omega arith))
+
+voted-since : VotedOnlySince all own
 unfolding computing
 voted-since =
     record {
-      own = getD all 8 (record { bytes = []; block = noBlock; events = [] });
-      since = take 8 all;
-      earlier = drop 9 all;
-      splits = refl;
+      own = getD all 1 nothing;
+      since = take 1 all;
+      earlier = drop 2 all;
+      splits = in-parts all all-three;
       itsOwn = refl;
-      voted = (ninth, (there (there (there (there here))), byAccept here));
-      noneBefore = quiet-all (storedBlocks (drop 9 all)) (and refl (and refl (and refl (and refl none-of))));
+      voted = (voting, (here, byAccept here));
+      noneBefore = λ b m. quiet b (only b m);
     }
+  where
+    voting : Block
+    voting = record { reference = ref 0 2 3; marked = false; includes = ref 0 1 2 ∷ []; statements = accept own ∷ [] }
+
+    only : (b : Block) → b ∈ storedBlocks (drop 2 all) → b .statements ≡ []
+    only b m = every-in {P = λ (x : Block). x .statements ≡ []} (storedBlocks (drop 2 all)) b (and refl none-of) m
 
 pub witnesses : Witnesses
 unfolding computing

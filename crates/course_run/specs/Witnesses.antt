@@ -4,13 +4,14 @@ use mathlib.Core.List.{List, [], _∷_}
 use lib.ListN.{drop, replicate}
 use Rattle.base.specs.Le.{Bytes}
 use Rattle.base.specs.Checks.{answered}
-use Rattle.blocks.specs.Block.{share}
+use Rattle.blocks.specs.Block.{share, accept}
 use Rattle.feeds.specs.Feed.{Lent}
 use Rattle.feeds.specs.Pending.{pending}
-use Rattle.promises.specs.Feeds.{Feed, Engine, run, accepted}
+use Rattle.promises.specs.Feeds.{Feed, Engine, fresh, run, accepted}
 use Rattle.promises.specs.FirstStatement.{KeepsRules}
 use Rattle.promises.specs.ThirdStatement.{ShareStands, VotedOnlySince}
 use Rattle.course_run.specs.Course.{four, ref, block, the, round0, feeds, start, after}
+use Rattle.course_run.specs.Exclusions.{sole, own, alone}
 
 -- record 5, which shares, and what it is lent after records 1 to 4
 abbrev pub fifth : Feed
@@ -29,6 +30,13 @@ lent =
 abbrev pub nine : List Feed
 nine = drop 4 feeds
 
+-- a sole owner's share, and its vote in a later block
+abbrev pub small : Engine
+small = fresh (replicate 400 0) 13
+
+abbrev pub three : List Feed
+three = block (ref 0 2 3) (ref 0 1 2 ∷ []) (accept own ∷ []) ∷ alone
+
 pub record Witnesses : Type 0 where
   -- a record that keeps document 01's rules, with enough lent memory
   pub kept : KeepsRules four lent (fifth .bytes)
@@ -37,5 +45,5 @@ pub record Witnesses : Type 0 where
   pub pending-two : pending four (run four start nine .store) (run four start nine .table) the ≡ answered (record { stake = 2; voters = 2 })
   -- and one that was announced, by the second: `not-pending` of the course run
   pub gone-stands : ShareStands four after (accepted four start feeds) the
-  -- a final stored share that got a vote, and none in a block stored before its own
-  pub voted-since : VotedOnlySince (accepted four start feeds) the
+  -- a stored share that got a vote, and none in a block stored before its own
+  pub voted-since : VotedOnlySince (accepted sole small three) own
