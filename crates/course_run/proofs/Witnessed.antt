@@ -75,7 +75,7 @@ voted-since =
       earlier = drop 2 all;
       splits = in-parts all all-three;
       itsOwn = refl;
-      voted = (voting, (here, byAccept here));
+      voted = (voting, here, byAccept here);
       noneBefore = λ b m. quiet b (only b m);
     }
   where
