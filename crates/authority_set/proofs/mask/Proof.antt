@@ -1,20 +1,16 @@
-use Rattle.base.proofs.Tables.{table-at}
-use Rattle.base.specs.Lists.{countFrom}
 use Prim.Native.Nat.{_^_}
-use mathlib.Core.Path.{refl}
+use native.Mathlib.Nat.{one-mul, mod-eq-of-lt}
+use lib.Pow.{pow-lt}
 use borrow.Author.Needs.{needs}
 use Rattle.authority_set.proofs.mask.Statement.{statement}
 use Rattle.authority_set.proofs.mask.Tie as tie
 
-mul-result : tie.Need-mul-result
-mul-result c = search needs
+shl-result : tie.Need-shl-result
+shl-result c = search needs
 
-array-read-result : tie.Need-array-read-result
-array-read-result c = search needs
-
+-- one shifted by i places stays within the word
 returns : tie.Need-returns
-unfolding countFrom
-returns c = table-at (λ i. 2 ^ i) 64 _ refl (c .args .i) (search needs)
+returns c = rw (one-mul (2 ^ c .args .i)) (mod-eq-of-lt (pow-lt (shl-result c)))
 
 pub mask-spec : {M : Type 1} → statement M
-mask-spec = tie.close (tie.spec mul-result array-read-result returns)
+mask-spec = tie.close (tie.spec shl-result returns)
