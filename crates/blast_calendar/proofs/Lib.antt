@@ -1,0 +1,9 @@
+pub mod Weeks
+pub mod First
+pub mod Freed
+pub mod Order
+pub mod Steps
+pub mod Waits
+pub mod Asked
+pub mod Claimed
+pub mod Evaluated

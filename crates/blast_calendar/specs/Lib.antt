@@ -1,0 +1,5 @@
+pub mod Calendar
+pub mod Answers
+pub mod Free
+pub mod Claims
+pub mod Cards
