@@ -4,6 +4,7 @@ use mathlib.Core.Bool.{true, false}
 use mathlib.Core.List.{List, [], _∷_}
 use Prim.Native.Nat.{ℕ, _+_, _/_, _%_, _≤_, _<_}
 use native.Mathlib.Omega.{arith}
+use native.Mathlib.Decide.{ℕ-discrete}
 use lib.Dec.{leb, eqb}
 use lib.ListN.{length, getD, drop, drop-of-length-le}
 use borrow.Author.Tests.{le-leb, lt-leb, le-ltb, lt-ltb, eq-eqb, ne-eqb, eqb-true}
@@ -53,14 +54,17 @@ module _ (ns : List ℕ) where
   unfolding goodCalendar
   good-odd h = rw (ne-eqb (length ns % 2) 0 h)
 
-  module _ (even : length ns % 2 ≡ 0) where
-    pub good-many : 128 < length ns → goodCalendar ns ≡ false
-    unfolding goodCalendar
-    good-many h = rw (eq-eqb (length ns % 2) 0 even, lt-leb (length (windows ns)) 64 (omega (arith, length-windows ns)))
+  pub good-many : 128 < length ns → goodCalendar ns ≡ false
+  unfolding goodCalendar
+  good-many h = go (ℕ-discrete (length ns % 2) 0)
+    where
+      go : Dec (length ns % 2 ≡ 0) → goodCalendar ns ≡ false
+      go (yes e) = rw (eq-eqb (length ns % 2) 0 e, lt-leb (length (windows ns)) 64 (omega (arith, length-windows ns)))
+      go (no e) = rw (ne-eqb (length ns % 2) 0 e)
 
-    pub good-start : length ns ≤ 128 → goodCalendar ns ≡ inOrderFrom 0 (windows (drop 0 ns))
-    unfolding goodCalendar
-    good-start h = rw (eq-eqb (length ns % 2) 0 even, le-leb (length (windows ns)) 64 (omega (arith, length-windows ns))) (order-from (windows ns))
+  pub good-start : length ns % 2 ≡ 0 → length ns ≤ 128 → goodCalendar ns ≡ inOrderFrom 0 (windows (drop 0 ns))
+  unfolding goodCalendar
+  good-start e h = rw (eq-eqb (length ns % 2) 0 e, le-leb (length (windows ns)) 64 (omega (arith, length-windows ns))) (order-from (windows ns))
 
   pub good-in-order : goodCalendar ns ≡ true → inOrder (windows ns) ≡ true
   unfolding goodCalendar

@@ -108,9 +108,9 @@ pub fn is_open(calendar: &[u64], time: u64) -> OpenAnswer
     OpenAnswer::Closed
 }
 
-// The seconds from a time to the first open one, where the windows leave the second `monday` of the week free and none before it.
-fn wait(calendar: &[u64], time: u64, monday: u64) -> u64
-    requires { ⌜ (goodCalendar (now calendar) ≡ true) × (Free (windows (now calendar)) 0 monday × (monday < week)) ⌝ }
+// The seconds from a time to the first open one, where `opening` is the first second of the week that lies in no window.
+fn wait(calendar: &[u64], time: u64, opening: u64) -> u64
+    requires { ⌜ (goodCalendar (now calendar) ≡ true) × (Free (windows (now calendar)) 0 opening × (opening < week)) ⌝ }
     ensures { λ r. ⌜ FirstOpen (windows (now (calendar .entry))) time (time + r) ⌝ }
 {
     let second = week_second(time);
@@ -118,7 +118,7 @@ fn wait(calendar: &[u64], time: u64, monday: u64) -> u64
     if free < WEEK {
         return free - second;
     }
-    WEEK - second + monday
+    WEEK - second + opening
 }
 
 // The first open second at or after a time, or none.
@@ -128,11 +128,11 @@ pub fn next_open(calendar: &[u64], time: u64) -> NextOpenAnswer
     if !is_good(calendar) {
         return NextOpenAnswer::Refused(59);
     }
-    let monday = free_from(calendar, 0);
-    if WEEK <= monday {
+    let opening = free_from(calendar, 0);
+    if WEEK <= opening {
         return NextOpenAnswer::NoneLeft;
     }
-    let seconds = wait(calendar, time, monday);
+    let seconds = wait(calendar, time, opening);
     if LAST_SECOND - time < seconds {
         return NextOpenAnswer::NoneLeft;
     }

@@ -13,6 +13,7 @@ ghost use Rattle.host_finals.specs.NextFinal.{nextFinalCall};
 ghost use Rattle.host_lib.specs.Payload.{payloadLengthCall, payloadStartCall};
 ghost use Rattle.host_finals.specs.Finality.{finalityCall};
 ghost use Rattle.host_finals.specs.Stretches.{stretchesCall};
+ghost use Rattle.host_calendar.specs.Calendar.{isOpenCall, nextOpenCall};
 use committee::NewCommittee;
 use committee::Stake;
 use feeding::FeedAnswer;
@@ -211,4 +212,23 @@ pub extern "C" fn lomkhvide_feed(
         FeedAnswer::Events(count) => count,
         FeedAnswer::Refused(number) => REFUSED + number,
     }
+}
+
+// ---- the blast calendar
+
+// Whether loading is open at a time: 1 or 0.
+#[no_mangle]
+pub extern "C" fn lomkhvide_is_open(calendar: &[u8], time: u64) -> u64
+    ensures { λ r. ⌜ r ≡ encoded (isOpenCall (now (calendar .entry)) time) ⌝ }
+{
+    host_calendar::is_open(calendar, time)
+}
+
+// The first open second at or after a time: 1 where it was written, 0 where there is none.
+#[no_mangle]
+pub extern "C" fn lomkhvide_next_open(calendar: &[u8], time: u64, found: &mut [u8]) -> u64
+    ensures { λ r. ⌜ r ≡ encoded (nextOpenCall (now (calendar .entry)) time (now (found .entry)) .answer) ⌝ }
+    ensures { λ r. ⌜ now (found .exit) ≡ nextOpenCall (now (calendar .entry)) time (now (found .entry)) .found ⌝ }
+{
+    host_calendar::next_open(calendar, time, found)
 }

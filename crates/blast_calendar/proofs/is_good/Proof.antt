@@ -19,7 +19,7 @@ returns : tie.Need-returns Inv-loop μ-loop
 returns c = sym (good-odd (c .before .args .calendar .now) (c .if1 .taken))
 
 returns-2 : tie.Need-returns-2 Inv-loop μ-loop
-returns-2 c = sym (good-many (c .before .before .args .calendar .now) (omega arith) (c .if2 .taken))
+returns-2 c = sym (good-many (c .before .before .args .calendar .now) (c .if2 .taken))
 
 loop-holds : tie.Need-loop-holds Inv-loop μ-loop
 loop-holds c = (search needs, (search needs, good-start (c .before .before .args .calendar .now) (omega arith) (omega arith)))
