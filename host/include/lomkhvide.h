@@ -89,4 +89,22 @@ uint64_t lomkhvide_payload_length(const uint8_t *stakes, size_t stakes_len, cons
 uint64_t lomkhvide_payload_start(const uint8_t *stakes, size_t stakes_len, const uint8_t *store, size_t store_len,
                                  const uint8_t *locator, size_t locator_len);
 
+/* ---- The blast calendar
+ *
+ * A calendar is at most 64 windows in which nothing may be loaded, two words each: start and end (excluded) in seconds of the week, at
+ * most 604,800. Second 0 of the week is Monday, 0:00. Windows ascend and do not overlap; they may touch. No bytes are no windows.
+ * A time is the number of seconds since 1 January 1970, 0:00; its weekday is the one that this count has, without leap seconds.
+ *
+ * Both calls are refused with 59: bytes that are not whole words, an odd number of words, more than 64 windows, a window whose start is
+ * not below its end, that ends past 604,800 or that starts before the end of the one before it.
+ * Both need at most 2 KB of stack. */
+
+/* Whether loading is open at a time: 1 or 0. */
+uint64_t lomkhvide_is_open(const uint8_t *calendar, size_t calendar_len, uint64_t time);
+
+/* The first open second at or after a time: 1, and it is written to `found` as a word; or 0 where there is none, since the windows fill
+ * the week or no second up to 2^64 - 1 is open.
+ * Refused last: 40 `found` not of 8 bytes. */
+uint64_t lomkhvide_next_open(const uint8_t *calendar, size_t calendar_len, uint64_t time, uint8_t *found, size_t found_len);
+
 #endif

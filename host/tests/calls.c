@@ -348,12 +348,114 @@ static void feeding(void) {
     same("no byte past the table", memcmp(lent.table + t, kept.table + t, sizeof lent.table - t), 0);
 }
 
+/* ---- the blast calendar */
+
+/* Asks for the first open second over n bytes of a calendar, lent from their own allocation; `found` gets the word that was written. */
+static uint64_t next_open(const uint8_t *calendar, size_t n, uint64_t time, uint64_t *found) {
+    uint8_t *own = malloc(n + 1), out[8];
+    memcpy(own, calendar, n);
+    put_word(out, *found);
+    uint64_t word = lomkhvide_next_open(own, n, time, out, sizeof out);
+    *found = 0;
+    for (int i = 0; i < 8; i++) {
+        *found |= (uint64_t)out[i] << (8 * i);
+    }
+    same("open where no wait is", lomkhvide_is_open(own, n, time), word == 1 ? *found == time : word);
+    free(own);
+    return word;
+}
+
+static void first_open(const char *what, const uint8_t *calendar, size_t n, uint64_t time, uint64_t want) {
+    uint64_t found = 9;
+    same(what, next_open(calendar, n, time, &found), 1);
+    same(what, found, want);
+}
+
+static void none_open(const char *what, const uint8_t *calendar, size_t n, uint64_t time, uint64_t want) {
+    uint64_t found = 9;
+    same(what, next_open(calendar, n, time, &found), want);
+    same("nothing is written", found, 9);
+}
+
+static void put_words(uint8_t *to, const uint64_t *words, size_t n) {
+    for (size_t i = 0; i < n; i++) {
+        put_word(to + 8 * i, words[i]);
+    }
+}
+
+static void calendars(void) {
+    const uint64_t monday = 345600, last = UINT64_MAX;
+    const uint64_t three[] = {0, 3600, 3600, 7200, 600000, 604800};
+    uint8_t bytes[8 * 140];
+    put_words(bytes, three, 6);
+    first_open("a Thursday", bytes, 48, 0, 0);
+    first_open("the last second before a window", bytes, 48, monday - 4801, monday - 4801);
+    first_open("over the week's end", bytes, 48, monday - 4800, monday + 7200);
+    first_open("a Monday", bytes, 48, monday, monday + 7200);
+    first_open("the second of two windows that touch", bytes, 48, monday + 3600, monday + 7200);
+    first_open("its last second", bytes, 48, monday + 7199, monday + 7200);
+    first_open("its end", bytes, 48, monday + 7200, monday + 7200);
+    first_open("the next Monday", bytes, 48, monday + 604800, monday + 604800 + 7200);
+    const uint64_t full[] = {0, 300000, 300000, 604800};
+    put_words(bytes, full, 4);
+    none_open("a full week", bytes, 32, 5, 0);
+    none_open("a full week at the end", bytes, 32, last, 0);
+    /* the last second of the count is second 284,415 of its week */
+    const uint64_t end[] = {284400, 284415, 284416, 284417};
+    put_words(bytes, end, 4);
+    first_open("the last second", bytes, 32, last - 15, last);
+    put_word(bytes + 16, 284415);
+    none_open("past the last second", bytes, 32, last - 15, 0);
+    none_open("the last second is closed", bytes, 32, last, 0);
+    first_open("no windows", bytes, 0, last, last);
+    /* each way to be refused */
+    const uint64_t bad[][4] = {{5, 5, 6, 7}, {5, 4, 6, 7}, {5, 604801, 0, 0}, {5, 9, 8, 12}, {8, 12, 5, 8}, {0, UINT64_MAX, 0, 0}};
+    for (size_t i = 0; i < sizeof bad / sizeof bad[0]; i++) {
+        put_words(bytes, bad[i], 4);
+        none_open("a calendar that is not good", bytes, 32, 7, refused(59));
+    }
+    /* 70 windows of half an hour, one each two hours: every length, and both ends of every window */
+    for (size_t i = 0; i < 70; i++) {
+        put_word(bytes + 16 * i, 7200 * i);
+        put_word(bytes + 16 * i + 8, 7200 * i + 1800);
+    }
+    for (size_t n = 0; n <= sizeof bytes; n++) {
+        if (n % 16 != 0 || n > 1024) {
+            none_open("a calendar of any length", bytes, n, monday, refused(59));
+        } else {
+            first_open("as many windows", bytes, n, monday, n == 0 ? monday : monday + 1800);
+        }
+    }
+    for (uint64_t i = 0; i < 64; i++) {
+        const uint64_t start = monday + 7200 * i;
+        first_open("before a window", bytes, 1024, start - 1, start - 1);
+        first_open("its start", bytes, 1024, start, start + 1800);
+        first_open("its last second", bytes, 1024, start + 1799, start + 1800);
+        first_open("its end", bytes, 1024, start + 1800, start + 1800);
+    }
+    /* 59, then 40 */
+    uint8_t out[24], kept[24];
+    memset(out, 9, sizeof out);
+    memset(kept, 9, sizeof kept);
+    for (size_t n = 0; n <= sizeof out; n++) {
+        if (n != 8) {
+            same("room of any length", lomkhvide_next_open(bytes, 1024, monday, out, n), refused(40));
+            same("room of any length, no windows", lomkhvide_next_open(bytes, 0, monday, out, n), refused(40));
+            same("59 before 40", lomkhvide_next_open(bytes, 1032, monday, out, n), refused(59));
+        }
+    }
+    same("refused, so nothing is written", memcmp(out, kept, sizeof out), 0);
+    same("room of eight bytes", lomkhvide_next_open(bytes, 1024, monday, out, 8), 1);
+    same("no byte past it", memcmp(out + 8, kept, sizeof out - 8), 0);
+}
+
 int main(void) {
     committees();
     quorums();
     adding();
     payloads();
     feeding();
+    calendars();
     printf("%d passed, %d failed\n", passed, failed);
     return failed != 0;
 }

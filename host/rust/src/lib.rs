@@ -91,6 +91,8 @@ mod calls {
             locator: *const u8,
             locator_len: usize,
         ) -> u64;
+        pub fn lomkhvide_is_open(calendar: *const u8, calendar_len: usize, time: u64) -> u64;
+        pub fn lomkhvide_next_open(calendar: *const u8, calendar_len: usize, time: u64, found: *mut u8, found_len: usize) -> u64;
     }
 }
 
@@ -418,6 +420,47 @@ impl Committee {
     }
 }
 
+/// A window of a blast calendar: start and end (excluded) in seconds of the week, which begins on Monday at 0:00.
+#[derive(Clone, Copy, Debug, PartialEq, Eq)]
+pub struct Window {
+    pub start: u64,
+    pub end: u64,
+}
+
+/// A blast calendar as it crosses; each call checks it anew.
+#[derive(Clone, Debug, PartialEq, Eq)]
+pub struct Calendar {
+    bytes: Vec<u8>,
+}
+
+impl Calendar {
+    /// A calendar of these windows.
+    pub fn new(windows: &[Window]) -> Calendar {
+        Calendar::from_bytes(windows.iter().flat_map(|window| bytes_of(&[window.start, window.end])).collect())
+    }
+
+    pub fn from_bytes(bytes: Vec<u8>) -> Calendar {
+        Calendar { bytes }
+    }
+
+    /// Whether loading is open at a time, in seconds since 1970; or 59.
+    pub fn is_open(&self, time: u64) -> Result<bool, Refused> {
+        // The slice is lent for the call alone, and the call only reads it.
+        let word = unsafe { calls::lomkhvide_is_open(self.bytes.as_ptr(), self.bytes.len(), time) };
+        Ok(answer(word)? == 1)
+    }
+
+    /// The first open second at or after a time, or none; or 59.
+    pub fn next_open(&self, time: u64) -> Result<Option<u64>, Refused> {
+        let mut found = [0; 8];
+        // The slices are lent for the call alone, and the one that it writes is this function's own.
+        let word = unsafe {
+            calls::lomkhvide_next_open(self.bytes.as_ptr(), self.bytes.len(), time, found.as_mut_ptr(), found.len())
+        };
+        Ok(if answer(word)? == 1 { Some(u64::from_le_bytes(found)) } else { None })
+    }
+}
+
 #[cfg(test)]
 mod tests {
     use super::*;
@@ -577,5 +620,42 @@ mod tests {
         assert_eq!(committee.pending(&store, &table, &locator(0)), Ok(Pending { stake: 1, voters: 1 }));
         assert_eq!(committee.pending(&store, &table, &locator(1)), Err(Refused(42)));
         assert_eq!(committee.payload(&store, &locator(1)), Ok(&b"table"[..]));
+    }
+
+    const MONDAY: u64 = 345_600;
+
+    #[test]
+    fn calendars() {
+        let window = |start, end| Window { start, end };
+        let calendar = Calendar::new(&[window(0, 3600), window(3600, 7200), window(600_000, 604_800)]);
+        assert_eq!(calendar.is_open(MONDAY), Ok(false));
+        assert_eq!(calendar.is_open(MONDAY + 7200), Ok(true));
+        assert_eq!(calendar.next_open(MONDAY - 1), Ok(Some(MONDAY + 7200)));
+        assert_eq!(calendar.next_open(0), Ok(Some(0)));
+        let full = Calendar::new(&[window(0, 604_800)]);
+        assert_eq!(full.is_open(0), Ok(false));
+        assert_eq!(full.next_open(0), Ok(None));
+        assert_eq!(Calendar::new(&[]).next_open(u64::MAX), Ok(Some(u64::MAX)));
+        assert_eq!(Calendar::new(&[window(284_400, 284_415)]).next_open(u64::MAX - 15), Ok(Some(u64::MAX)));
+        assert_eq!(Calendar::new(&[window(284_400, 284_416)]).next_open(u64::MAX - 15), Ok(None));
+        assert_eq!(Calendar::new(&[window(5, 5)]).is_open(0), Err(Refused(59)));
+        assert_eq!(Calendar::new(&[window(5, 604_801)]).next_open(0), Err(Refused(59)));
+        assert_eq!(Calendar::new(&[window(5, 9), window(8, 12)]).next_open(0), Err(Refused(59)));
+    }
+
+    #[test]
+    fn every_length_of_a_calendar() {
+        let windows: Vec<Window> = (0..70).map(|i| Window { start: 7200 * i, end: 7200 * i + 1800 }).collect();
+        let bytes = Calendar::new(&windows).bytes;
+        for length in 0..=bytes.len() {
+            let calendar = Calendar::from_bytes(bytes[..length].to_vec());
+            let (is_open, next_open) = match length {
+                0 => (Ok(true), Ok(Some(MONDAY))),
+                _ if length % 16 != 0 || length > 1024 => (Err(Refused(59)), Err(Refused(59))),
+                _ => (Ok(false), Ok(Some(MONDAY + 1800))),
+            };
+            assert_eq!(calendar.is_open(MONDAY), is_open, "{length} bytes");
+            assert_eq!(calendar.next_open(MONDAY), next_open, "{length} bytes");
+        }
     }
 }

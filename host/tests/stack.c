@@ -1,0 +1,74 @@
+/* How much stack calls need: each runs on a stack of its own, which is filled beforehand, and is held to what lomkhvide.h says. The last
+ * line is "N passed, M failed". */
+#define _XOPEN_SOURCE 700
+#include <stdio.h>
+#include <stdlib.h>
+#include <string.h>
+#include <ucontext.h>
+
+#include "lomkhvide.h"
+
+static uint8_t stack[1 << 20];
+static ucontext_t outside, inside;
+static void (*run)(void);
+
+static void enter(void) {
+    run();
+}
+
+/* The bytes of stack that a call changes, with those of the frame that calls it. */
+static size_t stack_of(void (*call)(void)) {
+    memset(stack, 0xa5, sizeof stack);
+    run = call;
+    if (getcontext(&inside) != 0) {
+        exit(2);
+    }
+    inside.uc_stack.ss_sp = stack;
+    inside.uc_stack.ss_size = sizeof stack;
+    inside.uc_link = &outside;
+    makecontext(&inside, enter, 0);
+    if (swapcontext(&outside, &inside) != 0) {
+        exit(2);
+    }
+    size_t untouched = 0;
+    while (untouched < sizeof stack && stack[untouched] == 0xa5) {
+        untouched++;
+    }
+    return sizeof stack - untouched;
+}
+
+static uint8_t calendar[1024], found[8];
+static uint64_t answer;
+
+static void is_open(void) {
+    answer = lomkhvide_is_open(calendar, sizeof calendar, 345600);
+}
+
+static void next_open(void) {
+    answer = lomkhvide_next_open(calendar, sizeof calendar, 345600, found, sizeof found);
+}
+
+static int failed;
+
+static void at_most(const char *what, void (*call)(void), uint64_t want, size_t most) {
+    size_t used = stack_of(call);
+    printf("%s: %zu bytes of stack, at most %zu\n", what, used, most);
+    if (answer != want || used > most) {
+        failed++;
+        printf("%s: too much, or another answer\n", what);
+    }
+}
+
+int main(void) {
+    /* 64 windows that touch, from the week's first second on */
+    for (size_t i = 0; i < 128; i++) {
+        size_t edge = 9000 * ((i + 1) / 2);
+        calendar[8 * i] = (uint8_t)edge;
+        calendar[8 * i + 1] = (uint8_t)(edge >> 8);
+        calendar[8 * i + 2] = (uint8_t)(edge >> 16);
+    }
+    at_most("is_open", is_open, 0, 2048);
+    at_most("next_open", next_open, 1, 2048);
+    printf("%d passed, %d failed\n", 2 - failed, failed);
+    return failed != 0;
+}
