@@ -4,6 +4,7 @@
 use crate::compare::{same, same_bytes, Memory, Outcome};
 use crate::engine::{self, Answer};
 use crate::list::List;
+use crate::model::calendar;
 use crate::model::committee::{Committee, COURSE};
 use crate::model::feed::{State, EVENT_BYTES};
 use crate::model::lent;
@@ -208,7 +209,25 @@ fn cases() -> Vec<Case> {
             engine: over!(|stakes, store, after, out| engine::final_stretches(stakes, store, after, out)),
             model: over!(|stakes, store, after, out| lent::final_stretches(stakes, store, after, out)),
         },
+        Case {
+            name: "is_open",
+            slices: vec![weekly()],
+            engine: over!(|calendar| engine::is_open(calendar, calendar::MONDAY)),
+            model: over!(|calendar| calendar::is_open(calendar, calendar::MONDAY)),
+        },
+        Case {
+            name: "next_open",
+            slices: vec![weekly(), ("second written", vec![5; 8], 40)],
+            engine: over!(|calendar, out| engine::next_open(calendar, calendar::MONDAY, out)),
+            model: over!(|calendar, out| calendar::next_open(calendar, calendar::MONDAY, out)),
+        },
     ]
+}
+
+/// As many windows as a calendar may have, a second each, and two more that are cut off or not.
+fn weekly() -> (&'static str, Vec<u8>, usize) {
+    let words = (0..2 * calendar::MOST_WINDOWS as u64 + 4).flat_map(u64::to_le_bytes);
+    ("calendar", words.collect(), 16 * calendar::MOST_WINDOWS + 100)
 }
 
 /// Stores of 2^32 - 1 bytes, which are taken, and of 2^32, which are not (10). The memory is only named, never touched.

@@ -76,3 +76,19 @@ pub fn is_valid(total: u64, amount: u64) -> bool {
     }
     unsafe { lomkhvide_is_valid(total, amount) == 1 }
 }
+
+// ---- the blast calendar
+
+pub fn is_open(calendar: &[u8], time: u64) -> Answer {
+    extern "C" {
+        fn lomkhvide_is_open(calendar: *const u8, calendar_len: usize, time: u64) -> u64;
+    }
+    answer(unsafe { lomkhvide_is_open(calendar.as_ptr(), calendar.len(), time) })
+}
+
+pub fn next_open(calendar: &[u8], time: u64, found: &mut [u8]) -> Answer {
+    extern "C" {
+        fn lomkhvide_next_open(calendar: *const u8, calendar_len: usize, time: u64, found: *mut u8, found_len: usize) -> u64;
+    }
+    answer(unsafe { lomkhvide_next_open(calendar.as_ptr(), calendar.len(), time, found.as_mut_ptr(), found.len()) })
+}

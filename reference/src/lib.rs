@@ -1,6 +1,7 @@
 //! Reference runs: the engine, the unchanged Rust and a model of document 01 on the same lists.
 
 pub mod boundary;
+pub mod calendars;
 pub mod compare;
 pub mod damage;
 #[cfg(has_rust)]

@@ -7,13 +7,17 @@ use std::time::{Duration, Instant};
 use reference::compare::compare;
 use reference::list::List;
 use reference::tally::Tally;
-use reference::{exhaustive, generate, program, shrink};
+use reference::{calendars, exhaustive, generate, program, shrink};
 
 fn main() {
     let words: Vec<String> = std::env::args().skip(1).collect();
     let word = |i: usize| words.get(i).map(String::as_str);
     match word(0) {
         Some("lists") => lists(number(word(1), 4000), number(word(2), 1)),
+        Some("calendars") => {
+            let count = number(word(1), 1000);
+            end(count, calendars(count, number(word(2), 1)))
+        }
         Some("exhaustive") => exhaustive(number(word(1), exhaustive::COUNT)),
         Some("list") => one(number(word(1), 0), number(word(2), 1)),
         Some("boundary") => boundary(word(1) == Some("exact")),
@@ -87,7 +91,23 @@ fn end(count: u64, failed: u64) -> ! {
 
 fn lists(count: u64, seed: u64) {
     println!("seed {seed}");
-    end(count, run(count, |n| list(seed, n)));
+    let failed = run(count, |n| list(seed, n));
+    let weeks = count / 20;
+    end(count + weeks, failed + calendars(weeks, seed));
+}
+
+/// Blast calendars, on the engine and the model: how many failed.
+fn calendars(count: u64, seed: u64) -> u64 {
+    let mut tally = calendars::Tally::default();
+    let mut failed = 0;
+    for n in 0..count {
+        if let Err(text) = calendars::compare(seed, n, &mut tally) {
+            failed += 1;
+            println!("calendar {n} of seed {seed} failed: {text}");
+        }
+    }
+    println!("{}", tally.describe());
+    failed
 }
 
 /// The first of the exhaustive lists, or all of them.
