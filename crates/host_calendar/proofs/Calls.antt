@@ -16,7 +16,7 @@ use Rattle.blast_calendar.specs.Calendar.{windows, goodCalendar, isOpen, firstO
 use Rattle.blast_calendar.proofs.Steps.{good-many}
 use Rattle.blast_calendar.proofs.Asked.{open-answered, next-answered}
 use Rattle.host_lib.specs.Calls.{flag}
-use Rattle.host_calendar.specs.Calendar.{goodBytes, calendarChecks, isOpenCall, foundIn, nextOpenChecks, nextOpenCall}
+use Rattle.host_calendar.specs.Calendar.{goodBytes, openChecks, isOpenCall, foundIn, nextOpenChecks, nextOpenCall}
 
 -- ---- bytes that are no calendar
 
@@ -42,12 +42,12 @@ module _ (b : List ℕ) where
 
 module _ (b : List ℕ) (t : ℕ) where
   pub open-refused : goodBytes b ≡ false → isOpenCall b t ≡ refused 59
-  unfolding isOpenCall calendarChecks checked passes allOf refusal
+  unfolding isOpenCall openChecks checked passes allOf refusal
   open-refused h = rw h
 
   module _ (h : goodBytes b ≡ true) where
     pub open-told : (x : Bool) → askOpen (wordsOf b) t ≡ answered x → isOpenCall b t ≡ answered (flag x)
-    unfolding isOpenCall calendarChecks checked passes allOf
+    unfolding isOpenCall openChecks checked passes allOf
     open-told x e =
         let same : isOpen (windows (wordsOf b)) t ≡ x = cc (open-answered (wordsOf b) t (good-words b h)) in
         rw (h, same)
@@ -59,16 +59,16 @@ module _ (b : List ℕ) (t : ℕ) where
 
 module _ (b : List ℕ) (t : ℕ) (out : List ℕ) where
   pub next-refused : goodBytes b ≡ false → nextOpenCall b t out ≡ record { answer = refused 59; found = out }
-  unfolding nextOpenCall foundIn nextOpenChecks calendarChecks checked passes allOf refusal
+  unfolding nextOpenCall foundIn nextOpenChecks openChecks checked passes allOf refusal
   next-refused h = rw h
 
   module _ (h : goodBytes b ≡ true) where
     pub next-unsized : (length out ≡ 8 → ⊥) → nextOpenCall b t out ≡ record { answer = refused 40; found = out }
-    unfolding nextOpenCall foundIn nextOpenChecks calendarChecks checked passes allOf refusal
+    unfolding nextOpenCall foundIn nextOpenChecks openChecks checked passes allOf refusal
     next-unsized k = rw (h, ne-eqb (length out) 8 k)
 
     pub next-told : length out ≡ 8 → (x : Option ℕ) → askNextOpen (wordsOf b) t ≡ answered x → nextOpenCall b t out ≡ foundIn out (answered x)
-    unfolding nextOpenCall nextOpenChecks calendarChecks checked passes allOf
+    unfolding nextOpenCall nextOpenChecks openChecks checked passes allOf
     next-told k x e =
         let same : firstOpen (windows (wordsOf b)) t ≡ x = cc (next-answered (wordsOf b) t (good-words b h)) in
         rw (h, eq-eqb (length out) 8 k, same)

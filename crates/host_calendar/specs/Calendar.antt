@@ -18,12 +18,12 @@ use Rattle.host_calendar.specs.declared.Held.the-variants.{Words, Malfor
 unfoldable pub goodBytes : Bytes → Bool
 goodBytes b = wholeWords b && goodCalendar (wordsOf b)
 
-unfoldable pub calendarChecks : Bytes → List Check
-calendarChecks b = (not (goodBytes b) ⇒ 59) ∷ []
+unfoldable pub openChecks : Bytes → List Check
+openChecks b = (not (goodBytes b) ⇒ 59) ∷ []
 
 -- 1 where loading is open, else 0
 unfoldable pub isOpenCall : Bytes → ℕ → Answer ℕ
-isOpenCall b t = checked (calendarChecks b) (flag (isOpen (windows (wordsOf b)) t))
+isOpenCall b t = checked (openChecks b) (flag (isOpen (windows (wordsOf b)) t))
 
 -- what the question for the first open second answers, and the bytes that it was lent for the second afterwards
 pub record NextOpenCall : Type 0 where
@@ -38,7 +38,7 @@ foundIn out (refused n) = record { answer = refused n; found = out }
 
 -- 59, then 40 for bytes that do not hold a word
 unfoldable pub nextOpenChecks : Bytes → Bytes → List Check
-nextOpenChecks b out = calendarChecks b ++ ((not (eqb (length out) 8) ⇒ 40) ∷ [])
+nextOpenChecks b out = openChecks b ++ ((not (eqb (length out) 8) ⇒ 40) ∷ [])
 
 unfoldable pub nextOpenCall : Bytes → ℕ → Bytes → NextOpenCall
 nextOpenCall b t out = foundIn out (checked (nextOpenChecks b out) (firstOpen (windows (wordsOf b)) t))

@@ -643,6 +643,14 @@ mod tests {
         assert_eq!(Calendar::new(&[window(5, 9), window(8, 12)]).next_open(0), Err(Refused(59)));
     }
 
+    /// README's example: Monday 10:00 to 10:30 and Friday 14:00 to 15:00; on Friday, 20 November 2026, at 14:20 UTC loading waits until 15:00.
+    #[test]
+    fn readme_calendar() {
+        let calendar = Calendar::new(&[Window { start: 36_000, end: 37_800 }, Window { start: 396_000, end: 399_600 }]);
+        assert_eq!(calendar.is_open(1_795_184_400), Ok(false));
+        assert_eq!(calendar.next_open(1_795_184_400), Ok(Some(1_795_186_800)));
+    }
+
     #[test]
     fn every_length_of_a_calendar() {
         let windows: Vec<Window> = (0..70).map(|i| Window { start: 7200 * i, end: 7200 * i + 1800 }).collect();
