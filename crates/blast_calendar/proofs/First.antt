@@ -26,9 +26,9 @@ among zero ws t = closed (λ u h k. absurd (omega arith))
 among (suc n) ws t = go (isOpen ws t) refl (firstAmong n ws (t + 1)) (among n ws (t + 1))
   where
     go : (o : Bool) → isOpen ws t ≡ o → (x : Option ℕ) → Among n ws (t + 1) x → Among (suc n) ws t (pick o (some t) x)
-    go true e x a = first t (record { isItself = e; after = omega arith; earliest = λ u h k. absurd (omega arith) }) (omega arith)
+    go true e x a = first t (record { opens = e; after = omega arith; earliest = λ u h k. absurd (omega arith) }) (omega arith)
     go false e x (first r f k) =
-        first r (record { isItself = f .isItself; after = omega (arith, f .after); earliest = λ u h l. by u h l (decLt t u) }) (omega arith)
+        first r (record { opens = f .opens; after = omega (arith, f .after); earliest = λ u h l. by u h l (decLt t u) }) (omega arith)
       where
         by : (u : ℕ) → t ≤ u → u < r → Dec (t < u) → isOpen ws u ≡ false
         by u h l (yes m) = f .earliest u (omega arith) l
@@ -43,10 +43,10 @@ one-first : (ws : List Window) (t q r : ℕ) → FirstOpen ws t q → FirstOpen 
 one-first ws t q r f g = omega (arith, less, more)
   where
     less : ¬ (r < q)
-    less h = not-both (g .isItself) (f .earliest r (g .after) h)
+    less h = not-both (g .opens) (f .earliest r (g .after) h)
 
     more : ¬ (q < r)
-    more h = not-both (f .isItself) (g .earliest q (f .after) h)
+    more h = not-both (f .opens) (g .earliest q (f .after) h)
 
 -- ---- up to the count's end
 
@@ -60,7 +60,7 @@ found-meant ws t r = (λ h. there (among (lastSecond + 1 - t) ws t) h, λ p. bac
 
     back : FirstOpen ws t r × (r ≤ lastSecond) → {x : Option ℕ} → Among (lastSecond + 1 - t) ws t x → x ≡ some r
     back (g, l) (first q f k) = ap some (one-first ws t q r f g)
-    back (g, l) (closed f) = absurd (not-both (g .isItself) (f r (g .after) (omega (arith, g .after))))
+    back (g, l) (closed f) = absurd (not-both (g .opens) (f r (g .after) (omega (arith, g .after))))
 
 -- all seconds of a week from some time on are closed: the windows fill the week
 fills : (ws : List Window) (t : ℕ) → ((u : ℕ) → t ≤ u → u < t + week → isOpen ws u ≡ false) → FillWeek ws
@@ -79,7 +79,7 @@ none-meant ws t = (λ h. there (among (lastSecond + 1 - t) ws t) h, λ p. back p
     week-from f (first r g k) = inr (r, (g, past (decLe r lastSecond)))
       where
         past : Dec (r ≤ lastSecond) → lastSecond < r
-        past (yes l) = absurd (not-both (g .isItself) (f r (g .after) (omega (arith, g .after))))
+        past (yes l) = absurd (not-both (g .opens) (f r (g .after) (omega (arith, g .after))))
         past (no l) = omega arith
     week-from f (closed g) = inl (fills ws t g)
 
@@ -89,7 +89,7 @@ none-meant ws t = (λ h. there (among (lastSecond + 1 - t) ws t) h, λ p. back p
 
     back : FillWeek ws ⊎ PassesCount ws t → {x : Option ℕ} → Among (lastSecond + 1 - t) ws t x → x ≡ none
     back p (closed f) = refl
-    back (inl w) (first q f k) = absurd (not-both (f .isItself) (closed-at ws q (weekSecond q) refl (w (weekSecond q) (week-below q))))
+    back (inl w) (first q f k) = absurd (not-both (f .opens) (closed-at ws q (weekSecond q) refl (w (weekSecond q) (week-below q))))
     back (inr (r, (g, l))) (first q f k) = let same : q ≡ r = one-first ws t q r f g in absurd (omega (arith, f .after))
 
 -- ---- a week from any time on
@@ -108,7 +108,7 @@ later : (ws : List Window) (t r : ℕ) → FirstOpen ws t r → FirstOpen ws (t 
 unfolding OpenWeekly
 later ws t r f =
     record {
-      isItself = open-weekly ws r ∙ f .isItself;
+      opens = open-weekly ws r ∙ f .opens;
       after = omega (arith, f .after);
       earliest = λ u h k. by u h k;
     }

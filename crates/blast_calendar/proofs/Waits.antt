@@ -32,7 +32,7 @@ module _ (ws : List Window) where
       let l : weekSecond t ≤ r = f .onward in
       let b : weekSecond t < week = week-below t in
       record {
-        isItself = open-at ws (t + (r - weekSecond t)) r (week-same t (t + (r - weekSecond t)) (r - weekSecond t) refl (omega arith) ∙ omega arith) (f .quiet);
+        opens = open-at ws (t + (r - weekSecond t)) r (week-same t (t + (r - weekSecond t)) (r - weekSecond t) refl (omega arith) ∙ omega arith) (f .quiet);
         after = omega arith;
         earliest = λ u i (k : u < t + (r - weekSecond t)). closed-at ws u (weekSecond t + (u - t)) (week-same t u (u - t) (omega arith) (omega arith)) (f .blasts (weekSecond t + (u - t)) (omega arith) (omega arith));
       }
@@ -43,7 +43,7 @@ module _ (ws : List Window) where
       let b : weekSecond t < week = week-below t in
       let next : weekSecond (t + (week - weekSecond t + z)) + week ≡ weekSecond t + (week - weekSecond t + z) = week-next t (t + (week - weekSecond t + z)) (week - weekSecond t + z) refl (omega arith) (omega arith) in
       record {
-        isItself = open-at ws (t + (week - weekSecond t + z)) z (omega arith) (g .quiet);
+        opens = open-at ws (t + (week - weekSecond t + z)) z (omega arith) (g .quiet);
         after = omega arith;
         earliest = λ u i l. by b u i l (decLt (weekSecond t + (u - t)) week);
       }

@@ -64,7 +64,7 @@ isOpen ws t = not (blasting ws (weekSecond t))
 
 -- 02: "the first open second at or after it ..": "The time given is open and no earlier one from the request on is"
 pub record FirstOpen (ws : List Window) (t r : ℕ) : Type 0 where
-  pub isItself : isOpen ws r ≡ true
+  pub opens : isOpen ws r ≡ true
   pub after : t ≤ r
   pub earliest : (u : ℕ) → t ≤ u → u < r → isOpen ws u ≡ false
 
