@@ -21,8 +21,6 @@ ghost use Rattle.events.specs.Step.{withNew, eventsBy, eventsBetween, St
 ghost use Rattle.pending_items.specs.Items.{itemHolds};
 ghost use Rattle.table_words.specs.Answers.{FoundBy};
 
-// ---- events
-
 // Writes one event, three words.
 fn put_event(events: &mut [u64], n: usize, kind: u64, statement: u64, offset: u64)
     requires { ⌜ 3 * n + 3 ≤ length (now events) ⌝ }

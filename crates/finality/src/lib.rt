@@ -1,8 +1,6 @@
 // Finality over a list of blocks: voters, certificates, what is final, and the claims of what these mean. Follows finalization_interpreter.rs.
 ghost use Rattle.finality.specs.Claims.{Claims};
 
-// ---- the next final locator
-
 // The computed answers are what the relations say: voters, finality, the least final locator, the final list.
 pub fn claims()
     ensures { λ _. ⌜ Claims ⌝ }

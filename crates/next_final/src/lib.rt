@@ -18,8 +18,6 @@ ghost use Rattle.vote_starts.specs.Answers.{asMaybe};
 ghost use Rattle.next_final.specs.Answers.{asNextFinal};
 ghost use Rattle.block_votes.specs.Walk.{Sorted};
 
-// ---- the next final locator
-
 // Whether a locator is final.
 fn is_final(
     stakes: &[u64],

@@ -10,8 +10,6 @@ ghost use Rattle.types.specs.Values.{asLocator};
 ghost use Rattle.store_layout.specs.Payload.{shareStretch, payload, payloadLength};
 ghost use Rattle.payload.specs.Answers.{asShare, shareWithin, asPlace, placeWithin, payloadPlace, asPayloadLength};
 
-// ---- payload
-
 // Where a record has a share's payload, its start and its length; or the statement is no share.
 enum SharePlace {
     Payload(usize, usize),

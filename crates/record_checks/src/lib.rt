@@ -9,8 +9,6 @@ ghost use Rattle.store_layout.specs.Store.{recordsOf};
 ghost use Rattle.store_layout.specs.Entry.{laidOut};
 ghost use Rattle.record_checks.specs.Step.{acceptChecks};
 
-// ---- feeding
-
 // 21 to 30: what is checked of a well-formed record before the store; 0 where none applies.
 pub fn block_refusal(stakes: &[u64], store: &[u8], rec: &[u8]) -> u64
     requires { ⌜ (broken (now stakes) ≡ false) × (laidOut (now store) ≡ true) × (wellFormed (now rec) ≡ true) ⌝ }

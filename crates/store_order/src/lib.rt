@@ -62,7 +62,7 @@ fn header_right(store: &[u8]) -> bool
 }
 
 // Walks over the entries, and keeps where each starts, in order of arrival.
-pub fn entries_readable(store: &[u8], starts: &mut [u64]) -> bool
+fn entries_readable(store: &[u8], starts: &mut [u64]) -> bool
     requires { ⌜ (headerRight (now store) ≡ true) × (1024 ≤ length (now starts)) ⌝ }
     ensures { λ r. ⌜ r ≡ readable (now (store .entry)) ⌝ }
     ensures { λ r. ⌜ (r ≡ true → take (blockCount (now (store .entry))) (now (starts .exit)) ≡ positions (recordsOf (now (store .entry)))) ⌝ }
@@ -130,7 +130,7 @@ fn comes_after(store: &[u8], last: usize, at: usize) -> bool
 }
 
 // Walks along the chain, whose positions are entries' in ascending reference order, as many as there are, and keeps them in that order.
-pub fn chain_right(store: &[u8], starts: &[u64], order: &mut [u64]) -> bool
+fn chain_right(store: &[u8], starts: &[u64], order: &mut [u64]) -> bool
     requires { ⌜ (readable (now store) ≡ true) × ((now starts ≡ positions (recordsOf (now store))) × (length (now starts) ≤ length (now order))) ⌝ }
     ensures { λ r. ⌜ r ≡ chained (now (store .entry)) ⌝ }
     ensures { λ r. ⌜ (r ≡ true → take (length (now (starts .entry))) (now (order .exit)) ≡ sortedPositions (recordsOf (now (store .entry)))) ⌝ }
