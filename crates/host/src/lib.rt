@@ -6,7 +6,7 @@ ghost use lib.ListN.{length};
 ghost use Rattle.base.specs.Checks.{refusal};
 ghost use Rattle.committee.specs.Committee.{quorumOf, validOf};
 ghost use Rattle.host_lib.specs.Calls.{encoded, flag, newCommitteeCall};
-ghost use Rattle.host_lib.specs.Add.{addCall};
+ghost use Rattle.host_add.specs.Add.{addCall};
 ghost use Rattle.host_lib.specs.Pending.{pendingStakeCall, pendingVotersCall};
 ghost use Rattle.host_lib.specs.Feed.{feedCall};
 ghost use Rattle.host_finals.specs.NextFinal.{nextFinalCall};
@@ -71,7 +71,7 @@ pub extern "C" fn lomkhvide_add(stakes: &[u8], aggregator: &mut [u8], voter: u64
 {
     let mut held = [0u64; 128];
     let n = host_lib::stakes_of(stakes, &mut held);
-    match host_lib::add_of(&held[..n], aggregator, voter) {
+    match host_add::add_of(&held[..n], aggregator, voter) {
         AddAnswer::Counted(quorum) => host_lib::flag(quorum),
         AddAnswer::Refused(number) => REFUSED + number,
     }

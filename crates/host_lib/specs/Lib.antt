@@ -1,5 +1,4 @@
 pub mod Calls
 pub mod Payload
-pub mod Add
 pub mod Pending
 pub mod Feed

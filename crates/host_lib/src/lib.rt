@@ -1,8 +1,13 @@
 // What the host's calls are made of: stakes, payloads, pending locators and feeding, over byte slices.
+use committee::NewCommittee;
+use feeding::FeedAnswer;
+use payload::PayloadLength;
+use payload::PayloadPlace;
+use pending::PendingAnswer;
 ghost use mathlib.Core.Path.{_≡_};
 ghost use mathlib.Core.Bool.{true};
 ghost use mathlib.Core.List.{[], _∷_, _++_};
-ghost use Prim.Native.Nat.{_+_, _≤_};
+ghost use Prim.Native.Nat.{_≤_};
 ghost use lib.Dec.{eqb};
 ghost use lib.ListN.{length, take};
 ghost use Rattle.base.specs.Lists.{anyOf};
@@ -11,26 +16,14 @@ ghost use Rattle.words.specs.Words.{wordsOf, bytesOf};
 ghost use Rattle.store_layout.specs.Payload.{payloadLength};
 ghost use Rattle.payload.specs.Answers.{asPayloadLength, asPlace, payloadPlace};
 ghost use Rattle.committee.specs.Committee.{broken};
-ghost use Rattle.stake_aggregator.specs.Answers.{asAggregator, asAddAnswer};
 ghost use Rattle.pending.specs.Answers.{asPending};
 ghost use Rattle.feeds.specs.Pending.{pendingChecks};
 ghost use Rattle.host_lib.specs.Calls.{flag, committeeOf};
-ghost use Rattle.host_lib.specs.Add.{aggregatorOf, aggregatorBytes, flagged, addOf};
 ghost use Rattle.host_lib.specs.Pending.{pendingIn, askedPending};
 ghost use Rattle.feeding.specs.Answers.{asFeedAnswer};
 ghost use Rattle.feeding.specs.Refusals.{earlyChecks};
 ghost use Rattle.host_lib.specs.Feed.{fedWith, feedOf};
 ghost use Rattle.host_lib.specs.Payload.{locatorOf, refusalBefore, asked};
-use authority_set::AuthoritySet;
-use committee::AuthorityIndex;
-use committee::NewCommittee;
-use committee::Stake;
-use feeding::FeedAnswer;
-use payload::PayloadLength;
-use payload::PayloadPlace;
-use pending::PendingAnswer;
-use stake_aggregator::AddAnswer;
-use stake_aggregator::StakeAggregator;
 
 // Whether one of the words is zero.
 pub fn has_zero_word(bytes: &[u8]) -> bool
@@ -70,51 +63,6 @@ pub fn flag(test: bool) -> u64
         return 1;
     }
     0
-}
-
-// ---- adding a vote
-
-fn read_aggregator(bytes: &[u8]) -> StakeAggregator
-    requires { ⌜ length (now bytes) ≡ 24 ⌝ }
-    ensures { λ r. ⌜ asAggregator r ≡ aggregatorOf (now (bytes .entry)) ⌝ }
-{
-    let low = base::read_u64(bytes, 0);
-    let high = base::read_u64(bytes, 8);
-    let stake = Stake(base::read_u64(bytes, 16));
-    let votes = AuthoritySet { low, high };
-    StakeAggregator { votes, stake }
-}
-
-fn write_aggregator(bytes: &mut [u8], aggregator: StakeAggregator)
-    requires { ⌜ length (now bytes) ≡ 24 ⌝ }
-    ensures { λ _. ⌜ now (bytes .exit) ≡ aggregatorBytes (asAggregator aggregator) ⌝ }
-{
-    base::write_u64(bytes, 0, aggregator.votes.low);
-    base::write_u64(bytes, 8, aggregator.votes.high);
-    base::write_u64(bytes, 16, aggregator.stake.0);
-}
-
-// 5, or 6 for bytes that are no aggregator.
-fn no_aggregator(stakes: &[u64]) -> u64
-    ensures { λ r. ⌜ r ≡ refusal ((broken (now (stakes .entry)) ⇒ 5) ∷ (true ⇒ 6) ∷ []) ⌝ }
-{
-    let NewCommittee::Taken(_) = committee::new_committee(stakes) else {
-        return 5;
-    };
-    6
-}
-
-pub fn add_of(stakes: &[u64], aggregator: &mut [u8], voter: u64) -> AddAnswer
-    ensures { λ r. ⌜ (flagged (asAddAnswer r) ≡ addOf (now (stakes .entry)) (now (aggregator .entry)) voter .answer) × (now (aggregator .exit) ≡ addOf (now (stakes .entry)) (now (aggregator .entry)) voter .aggregator) ⌝ }
-{
-    if aggregator.len() != 24 {
-        return AddAnswer::Refused(no_aggregator(stakes));
-    }
-    let held = read_aggregator(aggregator);
-    let added = held.add(stakes, AuthorityIndex(voter));
-    let next = added.aggregator;
-    write_aggregator(aggregator, next);
-    added.answer
 }
 
 // ---- questions about a payload

@@ -1,6 +1,6 @@
-use Rattle.host_lib.proofs.Added.{added-most}
+use Rattle.host_add.proofs.Added.{added-most}
 use Rattle.host_lib.specs.Calls.{encoded}
-use Rattle.host_lib.specs.Add.{flagged, addCall}
+use Rattle.host_add.specs.Add.{flagged, addCall}
 use Rattle.stake_aggregator.specs.Answers.{asAddAnswer}
 use native.Mathlib.Omega.{arith}
 use lib.ListN.{take}

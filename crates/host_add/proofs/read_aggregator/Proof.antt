@@ -1,7 +1,7 @@
-use Rattle.host_lib.specs.Add.{aggregatorOf}
+use Rattle.host_add.specs.Add.{aggregatorOf}
 use borrow.Author.Needs.{needs}
-use Rattle.host_lib.proofs.read_aggregator.Statement.{statement}
-use Rattle.host_lib.proofs.read_aggregator.Tie as tie
+use Rattle.host_add.proofs.read_aggregator.Statement.{statement}
+use Rattle.host_add.proofs.read_aggregator.Tie as tie
 
 read-u64-requires : tie.Need-read-u64-requires
 read-u64-requires c κs = search needs

@@ -3,8 +3,8 @@ use Rattle.committee.proofs.Answers.{taken-sound, broken-sound}
 use Rattle.base.specs.Checks.{refusal}
 use mathlib.Core.Path.{sym, ap, _∙_}
 use borrow.Author.Needs.{needs}
-use Rattle.host_lib.proofs.no_aggregator.Statement.{statement}
-use Rattle.host_lib.proofs.no_aggregator.Tie as tie
+use Rattle.host_add.proofs.no_aggregator.Statement.{statement}
+use Rattle.host_add.proofs.no_aggregator.Tie as tie
 
 new-committee-requires : tie.Need-new-committee-requires
 new-committee-requires c κs = search needs

@@ -1,11 +1,11 @@
 use Rattle.stake_aggregator.specs.StakeAggregator.{Added}
-use Rattle.host_lib.proofs.Added.{added-other, added-sized}
-use Rattle.host_lib.specs.Add.{AddCall, flagged, aggregatorBytes}
+use Rattle.host_add.proofs.Added.{added-other, added-sized}
+use Rattle.host_add.specs.Add.{AddCall, flagged, aggregatorBytes}
 use Rattle.stake_aggregator.specs.Answers.{asAddAnswer, asAdded}
 use mathlib.Core.Path.{ap, sym, _∙_}
 use borrow.Author.Needs.{needs}
-use Rattle.host_lib.proofs.add_of.Statement.{statement}
-use Rattle.host_lib.proofs.add_of.Tie as tie
+use Rattle.host_add.proofs.add_of.Statement.{statement}
+use Rattle.host_add.proofs.add_of.Tie as tie
 
 no-aggregator-requires : tie.Need-no-aggregator-requires
 no-aggregator-requires c κs = search needs

@@ -1,9 +1,9 @@
-use Rattle.host_lib.proofs.Added.{three-written}
-use Rattle.host_lib.specs.Add.{aggregatorBytes}
+use Rattle.host_add.proofs.Added.{three-written}
+use Rattle.host_add.specs.Add.{aggregatorBytes}
 use mathlib.Core.Path.{_∙_}
 use borrow.Author.Needs.{needs}
-use Rattle.host_lib.proofs.write_aggregator.Statement.{statement}
-use Rattle.host_lib.proofs.write_aggregator.Tie as tie
+use Rattle.host_add.proofs.write_aggregator.Statement.{statement}
+use Rattle.host_add.proofs.write_aggregator.Tie as tie
 
 write-u64-requires : tie.Need-write-u64-requires
 write-u64-requires c κs = search needs

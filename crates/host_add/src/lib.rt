@@ -1,0 +1,58 @@
+// Adding a vote to an aggregator that a host holds as bytes.
+use authority_set::AuthoritySet;
+use committee::AuthorityIndex;
+use committee::NewCommittee;
+use committee::Stake;
+use stake_aggregator::AddAnswer;
+use stake_aggregator::StakeAggregator;
+ghost use mathlib.Core.Path.{_≡_};
+ghost use mathlib.Core.Bool.{true};
+ghost use mathlib.Core.List.{[], _∷_};
+ghost use lib.ListN.{length};
+ghost use Rattle.base.specs.Checks.{_⇒_, refusal};
+ghost use Rattle.committee.specs.Committee.{broken};
+ghost use Rattle.stake_aggregator.specs.Answers.{asAggregator, asAddAnswer};
+ghost use Rattle.host_add.specs.Add.{aggregatorOf, aggregatorBytes, flagged, addOf};
+
+fn read_aggregator(bytes: &[u8]) -> StakeAggregator
+    requires { ⌜ length (now bytes) ≡ 24 ⌝ }
+    ensures { λ r. ⌜ asAggregator r ≡ aggregatorOf (now (bytes .entry)) ⌝ }
+{
+    let low = base::read_u64(bytes, 0);
+    let high = base::read_u64(bytes, 8);
+    let stake = Stake(base::read_u64(bytes, 16));
+    let votes = AuthoritySet { low, high };
+    StakeAggregator { votes, stake }
+}
+
+fn write_aggregator(bytes: &mut [u8], aggregator: StakeAggregator)
+    requires { ⌜ length (now bytes) ≡ 24 ⌝ }
+    ensures { λ _. ⌜ now (bytes .exit) ≡ aggregatorBytes (asAggregator aggregator) ⌝ }
+{
+    base::write_u64(bytes, 0, aggregator.votes.low);
+    base::write_u64(bytes, 8, aggregator.votes.high);
+    base::write_u64(bytes, 16, aggregator.stake.0);
+}
+
+// 5, or 6 for bytes that are no aggregator.
+fn no_aggregator(stakes: &[u64]) -> u64
+    ensures { λ r. ⌜ r ≡ refusal ((broken (now (stakes .entry)) ⇒ 5) ∷ (true ⇒ 6) ∷ []) ⌝ }
+{
+    let NewCommittee::Taken(_) = committee::new_committee(stakes) else {
+        return 5;
+    };
+    6
+}
+
+pub fn add_of(stakes: &[u64], aggregator: &mut [u8], voter: u64) -> AddAnswer
+    ensures { λ r. ⌜ (flagged (asAddAnswer r) ≡ addOf (now (stakes .entry)) (now (aggregator .entry)) voter .answer) × (now (aggregator .exit) ≡ addOf (now (stakes .entry)) (now (aggregator .entry)) voter .aggregator) ⌝ }
+{
+    if aggregator.len() != 24 {
+        return AddAnswer::Refused(no_aggregator(stakes));
+    }
+    let held = read_aggregator(aggregator);
+    let added = held.add(stakes, AuthorityIndex(voter));
+    let next = added.aggregator;
+    write_aggregator(aggregator, next);
+    added.answer
+}
