@@ -37,11 +37,13 @@ fn add(card: &[u8], stakes: &[u64], aggregator: StakeAggregator, vote: u64) {
     let added = aggregator.add(stakes, AuthorityIndex(vote));
     let answer = added.answer;
     match answer {
-        AddAnswer::Counted(quorum) => {
-            if quorum {
-                print(b": quorum");
-            } else {
-                print(b": no quorum");
+        AddAnswer::RepeatedBelow => print(b": repeated below quorum"),
+        AddAnswer::RepeatedWith => print(b": repeated with quorum"),
+        AddAnswer::NewBelow => print(b": new below quorum"),
+        AddAnswer::NewWith(crossed) => {
+            print(b": new with quorum");
+            if crossed {
+                print(b", crossed by it");
             }
         }
         AddAnswer::Refused(number) => {
@@ -118,6 +120,12 @@ fn votes() {
     };
     add(b"a new vote", &course, two, 2);
     add(b"a repeated vote", &course, two, 1);
+    let four = StakeAggregator {
+        votes: AuthoritySet { low: 39, high: 0 },
+        stake: Stake(12),
+    };
+    add(b"a new vote once quorum holds", &course, four, 6);
+    add(b"a repeated vote once quorum holds", &course, four, 5);
     add(b"an unknown voter", &course, two, 7);
     let wrong = StakeAggregator {
         votes: AuthoritySet { low: 3, high: 0 },

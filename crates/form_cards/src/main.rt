@@ -33,11 +33,13 @@ fn print_refused(number: u64) {
 fn print_added(added: Added) {
     let answer = added.answer;
     match answer {
-        AddAnswer::Counted(quorum) => {
-            if quorum {
-                print(b"quorum");
-            } else {
-                print(b"no quorum");
+        AddAnswer::RepeatedBelow => print(b"repeated below quorum"),
+        AddAnswer::RepeatedWith => print(b"repeated with quorum"),
+        AddAnswer::NewBelow => print(b"new below quorum"),
+        AddAnswer::NewWith(crossed) => {
+            print(b"new with quorum");
+            if crossed {
+                print(b", crossed by it,");
             }
         }
         AddAnswer::Refused(number) => print_refused(number),
@@ -72,6 +74,8 @@ fn votes() {
     vote(b"a first vote", &course, aggregator(0, 0), 0);
     vote(b"a vote that makes quorum", &course, aggregator(7, 11), 6);
     vote(b"a repeated vote", &course, aggregator(7, 11), 1);
+    vote(b"a vote once quorum holds", &course, aggregator(39, 12), 6);
+    vote(b"a repeated vote then", &course, aggregator(39, 12), 5);
 }
 
 fn refused_votes() {

@@ -1,6 +1,6 @@
 -- `add`, case by case, as the code tells the cases apart. Assumes nothing.
 use mathlib.Core.Path.{_≡_}
-use mathlib.Core.Bool.{Bool, true, false}
+use mathlib.Core.Bool.{true, false}
 use Prim.Native.Nat.{ℕ, _+_, _<_}
 use native.Mathlib.Omega.{arith}
 use borrow.Author.Tests.{eqb-true}
@@ -8,11 +8,12 @@ use Rattle.base.specs.Lists.{allOf}
 use Rattle.base.specs.Checks.{refusal, passes, refused, answered, checked}
 use Rattle.base.proofs.Tests.{and-right}
 use Rattle.committee.specs.Committee.{AuthorityIndex, Committee, broken, isQuorum, known, getStake}
-use Rattle.authority_set.specs.AuthoritySet.{members, stakeOf}
-use Rattle.stake_aggregator.specs.StakeAggregator.{StakeAggregator, counted, hasQuorum, aggregatorInOrder, addChecks, add}
+use Rattle.authority_set.specs.AuthoritySet.{member, members, stakeOf}
+use Rattle.stake_aggregator.specs.StakeAggregator.{StakeAggregator, counted, hasQuorum, aggregatorInOrder, addChecks, toldOf, told, add}
 use Rattle.stake_aggregator.specs.Answers.{asAggregator, asAddAnswer, asAdded}
 use Rattle.stake_aggregator.specs.declared.StakeAggregator as code-aggregator
-use Rattle.stake_aggregator.specs.declared.AddAnswer.the-variants.{Counted, Refused}
+use Rattle.stake_aggregator.specs.declared.AddAnswer.{AddAnswer}
+use Rattle.stake_aggregator.specs.declared.AddAnswer.the-variants.{Refused}
 use Rattle.stake_aggregator.specs.declared.Added as code-added
 use Rattle.committee.proofs.Bounds.{few-members, known-below, total-most, member-most}
 use Rattle.authority_set.proofs.Sums.{stake-most}
@@ -36,7 +37,7 @@ module _ (c : Committee) (g : StakeAggregator) (a : AuthorityIndex) where
   add-unknown h k l = rw (h, k, l)
 
   pub add-counts : broken c ≡ false → aggregatorInOrder c g ≡ true → known c a ≡ true
-      → add c g a ≡ record { answer = answered (hasQuorum c (counted c g a)); aggregator = counted c g a }
+      → add c g a ≡ record { answer = answered (told c g a); aggregator = counted c g a }
   unfolding add addChecks checked passes allOf
   add-counts h k l = rw (h, k, l)
 
@@ -48,7 +49,8 @@ module _ (c : Committee) (g : StakeAggregator) (a : AuthorityIndex) where
       (omega (arith, few-members c h, known-below c a l), omega (arith, held, stake-most c (g .votes), member-most c a, total-most c h))
 
   -- what the code answers once the vote is counted
-  pub added-sound : (n : code-aggregator.StakeAggregator) (q : Bool) → broken c ≡ false → aggregatorInOrder c g ≡ true → known c a ≡ true
-      → asAggregator n ≡ counted c g a → q ≡ isQuorum c (n .stake .0) → asAdded (record { answer = Counted q; aggregator = n }) ≡ add c g a
-  unfolding asAdded asAddAnswer hasQuorum
-  added-sound n q h k l e f = rw (f, add-counts h k l, ← e)
+  pub added-sound : (n : code-aggregator.StakeAggregator) (r : AddAnswer) → broken c ≡ false → aggregatorInOrder c g ≡ true → known c a ≡ true
+      → asAggregator n ≡ counted c g a → asAddAnswer r ≡ answered (toldOf (member (g .votes) a) (isQuorum c (g .stake)) (isQuorum c (n .stake .0)))
+      → asAdded (record { answer = r; aggregator = n }) ≡ add c g a
+  unfolding asAdded told hasQuorum
+  added-sound n r h k l e f = rw (f, add-counts h k l, ← e)

@@ -1,8 +1,22 @@
--- The claims hold, by evaluation. Assumes nothing.
+-- The claims hold, those at small values by evaluation. Assumes nothing.
 use mathlib.Core.Path.{refl}
-use Rattle.stake_aggregator.specs.Claims.{Claims}
+use Rattle.stake_aggregator.specs.Claims.{answers, Claims}
 use Rattle.stake_aggregator.proofs.Computing.{computing}
+use Rattle.stake_aggregator.proofs.Crossing.{quorum-now, crossed-meant, crosses-once, which-vote}
 
 pub claimed : Claims
-unfolding computing
-claimed = record { new = refl; newWithQuorum = refl; again = refl; five = refl; sixUnknown = refl; sixStake = refl; unknown = refl }
+unfolding computing answers
+claimed = record {
+  quorumNow = quorum-now;
+  crossed = crossed-meant;
+  once = crosses-once;
+  whichVote = which-vote;
+  eightVotes = refl;
+  new = refl;
+  crossing = refl;
+  again = refl;
+  five = refl;
+  sixUnknown = refl;
+  sixStake = refl;
+  unknown = refl;
+}

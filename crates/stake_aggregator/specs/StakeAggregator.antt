@@ -1,6 +1,6 @@
 -- The aggregator of stake (committee.rs). Assumes nothing: these are definitions.
 use Prim.Native.Nat.{_+_}
-use mathlib.Core.Bool.{Bool, not, _&&_}
+use mathlib.Core.Bool.{Bool, true, false, not, _&&_}
 use mathlib.Core.List.{List, [], _∷_}
 use lib.Dec.{eqb}
 use Rattle.base.specs.Lists.{pick, allOf}
@@ -41,15 +41,33 @@ addChecks c g a =
     ∷ (not (known c a) ⇒ 21)
     ∷ []
 
+-- 02: "`add` shall answer one of four: repeated below quorum, repeated with quorum, new below quorum, new with quorum, the last also saying whether this vote crossed it"
+pub data Told : Type 0 where
+  repeatedBelow : Told
+  repeatedWith : Told
+  newBelow : Told
+  newWith : (crossed : Bool) → Told
+
+-- which of them it is, by whether the author had voted, whether quorum held before and whether it holds now; crossed: it holds now and did not before
+unfoldable pub toldOf : Bool → Bool → Bool → Told
+toldOf true before false = repeatedBelow
+toldOf true before true = repeatedWith
+toldOf false before false = newBelow
+toldOf false before true = newWith (not before)
+
+-- from the aggregator before the vote and after it
+unfoldable pub told : Committee → StakeAggregator → AuthorityIndex → Told
+told c g a = toldOf (member (g .votes) a) (hasQuorum c g) (hasQuorum c (counted c g a))
+
 -- what `add` answers, and the aggregator that it was lent afterwards
 pub record Added : Type 0 where
-  pub answer : Answer Bool
+  pub answer : Answer Told
   pub aggregator : StakeAggregator
 
--- 01: "`StakeAggregator::add` puts the voter into the aggregator it is lent .. the answer is whether quorum holds now"
+-- 01: "`StakeAggregator::add` puts the voter into the aggregator it is lent"
 unfoldable pub add : Committee → StakeAggregator → AuthorityIndex → Added
 add c g a =
     record {
-      answer = checked (addChecks c g a) (hasQuorum c (counted c g a));
+      answer = checked (addChecks c g a) (told c g a);
       aggregator = pick (passes (addChecks c g a)) (counted c g a) g;
     }

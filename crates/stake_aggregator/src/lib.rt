@@ -8,9 +8,10 @@ ghost use mathlib.Core.Path.{_≡_};
 ghost use mathlib.Core.Bool.{false};
 ghost use Prim.Native.Nat.{_+_, _<_};
 ghost use Rattle.base.specs.Lists.{allOf};
+ghost use Rattle.base.specs.Checks.{answered};
 ghost use Rattle.committee.specs.Committee.{broken, known};
 ghost use Rattle.authority_set.specs.AuthoritySet.{members};
-ghost use Rattle.stake_aggregator.specs.StakeAggregator.{noVotes, withVote, aggregatorInOrder, add};
+ghost use Rattle.stake_aggregator.specs.StakeAggregator.{noVotes, withVote, aggregatorInOrder, toldOf, add};
 ghost use Rattle.stake_aggregator.specs.Answers.{asAggregator, asAddAnswer, asAdded};
 ghost use Rattle.stake_aggregator.specs.Claims.{Claims};
 
@@ -20,9 +21,13 @@ pub struct StakeAggregator {
     pub stake: Stake,
 }
 
-// Whether quorum holds after a vote, or the refusal number.
+// Whether the voter had voted or is new, and whether quorum holds now; of a new vote with quorum, whether it crossed it. Or
+// the refusal number.
 pub enum AddAnswer {
-    Counted(bool),
+    RepeatedBelow,
+    RepeatedWith,
+    NewBelow,
+    NewWith(bool),
     Refused(u64),
 }
 
@@ -44,6 +49,22 @@ fn all_known(stakes: &[u64], votes: AuthoritySet) -> bool
         i += 1;
     }
     true
+}
+
+// What a vote is told, by whether its author had voted, whether quorum held before and whether it holds now.
+fn told(repeated: bool, before: bool, now: bool) -> AddAnswer
+    ensures { λ r. ⌜ asAddAnswer r ≡ answered (toldOf repeated before now) ⌝ }
+{
+    if repeated {
+        if now {
+            return AddAnswer::RepeatedWith;
+        }
+        return AddAnswer::RepeatedBelow;
+    }
+    if now {
+        return AddAnswer::NewWith(!before);
+    }
+    AddAnswer::NewBelow
 }
 
 impl StakeAggregator {
@@ -95,7 +116,7 @@ impl StakeAggregator {
         }
     }
 
-    // Adds a vote: 5, 6, 21 ascending, changing nothing; else whether quorum holds now.
+    // Adds a vote: 5, 6, 21 ascending, changing nothing; else one of the four.
     pub fn add(self, stakes: &[u64], vote: AuthorityIndex) -> Added
         ensures { λ r. ⌜ asAdded r ≡ add (now (stakes .entry)) (asAggregator self) (vote .0) ⌝ }
     {
@@ -108,15 +129,19 @@ impl StakeAggregator {
         let FoundStake::Known(stake) = committee::get_stake(stakes, vote) else {
             return self.refused(21);
         };
+        let votes = self.votes;
+        let repeated = votes.contains(vote);
+        let before = committee::is_quorum(total, self.stake);
         let next = self.with_vote(vote, stake);
+        let now = committee::is_quorum(total, next.stake);
         Added {
-            answer: AddAnswer::Counted(committee::is_quorum(total, next.stake)),
+            answer: told(repeated, before, now),
             aggregator: next,
         }
     }
 }
 
-// Puts the vote into the aggregator that is lent: 5, 6, 21 ascending, changing nothing; else whether quorum holds now.
+// Puts the vote into the aggregator that is lent: 5, 6, 21 ascending, changing nothing; else one of the four.
 pub fn add(aggregator: &mut StakeAggregator, stakes: &[u64], vote: AuthorityIndex) -> AddAnswer
     ensures { λ r. ⌜ (asAddAnswer r ≡ add (now (stakes .entry)) (asAggregator (now (aggregator .entry))) (vote .0) .answer) × (asAggregator (now (aggregator .exit)) ≡ add (now (stakes .entry)) (asAggregator (now (aggregator .entry))) (vote .0) .aggregator) ⌝ }
 {

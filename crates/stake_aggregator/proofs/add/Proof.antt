@@ -47,7 +47,7 @@ use Rattle.committee.specs.declared.AuthorityIndex.{AuthorityIndex}
 use Rattle.stake_aggregator.specs.declared.AddAnswer.{AddAnswer}
 use Rattle.stake_aggregator.specs.declared.Added.{Added}
 use Rattle.stake_aggregator.specs.StakeAggregator as meant
-use Rattle.stake_aggregator.specs.Answers.{asAggregator, asAddAnswer, asAdded}
+use Rattle.stake_aggregator.specs.Answers.{asAggregator, asAdded}
 use Rattle.stake_aggregator.proofs.Added as R
 use Rattle.stake_aggregator.proofs.Added.Laws as R′
 use Rattle.stake_aggregator.proofs.AddAnswer as E

@@ -2,11 +2,11 @@ use native.Mathlib.Decide.{decLt}
 use borrow.Author.Needs.{needs}
 use Rattle.authority_set.proofs.Sums.{members-known, members-unknown}
 use Rattle.authority_set.specs.AuthoritySet.{member}
-use lib.ListN.{length, drop}
+use lib.ListN.{length}
 use native.Mathlib.Omega.{arith}
 use Prim.Native.Nat.{ℕ, _+_, _≤_, _<_, _-_}
 use mathlib.Core.Bool.{false}
-use mathlib.Core.Path.{_≡_, refl, sym, _∙_}
+use mathlib.Core.Path.{_≡_, sym, _∙_}
 use Rattle.stake_aggregator.proofs.all_known.Statement.{statement}
 use Rattle.stake_aggregator.proofs.all_known.Tie as tie
 

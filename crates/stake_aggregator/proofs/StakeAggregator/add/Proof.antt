@@ -66,33 +66,42 @@ returns-3 c =
     let unknown = unknown-sound (start .stakes .now) (start .vote .0) (sym (c .before .before .before .get-stake .ensures) ∙ c .before .enum-told2 .given .1) in
     refused-sound _ _ _ (c .refused3 .ensures) ∙ sym (add-unknown _ _ _ (taken .0) ordered unknown)
 
-with-vote-requires : tie.Need-with-vote-requires
-with-vote-requires c κs =
-    let start = c .before .before .before .before .before .before .before .before .before .before .before .args in
-    let told = c .before .before .before .before .before .before .before .total .given in
-    let taken = taken-sound (start .stakes .now) (told .0 .0) (ap asNewCommittee (sym (told .1)) ∙ c .before .before .before .before .before .before .before .before .before .new-committee .ensures) in
-    let ordered = sym (c .before .before .before .before .before .in-order .ensures) ∙ not-false _ (c .before .before .before .before .if1 .left) in
-    let found = c .before .stake .given in
-    let knows = known-sound (start .stakes .now) (start .vote .0) (found .0 .0) (sym (c .before .before .before .get-stake .ensures) ∙ found .1) in
-    let fits = vote-fits (start .stakes .now) (asAggregator (start .self)) (start .vote .0) (taken .0) ordered (knows .0) in
-    (fits .0, rw (knows .1) (fits .1))
+contains-requires : tie.Need-contains-requires
+contains-requires c κs = search needs
 
 is-quorum-requires : tie.Need-is-quorum-requires
 is-quorum-requires c κs = search needs
 
+with-vote-requires : tie.Need-with-vote-requires
+with-vote-requires c κs =
+    let start = c .before .before .before .before .before .before .before .before .before .before .before .before .before .before .args in
+    let told = c .before .before .before .before .before .before .before .before .before .before .total .given in
+    let taken = taken-sound (start .stakes .now) (told .0 .0) (ap asNewCommittee (sym (told .1)) ∙ c .before .before .before .before .before .before .before .before .before .before .before .before .new-committee .ensures) in
+    let ordered = sym (c .before .before .before .before .before .before .before .before .in-order .ensures) ∙ not-false _ (c .before .before .before .before .before .before .before .if1 .left) in
+    let found = c .before .before .before .before .stake .given in
+    let knows = known-sound (start .stakes .now) (start .vote .0) (found .0 .0) (sym (c .before .before .before .before .before .before .get-stake .ensures) ∙ found .1) in
+    let fits = vote-fits (start .stakes .now) (asAggregator (start .self)) (start .vote .0) (taken .0) ordered (knows .0) in
+    (fits .0, rw (knows .1) (fits .1))
+
+is-quorum-requires-2 : tie.Need-is-quorum-requires-2
+is-quorum-requires-2 c κs = search needs
+
+told-requires : tie.Need-told-requires
+told-requires c κs = search needs
+
 returns-4 : tie.Need-returns-4
 unfolding counted isQuorum
 returns-4 c =
-    let start = c .before .before .before .before .before .before .before .before .before .before .before .before .before .args in
-    let told = c .before .before .before .before .before .before .before .before .before .total .given in
-    let taken = taken-sound (start .stakes .now) (told .0 .0) (ap asNewCommittee (sym (told .1)) ∙ c .before .before .before .before .before .before .before .before .before .before .before .new-committee .ensures) in
-    let ordered = sym (c .before .before .before .before .before .before .before .in-order .ensures) ∙ not-false _ (c .before .before .before .before .before .before .if1 .left) in
-    let found = c .before .before .before .stake .given in
-    let knows = known-sound (start .stakes .now) (start .vote .0) (found .0 .0) (sym (c .before .before .before .before .before .get-stake .ensures) ∙ found .1) in
-    let next = c .before .with-vote .result in
-    added-sound (start .stakes .now) (asAggregator (start .self)) (start .vote .0) next (c .is-quorum .result) (taken .0) ordered (knows .0)
-    (c .before .with-vote .ensures ∙ rw (knows .1))
-    (c .is-quorum .ensures ∙ rw (taken .1))
+    let start = c .before .before .before .before .before .before .before .before .before .before .before .before .before .before .before .before .before .args in
+    let told = c .before .before .before .before .before .before .before .before .before .before .before .before .before .total .given in
+    let taken = taken-sound (start .stakes .now) (told .0 .0) (ap asNewCommittee (sym (told .1)) ∙ c .before .before .before .before .before .before .before .before .before .before .before .before .before .before .before .new-committee .ensures) in
+    let ordered = sym (c .before .before .before .before .before .before .before .before .before .before .before .in-order .ensures) ∙ not-false _ (c .before .before .before .before .before .before .before .before .before .before .if1 .left) in
+    let found = c .before .before .before .before .before .before .before .stake .given in
+    let knows = known-sound (start .stakes .now) (start .vote .0) (found .0 .0) (sym (c .before .before .before .before .before .before .before .before .before .get-stake .ensures) ∙ found .1) in
+    let next = c .before .before .with-vote .result in
+    added-sound (start .stakes .now) (asAggregator (start .self)) (start .vote .0) next (c .told .result) (taken .0) ordered (knows .0)
+    (c .before .before .with-vote .ensures ∙ rw (knows .1))
+    (c .told .ensures ∙ rw (c .before .before .before .before .contains .ensures, c .before .before .before .is-quorum .ensures, c .before .is-quorum2 .ensures, taken .1))
 
 pub add-spec : {M : Type 1} → statement M
 add-spec =
@@ -111,6 +120,9 @@ add-spec =
     enum-told-2
     refused-requires-3
     returns-3
-    with-vote-requires
+    contains-requires
     is-quorum-requires
+    with-vote-requires
+    is-quorum-requires-2
+    told-requires
     returns-4)
