@@ -5,7 +5,7 @@ ghost use Prim.Native.Nat.{_+_};
 ghost use lib.ListN.{length};
 ghost use Rattle.base.specs.Checks.{refusal};
 ghost use Rattle.committee.specs.Committee.{quorumOf, validOf};
-ghost use Rattle.host_lib.specs.Calls.{encoded, flag, newCommitteeCall};
+ghost use Rattle.host_calls.specs.Calls.{encoded, flag, newCommitteeCall};
 ghost use Rattle.host_add.specs.Add.{addCall};
 ghost use Rattle.host_lib.specs.Pending.{pendingStakeCall, pendingVotersCall};
 ghost use Rattle.host_lib.specs.Feed.{feedCall};
@@ -34,13 +34,13 @@ pub extern "C" fn lomkhvide_new_committee(stakes: &[u8]) -> u64
         return REFUSED + 5;
     }
     if 128 < stakes.len() / 8 {
-        if host_lib::has_zero_word(stakes) {
+        if host_calls::has_zero_word(stakes) {
             return REFUSED + 2;
         }
         return REFUSED + 3;
     }
     let mut held = [0u64; 128];
-    let n = host_lib::stakes_of(stakes, &mut held);
+    let n = host_calls::stakes_of(stakes, &mut held);
     match committee::new_committee(&held[..n]) {
         NewCommittee::Taken(total) => total.0,
         NewCommittee::Broken(number) => REFUSED + number,
@@ -52,7 +52,7 @@ pub extern "C" fn lomkhvide_new_committee(stakes: &[u8]) -> u64
 pub extern "C" fn lomkhvide_is_quorum(total: u64, amount: u64) -> u64
     ensures { λ r. ⌜ r ≡ flag (quorumOf total amount) ⌝ }
 {
-    host_lib::flag(committee::is_quorum(Stake(total), Stake(amount)))
+    host_calls::flag(committee::is_quorum(Stake(total), Stake(amount)))
 }
 
 // Whether it is valid: 1 or 0.
@@ -60,7 +60,7 @@ pub extern "C" fn lomkhvide_is_quorum(total: u64, amount: u64) -> u64
 pub extern "C" fn lomkhvide_is_valid(total: u64, amount: u64) -> u64
     ensures { λ r. ⌜ r ≡ flag (validOf total amount) ⌝ }
 {
-    host_lib::flag(committee::is_valid(Stake(total), Stake(amount)))
+    host_calls::flag(committee::is_valid(Stake(total), Stake(amount)))
 }
 
 // Puts a vote into an aggregator of three words: 1 where quorum holds now, else 0.
@@ -70,9 +70,9 @@ pub extern "C" fn lomkhvide_add(stakes: &[u8], aggregator: &mut [u8], voter: u64
     ensures { λ r. ⌜ now (aggregator .exit) ≡ addCall (now (stakes .entry)) (now (aggregator .entry)) voter .aggregator ⌝ }
 {
     let mut held = [0u64; 128];
-    let n = host_lib::stakes_of(stakes, &mut held);
+    let n = host_calls::stakes_of(stakes, &mut held);
     match host_add::add_of(&held[..n], aggregator, voter) {
-        AddAnswer::Counted(quorum) => host_lib::flag(quorum),
+        AddAnswer::Counted(quorum) => host_calls::flag(quorum),
         AddAnswer::Refused(number) => REFUSED + number,
     }
 }
@@ -83,7 +83,7 @@ pub extern "C" fn lomkhvide_payload_length(stakes: &[u8], store: &[u8], locator:
     ensures { λ r. ⌜ r ≡ encoded (payloadLengthCall (now (stakes .entry)) (now (store .entry)) (now (locator .entry))) ⌝ }
 {
     let mut held = [0u64; 128];
-    let n = host_lib::stakes_of(stakes, &mut held);
+    let n = host_calls::stakes_of(stakes, &mut held);
     match host_lib::payload_length(&held[..n], store, locator) {
         PayloadLength::Bytes(length) => length,
         PayloadLength::Refused(number) => REFUSED + number,
@@ -96,7 +96,7 @@ pub extern "C" fn lomkhvide_payload_start(stakes: &[u8], store: &[u8], locator: 
     ensures { λ r. ⌜ r ≡ encoded (payloadStartCall (now (stakes .entry)) (now (store .entry)) (now (locator .entry))) ⌝ }
 {
     let mut held = [0u64; 128];
-    let n = host_lib::stakes_of(stakes, &mut held);
+    let n = host_calls::stakes_of(stakes, &mut held);
     match host_lib::payload_place(&held[..n], store, locator) {
         PayloadPlace::Stands(start, _) => start as u64,
         PayloadPlace::Refused(number) => REFUSED + number,
@@ -115,7 +115,7 @@ pub extern "C" fn lomkhvide_finality(
     ensures { λ r. ⌜ now (positions .exit) ≡ finalityCall (now (stakes .entry)) (now (store .entry)) (now (positions .entry)) (now (locator .entry)) .positions ⌝ }
 {
     let mut held = [0u64; 128];
-    let n = host_lib::stakes_of(stakes, &mut held);
+    let n = host_calls::stakes_of(stakes, &mut held);
     match host_finals::finality_of(&held[..n], store, positions, locator) {
         FinalityAnswer::Final(count) => 2 * count + 1,
         FinalityAnswer::NotFinal(count) => 2 * count,
@@ -134,7 +134,7 @@ pub extern "C" fn lomkhvide_pending_stake(
     ensures { λ r. ⌜ r ≡ encoded (pendingStakeCall (now (stakes .entry)) (now (store .entry)) (now (table .entry)) (now (locator .entry))) ⌝ }
 {
     let mut held = [0u64; 128];
-    let n = host_lib::stakes_of(stakes, &mut held);
+    let n = host_calls::stakes_of(stakes, &mut held);
     match host_lib::pending_of(&held[..n], store, table, locator) {
         PendingAnswer::Standing(stake, _) => stake.0,
         PendingAnswer::Refused(number) => REFUSED + number,
@@ -152,7 +152,7 @@ pub extern "C" fn lomkhvide_pending_voters(
     ensures { λ r. ⌜ r ≡ encoded (pendingVotersCall (now (stakes .entry)) (now (store .entry)) (now (table .entry)) (now (locator .entry))) ⌝ }
 {
     let mut held = [0u64; 128];
-    let n = host_lib::stakes_of(stakes, &mut held);
+    let n = host_calls::stakes_of(stakes, &mut held);
     match host_lib::pending_of(&held[..n], store, table, locator) {
         PendingAnswer::Standing(_, voters) => voters,
         PendingAnswer::Refused(number) => REFUSED + number,
@@ -171,7 +171,7 @@ pub extern "C" fn lomkhvide_next_final(
     ensures { λ r. ⌜ now (found .exit) ≡ nextFinalCall (now (stakes .entry)) (now (store .entry)) (now (after .entry)) (now (found .entry)) .found ⌝ }
 {
     let mut held = [0u64; 128];
-    let n = host_lib::stakes_of(stakes, &mut held);
+    let n = host_calls::stakes_of(stakes, &mut held);
     host_finals::next_final_of(&held[..n], store, after, found)
 }
 
@@ -188,7 +188,7 @@ pub extern "C" fn lomkhvide_final_stretches(
     ensures { λ r. ⌜ now (out .exit) ≡ stretchesCall (now (stakes .entry)) (now (store .entry)) (now (after .entry)) (now (out .entry)) .stretches ⌝ }
 {
     let mut held = [0u64; 128];
-    let n = host_lib::stakes_of(stakes, &mut held);
+    let n = host_calls::stakes_of(stakes, &mut held);
     host_finals::stretches_of(&held[..n], store, after, out)
 }
 
@@ -207,7 +207,7 @@ pub extern "C" fn lomkhvide_feed(
     ensures { λ r. ⌜ now (events .exit) ≡ feedCall (now (stakes .entry)) (now (store .entry)) (now (table .entry)) (now (events .entry)) (now (rec .entry)) .events ⌝ }
 {
     let mut held = [0u64; 128];
-    let n = host_lib::stakes_of(stakes, &mut held);
+    let n = host_calls::stakes_of(stakes, &mut held);
     match host_lib::feed_of(&held[..n], store, table, events, rec) {
         FeedAnswer::Events(count) => count,
         FeedAnswer::Refused(number) => REFUSED + number,

@@ -19,7 +19,7 @@ use Rattle.words.specs.Words.{wordsIn, bytesOf}
 use Rattle.words.proofs.Stores.{sets-complete}
 use Rattle.words.proofs.Words.{length-bytesOf, bytesOf-wordsIn}
 use Rattle.host_add.specs.Add.{aggregatorOf, aggregatorBytes, flagged, AddCall, addOf}
-use Rattle.host_lib.proofs.Numbers.{refusal-most}
+use Rattle.host_calls.proofs.Numbers.{refusal-most}
 
 three-bytes : (a b c : ℕ) → bytesOf (a ∷ b ∷ c ∷ []) ≡ leBytes 8 a ++ (leBytes 8 b ++ leBytes 8 c)
 unfolding bytesOf flatten

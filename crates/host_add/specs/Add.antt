@@ -10,7 +10,7 @@ use Rattle.base.specs.Checks.{_⇒_, refusal, Answer, refused, answered}
 use Rattle.committee.specs.Committee.{AuthorityIndex, Committee, broken}
 use Rattle.stake_aggregator.specs.StakeAggregator.{StakeAggregator, add}
 use Rattle.words.specs.Words.{bytesOf}
-use Rattle.host_lib.specs.Calls.{flag, committeeOf}
+use Rattle.host_calls.specs.Calls.{flag, committeeOf}
 
 -- an aggregator crosses as three words: the vote set's two, and the stake
 unfoldable pub aggregatorOf : Bytes → StakeAggregator

@@ -15,7 +15,7 @@ use Rattle.words.proofs.Words.{length-wordsIn}
 use Rattle.blast_calendar.specs.Calendar.{windows, goodCalendar, isOpen, firstOpen, askOpen, askNextOpen}
 use Rattle.blast_calendar.proofs.Steps.{good-many}
 use Rattle.blast_calendar.proofs.Asked.{open-answered, next-answered}
-use Rattle.host_lib.specs.Calls.{flag}
+use Rattle.host_calls.specs.Calls.{flag}
 use Rattle.host_calendar.specs.Calendar.{goodBytes, openChecks, isOpenCall, foundIn, nextOpenChecks, nextOpenCall}
 
 -- ---- bytes that are no calendar

@@ -1,7 +1,7 @@
 // What the host's calls about the blast calendar are made of, over byte slices.
 ghost use mathlib.Core.Path.{_≡_};
 ghost use lib.ListN.{length};
-ghost use Rattle.host_lib.specs.Calls.{encoded};
+ghost use Rattle.host_calls.specs.Calls.{encoded};
 ghost use Rattle.host_calendar.specs.Calendar.{holdsWords, isOpenCall, nextOpenCall};
 use blast_calendar::NextOpenAnswer;
 use blast_calendar::OpenAnswer;

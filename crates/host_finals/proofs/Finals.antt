@@ -22,7 +22,7 @@ use Rattle.finalization_interpreter.specs.declared.FinalityAnswer.the-variants.
 use Rattle.types.specs.Step.{locatorAt}
 use Rattle.host_lib.specs.Payload.{locatorOf, refusalBefore}
 use Rattle.host_finals.specs.Finality.{FinalityCall, finalityNumber, finalityOf, askedFinality, numbersFit}
-use Rattle.host_lib.proofs.Numbers.{checked-most}
+use Rattle.host_calls.proofs.Numbers.{checked-most}
 use Rattle.host_lib.proofs.Locators.{locator-none, locator-read}
 
 -- the numbers of the question are at most 41 (40 is its greatest)

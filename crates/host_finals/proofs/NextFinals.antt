@@ -12,7 +12,7 @@ use Rattle.blocks.specs.Reference.{TransactionLocator}
 use Rattle.finality.specs.NextFinal.{nextFinal, nextFinalChecks}
 use Rattle.host_lib.specs.Payload.{refusalBefore}
 use Rattle.host_finals.specs.NextFinal.{foundIn, askedNextFinal}
-use Rattle.host_lib.proofs.Numbers.{checked-most}
+use Rattle.host_calls.proofs.Numbers.{checked-most}
 
 pub next-most : (c : Committee) (s : List ℕ) (after : Option TransactionLocator) (n : ℕ) → nextFinal c s after ≡ refused n → n ≤ 10
 unfolding nextFinal nextFinalChecks allOf

@@ -21,7 +21,7 @@ use Rattle.final_list.specs.declared.StretchesAnswer.{StretchesAnswer}
 use Rattle.final_list.specs.declared.StretchesAnswer.the-variants.{Last, More, Refused}
 use Rattle.host_lib.specs.Payload.{refusalBefore}
 use Rattle.host_finals.specs.Stretches.{stretchesNumber, stretchesIn, askedStretches, countsFit}
-use Rattle.host_lib.proofs.Numbers.{checked-most}
+use Rattle.host_calls.proofs.Numbers.{checked-most}
 
 -- no more stretches than asked for
 few-stretches : (c : Committee) (s : Bytes) (n : ℕ) (after : Option TransactionLocator) → length (stretches c s n after) ≤ n

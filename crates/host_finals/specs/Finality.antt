@@ -12,7 +12,7 @@ use Rattle.words.specs.Words.{wordsOf, bytesOf}
 use Rattle.finality.specs.Finality.{Finality, finality}
 use Rattle.finalization_interpreter.specs.declared.FinalityAnswer.{FinalityAnswer}
 use Rattle.finalization_interpreter.specs.declared.FinalityAnswer.the-variants.{Final, NotFinal, Refused}
-use Rattle.host_lib.specs.Calls.{committeeOf}
+use Rattle.host_calls.specs.Calls.{committeeOf}
 use Rattle.host_lib.specs.Payload.{locatorOf, refusalBefore}
 
 -- what the question answers, and the position bytes that it was lent afterwards

@@ -13,7 +13,7 @@ use Rattle.vote_starts.specs.Answers.{asMaybe}
 use Rattle.finality.specs.NextFinal.{nextFinal}
 use Rattle.host_finals.specs.declared.After.{After}
 use Rattle.host_finals.specs.declared.After.the-variants.{Place, Malformed}
-use Rattle.host_lib.specs.Calls.{committeeOf}
+use Rattle.host_calls.specs.Calls.{committeeOf}
 use Rattle.host_lib.specs.Payload.{locatorOf, refusalBefore}
 
 unfoldable pub afterLocator : Option TransactionLocator → Option (Option TransactionLocator)

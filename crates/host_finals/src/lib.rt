@@ -5,7 +5,7 @@ ghost use lib.ListN.{length};
 ghost use lib.Seq.{sets};
 ghost use Rattle.types.specs.Values.{beBytes, digestBytes, asLocator};
 ghost use Rattle.blocks.specs.Record.{locatorBytes};
-ghost use Rattle.host_lib.specs.Calls.{encoded};
+ghost use Rattle.host_calls.specs.Calls.{encoded};
 ghost use Rattle.host_finals.specs.NextFinal.{afterOf, asAfter, askedNextFinal};
 ghost use Rattle.host_lib.specs.Payload.{locatorOf, asked};
 ghost use Rattle.host_finals.specs.Finality.{finalityNumber, askedFinality, numbersFit};

@@ -1,5 +1,3 @@
-pub mod Numbers
-pub mod Calls
 pub mod Locators
 pub mod Standings
 pub mod Feeds

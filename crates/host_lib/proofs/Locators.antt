@@ -21,7 +21,7 @@ use Rattle.store_layout.specs.Store.{storeInOrder}
 use Rattle.store_layout.specs.Payload.{payloadChecks, payloadLength}
 use Rattle.payload.specs.Answers.{payloadPlace}
 use Rattle.host_lib.specs.Payload.{locatorOf, storeChecks, refusalBefore, asked}
-use Rattle.host_lib.proofs.Numbers.{refusal-most, checked-most}
+use Rattle.host_calls.proofs.Numbers.{refusal-most, checked-most}
 
 -- 56 bytes are a locator
 pub locator-read : (b : List ℕ) → length b ≡ 56 → locatorOf b ≡ some (locatorAt b 0)

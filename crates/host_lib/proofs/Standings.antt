@@ -30,7 +30,7 @@ use Rattle.feeds.specs.Pending.{Standing, pendingChecks, standingOf, pending}
 use Rattle.pending.proofs.Lending.{lying}
 use Rattle.host_lib.specs.Payload.{refusalBefore}
 use Rattle.host_lib.specs.Pending.{pendingIn, askedPending}
-use Rattle.host_lib.proofs.Numbers.{refusal-most}
+use Rattle.host_calls.proofs.Numbers.{refusal-most}
 use Rattle.host_lib.proofs.Locators.{before-most}
 
 -- 20 comes after 5, 10, 11

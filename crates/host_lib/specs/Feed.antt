@@ -11,7 +11,7 @@ use Rattle.committee.specs.Committee.{Committee}
 use Rattle.words.specs.Words.{wordsOf, bytesOf}
 use Rattle.feeds.specs.Feed.{Fed, lentOf, feed}
 use Rattle.feeding.specs.Refusals.{earlyChecks}
-use Rattle.host_lib.specs.Calls.{committeeOf}
+use Rattle.host_calls.specs.Calls.{committeeOf}
 use Rattle.host_lib.specs.Payload.{refusalBefore}
 
 -- what a feed answers, and the bytes that it was lent afterwards

@@ -1,4 +1,3 @@
-pub mod Calls
 pub mod Payload
 pub mod Pending
 pub mod Feed

@@ -1,4 +1,4 @@
-// What the host's calls are made of: stakes, payloads, pending locators and feeding, over byte slices.
+// What the host's calls are made of: payloads, pending locators and feeding, over byte slices.
 use committee::NewCommittee;
 use feeding::FeedAnswer;
 use payload::PayloadLength;
@@ -7,63 +7,18 @@ use pending::PendingAnswer;
 ghost use mathlib.Core.Path.{_≡_};
 ghost use mathlib.Core.Bool.{true};
 ghost use mathlib.Core.List.{[], _∷_, _++_};
-ghost use Prim.Native.Nat.{_≤_};
-ghost use lib.Dec.{eqb};
-ghost use lib.ListN.{length, take};
-ghost use Rattle.base.specs.Lists.{anyOf};
+ghost use lib.ListN.{length};
 ghost use Rattle.base.specs.Checks.{_⇒_, refusal};
 ghost use Rattle.words.specs.Words.{wordsOf, bytesOf};
 ghost use Rattle.store_layout.specs.Payload.{payloadLength};
 ghost use Rattle.payload.specs.Answers.{asPayloadLength, asPlace, payloadPlace};
-ghost use Rattle.committee.specs.Committee.{broken};
 ghost use Rattle.pending.specs.Answers.{asPending};
 ghost use Rattle.feeds.specs.Pending.{pendingChecks};
-ghost use Rattle.host_lib.specs.Calls.{flag, committeeOf};
 ghost use Rattle.host_lib.specs.Pending.{pendingIn, askedPending};
 ghost use Rattle.feeding.specs.Answers.{asFeedAnswer};
 ghost use Rattle.feeding.specs.Refusals.{earlyChecks};
 ghost use Rattle.host_lib.specs.Feed.{fedWith, feedOf};
 ghost use Rattle.host_lib.specs.Payload.{locatorOf, refusalBefore, asked};
-
-// Whether one of the words is zero.
-pub fn has_zero_word(bytes: &[u8]) -> bool
-    ensures { λ r. ⌜ r ≡ anyOf (λ s. eqb s 0) (wordsOf (now (bytes .entry))) ⌝ }
-{
-    let n = bytes.len() / 8;
-    let mut i = 0;
-    while i < n {
-        if words::word_at(bytes, 8 * i) == 0 {
-            return true;
-        }
-        i += 1;
-    }
-    false
-}
-
-// Puts the stakes of a call in front and answers how many they are.
-pub fn stakes_of(bytes: &[u8], stakes: &mut [u64]) -> usize
-    requires { ⌜ length (now stakes) ≡ 128 ⌝ }
-    ensures { λ r. ⌜ (r ≤ 128) × (take r (now (stakes .exit)) ≡ committeeOf (now (bytes .entry))) ⌝ }
-{
-    if bytes.len() % 8 != 0 {
-        return 0;
-    }
-    let n = bytes.len() / 8;
-    if 128 < n {
-        return 0;
-    }
-    words::words_of(bytes, &mut stakes[..n]);
-    n
-}
-
-pub fn flag(test: bool) -> u64
-    ensures { λ r. ⌜ r ≡ flag test ⌝ }
-{
-    if test {
-        return 1;
-    }
-    0
-}
 
 // ---- questions about a payload
 

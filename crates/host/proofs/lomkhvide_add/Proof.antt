@@ -1,5 +1,5 @@
 use Rattle.host_add.proofs.Added.{added-most}
-use Rattle.host_lib.specs.Calls.{encoded}
+use Rattle.host_calls.specs.Calls.{encoded}
 use Rattle.host_add.specs.Add.{flagged, addCall}
 use Rattle.stake_aggregator.specs.Answers.{asAddAnswer}
 use native.Mathlib.Omega.{arith}

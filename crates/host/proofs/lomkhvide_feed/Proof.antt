@@ -1,5 +1,5 @@
 use Rattle.host_lib.proofs.Feeds.{fed-most}
-use Rattle.host_lib.specs.Calls.{encoded}
+use Rattle.host_calls.specs.Calls.{encoded}
 use Rattle.host_lib.specs.Feed.{feedCall}
 use Rattle.feeding.specs.Answers.{asFeedAnswer}
 use native.Mathlib.Omega.{arith}

@@ -4,7 +4,7 @@ use native.Mathlib.Omega.{arith}
 use borrow.Author.Needs.{needs}
 use Rattle.finalization_interpreter.specs.Answers.{asFinality}
 use Rattle.host_finals.specs.Finality.{finalityNumber, finalityCall}
-use Rattle.host_lib.specs.Calls.{encoded}
+use Rattle.host_calls.specs.Calls.{encoded}
 use Rattle.host.proofs.lomkhvide_finality.Statement.{statement}
 use Rattle.host.proofs.lomkhvide_finality.Tie as tie
 

@@ -7,9 +7,9 @@ use borrow.Author.Needs.{needs}
 use Rattle.committee.specs.Committee.{newCommittee}
 use Rattle.committee.specs.Answers.{asNewCommittee}
 use Rattle.base.specs.Checks.{refused}
-use Rattle.host_lib.specs.Calls.{encoded}
-use Rattle.host_lib.proofs.Numbers.{committee-refusals}
-use Rattle.host_lib.proofs.Calls.{call-ragged, call-many, call-held}
+use Rattle.host_calls.specs.Calls.{encoded}
+use Rattle.host_calls.proofs.Numbers.{committee-refusals}
+use Rattle.host_calls.proofs.Calls.{call-ragged, call-many, call-held}
 use Rattle.host.proofs.lomkhvide_new_committee.Statement.{statement}
 use Rattle.host.proofs.lomkhvide_new_committee.Tie as tie
 

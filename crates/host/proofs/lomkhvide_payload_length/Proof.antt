@@ -6,7 +6,7 @@ use borrow.Author.Needs.{needs}
 use Rattle.payload.specs.Answers.{asPayloadLength}
 use Rattle.store_layout.specs.Payload.{payloadLength}
 use Rattle.host_lib.specs.Payload.{locatorOf, payloadLengthCall}
-use Rattle.host_lib.specs.Calls.{encoded}
+use Rattle.host_calls.specs.Calls.{encoded}
 use Rattle.host_lib.proofs.Locators.{asked-most, length-most}
 use Rattle.host.proofs.lomkhvide_payload_length.Statement.{statement}
 use Rattle.host.proofs.lomkhvide_payload_length.Tie as tie

@@ -5,7 +5,7 @@ use native.Mathlib.Omega.{arith}
 use borrow.Author.Needs.{needs}
 use Rattle.payload.specs.Answers.{asPlace, payloadPlace}
 use Rattle.host_lib.specs.Payload.{locatorOf, startOf, payloadStartCall}
-use Rattle.host_lib.specs.Calls.{encoded}
+use Rattle.host_calls.specs.Calls.{encoded}
 use Rattle.host_lib.proofs.Locators.{asked-most, place-most}
 use Rattle.host.proofs.lomkhvide_payload_start.Statement.{statement}
 use Rattle.host.proofs.lomkhvide_payload_start.Tie as tie

@@ -2,7 +2,7 @@ use mathlib.Core.Bool.{true, false}
 use mathlib.Core.Path.{sym, ap, _∙_}
 use lib.Seq.{length-take-le}
 use native.Mathlib.Omega.{arith}
-use Rattle.host_lib.specs.Calls.{encoded, flag}
+use Rattle.host_calls.specs.Calls.{encoded, flag}
 use Rattle.blast_calendar.specs.Answers.{asOpen}
 use Rattle.host_calendar.proofs.Calls.{open-refused, open-told, open-never}
 use borrow.Author.Needs.{needs}

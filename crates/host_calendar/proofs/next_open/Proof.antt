@@ -5,7 +5,7 @@ use native.Mathlib.Omega.{arith}
 use Rattle.base.proofs.Le.{length-leBytes}
 use Rattle.words.proofs.Stores.{sets-complete}
 use Rattle.blast_calendar.specs.Answers.{asNextOpen}
-use Rattle.host_lib.specs.Calls.{encoded}
+use Rattle.host_calls.specs.Calls.{encoded}
 use Rattle.host_calendar.specs.Calendar.{NextOpenCall, foundIn}
 use Rattle.host_calendar.proofs.Calls.{next-refused, next-unsized, next-told, next-never}
 use borrow.Author.Needs.{needs}

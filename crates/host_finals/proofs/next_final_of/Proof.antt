@@ -1,9 +1,9 @@
 use Rattle.host_finals.proofs.NextFinals.{next-malformed, next-unsized, next-asked, next-most}
 use Rattle.host_lib.proofs.Locators.{before-most}
 use Rattle.host_finals.specs.NextFinal.{NextFinalCall, asAfter, afterOf, foundIn}
-use Rattle.host_lib.specs.Calls.{encoded}
-use Rattle.vote_starts.specs.Answers.{asMaybe}
+use Rattle.host_calls.specs.Calls.{encoded}
 use Rattle.next_final.specs.Answers.{asNextFinal}
+use Rattle.vote_starts.specs.Answers.{asMaybe}
 use native.Mathlib.Omega.{arith}
 use mathlib.Core.Path.{sym, ap, _∙_}
 use borrow.Author.Needs.{needs}

@@ -1,7 +1,7 @@
 use mathlib.Core.Path.{sym, ap, _∙_}
 use native.Mathlib.Omega.{arith}
 use Rattle.final_list.specs.Answers.{asStretches}
-use Rattle.host_lib.specs.Calls.{encoded, flag}
+use Rattle.host_calls.specs.Calls.{encoded, flag}
 use Rattle.host_finals.specs.NextFinal.{asAfter, afterOf}
 use Rattle.host_finals.specs.Stretches.{StretchesCall, stretchesNumber}
 use Rattle.host_lib.proofs.Locators.{before-most}

@@ -1,6 +1,6 @@
-use Rattle.host_lib.specs.Calls.{flag}
-use Rattle.host_lib.proofs.flag.Statement.{statement}
-use Rattle.host_lib.proofs.flag.Tie as tie
+use Rattle.host_calls.specs.Calls.{flag}
+use Rattle.host_calls.proofs.flag.Statement.{statement}
+use Rattle.host_calls.proofs.flag.Tie as tie
 
 returns : tie.Need-returns
 unfolding flag

@@ -4,9 +4,9 @@ use lib.ListN.{take, length}
 use lib.Seq.{length-take-le, take-at}
 use native.Mathlib.Omega.{arith}
 use borrow.Author.Needs.{needs}
-use Rattle.host_lib.proofs.Calls.{committee-ragged, committee-many, committee-words}
-use Rattle.host_lib.proofs.stakes_of.Statement.{statement}
-use Rattle.host_lib.proofs.stakes_of.Tie as tie
+use Rattle.host_calls.proofs.Calls.{committee-ragged, committee-many, committee-words}
+use Rattle.host_calls.proofs.stakes_of.Statement.{statement}
+use Rattle.host_calls.proofs.stakes_of.Tie as tie
 
 returns : tie.Need-returns
 returns c = (search needs, sym (committee-ragged (c .before .before .before .args .bytes .now) (c .if1 .taken)))

@@ -11,8 +11,8 @@ use Rattle.words.proofs.Words.{length-wordsIn, getD-wordsIn}
 use Rattle.words.specs.Words.{wordsOf}
 use Rattle.base.proofs.Loops.{any-found, any-on, any-end}
 use Rattle.base.specs.Lists.{anyOf}
-use Rattle.host_lib.proofs.has_zero_word.Statement.{statement}
-use Rattle.host_lib.proofs.has_zero_word.Tie as tie
+use Rattle.host_calls.proofs.has_zero_word.Statement.{statement}
+use Rattle.host_calls.proofs.has_zero_word.Tie as tie
 
 -- the words are as many as whole words fit, and each is read at its place
 within : (s : List ℕ) (i : ℕ) → i < length s / 8 → i < length (wordsOf s)

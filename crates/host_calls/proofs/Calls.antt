@@ -12,7 +12,7 @@ use Rattle.base.specs.Checks.{refused, answered, refusal, passes, checked}
 use Rattle.committee.specs.Committee.{newCommittee, committeeChecks}
 use Rattle.words.specs.Words.{wholeWords, wordsIn, wordsOf}
 use Rattle.words.proofs.Words.{length-wordsIn}
-use Rattle.host_lib.specs.Calls.{encoded, committeeOf, newCommitteeCall}
+use Rattle.host_calls.specs.Calls.{encoded, committeeOf, newCommitteeCall}
 
 -- an answer below 2^63 is taken for no refusal, and the word says which it is
 pub encoded-answer : (n m : ℕ) → n < 9223372036854775808 → encoded (answered n) ≡ encoded (refused m) → ⊥
