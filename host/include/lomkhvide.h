@@ -26,11 +26,16 @@ uint64_t lomkhvide_new_committee(const uint8_t *stakes, size_t stakes_len);
 uint64_t lomkhvide_is_quorum(uint64_t total, uint64_t amount);
 uint64_t lomkhvide_is_valid(uint64_t total, uint64_t amount);
 
-/* Puts a voter into an aggregator of three words: the voters' bits, 0 to 63 and 64 to 127, and their stake. 1 where quorum holds now,
- * else 0.
+/* Puts a voter into an aggregator of three words: the voters' bits, 0 to 63 and 64 to 127, and their stake. What the vote did: the
+ * voter had voted, and quorum does not hold or holds; a new vote, and quorum does not hold, held before, or was crossed by this vote.
  * Refused: 5 stakes that are no committee or not whole words, 6 an aggregator not of three words, with voters that are not all known,
  * or with a stake that is not their sum, 21 a voter who is not known. */
 #define LOMKHVIDE_AGGREGATOR_LEN ((size_t)24)
+#define LOMKHVIDE_REPEATED_BELOW ((uint64_t)0)
+#define LOMKHVIDE_REPEATED_WITH ((uint64_t)1)
+#define LOMKHVIDE_NEW_BELOW ((uint64_t)2)
+#define LOMKHVIDE_NEW_WITH ((uint64_t)3)
+#define LOMKHVIDE_NEW_CROSSED ((uint64_t)4)
 uint64_t lomkhvide_add(const uint8_t *stakes, size_t stakes_len, uint8_t *aggregator, size_t aggregator_len, uint64_t voter);
 
 /* A store is lent whole: 16 to 2^32 - 1 bytes. A fresh one has 16 at byte 4 (four bytes, lowest first) and zeros elsewhere in its

@@ -97,15 +97,19 @@ static void adding(void) {
     memset(held, 9, sizeof held);
     memset(want, 9, sizeof want);
     put_aggregator(held, 0, 0, 0);
-    same("the first vote", lomkhvide_add(stakes, 32, held, 24, 2), 0);
+    same("the first vote", lomkhvide_add(stakes, 32, held, 24, 2), LOMKHVIDE_NEW_BELOW);
     put_aggregator(want, 4, 0, 3);
     same("its aggregator", memcmp(held, want, sizeof held), 0);
-    same("the same vote again", lomkhvide_add(stakes, 32, held, 24, 2), 0);
+    same("the same vote again", lomkhvide_add(stakes, 32, held, 24, 2), LOMKHVIDE_REPEATED_BELOW);
     same("counts once", memcmp(held, want, sizeof held), 0);
-    same("a second voter, no quorum yet", lomkhvide_add(stakes, 32, held, 24, 0), 0);
-    same("a third voter, quorum", lomkhvide_add(stakes, 32, held, 24, 3), 1);
+    same("a second voter, no quorum yet", lomkhvide_add(stakes, 32, held, 24, 0), LOMKHVIDE_NEW_BELOW);
+    same("a third voter crosses quorum", lomkhvide_add(stakes, 32, held, 24, 3), LOMKHVIDE_NEW_CROSSED);
     put_aggregator(want, 13, 0, 5);
     same("their aggregator", memcmp(held, want, sizeof held), 0);
+    same("again, and it crosses no more", lomkhvide_add(stakes, 32, held, 24, 3), LOMKHVIDE_REPEATED_WITH);
+    same("counts once", memcmp(held, want, sizeof held), 0);
+    same("a fourth voter, and quorum held", lomkhvide_add(stakes, 32, held, 24, 1), LOMKHVIDE_NEW_WITH);
+    put_aggregator(held, 13, 0, 5);
     same("an unknown voter", lomkhvide_add(stakes, 32, held, 24, 4), refused(21));
     same("no voter at all", lomkhvide_add(stakes, 32, held, 24, UINT64_MAX), refused(21));
     for (size_t n = 0; n <= sizeof held; n++) {

@@ -159,7 +159,7 @@ fn adds(sides: &Sides, rng: &mut Rng) -> Outcome {
     let mut answers = Vec::new();
     for voter in &voters {
         let answer = lent::add(stakes, &mut right, *voter);
-        answers.push(answer == Ok(1));
+        answers.push(answer);
         let told = engine::add(stakes, &mut got, *voter);
         same(&format!("add of voter {voter}"), "engine", told, answer)?;
         same_bytes("aggregator", &got, &right)?;
@@ -167,7 +167,11 @@ fn adds(sides: &Sides, rng: &mut Rng) -> Outcome {
     if let Some(rust) = &sides.rust {
         let set =
             crate::model::record::number(&right[..8]) as u128 | (crate::model::record::number(&right[8..16]) as u128) << 64;
-        same(&format!("add of voters {voters:?}"), "Rust", rust.adds(&voters), Ok((answers, set)))?;
+        let quorum: Vec<bool> = answers.iter().map(|answer| matches!(answer, Ok(1 | 3 | 4))).collect();
+        let crossed: Vec<usize> = (0..answers.len()).filter(|i| answers[*i] == Ok(4)).collect();
+        let first: Vec<usize> = quorum.iter().position(|holds| *holds).into_iter().collect();
+        same(&format!("add of voters {voters:?}"), "Rust", rust.adds(&voters), Ok((quorum, set)))?;
+        same(&format!("the vote of {voters:?} that crosses"), "Rust", first, crossed)?;
         voters.push(members + rng.below(3));
         same("add of an unknown voter", "Rust", rust.adds(&voters), Err("Authority not found".into()))?;
     }

@@ -120,12 +120,33 @@ fn votes() {
     };
     add(b"a new vote", &course, two, 2);
     add(b"a repeated vote", &course, two, 1);
+}
+
+fn votes_with_quorum() {
+    let course = committee::course_committee();
     let four = StakeAggregator {
         votes: AuthoritySet { low: 39, high: 0 },
         stake: Stake(12),
     };
     add(b"a new vote once quorum holds", &course, four, 6);
     add(b"a repeated vote once quorum holds", &course, four, 5);
+    let ones128 = [1u64; 128];
+    let eighty_five = StakeAggregator {
+        votes: AuthoritySet {
+            low: 18446744073709551615,
+            high: 2097151,
+        },
+        stake: Stake(85),
+    };
+    add(b"the 86th vote of 128", &ones128, eighty_five, 127);
+}
+
+fn refused_votes() {
+    let course = committee::course_committee();
+    let two = StakeAggregator {
+        votes: AuthoritySet { low: 3, high: 0 },
+        stake: Stake(8),
+    };
     add(b"an unknown voter", &course, two, 7);
     let wrong = StakeAggregator {
         votes: AuthoritySet { low: 3, high: 0 },
@@ -139,19 +160,12 @@ fn votes() {
     add(b"a voter that is not known", &course, stranger, 0);
     let broken = [5u64, 0];
     add(b"a committee that is broken", &broken, wrong, 7);
-    let ones128 = [1u64; 128];
-    let eighty_five = StakeAggregator {
-        votes: AuthoritySet {
-            low: 18446744073709551615,
-            high: 2097151,
-        },
-        stake: Stake(85),
-    };
-    add(b"the 86th vote of 128", &ones128, eighty_five, 127);
 }
 
 fn main() {
     committees();
     amounts();
     votes();
+    votes_with_quorum();
+    refused_votes();
 }

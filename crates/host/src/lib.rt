@@ -21,7 +21,6 @@ use finalization_interpreter::FinalityAnswer;
 use payload::PayloadLength;
 use payload::PayloadPlace;
 use pending::PendingAnswer;
-use stake_aggregator::AddAnswer;
 
 const REFUSED: u64 = 9223372036854775808;
 
@@ -63,18 +62,13 @@ pub extern "C" fn lomkhvide_is_valid(total: u64, amount: u64) -> u64
     host_calls::flag(committee::is_valid(Stake(total), Stake(amount)))
 }
 
-// Puts a vote into an aggregator of three words: 1 where quorum holds now, else 0.
+// Puts a vote into an aggregator of three words: what the vote did, 0 to 4 (host_add).
 #[no_mangle]
 pub extern "C" fn lomkhvide_add(stakes: &[u8], aggregator: &mut [u8], voter: u64) -> u64
     ensures { λ r. ⌜ r ≡ encoded (addCall (now (stakes .entry)) (now (aggregator .entry)) voter .answer) ⌝ }
     ensures { λ r. ⌜ now (aggregator .exit) ≡ addCall (now (stakes .entry)) (now (aggregator .entry)) voter .aggregator ⌝ }
 {
-    let mut held = [0u64; 128];
-    let n = host_calls::stakes_of(stakes, &mut held);
-    match host_add::add_of(&held[..n], aggregator, voter) {
-        AddAnswer::Counted(quorum) => host_calls::flag(quorum),
-        AddAnswer::Refused(number) => REFUSED + number,
-    }
+    host_add::add(stakes, aggregator, voter)
 }
 
 // The length of a share's payload.

@@ -14,11 +14,14 @@ use Rattle.base.specs.Checks.{_⇒_, refusal, passes, refused, answered, checke
 use Rattle.base.proofs.Lists.{append-nil}
 use Rattle.base.proofs.Le.{AllBytes, length-leBytes, sets-append}
 use Rattle.committee.specs.Committee.{Committee, broken}
-use Rattle.stake_aggregator.specs.StakeAggregator.{StakeAggregator, add, addChecks, hasQuorum, counted}
+use Rattle.stake_aggregator.specs.StakeAggregator.{StakeAggregator, add, addChecks, counted, told}
 use Rattle.words.specs.Words.{wordsIn, bytesOf}
 use Rattle.words.proofs.Stores.{sets-complete}
 use Rattle.words.proofs.Words.{length-bytesOf, bytesOf-wordsIn}
-use Rattle.host_add.specs.Add.{aggregatorOf, aggregatorBytes, flagged, AddCall, addOf}
+use Rattle.stake_aggregator.specs.declared.AddAnswer.{AddAnswer}
+use Rattle.stake_aggregator.specs.Answers.{asAddAnswer}
+use Rattle.host_calls.specs.Calls.{encoded, committeeOf}
+use Rattle.host_add.specs.Add.{aggregatorOf, aggregatorBytes, numbered, AddCall, addOf, addCall}
 use Rattle.host_calls.proofs.Numbers.{refusal-most}
 
 three-bytes : (a b c : ℕ) → bytesOf (a ∷ b ∷ c ∷ []) ≡ leBytes 8 a ++ (leBytes 8 b ++ leBytes 8 c)
@@ -38,7 +41,7 @@ three-written a b c l h =
 
 module _ (c : Committee) (b : List ℕ) (a : ℕ) where
   pub added-sized : length b ≡ 24
-      → addOf c b a ≡ record { answer = flagged (add c (aggregatorOf b) a .answer); aggregator = aggregatorBytes (add c (aggregatorOf b) a .aggregator) }
+      → addOf c b a ≡ record { answer = numbered (add c (aggregatorOf b) a .answer); aggregator = aggregatorBytes (add c (aggregatorOf b) a .aggregator) }
   unfolding addOf
   added-sized h = rw (eq-eqb (length b) 24 h)
 
@@ -47,11 +50,11 @@ module _ (c : Committee) (b : List ℕ) (a : ℕ) where
   added-other h = rw (ne-eqb (length b) 24 h)
 
 -- the numbers are at most 21
-add-most : (c : Committee) (g : StakeAggregator) (a n : ℕ) → flagged (add c g a .answer) ≡ refused n → n ≤ 21
-unfolding flagged add checked addChecks allOf
+add-most : (c : Committee) (g : StakeAggregator) (a n : ℕ) → numbered (add c g a .answer) ≡ refused n → n ≤ 21
+unfolding numbered add checked addChecks allOf
 add-most c g a n e = go (passes (addChecks c g a)) e
   where
-    go : (t : Bool) → flagged (pick t (answered (hasQuorum c (counted c g a))) (refused (refusal (addChecks c g a)))) ≡ refused n → n ≤ 21
+    go : (t : Bool) → numbered (pick t (answered (told c g a)) (refused (refusal (addChecks c g a)))) ≡ refused n → n ≤ 21
     go true e = let z : _≡_ {A = ℕ} 0 1 = cc in absurd (omega arith)
     go false e = let z : refusal (addChecks c g a) ≡ n = cc in omega (arith, refusal-most 21 (addChecks c g a) refl)
 
@@ -66,11 +69,11 @@ added-most c b a n e = by (ℕ-discrete (length b) 24)
         let z : refusal ((broken c ⇒ 5) ∷ (true ⇒ 6) ∷ []) ≡ n = cc in
         omega (arith, refusal-most 21 ((broken c ⇒ 5) ∷ (true ⇒ 6) ∷ []) refl)
 
-same-kept : (c : Committee) (g : StakeAggregator) (a n : ℕ) → flagged (add c g a .answer) ≡ refused n → add c g a .aggregator ≡ g
-unfolding flagged add checked
+same-kept : (c : Committee) (g : StakeAggregator) (a n : ℕ) → numbered (add c g a .answer) ≡ refused n → add c g a .aggregator ≡ g
+unfolding numbered add checked
 same-kept c g a n e = go (passes (addChecks c g a)) e
   where
-    go : (t : Bool) → flagged (pick t (answered (hasQuorum c (counted c g a))) (refused (refusal (addChecks c g a)))) ≡ refused n → pick t (counted c g a) g ≡ g
+    go : (t : Bool) → numbered (pick t (answered (told c g a)) (refused (refusal (addChecks c g a)))) ≡ refused n → pick t (counted c g a) g ≡ g
     go true e = let z : _≡_ {A = ℕ} 0 1 = cc in absurd (omega arith)
     go false e = refl
 
@@ -93,3 +96,9 @@ add-kept c b a n bytes e = by (ℕ-discrete (length b) 24)
         ap (λ (x : AddCall). x .aggregator) sized
         ∙ ap aggregatorBytes (same-kept c (aggregatorOf b) a n (sym (ap (λ (x : AddCall). x .answer) sized) ∙ e))
         ∙ three-read b bytes h
+
+-- the call, once the stakes are read and the answer is told
+pub call-sound : (stakes b : List ℕ) (a : ℕ) (r : AddAnswer) (n : ℕ) {held out : List ℕ} → held ≡ committeeOf stakes → (numbered (asAddAnswer r) ≡ addOf held b a .answer) × (out ≡ addOf held b a .aggregator)
+    → n ≡ encoded (numbered (asAddAnswer r)) → (n ≡ encoded (addCall stakes b a .answer)) × (out ≡ addCall stakes b a .aggregator)
+unfolding addCall
+call-sound stakes b a r n h told e = (e ∙ ap encoded (told .0) ∙ rw h, told .1 ∙ rw h)

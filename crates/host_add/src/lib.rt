@@ -12,7 +12,10 @@ ghost use lib.ListN.{length};
 ghost use Rattle.base.specs.Checks.{_⇒_, refusal};
 ghost use Rattle.committee.specs.Committee.{broken};
 ghost use Rattle.stake_aggregator.specs.Answers.{asAggregator, asAddAnswer};
-ghost use Rattle.host_add.specs.Add.{aggregatorOf, aggregatorBytes, flagged, addOf};
+ghost use Rattle.host_calls.specs.Calls.{encoded};
+ghost use Rattle.host_add.specs.Add.{aggregatorOf, aggregatorBytes, numbered, addOf, addCall};
+
+const REFUSED: u64 = 9223372036854775808;
 
 fn read_aggregator(bytes: &[u8]) -> StakeAggregator
     requires { ⌜ length (now bytes) ≡ 24 ⌝ }
@@ -44,8 +47,8 @@ fn no_aggregator(stakes: &[u64]) -> u64
     6
 }
 
-pub fn add_of(stakes: &[u64], aggregator: &mut [u8], voter: u64) -> AddAnswer
-    ensures { λ r. ⌜ (flagged (asAddAnswer r) ≡ addOf (now (stakes .entry)) (now (aggregator .entry)) voter .answer) × (now (aggregator .exit) ≡ addOf (now (stakes .entry)) (now (aggregator .entry)) voter .aggregator) ⌝ }
+fn add_of(stakes: &[u64], aggregator: &mut [u8], voter: u64) -> AddAnswer
+    ensures { λ r. ⌜ (numbered (asAddAnswer r) ≡ addOf (now (stakes .entry)) (now (aggregator .entry)) voter .answer) × (now (aggregator .exit) ≡ addOf (now (stakes .entry)) (now (aggregator .entry)) voter .aggregator) ⌝ }
 {
     if aggregator.len() != 24 {
         return AddAnswer::Refused(no_aggregator(stakes));
@@ -55,4 +58,21 @@ pub fn add_of(stakes: &[u64], aggregator: &mut [u8], voter: u64) -> AddAnswer
     let next = added.aggregator;
     write_aggregator(aggregator, next);
     added.answer
+}
+
+// Puts a vote into an aggregator of three words. 0: the voter had voted, and quorum does not hold; 1: and it holds; 2: a new
+// vote, and quorum does not hold; 3: and it held before; 4: and this vote crossed it.
+pub fn add(stakes: &[u8], aggregator: &mut [u8], voter: u64) -> u64
+    ensures { λ r. ⌜ r ≡ encoded (addCall (now (stakes .entry)) (now (aggregator .entry)) voter .answer) ⌝ }
+    ensures { λ r. ⌜ now (aggregator .exit) ≡ addCall (now (stakes .entry)) (now (aggregator .entry)) voter .aggregator ⌝ }
+{
+    let mut held = [0u64; 128];
+    let n = host_calls::stakes_of(stakes, &mut held);
+    match add_of(&held[..n], aggregator, voter) {
+        AddAnswer::RepeatedBelow => 0,
+        AddAnswer::RepeatedWith => 1,
+        AddAnswer::NewBelow => 2,
+        AddAnswer::NewWith(crossed) => { if crossed { 4 } else { 3 } }
+        AddAnswer::Refused(number) => REFUSED + number,
+    }
 }

@@ -180,6 +180,43 @@ pub struct Aggregator {
     pub stake: u64,
 }
 
+/// What adding a vote tells: whether the voter had voted or is new, and whether quorum holds now.
+#[derive(Clone, Copy, Debug, PartialEq, Eq)]
+pub enum Vote {
+    RepeatedBelowQuorum,
+    RepeatedWithQuorum,
+    NewBelowQuorum,
+    /// Crossed: quorum did not hold before this vote.
+    NewWithQuorum { crossed: bool },
+}
+
+impl Vote {
+    fn of(number: u64) -> Vote {
+        match number {
+            0 => Vote::RepeatedBelowQuorum,
+            1 => Vote::RepeatedWithQuorum,
+            2 => Vote::NewBelowQuorum,
+            _ => Vote::NewWithQuorum { crossed: number == 4 },
+        }
+    }
+
+    pub fn has_quorum(self) -> bool {
+        matches!(self, Vote::RepeatedWithQuorum | Vote::NewWithQuorum { .. })
+    }
+}
+
+impl std::fmt::Display for Vote {
+    fn fmt(&self, f: &mut std::fmt::Formatter) -> std::fmt::Result {
+        f.write_str(match self {
+            Vote::RepeatedBelowQuorum => "repeated, below quorum",
+            Vote::RepeatedWithQuorum => "repeated, with quorum",
+            Vote::NewBelowQuorum => "new, below quorum",
+            Vote::NewWithQuorum { crossed: false } => "new, with quorum",
+            Vote::NewWithQuorum { crossed: true } => "new, completes the quorum",
+        })
+    }
+}
+
 /// Neighbouring final locators of one block, from the first to an end offset (excluded), that have the same certifying blocks: their
 /// number, and the stake of their authors, each once.
 #[derive(Clone, Copy, Debug, PartialEq, Eq)]
@@ -377,18 +414,18 @@ impl Committee {
         Ok(Pending { stake: answer(stake)?, voters: answer(voters)? })
     }
 
-    /// Puts a voter into the aggregator: whether quorum holds now; or 6, 21, and the aggregator is as it was.
-    pub fn add(&self, aggregator: &mut Aggregator, voter: u64) -> Result<bool, Refused> {
+    /// Puts a voter into the aggregator: what the vote did; or 6, 21, and the aggregator is as it was.
+    pub fn add(&self, aggregator: &mut Aggregator, voter: u64) -> Result<Vote, Refused> {
         let stakes = &self.stakes;
         let mut held = bytes_of(&[aggregator.low, aggregator.high, aggregator.stake]);
         // The slices are lent for the call alone, and the one that it writes is this function's own.
         let word = unsafe {
             calls::lomkhvide_add(stakes.as_ptr(), stakes.len(), held.as_mut_ptr(), held.len(), voter)
         };
-        let quorum = answer(word)? == 1;
+        let vote = Vote::of(answer(word)?);
         let words = words_of(&held);
         *aggregator = Aggregator { low: words[0], high: words[1], stake: words[2] };
-        Ok(quorum)
+        Ok(vote)
     }
 
     /// A stored share's payload, as the part of the store that holds it; or 5, 10, 41.
@@ -497,14 +534,19 @@ mod tests {
         assert!(is_quorum(17, 12) && !is_quorum(17, 11) && is_valid(17, 6) && !is_valid(17, 5));
         let committee = Committee::new(&[5, 3, 3, 2, 2, 1, 1]).unwrap();
         let mut aggregator = Aggregator::default();
-        assert_eq!(committee.add(&mut aggregator, 0), Ok(false));
-        assert_eq!(committee.add(&mut aggregator, 0), Ok(false));
-        assert_eq!(committee.add(&mut aggregator, 1), Ok(false));
+        assert_eq!(committee.add(&mut aggregator, 0), Ok(Vote::NewBelowQuorum));
+        assert_eq!(committee.add(&mut aggregator, 0), Ok(Vote::RepeatedBelowQuorum));
+        assert_eq!(committee.add(&mut aggregator, 1), Ok(Vote::NewBelowQuorum));
         assert_eq!(committee.add(&mut aggregator, 7), Err(Refused(21)));
         assert_eq!(aggregator, Aggregator { low: 3, high: 0, stake: 8 });
-        assert_eq!(committee.add(&mut aggregator, 2), Ok(false));
-        assert_eq!(committee.add(&mut aggregator, 6), Ok(true));
+        assert_eq!(committee.add(&mut aggregator, 2), Ok(Vote::NewBelowQuorum));
+        let crossing = committee.add(&mut aggregator, 6);
+        assert_eq!(crossing, Ok(Vote::NewWithQuorum { crossed: true }));
+        assert!(crossing.unwrap().has_quorum() && !Vote::NewBelowQuorum.has_quorum());
         assert_eq!(aggregator, Aggregator { low: 71, high: 0, stake: 12 });
+        assert_eq!(committee.add(&mut aggregator, 6), Ok(Vote::RepeatedWithQuorum));
+        assert_eq!(committee.add(&mut aggregator, 5), Ok(Vote::NewWithQuorum { crossed: false }));
+        aggregator = Aggregator { low: 71, high: 0, stake: 12 };
         aggregator.stake = 11;
         assert_eq!(committee.add(&mut aggregator, 6), Err(Refused(6)));
     }

@@ -89,15 +89,45 @@ impl Committee {
         self.is_quorum(votes.stake)
     }
 
-    /// `add`, called directly: 6, then 21.
-    pub fn add(&self, votes: &mut Votes, voter: u64) -> Result<bool, u64> {
+    /// `add`, called directly: 6, then 21; else one of the four.
+    pub fn add(&self, votes: &mut Votes, voter: u64) -> Result<Told, u64> {
         if !self.knows_all(votes.voters) || votes.stake != self.stake_of(votes.voters) {
             return Err(6);
         }
         if !self.knows(voter) {
             return Err(21);
         }
-        Ok(self.vote(votes, voter))
+        let repeated = votes.voters >> voter & 1 == 1;
+        let before = self.is_quorum(votes.stake);
+        let now = self.vote(votes, voter);
+        Ok(match (repeated, now) {
+            (true, false) => Told::RepeatedBelow,
+            (true, true) => Told::RepeatedWith,
+            (false, false) => Told::NewBelow,
+            (false, true) => Told::NewWith { crossed: !before },
+        })
+    }
+}
+
+/// What `add` answers: "repeated below quorum, repeated with quorum, new below quorum, new with quorum, the last also saying
+/// whether this vote crossed it".
+pub enum Told {
+    RepeatedBelow,
+    RepeatedWith,
+    NewBelow,
+    NewWith { crossed: bool },
+}
+
+impl Told {
+    /// The number that a host is sent.
+    pub fn number(&self) -> u64 {
+        match self {
+            Told::RepeatedBelow => 0,
+            Told::RepeatedWith => 1,
+            Told::NewBelow => 2,
+            Told::NewWith { crossed: false } => 3,
+            Told::NewWith { crossed: true } => 4,
+        }
     }
 }
 

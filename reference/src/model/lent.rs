@@ -25,9 +25,9 @@ pub fn add(stakes: &[u8], aggregator: &mut [u8], voter: u64) -> Answer {
     }
     let word = |i: usize| number(&aggregator[8 * i..8 * i + 8]);
     let mut votes = Votes { voters: word(0) as u128 | (word(1) as u128) << 64, stake: word(2) };
-    let quorum = committee.add(&mut votes, voter)?;
+    let told = committee.add(&mut votes, voter)?;
     put_words(aggregator, &[votes.voters as u64, (votes.voters >> 64) as u64, votes.stake]);
-    Ok(quorum as u64)
+    Ok(told.number())
 }
 
 pub fn feed(stakes: &[u8], store: &mut [u8], table: &mut [u8], events: &mut [u8], record: &[u8]) -> Answer {

@@ -1,6 +1,6 @@
 use Rattle.stake_aggregator.specs.StakeAggregator.{Added}
 use Rattle.host_add.proofs.Added.{added-other, added-sized}
-use Rattle.host_add.specs.Add.{AddCall, flagged, aggregatorBytes}
+use Rattle.host_add.specs.Add.{AddCall, numbered, aggregatorBytes}
 use Rattle.stake_aggregator.specs.Answers.{asAddAnswer, asAdded}
 use mathlib.Core.Path.{ap, sym, _∙_}
 use borrow.Author.Needs.{needs}
@@ -11,7 +11,7 @@ no-aggregator-requires : tie.Need-no-aggregator-requires
 no-aggregator-requires c κs = search needs
 
 returns : tie.Need-returns
-unfolding flagged asAddAnswer
+unfolding numbered asAddAnswer
 returns c =
     let start = c .before .before .before .before .args in
     let e = added-other (start .stakes .now) (start .aggregator .now) (start .voter) (c .before .if1 .taken) in
@@ -36,7 +36,7 @@ returns-2 c =
     let e = added-sized (start .stakes .now) (start .aggregator .now) (start .voter) (c .before .before .before .before .before .before .before .before .if1 .left) in
     let held = c .before .before .before .before .before .before .read-aggregator .ensures in
     let told = c .before .before .before .before .before .add .ensures in
-    (ap (λ (x : Added). flagged (x .answer)) told ∙ rw held (sym (ap (λ (x : AddCall). x .answer) e)), c .before .before .write-aggregator .ensures ∙ ap (λ (x : Added). aggregatorBytes (x .aggregator)) told ∙ rw held (sym (ap (λ (x : AddCall). x .aggregator) e)))
+    (ap (λ (x : Added). numbered (x .answer)) told ∙ rw held (sym (ap (λ (x : AddCall). x .answer) e)), c .before .before .write-aggregator .ensures ∙ ap (λ (x : Added). aggregatorBytes (x .aggregator)) told ∙ rw held (sym (ap (λ (x : AddCall). x .aggregator) e)))
 
 pub add-of-spec : {M : Type 1} → statement M
 add-of-spec =
