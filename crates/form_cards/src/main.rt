@@ -74,6 +74,10 @@ fn votes() {
     vote(b"a first vote", &course, aggregator(0, 0), 0);
     vote(b"a vote that makes quorum", &course, aggregator(7, 11), 6);
     vote(b"a repeated vote", &course, aggregator(7, 11), 1);
+}
+
+fn votes_with_quorum() {
+    let course = committee::course_committee();
     vote(b"a vote once quorum holds", &course, aggregator(39, 12), 6);
     vote(b"a repeated vote then", &course, aggregator(39, 12), 5);
 }
@@ -209,6 +213,7 @@ fn questions() {
 
 fn main() {
     votes();
+    votes_with_quorum();
     refused_votes();
     questions();
 }
