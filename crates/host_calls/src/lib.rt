@@ -6,6 +6,7 @@ ghost use lib.ListN.{length, take};
 ghost use Rattle.base.specs.Lists.{anyOf};
 ghost use Rattle.words.specs.Words.{wordsOf};
 ghost use Rattle.host_calls.specs.Calls.{flag, committeeOf};
+ghost use Rattle.host_calls.specs.Claims.{Claims};
 
 // Whether one of the words is zero.
 pub fn has_zero_word(bytes: &[u8]) -> bool
@@ -46,3 +47,8 @@ pub fn flag(test: bool) -> u64
     }
     0
 }
+
+// An answer and a refusal are told apart.
+pub fn claims()
+    ensures { λ _. ⌜ Claims ⌝ }
+{}

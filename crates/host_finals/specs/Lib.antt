@@ -1,3 +1,4 @@
 pub mod Finality
 pub mod NextFinal
 pub mod Stretches
+pub mod Claims

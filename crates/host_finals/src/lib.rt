@@ -13,6 +13,7 @@ ghost use Rattle.finalization_interpreter.specs.Answers.{asFinality};
 ghost use Rattle.vote_starts.specs.Answers.{asMaybe};
 ghost use Rattle.final_list.specs.Answers.{asStretches};
 ghost use Rattle.host_finals.specs.Stretches.{stretchesNumber, stretchesIn, askedStretches, countsFit};
+ghost use Rattle.host_finals.specs.Claims.{Claims};
 use final_list::StretchesAnswer;
 use finalization_interpreter::FinalityAnswer;
 use next_final::NextFinalAnswer;
@@ -186,3 +187,8 @@ pub fn stretches_of(stakes: &[u64], store: &[u8], after: &[u8], out: &mut [u8]) 
         StretchesAnswer::Refused(number) => REFUSED + number,
     }
 }
+
+// A refused question keeps every byte of its positions.
+pub fn claims()
+    ensures { λ _. ⌜ Claims ⌝ }
+{}

@@ -1,3 +1,4 @@
 pub mod Payload
 pub mod Pending
 pub mod Feed
+pub mod Claims

@@ -19,6 +19,7 @@ ghost use Rattle.feeding.specs.Answers.{asFeedAnswer};
 ghost use Rattle.feeding.specs.Refusals.{earlyChecks};
 ghost use Rattle.host_lib.specs.Feed.{fedWith, feedOf};
 ghost use Rattle.host_lib.specs.Payload.{locatorOf, refusalBefore, asked};
+ghost use Rattle.host_lib.specs.Claims.{Claims};
 
 // ---- questions about a payload
 
@@ -145,3 +146,8 @@ pub fn feed_of(
     words::bytes_of(&words, table);
     answer
 }
+
+// A refused feed keeps every byte, and a pending stake is taken for no refusal.
+pub fn claims()
+    ensures { λ _. ⌜ Claims ⌝ }
+{}

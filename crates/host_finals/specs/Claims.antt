@@ -1,0 +1,15 @@
+-- What the finality question promises of a refusal. Assumes nothing: these are definitions.
+use Prim.Native.Nat.{ℕ}
+use mathlib.Core.Path.{_≡_}
+use mathlib.Core.Bool.{true}
+use Rattle.base.specs.Le.{Bytes}
+use Rattle.base.specs.Checks.{refused}
+use Rattle.committee.specs.Committee.{Committee}
+use Rattle.blocks.specs.Reference.{TransactionLocator}
+use Rattle.blocks.specs.Claims.{areBytes}
+use Rattle.host_finals.specs.Finality.{finalityOf}
+
+pub record Claims : Type 0 where
+  -- 01: "A refusal writes nothing": the positions of a refused question are as they were
+  pub refusedFinality : (c : Committee) (s ps : Bytes) (l : TransactionLocator) (n : ℕ) → areBytes ps ≡ true
+      → finalityOf c s ps l .answer ≡ refused n → finalityOf c s ps l .positions ≡ ps

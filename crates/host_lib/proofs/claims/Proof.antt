@@ -1,0 +1,11 @@
+use Rattle.blocks.proofs.Claimed.{bytes-fit}
+use Rattle.host_lib.proofs.Kept.{fed-kept}
+use Rattle.host_lib.proofs.Standings.{question-fits}
+use Rattle.host_lib.proofs.claims.Statement.{statement}
+use Rattle.host_lib.proofs.claims.Tie as tie
+
+returns : tie.Need-returns
+returns c = record { refusedFeed = λ c s t v rec n a b. fed-kept c s t v rec n (bytes-fit t a) (bytes-fit v b); pendingStake = question-fits }
+
+pub claims-spec : {M : Type 1} → statement M
+claims-spec = tie.close (tie.spec returns)
