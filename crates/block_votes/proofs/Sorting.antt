@@ -39,7 +39,7 @@ use Rattle.finality.specs.Voters.{votesFor, ownVote, unions, voters}
 use Rattle.finality.specs.Finality.{blocksOf}
 use Rattle.finality.specs.Claims.{Stored}
 use Rattle.block_votes.specs.Walk.{Sorted, SortedStore, blockAtPlace, votersAt}
-use Rattle.finality.proofs.Voters.{voters-step}
+use Rattle.finality.proofs.Spoken.{spoken-step}
 use Rattle.finality.proofs.Claimed.{well-stored, small-authors}
 
 -- ---- accepted blocks
@@ -133,7 +133,7 @@ module _ (s : Bytes) (order : List ℕ) (o : SortedStore s order) where
     -- the step: the block's own vote with its includes' voters
     pub place-voters : (l : TransactionLocator) → votersAt s order l k ≡ united (ownVote (blockAtPlace s order k) l) (unions (map (voters (blocksOf s) l) (blockAtPlace s order k .includes)))
     unfolding votersAt
-    place-voters l = voters-step sorted-well l (blockAtPlace s order k) place-stored
+    place-voters l = spoken-step ownVote sorted-well l (blockAtPlace s order k) place-stored
 
     module _ (j : ℕ) (n : j < length (blockAtPlace s order k .includes)) where
       pub include-found : isStored (recordsOf s) (getD (blockAtPlace s order k .includes) j noReference) ≡ true

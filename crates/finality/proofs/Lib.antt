@@ -3,6 +3,7 @@ pub mod Cards
 pub mod ByHand
 pub mod Ancestors
 pub mod Votes
+pub mod Spoken
 pub mod Voters
 pub mod Finals
 pub mod Growing

@@ -11,8 +11,12 @@ use Rattle.blocks.specs.Block.{Block, author, spans}
 unfoldable pub votesFor : Block → TransactionLocator → Bool
 votesFor b l = anyOf (λ r. covers r l) (spans b)
 
+-- whom a block speaks for at a locator
+abbrev pub Speech : Type 0
+Speech = Block → TransactionLocator → AuthoritySet
+
 -- the author of a block that votes
-unfoldable pub ownVote : Block → TransactionLocator → AuthoritySet
+unfoldable pub ownVote : Speech
 ownVote b l = pick (votesFor b l) (inserted nobody (author b)) nobody
 
 -- the sets, together
@@ -20,14 +24,18 @@ unfoldable pub unions : List AuthoritySet → AuthoritySet
 unions [] = nobody
 unions (v ∷ vs) = united v (unions vs)
 
--- 01: "A block's inclusive ancestry is itself, its includes, theirs and so on, marked ones too. Its voters for a locator are the authors in
--- that ancestry with the share, an accept or a range covering it": includes are stored before the block, so they stand later in the list
-unfoldable pub voters : List Block → TransactionLocator → BlockReference → AuthoritySet
-voters [] l r = nobody
-voters (b ∷ older) l r =
+-- 01: "A block's inclusive ancestry is itself, its includes, theirs and so on, marked ones too": all for whom its blocks speak. Includes are
+-- stored before the block, so they stand later in the list
+unfoldable pub spoken : Speech → List Block → TransactionLocator → BlockReference → AuthoritySet
+spoken own [] l r = nobody
+spoken own (b ∷ older) l r =
     pick (sameReference (b .reference) r)
-    (united (ownVote b l) (unions (map (voters older l) (b .includes))))
-    (voters older l r)
+    (united (own b l) (unions (map (spoken own older l) (b .includes))))
+    (spoken own older l r)
+
+-- 01: "Its voters for a locator are the authors in that ancestry with the share, an accept or a range covering it"
+abbrev pub voters : List Block → TransactionLocator → BlockReference → AuthoritySet
+voters bs l r = spoken ownVote bs l r
 
 -- 01: "An unmarked block with quorum voters certifies"
 unfoldable pub certifies : Committee → List Block → TransactionLocator → Block → Bool
