@@ -1,4 +1,4 @@
--- The relations of Ancestry are met by an example: a certificate and finality, shown by hand. Assumes nothing.
+-- A certificate and finality, shown by hand. Assumes nothing.
 use Prim.Native.Nat.{ℕ}
 use mathlib.Core.Path.{_≡_, refl}
 use mathlib.Core.Bool.{true, false}
@@ -11,29 +11,8 @@ use Rattle.committee.specs.Quorum.{HoldQuorum}
 use Rattle.blocks.specs.Reference.{BlockReference, TransactionLocator}
 use Rattle.blocks.specs.Block.{share, accept, Block}
 use Rattle.finality.specs.Ancestry.{itself, included, byShare, byVote, byAccept, Voter, Certificate, Final}
+use Rattle.finality.specs.ByHand.{the, shared, voted, top, stored, two, ByHand}
 use Rattle.finality.proofs.Computing.{computing}
-
-abbrev ref : ℕ → ℕ → BlockReference
-ref a r = record { authority = a; round = r; digest = [] }
-
--- of two owners, author 0 shares in round 1, author 1 accepts in round 2; both include the vote in round 3
-abbrev the : TransactionLocator
-the = record { block = ref 0 1; offset = 0 }
-
-abbrev shared : Block
-shared = record { reference = ref 0 1; marked = false; includes = []; statements = share [] ∷ [] }
-
-abbrev voted : Block
-voted = record { reference = ref 1 2; marked = true; includes = ref 0 1 ∷ []; statements = accept the ∷ [] }
-
-abbrev top : ℕ → Block
-top a = record { reference = ref a 3; marked = false; includes = ref 1 2 ∷ []; statements = [] }
-
-abbrev stored : List Block
-stored = top 1 ∷ top 0 ∷ voted ∷ shared ∷ []
-
-abbrev two : Committee
-two = 1 ∷ 1 ∷ []
 
 second : (a : ℕ) → top a ∈ stored → (o : AuthorityIndex) → o ∈ (1 ∷ []) → Voter stored (top a) the o
 second a h o here =
@@ -74,7 +53,9 @@ certificates o (there m) = last o m
     last : (o : AuthorityIndex) → o ∈ (1 ∷ []) → Certificate two stored the o
     last o here = certificate 1 here
 
--- final, though the accept stands in a marked block
 final : Final two stored the
 unfolding computing
 final = record { owners = 0 ∷ 1 ∷ []; once = once; inSet = certificates; quorum = lit< tt }
+
+pub by-hand : ByHand
+by-hand = record { certificate = certificate 0 (there here); final = final }

@@ -1,12 +1,12 @@
 -- The certifying blocks of the finality question: in ascending reference order, each of them once. Assumes nothing.
-use mathlib.Core.Path.{_≡_, refl, ap, _∙_}
+use mathlib.Core.Path.{_≡_, refl, sym, ap, _∙_}
 use mathlib.Core.Bool.{Bool, true, false}
 use mathlib.Core.List.{List, [], _∷_}
 use Prim.Native.Nat.{suc}
 use lib.ListN.{length, length-map}
 use Rattle.base.specs.Lists.{pick, keep, _∈_, here, there}
 use Rattle.base.specs.Le.{Bytes}
-use Rattle.base.proofs.Lists.{Every, none-of, and, every-in, pairs-keep}
+use Rattle.base.proofs.Lists.{Every, none-of, and, every-in, pairs-keep, pairs-pairwise}
 use Rattle.committee.specs.Committee.{Committee}
 use Rattle.blocks.specs.Reference.{TransactionLocator, referenceBefore}
 use Rattle.blocks.specs.Block.{Block}
@@ -17,6 +17,7 @@ use Rattle.store_layout.proofs.Chain.{Ascending, ascending-every, ascending-asc
 use Rattle.store_layout.proofs.Accepted.{blocks}
 use Rattle.finality.specs.Voters.{certifies, certifiers}
 use Rattle.finality.specs.Finality.{blocksOf, certifyingPositions}
+use Rattle.finality.specs.Claims.{CertifyingMeant}
 
 placed-self : (e : Entry) (ds : List Entry) → e ∈ placed e ds
 unfolding placed
@@ -53,7 +54,7 @@ in-ascending x (e ∷ es) here = placed-self e (ascending es)
 in-ascending x (e ∷ es) (there m) = placed-other e x (ascending es) (in-ascending x es m)
 
 -- the certifying blocks of a store in order, in ascending reference order
-pub certifying-ascends : (c : Committee) (s : Bytes) (l : TransactionLocator) → storeInOrder c s ≡ true
+certifying-ascends : (c : Committee) (s : Bytes) (l : TransactionLocator) → storeInOrder c s ≡ true
     → Ascending (keep (λ e. certifies c (blocksOf s) l (e .block)) (ascending (entries (recordsOf s))))
 certifying-ascends c s l h =
     pairs-keep (λ e. certifies c (blocksOf s) l (e .block)) (ascending (entries (recordsOf s)))
@@ -91,8 +92,21 @@ entries-count p (r ∷ rs) = split (p (r .block)) (entries-count p rs)
     split true ih = ap suc ih
     split false ih = ih
 
-pub certifying-count : (c : Committee) (s : Bytes) (l : TransactionLocator) → length (certifyingPositions c s l) ≡ length (certifiers c (blocksOf s) l)
+certifying-count : (c : Committee) (s : Bytes) (l : TransactionLocator) → length (certifyingPositions c s l) ≡ length (certifiers c (blocksOf s) l)
 unfolding certifyingPositions certifiers blocksOf
 certifying-count c s l =
     let p : (Entry → Bool) = λ e. certifies c (blocksOf s) l (e .block) in
     length-map (keep p (ascending (entries (recordsOf s)))) (λ e. e .position) ∙ ascending-count p (entries (recordsOf s)) ∙ entries-count (certifies c (blocksOf s) l) (recordsOf s)
+
+pub certifying-meant : (c : Committee) (s : Bytes) (l : TransactionLocator) → storeInOrder c s ≡ true → CertifyingMeant c s l
+unfolding certifyingPositions
+certifying-meant c s l h =
+    record {
+      found = found;
+      positions = refl;
+      ascending = pairs-pairwise (λ e d. referenceBefore (referenceOf e) (referenceOf d)) found (certifying-ascends c s l h);
+      many = sym (length-map found (λ e. e .position)) ∙ certifying-count c s l;
+    }
+  where
+    found : List Entry
+    found = keep (λ e. certifies c (blocksOf s) l (e .block)) (ascending (entries (recordsOf s)))

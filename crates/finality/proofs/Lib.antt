@@ -1,6 +1,6 @@
 pub mod Computing
-pub mod Cards
-pub mod ByHand
+mod ByHand
+mod Worked
 pub mod Ancestors
 pub mod Votes
 pub mod Spoken

@@ -4,18 +4,19 @@ use mathlib.Core.Logic.{_↔_}
 use mathlib.Core.Bool.{true, false}
 use mathlib.Core.List.{List, map}
 use mathlib.Core.Option.{Option}
-use Rattle.base.specs.Lists.{_∈_}
+use lib.ListN.{length}
+use Rattle.base.specs.Lists.{pairwise, _∈_}
 use Rattle.base.specs.Le.{Bytes}
 use Rattle.committee.specs.Committee.{AuthorityIndex, Committee, broken}
 use Rattle.authority_set.specs.AuthoritySet.{member}
-use Rattle.blocks.specs.Reference.{TransactionLocator}
+use Rattle.blocks.specs.Reference.{TransactionLocator, referenceBefore}
 use Rattle.blocks.specs.Block.{Block}
-use Rattle.store_layout.specs.Layout.{Record}
+use Rattle.store_layout.specs.Layout.{Record, Entry, referenceOf}
 use Rattle.store_layout.specs.Accept.{allAccepted}
 use Rattle.store_layout.specs.Store.{storeInOrder}
 use Rattle.finality.specs.Ancestry.{Ancestor, Voter, Final}
-use Rattle.finality.specs.Voters.{voters, isFinal}
-use Rattle.finality.specs.Finality.{blocksOf}
+use Rattle.finality.specs.Voters.{voters, certifiers, isFinal}
+use Rattle.finality.specs.Finality.{blocksOf, certifyingPositions}
 use Rattle.finality.specs.NextFinal.{LeastFinal, leastFinal, FinalList, finalList}
 
 -- blocks that were accepted one after the other under a committee, the newest first
@@ -46,9 +47,18 @@ LeastFinalMeant = (c : Committee) (bs : List Block) (after : Option TransactionL
 unfoldable pub FinalListMeant : Type 0
 FinalListMeant = (c : Committee) (s : Bytes) → broken c ≡ false → storeInOrder c s ≡ true → FinalList c s (finalList c (blocksOf s))
 
+-- 01: "the number of certifying blocks and their positions, one word each, in ascending reference order": they are the positions of certifying
+-- entries, as many as blocks certify, each of a higher reference than the one before
+pub record CertifyingMeant (c : Committee) (s : Bytes) (l : TransactionLocator) : Type 0 where
+  pub found : List Entry
+  pub positions : certifyingPositions c s l ≡ map (λ e. e .position) found
+  pub ascending : pairwise (λ e d. referenceBefore (referenceOf e) (referenceOf d)) found ≡ true
+  pub many : length found ≡ length (certifiers c (blocksOf s) l)
+
 pub record Claims : Type 0 where
   pub voters : VotersMeant
   pub ancestry : VotersOfAncestry
   pub final : FinalMeant
+  pub certifying : (c : Committee) (s : Bytes) (l : TransactionLocator) → storeInOrder c s ≡ true → CertifyingMeant c s l
   pub leastFinal : LeastFinalMeant
   pub finalList : FinalListMeant
