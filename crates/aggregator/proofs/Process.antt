@@ -18,7 +18,7 @@ use Rattle.blocks.specs.Block.{Statement, author, votedRange, sharedRanges}
 use Rattle.blocks.specs.Record.{blockIn}
 use Rattle.store_layout.specs.Layout.{Entry, entries, usedBy, positionOf}
 use Rattle.store_layout.specs.Store.{recordsOf, recordIn}
-use Rattle.store_layout.proofs.Accepted.{known-author}
+use Rattle.store_layout.proofs.Accepted.{known-author, accepted-new}
 use Rattle.store_layout.proofs.Store.{entries-below}
 use Rattle.pending_items.specs.Items.{Item, itemBefore, itemFull, register}
 use Rattle.pending_items.specs.Table.{itemsOf, room}
@@ -113,6 +113,7 @@ module _ (c : Committee) (s rec : Bytes) (t : List ℕ) (h : Feeding c s rec t) 
             stake = e;
             store = h .store;
             formed = h .formed;
+            new = accepted-new c (recordsOf s) (blockIn rec) (h .checks);
             author-known = known-author c (recordsOf s) (blockIn rec) (h .checks);
             table = rw (r .table y) (order-tableOf c (withNew s rec) (length t) added fits (sound-added .ordered) (sound-added .pending));
           }

@@ -17,7 +17,7 @@ use Rattle.blocks.specs.Record.{wellFormed, blockIn}
 use Rattle.types.specs.Values.{asRange}
 use Rattle.store_layout.specs.Layout.{entries}
 use Rattle.store_layout.specs.Store.{recordsOf}
-use Rattle.store_layout.specs.Accept.{blockChecks}
+use Rattle.store_layout.specs.Accept.{isStored, blockChecks}
 use Rattle.store_layout.specs.Entry.{laidOut}
 use Rattle.pending_items.specs.Items.{Item, itemBefore, itemFull}
 use Rattle.pending_items.specs.Table.{tableOf, room, tableInOrder}
@@ -43,6 +43,7 @@ pub record Voting (c : Committee) (s rec : Bytes) (t : List ℕ) (total : Stake)
   pub stake : total ≡ totalStake c
   pub store : laidOut s ≡ true
   pub formed : wellFormed rec ≡ true
+  pub new : isStored (recordsOf s) (blockIn rec .reference) ≡ false
   pub author-known : known c (author (blockIn rec)) ≡ true
   pub table : tableInOrder c (withNew s rec) t ≡ true
 

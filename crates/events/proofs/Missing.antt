@@ -10,18 +10,22 @@ use Rattle.base.specs.Lists.{pick, find, holds, _∈_}
 use Rattle.base.specs.Le.{Bytes}
 use Rattle.base.proofs.Members.{in-cases}
 use Rattle.base.proofs.Lists.{every-in}
-use Rattle.blocks.specs.Reference.{BlockReference, sameReference}
+use Rattle.blocks.specs.Reference.{BlockReference, locator, sameReference}
 use Rattle.blocks.specs.Block.{isShareAt}
 use Rattle.blocks.specs.Record.{blockIn}
 use Rattle.types.specs.Values.{orderOf, referenceOrder}
 use Rattle.types.specs.declared.Ordering.{Ordering}
 use Rattle.types.specs.declared.Ordering.the-variants.{Less, Equal, Greater}
 use Rattle.store_layout.specs.Layout.{Record, usedBy, Entry, entries, positionOf, lookup}
+use Rattle.store_layout.specs.Accept.{isStored}
 use Rattle.store_layout.specs.Store.{recordsOf, recordIn}
-use Rattle.store_layout.specs.Entry.{readable, isEntry, blockAt}
+use Rattle.store_layout.specs.Entry.{readable, laidOut, isEntry, blockAt}
 use Rattle.store_layout.proofs.Store.{entries-below, entries-within}
 use Rattle.store_layout.proofs.Loops.{EntryAt, entry-at, is-entry, block-at}
+use Rattle.store_layout.proofs.Chain.{distinct-new}
 use Rattle.store_layout.proofs.Lookups.{lookup-in}
+use Rattle.store_layout.proofs.Search.{laid-out}
+use Rattle.store_layout.proofs.Shares.{share-looked-up}
 use Rattle.store_layout.proofs.Visit.{one-position}
 use Rattle.store_order.proofs.Compared.{compared-equal}
 use Rattle.feeds.specs.ProcessBlock.{missed}
@@ -72,19 +76,27 @@ module _ (s rec : Bytes) (r : BlockReference) where
 
   -- ---- its shares
 
+  -- of a store that is laid out and a block that is not stored yet: by the entry that is found
+  missed-found : laidOut s ≡ true → isStored (recordsOf s) (blockIn rec .reference) ≡ false → (o : ℕ)
+      → missed (withNew s rec) r o ≡ pick (holds (λ e. isShareAt (e .block) o) (lookup (withNew s rec) r)) 2 3
+  unfolding missed locator recordIn
+  missed-found laid fresh o =
+      ap (λ (t : Bool). pick t 2 3) (share-looked-up (withNew s rec) (distinct-new (recordsOf s) (recordIn rec) (laid-out s laid .chain .distinct) fresh) (locator r o))
+
   -- a block that is not stored has none
-  pub missed-unknown : 0 ≡ positionOf (lookup (withNew s rec) r) → (o : ℕ) → missed (withNew s rec) r o ≡ 3
-  unfolding missed holds positionOf
-  missed-unknown h o = go (lookup (withNew s rec) r) refl h
+  pub missed-unknown : laidOut s ≡ true → isStored (recordsOf s) (blockIn rec .reference) ≡ false → 0 ≡ positionOf (lookup (withNew s rec) r) → (o : ℕ) → missed (withNew s rec) r o ≡ 3
+  unfolding holds positionOf
+  missed-unknown laid fresh h o = missed-found laid fresh o ∙ go (lookup (withNew s rec) r) refl h
     where
       go : (d : Option Entry) → lookup (withNew s rec) r ≡ d → 0 ≡ positionOf d → _≡_ {A = ℕ} (pick (holds (λ e. isShareAt (e .block) o) d) 2 3) 3
       go none q z = refl
       go (some e) q z = absurd (omega (arith, every-in (withNew s rec) e (entries-within (recordIn rec ∷ recordsOf s)) (lookup-in (withNew s rec) r e q .0) .from))
 
   -- the block being fed
-  pub missed-own : usedBy (recordsOf s) ≡ positionOf (lookup (withNew s rec) r) → (o : ℕ) → missed (withNew s rec) r o ≡ pick (isShareAt (blockIn rec) o) 2 3
-  unfolding missed holds positionOf new
-  missed-own h o = go (lookup (withNew s rec) r) refl h
+  pub missed-own : laidOut s ≡ true → isStored (recordsOf s) (blockIn rec .reference) ≡ false → usedBy (recordsOf s) ≡ positionOf (lookup (withNew s rec) r) → (o : ℕ)
+      → missed (withNew s rec) r o ≡ pick (isShareAt (blockIn rec) o) 2 3
+  unfolding holds positionOf new
+  missed-own laid fresh h o = missed-found laid fresh o ∙ go (lookup (withNew s rec) r) refl h
     where
       own : (e : Entry) → (e ≡ new) ⊎ (e ∈ entries (recordsOf s)) → e .position ≡ usedBy (recordsOf s) → e .block ≡ blockIn rec
       own e (inl q) z = ap (λ (x : Entry). x .block) q
@@ -120,9 +132,10 @@ module _ (s rec : Bytes) (r : BlockReference) where
     pub stored-at : isEntry s p ≡ true
     stored-at = rw (stood .place) (is-entry s (stood .entry) ok (stood .stands))
 
-    pub missed-stored : (o : ℕ) → missed (withNew s rec) r o ≡ pick (isShareAt (blockAt s p) o) 2 3
-    unfolding missed holds
-    missed-stored o =
+    pub missed-stored : laidOut s ≡ true → isStored (recordsOf s) (blockIn rec .reference) ≡ false → (o : ℕ) → missed (withNew s rec) r o ≡ pick (isShareAt (blockAt s p) o) 2 3
+    unfolding holds
+    missed-stored laid fresh o =
+        missed-found laid fresh o ∙
         let x : EntryAt s p = entry-at s p stored-at in
         let d : x .entry ≡ stood .entry = one-position (recordsOf s) (x .entry) (stood .entry) (x .stored) (stood .stands) (x .place ∙ stood .place) in
         rw (stood .looked, block-at s p (record { bytes = x .entry .bytes; block = x .entry .block }) (x .stands), d)

@@ -4,7 +4,7 @@ use table_words::Found;
 use types::BlockReference;
 use types::Ordering;
 ghost use mathlib.Core.Path.{_≡_};
-ghost use mathlib.Core.Bool.{true};
+ghost use mathlib.Core.Bool.{true, false};
 ghost use mathlib.Core.List.{[], _∷_};
 ghost use Prim.Native.Nat.{_+_, _-_, _*_, _≤_};
 ghost use lib.ListN.{length};
@@ -14,6 +14,8 @@ ghost use Rattle.blocks.specs.Block.{isShareAt};
 ghost use Rattle.blocks.specs.Record.{wellFormed, blockIn};
 ghost use Rattle.types.specs.Values.{asReference};
 ghost use Rattle.store_layout.specs.Layout.{positionOf, lookup};
+ghost use Rattle.store_layout.specs.Accept.{isStored};
+ghost use Rattle.store_layout.specs.Store.{recordsOf};
 ghost use Rattle.store_layout.specs.Entry.{laidOut};
 ghost use Rattle.pending_items.specs.Table.{itemsOf, HoldsItems, room};
 ghost use Rattle.feeds.specs.ProcessBlock.{missed, wordsOf};
@@ -111,7 +113,7 @@ fn missed_events(
     start: u64,
     end: u64,
 ) -> usize
-    requires stored { ⌜ (laidOut (now store) ≡ true) × (wellFormed (now rec) ≡ true) × (p ≡ positionOf (lookup (withNew (now store) (now rec)) (asReference block))) ⌝ }
+    requires stored { ⌜ (laidOut (now store) ≡ true) × (wellFormed (now rec) ≡ true) × (p ≡ positionOf (lookup (withNew (now store) (now rec)) (asReference block))) × (isStored (recordsOf (now store)) (blockIn (now rec) .reference) ≡ false) ⌝ }
     requires room { ⌜ (start ≤ end) × (3 * (n + (end - start)) ≤ length (now events)) ⌝ }
     ensures { λ r. ⌜ (r ≡ n + (end - start)) × (now (events .exit) ≡ sets (now (events .entry)) (3 * n) (wordsOf (eventsBy (missed (withNew (now (store .entry)) (now (rec .entry))) (asReference block)) statement start end))) ⌝ }
 {
@@ -142,7 +144,7 @@ fn stretch_events(
     start: u64,
     end: u64,
 ) -> usize
-    requires stored { ⌜ (laidOut (now store) ≡ true) × (wellFormed (now rec) ≡ true) × (p ≡ positionOf (lookup (withNew (now store) (now rec)) (asReference block))) ⌝ }
+    requires stored { ⌜ (laidOut (now store) ≡ true) × (wellFormed (now rec) ≡ true) × (p ≡ positionOf (lookup (withNew (now store) (now rec)) (asReference block))) × (isStored (recordsOf (now store)) (blockIn (now rec) .reference) ≡ false) ⌝ }
     requires table { ⌜ HoldsItems (now table) × FoundBy (itemHolds p start) (itemsOf (now table)) found × SameItem (itemsOf (now table)) p start end ⌝ }
     requires room { ⌜ (start ≤ end) × (3 * (n + (end - start)) ≤ length (now events)) ⌝ }
     ensures { λ r. ⌜ StatedAt n (eventsBetween (total .0) (withNew (now (store .entry)) (now (rec .entry))) (asReference block) statement (itemsOf (now (table .entry))) p start end) (now (events .entry)) r (now (events .exit)) ⌝ }
@@ -172,7 +174,7 @@ pub fn announce(
     start: u64,
     end: u64,
 ) -> usize
-    requires stored { ⌜ (laidOut (now store) ≡ true) × (wellFormed (now rec) ≡ true) × (p ≡ positionOf (lookup (withNew (now store) (now rec)) (asReference block))) ⌝ }
+    requires stored { ⌜ (laidOut (now store) ≡ true) × (wellFormed (now rec) ≡ true) × (p ≡ positionOf (lookup (withNew (now store) (now rec)) (asReference block))) × (isStored (recordsOf (now store)) (blockIn (now rec) .reference) ≡ false) ⌝ }
     requires table { ⌜ HoldsItems (now table) ⌝ }
     requires room { ⌜ 3 * (n + (end - start)) ≤ length (now events) ⌝ }
     ensures { λ r. ⌜ StatedAt n (eventsBetween (total .0) (withNew (now (store .entry)) (now (rec .entry))) (asReference block) statement (itemsOf (now (table .entry))) p start end) (now (events .entry)) r (now (events .exit)) ⌝ }

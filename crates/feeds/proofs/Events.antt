@@ -9,16 +9,17 @@ use native.Mathlib.Omega.{arith}
 use lib.Dec.{eqb}
 use lib.ListN.{getElem?}
 use borrow.Author.Tests.{eqb-true}
-use Rattle.base.specs.Lists.{pick, find, holds, _∈_}
+use Rattle.base.specs.Lists.{pick, find, _∈_}
 use Rattle.base.specs.Checks.{passes}
 use Rattle.base.proofs.Members.{in-empty, in-cases, in-append, flatten-in, map-in}
 use Rattle.base.proofs.Lists.{Every, every-in, find-passes, find-every, find-in}
 use Rattle.committee.specs.Committee.{AuthorityIndex, Committee, known}
 use Rattle.stake_aggregator.specs.StakeAggregator.{hasQuorum}
-use Rattle.blocks.specs.Reference.{BlockReference, TransactionLocatorRange, sameReference, offsets}
+use Rattle.blocks.specs.Reference.{BlockReference, locator, TransactionLocatorRange, sameReference, offsets}
 use Rattle.blocks.specs.Block.{Statement, author, isShareAt, votedRange}
 use Rattle.blocks.proofs.References.{reference-same}
-use Rattle.store_layout.specs.Layout.{Record, Entry, referenceOf, entries, positionOf, lookup}
+use Rattle.store_layout.specs.Layout.{Record, Entry, blocksAt, referenceOf, entries, positionOf, lookup}
+use Rattle.store_layout.specs.Shares.{isStoredShare}
 use Rattle.store_layout.specs.Store.{recordsOf}
 use Rattle.store_layout.proofs.Visit.{one-position}
 use Rattle.store_layout.proofs.Accepted.{known-author}
@@ -100,7 +101,7 @@ told-of c es r i o none v m = go (in-cases m)
     not-one false e = omega arith
 
     go : (v ≡ record { kind = missed es r o; statement = i; offset = o }) ⊎ (v ∈ []) → Told c es r i o none v
-    go (inl e) = record { by = ap (λ (w : Event). w .statement) e; at = ap (λ (w : Event). w .offset) e; item = λ k. absurd (not-one (holds (λ e. isShareAt (e .block) o) (lookup es r)) (sym (ap (λ (w : Event). w .kind) e) ∙ k)) }
+    go (inl e) = record { by = ap (λ (w : Event). w .statement) e; at = ap (λ (w : Event). w .offset) e; item = λ k. absurd (not-one (isStoredShare (blocksAt es) (locator r o)) (sym (ap (λ (w : Event). w .kind) e) ∙ k)) }
     go (inr k) = absurd (in-empty k)
 told-of c es r i o (some y) v m = split (hasQuorum c (y .aggregator)) m
   where

@@ -8,7 +8,7 @@ use native.Mathlib.Omega.{arith}
 use native.Mathlib.Decide.{ℕ-discrete}
 use lib.Dec.{eqb}
 use borrow.Author.Tests.{eq-eqb, ne-eqb, eqb-true}
-use Rattle.base.specs.Lists.{pick, allOf, keep, find, holds, countFrom, _∈_}
+use Rattle.base.specs.Lists.{pick, allOf, keep, find, countFrom, _∈_}
 use Rattle.base.specs.Le.{Bytes}
 use Rattle.base.specs.Checks.{passes, refused, answered}
 use Rattle.base.proofs.Tests.{and-left, and-right, same-test}
@@ -16,11 +16,12 @@ use Rattle.base.proofs.Lists.{Every, every, every-in, find-passes, find-in, kee
 use Rattle.committee.specs.Committee.{AuthorityIndex, Committee, broken}
 use Rattle.authority_set.specs.AuthoritySet.{numberOfVoters}
 use Rattle.stake_aggregator.specs.StakeAggregator.{StakeAggregator, noVotes, counted, hasQuorum}
-use Rattle.blocks.specs.Reference.{BlockReference, TransactionLocator, TransactionLocatorRange, sameReference, within, offsets, covers}
+use Rattle.blocks.specs.Reference.{BlockReference, TransactionLocator, locator, TransactionLocatorRange, sameReference, within, offsets, covers}
 use Rattle.blocks.specs.Block.{author, isShareAt}
 use Rattle.blocks.proofs.Ranges.{within-yes, within-no, within-true}
 use Rattle.blocks.proofs.References.{reference-same, same-reference}
-use Rattle.store_layout.specs.Layout.{Record, Entry, referenceOf, usedBy, entries, positionOf, lookup}
+use Rattle.store_layout.specs.Layout.{Record, Entry, blocksAt, referenceOf, usedBy, entries, positionOf, lookup}
+use Rattle.store_layout.specs.Shares.{isStoredShare}
 use Rattle.store_layout.specs.Store.{recordsOf}
 use Rattle.store_layout.proofs.Store.{entries-below, entries-within}
 use Rattle.pending_items.specs.Items.{Item, itemAt, voteOver}
@@ -108,7 +109,7 @@ module _ (c : Committee) (es : List Entry) (i o : ℕ) (under : ℕ → Bool) wh
   -- the event of one offset
   processed-offset : (r : BlockReference) (n : ℕ) (x : Option Item) → keep (processedAt o under) (eventOf c es r i n x) ≡ pick (eqb n o && under i) (processedBy c i n (votesOf x)) []
   unfolding keep eventOf missed processedBy
-  processed-offset r n none = go (holds (λ e. isShareAt (e .block) n) (lookup es r))
+  processed-offset r n none = go (isStoredShare (blocksAt es) (locator r n))
     where
       go : (t : Bool) → keep (processedAt o under) (record { kind = pick t 2 3; statement = i; offset = n } ∷ []) ≡ pick (eqb n o && under i) [] []
       go true = either-way (eqb n o && under i) []

@@ -3,12 +3,13 @@ use Prim.Native.Nat.{ℕ, _+_, max}
 use mathlib.Core.List.{List, [], _∷_, _++_, map, flatten}
 use mathlib.Core.Option.{Option, none, some}
 use lib.ListN.{length}
-use Rattle.base.specs.Lists.{pick, holds}
+use Rattle.base.specs.Lists.{pick}
 use Rattle.committee.specs.Committee.{AuthorityIndex, Committee}
 use Rattle.stake_aggregator.specs.StakeAggregator.{hasQuorum}
-use Rattle.blocks.specs.Reference.{BlockReference, TransactionLocatorRange, offsets}
-use Rattle.blocks.specs.Block.{Statement, Block, author, isShareAt, votedRange, sharedRanges}
-use Rattle.store_layout.specs.Layout.{Entry, positionOf, lookup}
+use Rattle.blocks.specs.Reference.{BlockReference, locator, TransactionLocatorRange, offsets}
+use Rattle.blocks.specs.Block.{Statement, Block, author, votedRange, sharedRanges}
+use Rattle.store_layout.specs.Layout.{Entry, blocksAt, positionOf, lookup}
+use Rattle.store_layout.specs.Shares.{isStoredShare}
 use Rattle.pending_items.specs.Items.{Item, itemAt, bothCuts, voteOver, afterLeaving, register}
 
 -- 01: "An event is three words: kind (1 processed, 2 late, 3 unknown), statement index, offset"
@@ -25,7 +26,7 @@ wordsOf vs = flatten (map eventWords vs)
 
 -- 01: "an offset with no item is late if it is a stored share, else unknown"
 unfoldable pub missed : List Entry → BlockReference → ℕ → ℕ
-missed es r o = pick (holds (λ e. isShareAt (e .block) o) (lookup es r)) 2 3
+missed es r o = pick (isStoredShare (blocksAt es) (locator r o)) 2 3
 
 -- 01: "an item that holds quorum after the vote leaves, each offset an event processed"; an item without quorum gives no event
 unfoldable pub eventOf : Committee → List Entry → BlockReference → ℕ → ℕ → Option Item → List Event

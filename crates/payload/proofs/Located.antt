@@ -2,13 +2,13 @@
 use mathlib.Core.Path.{_≡_, refl, sym, ap, _∙_}
 use mathlib.Core.List.{List, [], _∷_}
 use mathlib.Core.Option.{Option, none, some, Option·map, Option·getD}
-use mathlib.Core.Bool.{Bool, true, false}
+use mathlib.Core.Bool.{Bool, true, false, not}
 use Prim.Native.Nat.{ℕ, zero, suc, _+_, _<_, _≤_}
 use native.Mathlib.Omega.{arith}
 use lib.Dec.{eqb}
 use lib.ListN.{length, take, drop, getD, getElem?, length-drop}
 use lib.Seq.{length-take-le}
-use borrow.Author.Tests.{le-leb, eqb-true}
+use borrow.Author.Tests.{le-leb, eqb-true, not-false}
 use Rattle.base.specs.Lists.{pick, allOf, isNone, _∈_, here, there}
 use Rattle.base.specs.Le.{Bytes}
 use Rattle.base.specs.Checks.{_⇒_, passes, refusal, refused, answered, checked}
@@ -27,7 +27,8 @@ use Rattle.block_record.specs.declared.NextStatement.{NextStatement}
 use Rattle.block_record.specs.declared.BaseStatement.{BaseStatement}
 use Rattle.block_record.specs.declared.BaseStatement.the-variants.{Share, Accept, Reject, RejectFor, VoteRange}
 use Rattle.block_record.proofs.Statements.{start-inside}
-use Rattle.store_layout.specs.Layout.{Entry, entries, positionOf, lookup}
+use Rattle.store_layout.specs.Layout.{blocks, Entry, entries, positionOf, lookup}
+use Rattle.store_layout.specs.Shares.{isStoredShare}
 use Rattle.store_layout.specs.Store.{recordsOf, storeInOrder}
 use Rattle.store_layout.specs.Entry.{blockAt, laidOut, isEntry}
 use Rattle.store_layout.specs.Payload.{Stretch, shareStretch, payloadOf, payloadAt, payloadChecks, stretchOf, payload, payloadLength}
@@ -37,6 +38,7 @@ use Rattle.payload.specs.declared.SharePlace.the-variants.{Payload as Pa
 use Rattle.store_layout.proofs.Store.{entries-within}
 use Rattle.store_layout.proofs.Loops.{is-entry, block-of-entry}
 use Rattle.store_layout.proofs.Lookups.{lookup-in}
+use Rattle.store_layout.proofs.Shares.{share-has-payload}
 use Rattle.store_layout.proofs.Search.{laid-out}
 
 -- ---- as the code finds it
@@ -113,11 +115,11 @@ module _ (c : Committee) (s : Bytes) (l : TransactionLocator) where
 
   pub place-none : broken c ≡ false → storeInOrder c s ≡ true → payloadAt s l ≡ none → refused 41 ≡ payloadPlace c s l
   unfolding payloadPlace payloadChecks checked passes refusal allOf isNone
-  place-none h k n = rw (h, k, n)
+  place-none h k n = rw (h, k, share-has-payload c s k l, n)
 
   pub place-some : broken c ≡ false → storeInOrder c s ≡ true → (t : Stretch) → payloadAt s l ≡ some t → answered t ≡ payloadPlace c s l
   unfolding payloadPlace payloadChecks checked passes refusal allOf isNone
-  place-some h k t n = rw (h, k, n)
+  place-some h k t n = rw (h, k, share-has-payload c s k l, n)
 
   -- what the answer says of the payload and of its length
   pub place-refused : (k : ℕ) → refused k ≡ payloadPlace c s l → ([] ≡ payload c s l) × (refused k ≡ payloadLength c s l)
@@ -136,7 +138,10 @@ module _ (c : Committee) (s : Bytes) (l : TransactionLocator) where
     where
       by-place : (o : Option Stretch) → payloadAt s l ≡ o → passes (payloadChecks c s l) ≡ true → _≡_ {A = Stretch} (record { start = start; count = count }) (Option·getD o (record { start = 0; count = 0 }))
           → (take count (drop start s) ≡ stretchOf o s) × (answered count ≡ answered (length (stretchOf o s)))
-      by-place none q p e = absurd (not-both (ap isNone q) (passes-none (payloadChecks c s l) p (isNone (payloadAt s l) ⇒ 41) (there (there here))))
+      by-place none q p e =
+          let k : storeInOrder c s ≡ true = not-false (storeInOrder c s) (passes-none (payloadChecks c s l) p (not (storeInOrder c s) ⇒ 10) (there here)) in
+          let stored : isStoredShare (blocks (recordsOf s)) l ≡ true = not-false _ (passes-none (payloadChecks c s l) p (not (isStoredShare (blocks (recordsOf s)) l) ⇒ 41) (there (there here))) in
+          absurd (not-both stored (rw (share-has-payload c s k l, q)))
       by-place (some t) q p e =
           rw (← e) (refl, ap answered (sym (length-take-le count (drop start s) (omega (arith, length-drop start s)))))
 

@@ -10,18 +10,20 @@ use borrow.Author.Tests.{eqb-true}
 use Rattle.base.specs.Lists.{anyOf, holds, _∈_, here, there}
 use Rattle.base.specs.Le.{Bytes}
 use Rattle.base.specs.Checks.{passes}
-use Rattle.base.proofs.Tests.{and-both, and-left, and-right, neither-right, fails, not-both}
-use Rattle.base.proofs.Members.{in-empty, in-any}
+use Rattle.base.proofs.Tests.{and-left, and-right, neither-right, fails, not-both}
+use Rattle.base.proofs.Members.{in-empty, in-map}
 use Rattle.committee.specs.Committee.{Committee}
 use Rattle.blocks.specs.Reference.{BlockReference, TransactionLocator, sameReference}
 use Rattle.blocks.specs.Block.{Block}
-use Rattle.blocks.proofs.References.{reference-same, same-reference}
+use Rattle.blocks.proofs.References.{reference-same}
 use Rattle.store_layout.specs.Layout.{Record, readRecord, Entry, entries}
+use Rattle.store_layout.specs.Shares.{isShareOf, isStoredShare}
+use Rattle.store_layout.proofs.Shares.{share-stored}
 use Rattle.feeds.specs.ProcessBlock.{Event}
 use Rattle.feeds.specs.Feed.{Lent, processed, feedChecks, feed}
 use Rattle.feeds.proofs.Events.{Shared, Source, processed-source}
-use Rattle.promises.specs.Feeds.{Feed, Engine, fresh, outcome, left, run, Accepted, acceptedIn, accepted}
-use Rattle.promises.specs.Shares.{sharedBy, isStoredShare, votesUnder, announces, announcedBy, announcements}
+use Rattle.promises.specs.Feeds.{Feed, Engine, fresh, outcome, left, run, Accepted, acceptedIn, accepted, storedBlocks}
+use Rattle.promises.specs.Shares.{votesUnder, announces, announcedBy, announcements}
 use Rattle.promises.specs.ThirdStatement.{Start, acceptedOf}
 use Rattle.promises.proofs.Feeds.{taken, feed-cases}
 use Rattle.promises.proofs.Storing.{asRecord, StoreOf, fresh-holds, run-holds}
@@ -39,12 +41,12 @@ entry-accepted (a ∷ as′) e here = (a, here, refl)
 entry-accepted (a ∷ as′) e (there m) = let r = entry-accepted as′ e m in (r .0, there (r .1), r .2)
 
 -- a share of a stored entry is a stored share
-entry-share : (as′ : List Accepted) (l : TransactionLocator) → Shared (entries (map asRecord as′)) (l .block) (l .offset) → isStoredShare as′ l ≡ true
-unfolding isStoredShare
+entry-share : (as′ : List Accepted) (l : TransactionLocator) → Shared (entries (map asRecord as′)) (l .block) (l .offset) → isStoredShare (storedBlocks as′) l ≡ true
+unfolding storedBlocks
 entry-share as′ l h =
     let r = entry-accepted as′ (h .entry) (h .stands) in
-    in-any (λ a. sharedBy l (a .block)) (r .1)
-    (and-both _ _ (same-reference (ap (λ (b : Block). b .reference) (r .2) ∙ h .same)) (rw (r .2) (h .share)))
+    share-stored (storedBlocks as′) l
+    (record { block = r .0 .block; stored = in-map (λ (a : Accepted). a .block) (r .1); named = ap (λ (b : Block). b .reference) (r .2) ∙ h .same; shared = rw (r .2) (h .share) })
 
 -- an event that announces a locator came of a vote under its reference
 announced-share : (es : List Entry) (b : Block) (l : TransactionLocator) (v : Event) → Source es 0 (b .statements) v → announces b l v ≡ true → Shared es (l .block) (l .offset)
@@ -61,7 +63,7 @@ announced-share es b l v u h =
 module _ (c : Committee) (l : TransactionLocator) where
   -- what is no stored share was not announced
   abbrev pub Quiet : List Accepted → Type 0
-  Quiet as′ = isStoredShare as′ l ≡ false → announcements as′ l ≡ []
+  Quiet as′ = isStoredShare (storedBlocks as′) l ≡ false → announcements as′ l ≡ []
 
   quiet-feed : (m : Lent) (bytes : Bytes) (as′ : List Accepted) → StoreOf c (m .store) as′ → Quiet as′
       → Quiet (acceptedIn (readRecord bytes) (feed c m bytes .answer) (feed c m bytes .events) ++ as′)
@@ -71,8 +73,8 @@ module _ (c : Committee) (l : TransactionLocator) where
       silent : (r : Record) → readRecord bytes ≡ some r → passes (feedChecks c m (some r)) ≡ true → Quiet (taken c m r ∷ as′)
       silent r e p f = rw (q before) (none-announced _ (r .block) (processed c m r .events) l unannounced)
         where
-          before : isStoredShare as′ l ≡ false
-          before = unfold isStoredShare anyOf in neither-right (sharedBy l (r .block)) _ f
+          before : isStoredShare (storedBlocks as′) l ≡ false
+          before = unfold isStoredShare storedBlocks anyOf in neither-right (isShareOf (r .block) l) _ f
 
           unannounced : (v : Event) → v ∈ processed c m r .events → announces (r .block) l v ≡ false
           unannounced v n =
@@ -86,6 +88,6 @@ module _ (c : Committee) (l : TransactionLocator) where
   quiet-run g (f ∷ fs) h =
       quiet-feed (record { store = run c g fs .store; table = run c g fs .table; work = f .work; events = f .events }) (f .bytes) (accepted c g fs) (run-holds c g fs h) (quiet-run g fs h)
 
-pub others-quiet : (c : Committee) (t : Start) (l : TransactionLocator) → isStoredShare (acceptedOf c t) l ≡ false → announcements (acceptedOf c t) l ≡ []
+pub others-quiet : (c : Committee) (t : Start) (l : TransactionLocator) → isStoredShare (storedBlocks (acceptedOf c t)) l ≡ false → announcements (acceptedOf c t) l ≡ []
 unfolding acceptedOf fresh
 others-quiet c t l = quiet-run c l (fresh (t .past) (t .words)) (t .feeds) (fresh-holds c (t .past) (t .allowed))

@@ -8,21 +8,21 @@ use Prim.Native.Nat.{ℕ, _+_}
 use native.Mathlib.Omega.{arith}
 use lib.ListN.{length}
 use Rattle.base.specs.Lists.{pick, anyOf, holds, _∈_, here, there}
-use Rattle.base.proofs.Tests.{and-both, and-left, and-right}
 use Rattle.base.proofs.Lists.{holds-some}
 use Rattle.base.proofs.Members.{in-empty, in-left, in-right, in-append, in-map, in-cases, any-in, in-any}
 use Rattle.committee.specs.Committee.{AuthorityIndex, Committee, broken}
 use Rattle.committee.specs.Quorum.{HoldQuorum}
 use Rattle.authority_set.proofs.Quorums.{quorum-mono, quorum-member}
-use Rattle.blocks.specs.Reference.{TransactionLocator, sameReference, newRange, oneRange, covers}
+use Rattle.blocks.specs.Reference.{TransactionLocator, newRange, oneRange, covers}
 use Rattle.blocks.specs.Block.{Statement, Block, author, isShareAt, votedRange}
-use Rattle.blocks.proofs.References.{reference-same, same-reference}
+use Rattle.store_layout.specs.Shares.{isStoredShare, StoredShare}
 use Rattle.store_layout.proofs.Stored.{WellStored, one-reference}
+use Rattle.store_layout.proofs.Shares.{stored-share, share-stored}
 use Rattle.finality.specs.Ancestry.{Ancestor, itself, included, VoteIn, byAccept, byRange, VotesFor, byShare, byVote, Voter, Certificate, Final}
 use Rattle.finality.proofs.Asked.{in-order-stored}
 use Rattle.finality.proofs.Votes.{covered, is-covered, statement-vote}
 use Rattle.promises.specs.Feeds.{Accepted, storedBlocks}
-use Rattle.promises.specs.Shares.{sharedBy, isStoredShare, Vote, statementVotes, votesFrom, countedVotes, countedVoters, NoneLeft}
+use Rattle.promises.specs.Shares.{Vote, statementVotes, votesFrom, countedVotes, countedVoters, NoneLeft}
 use Rattle.promises.specs.ThirdStatement.{ShareStands, stays, gone, VotedOnlySince, Announced, Start, engineOf, acceptedOf}
 use Rattle.promises.proofs.Storing.{StoreOf}
 use Rattle.promises.proofs.Finals.{blocks-are, store-of}
@@ -66,10 +66,10 @@ block-voted k i b l v =
     voted-from k (author b) i (b .statements) l (x .0) (x .1) (x .2)
 
 module _ (l : TransactionLocator) (own : Accepted) (earlier : List Accepted) (its : own .block .reference ≡ l .block) (share : isShareAt (own .block) (l .offset) ≡ true) where
-  share-since : (since : List Accepted) → isStoredShare (since ++ own ∷ earlier) l ≡ true
-  unfolding isStoredShare
+  share-since : (since : List Accepted) → isStoredShare (storedBlocks (since ++ own ∷ earlier)) l ≡ true
+  unfolding storedBlocks
   share-since since =
-      in-any (λ a. sharedBy l (a .block)) (in-right since here) (and-both _ _ (same-reference its) share)
+      share-stored (storedBlocks (since ++ own ∷ earlier)) l (record { block = own .block; stored = in-map (λ (a : Accepted). a .block) (in-right since here); named = its; shared = share })
 
   -- a vote in the share's own block or a later one is counted
   since-counted : (since : List Accepted) (b : Block) → VoteIn b l → (b ∈ storedBlocks since) ⊎ (b ≡ own .block) → author b ∈ voters (countedVotes (since ++ own ∷ earlier) l)
@@ -99,16 +99,15 @@ ancestor-stored : {bs : List Block} {d b : Block} → Ancestor bs d b → d ∈ 
 ancestor-stored (itself m) = m
 ancestor-stored (included m k r) = ancestor-stored r
 
-module _ (as′ : List Accepted) (l : TransactionLocator) (w : WellStored (storedBlocks as′)) (stored : isStoredShare as′ l ≡ true) (s : VotedOnlySince as′ l) where
+module _ (as′ : List Accepted) (l : TransactionLocator) (w : WellStored (storedBlocks as′)) (stored : isStoredShare (storedBlocks as′) l ≡ true) (s : VotedOnlySince as′ l) where
   -- the block that has the share is its own
   own-share : isShareAt (s .own .block) (l .offset) ≡ true
-  unfolding isStoredShare storedBlocks
+  unfolding storedBlocks
   own-share =
-      let x = any-in (λ a. sharedBy l (a .block)) as′ stored in
+      let x : StoredShare (storedBlocks as′) l = stored-share (storedBlocks as′) l stored in
       let mine : s .own ∈ as′ = subst (λ (ys : List Accepted). s .own ∈ ys) (sym (s .splits)) (in-right (s .since) here) in
-      let one : x .0 .block ≡ s .own .block =
-      one-reference w (in-map (λ (a : Accepted). a .block) (x .1)) (in-map (λ (a : Accepted). a .block) mine) (reference-same _ _ (and-left _ _ (x .2)) ∙ sym (s .itsOwn)) in
-      subst (λ (b : Block). isShareAt b (l .offset) ≡ true) one (and-right (sameReference (x .0 .block .reference) (l .block)) _ (x .2))
+      let one : x .block ≡ s .own .block = one-reference w (x .stored) (in-map (λ (a : Accepted). a .block) mine) (x .named ∙ sym (s .itsOwn)) in
+      subst (λ (b : Block). isShareAt b (l .offset) ≡ true) one (x .shared)
 
   -- every stored vote for it is counted
   vote-counted : (b : Block) → b ∈ storedBlocks as′ → VoteIn b l → author b ∈ voters (countedVotes as′ l)
@@ -153,7 +152,7 @@ some-left c l vs a m q n = go (eq-nil-or-concat vs)
         n (r .0) (r .1) [] e (subst (λ (us : List Vote). HoldQuorum c (λ b. b ∈ countedVoters l us)) e q)
 
 -- "A final stored share that got a vote, and none in a block stored before its own, was announced so."
-pub final-announced : (c : Committee) → broken c ≡ false → (t : Start) (l : TransactionLocator) → isStoredShare (acceptedOf c t) l ≡ true → Final c (storedBlocks (acceptedOf c t)) l
+pub final-announced : (c : Committee) → broken c ≡ false → (t : Start) (l : TransactionLocator) → isStoredShare (storedBlocks (acceptedOf c t)) l ≡ true → Final c (storedBlocks (acceptedOf c t)) l
     → VotedOnlySince (acceptedOf c t) l → Announced (acceptedOf c t) l
 final-announced c b t l stored f s = go (share-stands c b t l stored)
   where

@@ -6,22 +6,15 @@ use mathlib.Core.Bool.{Bool, _&&_}
 use mathlib.Core.List.{List, [], _∷_, _++_, map}
 use lib.Dec.{eqb}
 use lib.ListN.{length, getElem?}
-use Rattle.base.specs.Lists.{pick, anyOf, holds, sumOf, _∈_, Once}
+use Rattle.base.specs.Lists.{pick, holds, sumOf, _∈_, Once}
 use Rattle.committee.specs.Committee.{AuthorityIndex, Committee, getStake}
 use Rattle.committee.specs.Quorum.{HoldQuorum}
 use Rattle.blocks.specs.Reference.{BlockReference, TransactionLocator, sameReference, covers}
-use Rattle.blocks.specs.Block.{Statement, Block, author, isShareAt, votedRange}
+use Rattle.blocks.specs.Block.{Statement, Block, author, votedRange}
+use Rattle.store_layout.specs.Shares.{isStoredShare}
 use Rattle.feeds.specs.ProcessBlock.{Event}
 use Rattle.feeds.specs.Pending.{Standing}
-use Rattle.promises.specs.Feeds.{Accepted}
-
--- the locator names a share of the block
-abbrev pub sharedBy : TransactionLocator → Block → Bool
-sharedBy l b = sameReference (b .reference) (l .block) && isShareAt b (l .offset)
-
--- the locator names a share of a stored block
-unfoldable pub isStoredShare : List Accepted → TransactionLocator → Bool
-isStoredShare as′ l = anyOf (λ a. sharedBy l (a .block)) as′
+use Rattle.promises.specs.Feeds.{Accepted, storedBlocks}
 
 -- a statement of an accepted block: how many were accepted before the block, and the statement's index
 pub record Place : Type 0 where
@@ -48,7 +41,7 @@ votesFrom k a i (s ∷ ss) l =
 unfoldable pub countedVotes : List Accepted → TransactionLocator → List Vote
 countedVotes [] l = []
 countedVotes (a ∷ earlier) l =
-    pick (isStoredShare (a ∷ earlier) l)
+    pick (isStoredShare (storedBlocks (a ∷ earlier)) l)
     (countedVotes earlier l ++ votesFrom (length earlier) (author (a .block)) 0 (a .block .statements) l)
     []
 

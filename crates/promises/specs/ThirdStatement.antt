@@ -11,12 +11,13 @@ use Rattle.base.specs.Checks.{refused, answered}
 use Rattle.committee.specs.Committee.{Committee, broken}
 use Rattle.blocks.specs.Reference.{TransactionLocator, locatorBefore}
 use Rattle.blocks.specs.Block.{Block}
+use Rattle.store_layout.specs.Shares.{isStoredShare}
 use Rattle.feeds.specs.Pending.{Standing, pending}
 use Rattle.finality.specs.Ancestry.{VoteIn, Final}
 use Rattle.finality.specs.Finality.{finality}
 use Rattle.finality.specs.NextFinal.{FinalList}
 use Rattle.promises.specs.Feeds.{Feed, Engine, fresh, run, Accepted, accepted, storedBlocks, storedRecords}
-use Rattle.promises.specs.Shares.{isStoredShare, Place, Vote, countedVotes, countedVoters, LeftQuorum, NoneLeft, Tally, announcements}
+use Rattle.promises.specs.Shares.{Place, Vote, countedVotes, countedVoters, LeftQuorum, NoneLeft, Tally, announcements}
 
 -- the finality question, with a position slice that is long enough, is answered, and final exactly where the relation says so
 pub record AnsweredFinal (c : Committee) (g : Engine) (bs : List Block) (l : TransactionLocator) (ps : List ℕ) : Type 0 where
@@ -67,11 +68,11 @@ pub record Holds (c : Committee) (g : Engine) (as′ : List Accepted) : Type 0 w
   pub finals : GivesFinal c g (storedBlocks as′)
   -- "A stored share is pending, with the stake and number of its counted voters, exactly when no counted vote left these with quorum stake;
   -- else the first that did, and no other, announced it as processed, once."
-  pub shares : (l : TransactionLocator) → isStoredShare as′ l ≡ true → ShareStands c g as′ l
+  pub shares : (l : TransactionLocator) → isStoredShare (storedBlocks as′) l ≡ true → ShareStands c g as′ l
   -- "No other locator was announced so."
-  pub others : (l : TransactionLocator) → isStoredShare as′ l ≡ false → announcements as′ l ≡ []
+  pub others : (l : TransactionLocator) → isStoredShare (storedBlocks as′) l ≡ false → announcements as′ l ≡ []
   -- "A final stored share that got a vote, and none in a block stored before its own, was announced so."
-  pub announced : (l : TransactionLocator) → isStoredShare as′ l ≡ true → Final c (storedBlocks as′) l → VotedOnlySince as′ l → Announced as′ l
+  pub announced : (l : TransactionLocator) → isStoredShare (storedBlocks as′) l ≡ true → Final c (storedBlocks as′) l → VotedOnlySince as′ l → Announced as′ l
 
 -- 01: "a fresh store and a table of zeros", and the feeds from there: the bytes past the header, the words of the table, the feeds, the last first
 pub record Start : Type 0 where

@@ -14,6 +14,7 @@ use Rattle.blocks.specs.Block.{Block, author}
 use Rattle.blocks.specs.Verify.{headChecks, bodyChecks}
 use Rattle.blocks.proofs.References.{reference-same, same-reference}
 use Rattle.store_layout.specs.Layout.{Record}
+pub use Rattle.store_layout.specs.Layout.{blocks}
 use Rattle.store_layout.specs.Accept.{isStored, blockChecks, allAccepted}
 use Rattle.store_layout.proofs.Stored.{WellStored, fresh, stored}
 
@@ -31,9 +32,6 @@ accepted-new c rs b h = passes-none (blockChecks c rs b) h (isStored rs (b .refe
 pub accepted-includes : (c : Committee) (rs : List Record) (b : Block) → passes (blockChecks c rs b) ≡ true → anyOf (λ i. not (isStored rs i)) (b .includes) ≡ false
 unfolding blockChecks
 accepted-includes c rs b h = passes-none (blockChecks c rs b) h (anyOf (λ i. not (isStored rs i)) (b .includes) ⇒ 30) (in-right (headChecks c b) (there (in-right (bodyChecks c b) here)))
-
-abbrev pub blocks : List Record → List Block
-blocks rs = map (λ r. r .block) rs
 
 stored-block : (rs : List Record) (i : BlockReference) → isStored rs i ≡ true → (d : Block) × (d ∈ blocks rs) × (d .reference ≡ i)
 unfolding isStored

@@ -168,12 +168,16 @@ not-stored (r ∷ rs) i h =
     let q : BlockReference = r .block .reference in
     and (differ-other q i (neither-left (sameReference q i) _ h)) (not-stored rs i (neither-right (sameReference q i) _ h))
 
+pub distinct-new : (rs : List Record) (r : Record) → Distinct (entries rs) → isStored rs (r .block .reference) ≡ false → Distinct (entries (r ∷ rs))
+unfolding entries
+distinct-new rs r d h = with-later (not-stored rs (r .block .reference) h) d
+
 pub distinct : (c : Committee) (rs : List Record) → allAccepted c rs ≡ true → Distinct (entries rs)
 unfolding allAccepted entries
 distinct c [] h = no-pairs
 distinct c (r ∷ rs) h =
-    with-later (not-stored rs (r .block .reference) (accepted-new c rs (r .block) (and-left (passes (blockChecks c rs (r .block))) _ h)))
-    (distinct c rs (and-right (passes (blockChecks c rs (r .block))) _ h))
+    distinct-new rs r (distinct c rs (and-right (passes (blockChecks c rs (r .block))) _ h))
+    (accepted-new c rs (r .block) (and-left (passes (blockChecks c rs (r .block))) _ h))
 
 -- ---- a new entry is put into the chain: one next position changes, or the first
 

@@ -22,8 +22,9 @@ use Rattle.store_layout.specs.Layout.{Record, Entry, referenceOf, lesser
 use Rattle.store_layout.specs.Accept.{blockChecks, allAccepted}
 use Rattle.store_layout.specs.Store.{usedLength, recordsOf, allowedLength, storeFull, storeHolding}
 use Rattle.store_layout.specs.Payload.{shareStretch, payloadOf, payloadAt, payloadChecks, payload}
-use Rattle.store_layout.specs.Claims.{NextOf, next, last, ChainMeant, Accepts, from-fresh, accepting, InOrderAccepted, FreshInOrder, AcceptingKeepsOrder, PayloadMeant}
+use Rattle.store_layout.specs.Claims.{NextOf, next, last, ChainMeant, Accepts, from-fresh, accepting, InOrderAccepted, FreshInOrder, AcceptingKeepsOrder, StoredShareMeant, PayloadMeant}
 use Rattle.store_layout.proofs.Payloads.{payload-is}
+use Rattle.store_layout.proofs.Shares.{stored-share, share-stored, share-has-payload}
 use Rattle.store_layout.proofs.Chain.{lower, lower-self}
 use Rattle.store_layout.proofs.Store.{Right, length-layout, readRecord-some, recordsOf-right, InOrder, in-order, used-within, used-is, Holding, holding, holding-again, accepting as accepting-holds, fresh-held}
 
@@ -139,4 +140,8 @@ in-order-accepted c s h f e =
 
 pub payload-meant : PayloadMeant
 unfolding PayloadMeant payload payloadChecks payloadAt payloadOf shareStretch isNone passes allOf
-payload-meant c s b n h l e v f g = rw (n, h, f, g) (rw (f, g) at (payload-is c s (bytes-fit s b) h l e v f g))
+payload-meant c s b n h l e v f g = rw (n, h, share-has-payload c s h l, f, g) (rw (f, g) at (payload-is c s (bytes-fit s b) h l e v f g))
+
+pub stored-share-meant : StoredShareMeant
+unfolding StoredShareMeant
+stored-share-meant bs l = (stored-share bs l, share-stored bs l)

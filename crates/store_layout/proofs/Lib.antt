@@ -14,3 +14,4 @@ pub mod Loops
 pub mod Lookups
 pub mod Search
 pub mod Sorted
+pub mod Shares

@@ -1,6 +1,7 @@
 -- What the computed layout means, as claims. Assumes nothing: these are definitions.
 use Prim.Native.Nat.{ℕ, _≤_}
 use mathlib.Core.Path.{_≡_}
+use mathlib.Core.Logic.{_↔_}
 use mathlib.Core.Bool.{true, false}
 use mathlib.Core.List.{List, [], _∷_, _++_}
 use mathlib.Core.Option.{some}
@@ -10,10 +11,11 @@ use Rattle.base.specs.Le.{Bytes}
 use Rattle.base.specs.Checks.{passes}
 use Rattle.committee.specs.Committee.{Committee, broken}
 use Rattle.blocks.specs.Reference.{TransactionLocator, referenceBefore}
-use Rattle.blocks.specs.Block.{share}
+use Rattle.blocks.specs.Block.{Block, share}
 use Rattle.blocks.specs.Claims.{areBytes}
 use Rattle.store_layout.specs.Layout.{Record, readRecord, Entry, referenceOf, nextPosition, layout, entries, lookup}
 use Rattle.store_layout.specs.Accept.{blockChecks}
+use Rattle.store_layout.specs.Shares.{isStoredShare, StoredShare}
 use Rattle.store_layout.specs.Payload.{payload}
 use Rattle.store_layout.specs.Store.{usedLength, recordsOf, storeInOrder, storeFull, storeHolding}
 
@@ -53,6 +55,10 @@ AcceptingKeepsOrder = (c : Committee) (s : Bytes) (r : Record) → storeInOrder 
     → passes (blockChecks c (recordsOf s) (r .block)) ≡ true → storeFull s r ≡ false
     → storeInOrder c (storeHolding (r ∷ recordsOf s) s) ≡ true
 
+-- the test for a stored share says what it should
+unfoldable pub StoredShareMeant : Type 0
+StoredShareMeant = (bs : List Block) (l : TransactionLocator) → (isStoredShare bs l ≡ true) ↔ StoredShare bs l
+
 -- 01: "A share's payload is given back as the part of the store that holds it"
 unfoldable pub PayloadMeant : Type 0
 PayloadMeant = (c : Committee) (s : Bytes) → areBytes s ≡ true → broken c ≡ false → storeInOrder c s ≡ true
@@ -64,4 +70,5 @@ pub record Claims : Type 0 where
   pub accepted : InOrderAccepted
   pub fresh : FreshInOrder
   pub accepting : AcceptingKeepsOrder
+  pub shares : StoredShareMeant
   pub payload : PayloadMeant

@@ -1,7 +1,7 @@
 -- The store's bytes as a function of the records that it holds (block_store.rs; the layout is 01's). Assumes nothing: these are definitions.
 -- Records and entries are listed NEWEST FIRST throughout, so that what stands after a record in a list is what was there before it.
 use Prim.Native.Nat.{ℕ, _+_}
-use mathlib.Core.List.{List, [], _∷_, _++_, flatten}
+use mathlib.Core.List.{List, [], _∷_, _++_, map, flatten}
 use mathlib.Core.Option.{Option, none, some, Option·map}
 use lib.ListN.{length, replicate}
 use Rattle.base.specs.Lists.{pick, keep, find}
@@ -14,6 +14,9 @@ use Rattle.blocks.specs.Record.{blockOf}
 pub record Record : Type 0 where
   pub bytes : Bytes
   pub block : Block
+
+abbrev pub blocks : List Record → List Block
+blocks rs = map (λ r. r .block) rs
 
 -- none is 20
 unfoldable pub readRecord : Bytes → Option Record
@@ -29,6 +32,9 @@ pub record Entry : Type 0 where
   pub position : ℕ
   pub bytes : Bytes
   pub block : Block
+
+abbrev pub blocksAt : List Entry → List Block
+blocksAt es = map (λ e. e .block) es
 
 abbrev pub referenceOf : Entry → BlockReference
 referenceOf e = e .block .reference

@@ -2,6 +2,7 @@ pub mod Layout
 pub mod Accept
 pub mod Store
 pub mod Step
+pub mod Shares
 pub mod Payload
 pub mod Claims
 pub mod Entry

@@ -4,14 +4,15 @@ use mathlib.Core.Bool.{not}
 use mathlib.Core.List.{List, [], _∷_}
 use mathlib.Core.Option.{Option, none, some}
 use lib.ListN.{length, take, drop, getElem?}
-use Rattle.base.specs.Lists.{pick, isNone}
+use Rattle.base.specs.Lists.{pick}
 use Rattle.base.specs.Le.{Bytes}
 use Rattle.base.specs.Checks.{Check, _⇒_, passes, Answer, checked}
 use Rattle.committee.specs.Committee.{Committee, broken}
 use Rattle.blocks.specs.Reference.{TransactionLocator}
 use Rattle.blocks.specs.Block.{Statement, share, accept, reject, voteRange}
 use Rattle.blocks.specs.Record.{statementStart}
-use Rattle.store_layout.specs.Layout.{Entry, entries, lookup}
+use Rattle.store_layout.specs.Layout.{blocks, Entry, entries, lookup}
+use Rattle.store_layout.specs.Shares.{isStoredShare}
 use Rattle.store_layout.specs.Store.{recordsOf, storeInOrder}
 
 -- a stretch of the store
@@ -36,12 +37,12 @@ payloadOf (some e) o = shareStretch (e .position + 8 + statementStart (e .block)
 unfoldable pub payloadAt : Bytes → TransactionLocator → Option Stretch
 payloadAt s l = payloadOf (lookup (entries (recordsOf s)) (l .block)) (l .offset)
 
--- 01: "Queries check 5, 10, .. then 41 for a payload's length"
+-- 01: "Queries check 5, 10, .. then 41 for a payload's length", "41 no such share"
 unfoldable pub payloadChecks : Committee → Bytes → TransactionLocator → List Check
 payloadChecks c s l =
     (broken c ⇒ 5)
     ∷ (not (storeInOrder c s) ⇒ 10)
-    ∷ (isNone (payloadAt s l) ⇒ 41)
+    ∷ (not (isStoredShare (blocks (recordsOf s)) l) ⇒ 41)
     ∷ []
 
 unfoldable pub stretchOf : Option Stretch → Bytes → Bytes

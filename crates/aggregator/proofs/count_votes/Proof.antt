@@ -53,7 +53,7 @@ vote-statement-requires c κs =
     let i = l .loop .cursor .index in
     let inside : i < length ss = omega (arith, c .before .before .before .before .before .before .before .statement-count .ensures, c .before .before .before .if1 .taken) in
     let n = c .before .before .next-statement in (
-      record { committee = h .committee; stake = h .stake; store = h .store; formed = h .formed; author-known = h .author-known; table = counting-order _ _ _ _ _ _ _ (h .author-known) (h .table) _ _ _ _ (l .loop .inv .0) },
+      record { committee = h .committee; stake = h .stake; store = h .store; formed = h .formed; new = h .new; author-known = h .author-known; table = counting-order _ _ _ _ _ _ _ (h .author-known) (h .table) _ _ _ _ (l .loop .inv .0) },
       (
         rw (← checks-any s (n .result .statement), n .ensures .0) (passes-at ss i (o .pre .1 .0) inside),
         λ q. omega (arith, l .loop .inv .0 .enough q, counted-on ss i inside, ap (λ (x : Statement). countedOffsets (votedRange x)) (n .ensures .0), stated-long _ _ _ _ _ (l .loop .inv .0 .stated)),

@@ -42,7 +42,7 @@ unfolding asReference asRange newRange
 announced-requires c κs =
     let o = c .before .before .before .before .before .before .before .before .before .before .before .before .before .before .before .before .before .before .before .before in
     let h = o .pre .0 in
-    ((h .store, h .formed, c .before .before .before .before .before .before .before .before .before .before .before .before .before .voted-position .ensures), (vote-written _ _ _ _ _ (o .pre .0) (asRange (o .args .range)) (o .args .statement) (o .args .telling) (o .args .n) (o .args .events .now) _ (c .before .before .before .before .before .before .before .before .before .before .before .before .before .voted-position .ensures) (omega (arith, c .before .before .before .before .before .before .before .before .if1 .left, c .before .before .before .before .before .before .before .before .before .before .before .room-of .ensures, c .before .before .before .before .before .before .before .before .before .count-after-cuts .ensures)) _ (rw (ap (λ (z : BlockReference). z .authority) (c .before .before .before .before .before .before .before .reference .ensures)) at (c .before .before .before .before .vote-over .ensures)) .holds, o .pre .1))
+    ((h .store, h .formed, c .before .before .before .before .before .before .before .before .before .before .before .before .before .voted-position .ensures, h .new), (vote-written _ _ _ _ _ (o .pre .0) (asRange (o .args .range)) (o .args .statement) (o .args .telling) (o .args .n) (o .args .events .now) _ (c .before .before .before .before .before .before .before .before .before .before .before .before .before .voted-position .ensures) (omega (arith, c .before .before .before .before .before .before .before .before .if1 .left, c .before .before .before .before .before .before .before .before .before .before .before .room-of .ensures, c .before .before .before .before .before .before .before .before .before .count-after-cuts .ensures)) _ (rw (ap (λ (z : BlockReference). z .authority) (c .before .before .before .before .before .before .before .reference .ensures)) at (c .before .before .before .before .vote-over .ensures)) .holds, o .pre .1))
 
 leave-requires : tie.Need-leave-requires
 unfolding asReference asRange newRange

@@ -24,7 +24,7 @@ same-length c = search needs
 returns : tie.Need-returns
 returns c =
     let o = c .before .before .before .before .before .before .before .before in
-    (c .before .before .put-events .ensures .0, retold _ _ _ _ _ _ _ _ (λ q. sym (missed-unknown _ _ _ (sym (c .before .before .before .before .if1 .taken) ∙ o .pre .0 .2) q)) (c .before .before .put-events .ensures .1))
+    (c .before .before .put-events .ensures .0, retold _ _ _ _ _ _ _ _ (λ q. sym (missed-unknown _ _ _ (o .pre .0 .0) (o .pre .0 .3) (sym (c .before .before .before .before .if1 .taken) ∙ o .pre .0 .2) q)) (c .before .before .put-events .ensures .1))
 
 read-u32-requires : tie.Need-read-u32-requires
 read-u32-requires c κs = omega (arith, is-readable _ (laid-readable _ (c .before .before .before .before .pre .0 .0)) .header .long)
@@ -43,7 +43,7 @@ unfolding usedLength
 returns-2 c =
     let o = c .before .before .before .before .before .before .before .before .before .before in
     let own = is-readable _ (laid-readable _ (o .pre .0 .0)) .used ∙ sym (c .before .before .before .before .before .read-u32 .ensures) ∙ sym (c .before .before .before .before .if2 .taken) ∙ o .pre .0 .2 in
-    (c .before .before .missed-in .ensures .0, retold _ _ _ _ _ _ _ _ (λ q. sym (missed-own _ _ _ own q)) (c .before .before .missed-in .ensures .1))
+    (c .before .before .missed-in .ensures .0, retold _ _ _ _ _ _ _ _ (λ q. sym (missed-own _ _ _ (o .pre .0 .0) (o .pre .0 .3) own q)) (c .before .before .missed-in .ensures .1))
 
 add-from : tie.Need-add-from
 unfolding usedLength
@@ -84,7 +84,7 @@ unfolding usedLength blockAt
 returns-3 c =
     let o = c .before .before .before .before .before .before .before .before .before .before .before .before in
     let e = record-part (o .args .store .now) (o .args .p) (c .before .before .before .before .before .record-end .result) (c .before .before .before .before .before .record-end .ensures) in
-    let stored = missed-stored _ _ _ _ (o .pre .0 .2) (c .before .before .before .before .before .before .before .before .if1 .left) (λ z. c .before .before .before .before .before .before .if2 .left (z ∙ is-readable _ (laid-readable _ (o .pre .0 .0)) .used ∙ sym (c .before .before .before .before .before .before .before .read-u32 .ensures))) (laid-readable _ (o .pre .0 .0)) in
+    let stored = missed-stored _ _ _ _ (o .pre .0 .2) (c .before .before .before .before .before .before .before .before .if1 .left) (λ z. c .before .before .before .before .before .before .if2 .left (z ∙ is-readable _ (laid-readable _ (o .pre .0 .0)) .used ∙ sym (c .before .before .before .before .before .before .before .read-u32 .ensures))) (laid-readable _ (o .pre .0 .0)) (o .pre .0 .0) (o .pre .0 .3) in
     (c .before .before .missed-in2 .ensures .0, retold _ _ _ _ _ _ _ _ (λ q. ap (λ (v : Bytes). pick (isShareAt (blockIn v) q) 2 3) e ∙ sym (stored q)) (c .before .before .missed-in2 .ensures .1))
 
 pub missed-events-spec : {M : Type 1} → statement M
