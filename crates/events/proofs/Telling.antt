@@ -16,7 +16,7 @@ use Rattle.stake_aggregator.specs.StakeAggregator.{hasQuorum}
 use Rattle.blocks.specs.Reference.{BlockReference}
 use Rattle.store_layout.specs.Layout.{Entry}
 use Rattle.pending_items.specs.Items.{Item, itemAt}
-use Rattle.feeds.specs.ProcessBlock.{Event, eventWords, wordsOf, missed, eventOf}
+use Rattle.feeds.specs.ProcessBlock.{Event, eventWords, wordsOf, missed, eventAt, eventOf}
 use Rattle.feeds.proofs.ProcessBlock.{length-words}
 use Rattle.events.specs.Step.{eventsBy, toldAt, eventsBetween, SameItem, StatedAt, told}
 
@@ -136,15 +136,15 @@ module _ (total : Stake) (es : List Entry) (r : BlockReference) (i : ℕ) (xs : 
 
   module _ (start end : ℕ) (same : SameItem xs p start end) where
     pub between-missed : itemAt xs p start ≡ none → eventsBetween total es r i xs p start end ≡ eventsBy (missed es r) i start end
-    unfolding eventsBetween eventsBy toldAt
+    unfolding eventsBetween eventsBy eventAt toldAt
     between-missed e = flat-one _ _ start (end - start) (λ o l (u : o < start + (end - start)). rw (same o l (omega arith), e))
 
     pub between-processed : (x : Item) → itemAt xs p start ≡ some x → quorumOf total (x .aggregator .stake) ≡ true → eventsBetween total es r i xs p start end ≡ eventsBy (λ _. 1) i start end
-    unfolding eventsBetween eventsBy toldAt
+    unfolding eventsBetween eventsBy eventAt toldAt
     between-processed x e q = flat-one _ _ start (end - start) (λ o l (u : o < start + (end - start)). rw (same o l (omega arith), e, q))
 
     pub between-silent : (x : Item) → itemAt xs p start ≡ some x → quorumOf total (x .aggregator .stake) ≡ false → eventsBetween total es r i xs p start end ≡ []
-    unfolding eventsBetween toldAt
+    unfolding eventsBetween eventAt toldAt
     between-silent x e q = flat-empty _ start (end - start) (λ o l (u : o < start + (end - start)). rw (same o l (omega arith), e, q))
 
 pub told-none : (telling : Bool) → told telling [] ≡ []
@@ -181,7 +181,7 @@ stated-by f i start end n k ws before after e m w = record { many = rw e (omega 
 
 -- at most one event an offset
 one-told : (total : Stake) (es : List Entry) (r : BlockReference) (i o : ℕ) (x : Option Item) → length (toldAt total es r i o x) ≤ 1
-unfolding toldAt
+unfolding eventAt toldAt
 one-told total es r i o none = omega arith
 one-told total es r i o (some x) = go (quorumOf total (x .aggregator .stake))
   where
@@ -223,6 +223,6 @@ module _ (total : Stake) (es : List Entry) (r : BlockReference) (i : ℕ) (xs : 
 
 -- the events as `process_block` says them
 pub told-event : (c : Committee) (es : List Entry) (r : BlockReference) (i o : ℕ) (x : Option Item) → eventOf c es r i o x ≡ toldAt (totalStake c) es r i o x
-unfolding eventOf toldAt hasQuorum isQuorum
+unfolding eventAt eventOf toldAt hasQuorum isQuorum
 told-event c es r i o none = refl
 told-event c es r i o (some x) = refl

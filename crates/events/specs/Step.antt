@@ -1,10 +1,9 @@
--- Machinery for the contracts of private functions: how far a walk over entries and statements has come, events written one after the other,
--- votes counted one after the other. Assumes nothing: these are definitions.
+-- Machinery for the contracts of private functions: events written one after the other. Assumes nothing: these are definitions.
 use Prim.Native.Nat.{ℕ, _+_, _-_, _*_, _≤_, _<_}
 use mathlib.Core.Path.{_≡_}
 use mathlib.Core.Bool.{Bool}
 use mathlib.Core.List.{List, [], _∷_, map, flatten}
-use mathlib.Core.Option.{Option, none, some}
+use mathlib.Core.Option.{Option, Option·map}
 use lib.ListN.{length}
 use lib.Seq.{sets}
 use Rattle.base.specs.Lists.{pick, countFrom}
@@ -14,8 +13,7 @@ use Rattle.blocks.specs.Reference.{BlockReference}
 use Rattle.store_layout.specs.Layout.{Entry, entries}
 use Rattle.store_layout.specs.Store.{recordsOf, recordIn}
 use Rattle.pending_items.specs.Items.{Item, itemAt}
-use Rattle.feeds.specs.ProcessBlock.{Event, wordsOf, missed}
-use Rattle.pending.specs.Step.{Placed}
+use Rattle.feeds.specs.ProcessBlock.{Event, wordsOf, eventAt}
 
 -- ---- events
 -- the entries once the record is stored: 01, "the block being fed counts as stored"
@@ -26,10 +24,9 @@ withNew s rec = entries (recordIn rec ∷ recordsOf s)
 unfoldable pub eventsBy : (ℕ → ℕ) → ℕ → ℕ → ℕ → List Event
 eventsBy f i start end = map (λ o. record { kind = f o; statement = i; offset = o }) (countFrom start (end - start))
 
--- the event of an offset where quorum is of the total stake: `eventOf`
+-- `eventOf` by the total stake
 unfoldable pub toldAt : Stake → List Entry → BlockReference → ℕ → ℕ → Option Item → List Event
-toldAt total es r i o none = record { kind = missed es r o; statement = i; offset = o } ∷ []
-toldAt total es r i o (some x) = pick (quorumOf total (x .aggregator .stake)) (record { kind = 1; statement = i; offset = o } ∷ []) []
+toldAt total es r i o x = eventAt es r i o (Option·map (λ y. quorumOf total (y .aggregator .stake)) x)
 
 -- the events for start..end of the block at p, among items that have the vote
 unfoldable pub eventsBetween : Stake → List Entry → BlockReference → ℕ → List Item → ℕ → ℕ → ℕ → List Event

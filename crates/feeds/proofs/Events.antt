@@ -28,7 +28,7 @@ use Rattle.pending_items.specs.Items.{Item, itemHolds, itemAt, voteOver}
 use Rattle.pending_items.specs.Table.{itemsOf}
 use Rattle.pending_items.proofs.Items.{holds-facts}
 use Rattle.pending_items.proofs.Order.{Pending, pending-voteOver}
-use Rattle.feeds.specs.ProcessBlock.{Event, missed, eventOf, Processing, vote, votes, registering, processBlock}
+use Rattle.feeds.specs.ProcessBlock.{Event, missed, eventAt, eventOf, Processing, vote, votes, registering, processBlock}
 use Rattle.feeds.specs.Feed.{Lent, processed, feedChecks}
 use Rattle.feeds.proofs.Keeping.{passed, sound-registering, lent-state}
 use Rattle.feeds.proofs.ProcessBlock.{Sound, sound-vote}
@@ -93,7 +93,7 @@ record Told (c : Committee) (es : List Entry) (r : BlockReference) (i o : ℕ) (
   item : v .kind ≡ 1 → (y : Item) × (x ≡ some y)
 
 told-of : (c : Committee) (es : List Entry) (r : BlockReference) (i o : ℕ) (x : Option Item) (v : Event) → v ∈ eventOf c es r i o x → Told c es r i o x v
-unfolding eventOf missed
+unfolding eventAt eventOf missed
 told-of c es r i o none v m = go (in-cases m)
   where
     not-one : (t : Bool) → _≡_ {A = ℕ} (pick t 2 3) 1 → ⊥

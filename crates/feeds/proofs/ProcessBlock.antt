@@ -17,7 +17,7 @@ use Rattle.store_layout.specs.Layout.{Entry, positionOf, lookup}
 use Rattle.pending_items.specs.Items.{Item, itemAt, voteOver}
 use Rattle.pending_items.proofs.Items.{Ordered, ordered-voteOver, ordered-afterLeaving}
 use Rattle.pending_items.proofs.Order.{Pending, pending-voteOver, pending-afterLeaving, pending-register, ordered-register, length-voteOver, length-afterLeaving}
-use Rattle.feeds.specs.ProcessBlock.{Event, eventWords, wordsOf, eventOf, Processing, vote, votes, registering, processBlock}
+use Rattle.feeds.specs.ProcessBlock.{Event, eventWords, wordsOf, eventAt, eventOf, Processing, vote, votes, registering, processBlock}
 
 -- a new entry is found by its reference
 pub lookup-new : (es : List Entry) (new : Entry) → lookup (new ∷ es) (new .block .reference) ≡ some new
@@ -65,7 +65,7 @@ sound-processBlock c es new last k xs o p =
 -- ---- events
 
 one-event : (c : Committee) (es : List Entry) (r : BlockReference) (i o : ℕ) (x : Option Item) → length (eventOf c es r i o x) ≤ 1
-unfolding eventOf
+unfolding eventAt eventOf
 one-event c es r i o none = omega arith
 one-event c es r i o (some x) = go (hasQuorum c (x .aggregator))
   where

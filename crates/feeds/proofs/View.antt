@@ -28,8 +28,8 @@ use Rattle.pending_items.specs.Items.{Item, itemAt, voteOver}
 use Rattle.pending_items.specs.Table.{itemsOf}
 use Rattle.pending_items.proofs.Items.{Ordered, heldAt, unless, held-voteOver, held-afterVote, held-register}
 use Rattle.pending_items.proofs.Order.{Pending, pending-position}
-use Rattle.feeds.specs.ProcessBlock.{Event, missed, eventOf, Processing, vote, registering}
-use Rattle.feeds.specs.Pending.{pendingChecks, standingOf, pending}
+use Rattle.feeds.specs.ProcessBlock.{Event, missed, eventAt, eventOf, Processing, vote, registering}
+use Rattle.feeds.specs.Pending.{pendingChecks, standingOf, standingAt, pending}
 use Rattle.store_layout.proofs.Visit.{one-position}
 use Rattle.feeds.proofs.Keeping.{State}
 use Rattle.feeds.proofs.ProcessBlock.{lookup-new}
@@ -108,7 +108,7 @@ votesOf x = Option·map (λ y. y .aggregator) x
 module _ (c : Committee) (es : List Entry) (i o : ℕ) (under : ℕ → Bool) where
   -- the event of one offset
   processed-offset : (r : BlockReference) (n : ℕ) (x : Option Item) → keep (processedAt o under) (eventOf c es r i n x) ≡ pick (eqb n o && under i) (processedBy c i n (votesOf x)) []
-  unfolding keep eventOf missed processedBy
+  unfolding keep eventAt eventOf missed processedBy
   processed-offset r n none = go (isStoredShare (blocksAt es) (locator r n))
     where
       go : (t : Bool) → keep (processedAt o under) (record { kind = pick t 2 3; statement = i; offset = n } ∷ []) ≡ pick (eqb n o && under i) [] []
@@ -234,5 +234,5 @@ standing-none xs p o h = go (itemAt xs p o) h
 -- under a committee that is not broken, a store and a table in order are refused nothing else
 pub pending-passes : (c : Committee) (s : Bytes) (t : List ℕ) (l : TransactionLocator) → broken c ≡ false → State c s t
     → pending c s t l ≡ standingOf (itemAt (itemsOf t) (positionIn (entries (recordsOf s)) (l .block)) (l .offset))
-unfolding pending pendingChecks passes allOf
+unfolding pending standingAt pendingChecks passes allOf
 pending-passes c s t l b h = rw (b, h .store, h .table)

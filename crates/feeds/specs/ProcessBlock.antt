@@ -1,7 +1,8 @@
 -- `process_block`: the votes of a block on the pending items, and the events (committee.rs). Assumes nothing: these are definitions.
 use Prim.Native.Nat.{ℕ, _+_, max}
+use mathlib.Core.Bool.{Bool}
 use mathlib.Core.List.{List, [], _∷_, _++_, map, flatten}
-use mathlib.Core.Option.{Option, none, some}
+use mathlib.Core.Option.{Option, none, some, Option·map}
 use lib.ListN.{length}
 use Rattle.base.specs.Lists.{pick}
 use Rattle.committee.specs.Committee.{AuthorityIndex, Committee}
@@ -29,9 +30,13 @@ unfoldable pub missed : List Entry → BlockReference → ℕ → ℕ
 missed es r o = pick (isStoredShare (blocksAt es) (locator r o)) 2 3
 
 -- 01: "an item that holds quorum after the vote leaves, each offset an event processed"; an item without quorum gives no event
+-- (whether the item at the offset, if there is one, holds quorum)
+unfoldable pub eventAt : List Entry → BlockReference → ℕ → ℕ → Option Bool → List Event
+eventAt es r i o none = record { kind = missed es r o; statement = i; offset = o } ∷ []
+eventAt es r i o (some quorum) = pick quorum (record { kind = 1; statement = i; offset = o } ∷ []) []
+
 unfoldable pub eventOf : Committee → List Entry → BlockReference → ℕ → ℕ → Option Item → List Event
-eventOf c es r i o none = record { kind = missed es r o; statement = i; offset = o } ∷ []
-eventOf c es r i o (some x) = pick (hasQuorum c (x .aggregator)) (record { kind = 1; statement = i; offset = o } ∷ []) []
+eventOf c es r i o x = eventAt es r i o (Option·map (λ y. hasQuorum c (y .aggregator)) x)
 
 -- what the votes of a block leave so far: the items, the events, and the most items that there were at once
 pub record Processing : Type 0 where

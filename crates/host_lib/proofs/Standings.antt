@@ -26,7 +26,7 @@ use Rattle.store_layout.specs.Store.{recordsOf}
 use Rattle.pending_items.specs.Items.{Item, itemHolds, itemAt}
 use Rattle.pending_items.specs.Table.{itemsOf}
 use Rattle.pending_items.proofs.Order.{in-order}
-use Rattle.feeds.specs.Pending.{Standing, pendingChecks, standingOf, pending}
+use Rattle.feeds.specs.Pending.{Standing, pendingChecks, standingOf, standingAt, pending}
 use Rattle.pending.proofs.Lending.{lying}
 use Rattle.host_lib.specs.Payload.{refusalBefore}
 use Rattle.host_lib.specs.Pending.{pendingIn, askedPending}
@@ -57,7 +57,7 @@ module _ (c : Committee) (s t : List ℕ) (o : Option TransactionLocator) where
 
 -- the numbers of the question are at most 42
 question-most : (c : Committee) (s t : List ℕ) (l : TransactionLocator) (n : ℕ) → pending c s t l ≡ refused n → n ≤ 42
-unfolding pending pendingChecks allOf standingOf
+unfolding pending pendingChecks allOf standingOf standingAt
 question-most c s t l n e = go (passes (pendingChecks c s t)) (itemAt (itemsOf t) (positionOf (lookup (entries (recordsOf s)) (l .block))) (l .offset)) e
   where
     go : (b : Bool) (x : Option Item) → pick b (standingOf x) (refused (refusal (pendingChecks c s t))) ≡ refused n → n ≤ 42
@@ -91,7 +91,7 @@ item-fits c s t x z m =
     omega (arith, e, stake-most c (x .aggregator .votes), total-most c (lies .committee))
 
 pub question-fits : (c : Committee) (s t : List ℕ) (l : TransactionLocator) (y : Standing) → pending c s t l ≡ answered y → y .stake < 9223372036854775808
-unfolding pending standingOf itemAt
+unfolding pending standingOf standingAt itemAt
 question-fits c s t l y e =
     go (passes (pendingChecks c s t)) refl (find (itemHolds (positionOf (lookup (entries (recordsOf s)) (l .block))) (l .offset)) (itemsOf t)) refl e
   where

@@ -28,7 +28,7 @@ use Rattle.store_layout.proofs.Visit.{one-position}
 use Rattle.pending_items.specs.Items.{Item, noItem, itemBefore}
 use Rattle.pending_items.specs.Table.{itemsOf, itemSuits, itemStored, tableStored}
 use Rattle.pending_items.proofs.Items.{Ordered, before-facts}
-use Rattle.pending.specs.Step.{Placed, OnEntry, Passed, EntryFrom, Ahead, WalkedTo, suits}
+use Rattle.pending.specs.Step.{Placed, OnEntry, Passed, EntryFrom, Ahead, WalkedTo}
 use Rattle.pending.specs.declared.Walk.{Walk}
 use Rattle.pending.proofs.Entries.{stands-next}
 use Rattle.pending.proofs.Offsets.{placed-first, placed-later}
@@ -75,8 +75,8 @@ module _ (s : Bytes) (x : Item) where
   not-past at p u = no-entry λ e m q. omega (arith, every-in (entries (recordsOf s)) e (entries-below (recordsOf s)) m)
 
   -- the walk came to the item's entry
-  pub is-there : isEntry s (x .position) ≡ true → itemStored (entries (recordsOf s)) x ≡ suits x (blockAt s (x .position))
-  unfolding itemStored itemSuits suits holds at-position
+  pub is-there : isEntry s (x .position) ≡ true → itemStored (entries (recordsOf s)) x ≡ itemSuits x (blockAt s (x .position))
+  unfolding itemStored itemSuits holds at-position
   is-there h =
       let k : EntryAt s (x .position) = entry-at s (x .position) h in
       let f = find-some at-position (k .entry) _ (k .stored) (eq-eqb (k .entry .position) (x .position) (k .place)) in
@@ -108,7 +108,7 @@ module _ (s : Bytes) (x : Item) where
     pub part-place : (w : Walk) (c : StatementCursor) → Ahead s w x → c ≡ pick (eqb at (w .last)) (w .cursor) (cursorAt (blockIn v) 0) → Placed (blockIn v) (x .start) c
     part-place w c a q = rw same-block (place-there w at c a entry-here p (rw same-block at q))
 
-    pub part-stored : itemStored (entries (recordsOf s)) x ≡ suits x (blockIn v)
+    pub part-stored : itemStored (entries (recordsOf s)) x ≡ itemSuits x (blockIn v)
     part-stored = rw same-block (is-there entry-here)
 
     pub part-walked : (c : StatementCursor) → Placed (blockIn v) (x .end) c → WalkedTo s x (record { at = at; last = at; cursor = c })

@@ -31,8 +31,7 @@ use Rattle.table_words.proofs.Halves.{holds-ordered}
 use Rattle.table_words.proofs.Finds.{found-item}
 use Rattle.table_order.proofs.Forming.{order-parts}
 use Rattle.range_map.proofs.Voting.{formed}
-use Rattle.feeds.specs.Pending.{Standing, pendingChecks, standingOf, pending}
-use Rattle.pending.specs.Step.{standingAt}
+use Rattle.feeds.specs.Pending.{Standing, pendingChecks, standingOf, standingAt, pending}
 use borrow.Author.Tests.{not-false}
 
 -- a store in order can be read, and its chain is right

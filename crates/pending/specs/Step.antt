@@ -1,25 +1,18 @@
--- Machinery for the contracts of private functions: how far a walk over entries and statements has come, events written one after the other,
--- votes counted one after the other. Assumes nothing: these are definitions.
+-- Machinery for the contracts of private functions: how far a walk over entries and statements has come. Assumes nothing: these are definitions.
 use Prim.Native.Nat.{ℕ, _≤_, _<_}
 use mathlib.Core.Path.{_≡_}
-use mathlib.Core.Bool.{Bool, true, _&&_}
-use mathlib.Core.List.{List}
+use mathlib.Core.Bool.{true}
 use mathlib.Core.Logic.{_⊎_}
 use lib.ListN.{length}
 use Rattle.base.specs.Lists.{_∈_}
 use Rattle.base.specs.Le.{Bytes}
-use Rattle.base.specs.Checks.{Answer}
-use Rattle.authority_set.specs.AuthoritySet.{member}
-use Rattle.blocks.specs.Reference.{TransactionLocator}
-use Rattle.blocks.specs.Block.{Block, author}
+use Rattle.blocks.specs.Block.{Block}
 use Rattle.block_record.specs.Cursor.{cursorAt}
 use Rattle.block_record.specs.declared.StatementCursor.{StatementCursor}
-use Rattle.store_layout.specs.Layout.{Entry, entries, usedBy, positionOf, lookup}
+use Rattle.store_layout.specs.Layout.{Entry, entries, usedBy}
 use Rattle.store_layout.specs.Store.{recordsOf}
 use Rattle.store_layout.specs.Entry.{blockAt, isEntry}
-use Rattle.pending_items.specs.Items.{Item, itemAt}
-use Rattle.pending_items.specs.Table.{itemsOf, sharesIn}
-use Rattle.feeds.specs.Pending.{Standing, standingOf}
+use Rattle.pending_items.specs.Items.{Item}
 use Rattle.pending.specs.declared.Walk.{Walk}
 
 -- a place among the statements that is not past an offset
@@ -53,11 +46,3 @@ pub record WalkedTo (s : Bytes) (x : Item) (w : Walk) : Type 0 where
   pub at : w .at ≡ x .position
   pub last : w .last ≡ x .position
   pub placed : Placed (blockAt s (x .position)) (x .end) (w .cursor)
-
--- the offsets of an item are shares of the block, and its votes hold the sharer
-unfoldable pub suits : Item → Block → Bool
-suits x b = sharesIn b (x .start) (x .end) && member (x .aggregator .votes) (author b)
-
--- what stands at a locator, of a store and a table in order
-unfoldable pub standingAt : Bytes → List ℕ → TransactionLocator → Answer Standing
-standingAt s t l = standingOf (itemAt (itemsOf t) (positionOf (lookup (entries (recordsOf s)) (l .block))) (l .offset))

@@ -17,11 +17,11 @@ ghost use Rattle.types.specs.Values.{asLocator};
 ghost use Rattle.store_layout.specs.Layout.{entries};
 ghost use Rattle.store_layout.specs.Store.{recordsOf};
 ghost use Rattle.store_layout.specs.Entry.{readable, laidOut};
-ghost use Rattle.pending_items.specs.Table.{HoldsItems, sharesIn, itemStored, tableStored, tableInOrder};
+ghost use Rattle.pending_items.specs.Table.{HoldsItems, sharesIn, itemSuits, itemStored, tableStored, tableInOrder};
 ghost use Rattle.table_words.specs.Answers.{asItem};
-ghost use Rattle.feeds.specs.Pending.{pending, pendingChecks};
+ghost use Rattle.feeds.specs.Pending.{standingAt, pending, pendingChecks};
 ghost use Rattle.pending.specs.Answers.{asPending};
-ghost use Rattle.pending.specs.Step.{standingAt, Placed, OnEntry, Passed, EntryFrom, Ahead, WalkedTo, suits};
+ghost use Rattle.pending.specs.Step.{Placed, OnEntry, Passed, EntryFrom, Ahead, WalkedTo};
 ghost use Rattle.base.specs.Checks.{refusal};
 
 // ---- the store's part of a table in order (11)
@@ -111,7 +111,7 @@ fn entry_from(store: &[u8], from: usize, p: u64) -> usize
 // Whether the items of a block may hold this one: its offsets are shares and its votes hold the sharer.
 fn item_suits(rec: &[u8], x: Item, from: StatementCursor) -> Shares
     requires { ⌜ (wellFormed (now rec) ≡ true) × Placed (blockIn (now rec)) (x .start) from × (x .start ≤ x .end) ⌝ }
-    ensures { λ r. ⌜ (r .all ≡ suits (asItem x) (blockIn (now (rec .entry)))) × (r .all ≡ true → Placed (blockIn (now (rec .entry))) (x .end) (r .cursor)) ⌝ }
+    ensures { λ r. ⌜ (r .all ≡ itemSuits (asItem x) (blockIn (now (rec .entry)))) × (r .all ≡ true → Placed (blockIn (now (rec .entry))) (x .end) (r .cursor)) ⌝ }
 {
     let found = shares_in(rec, from, x.start, x.end);
     let cursor = found.cursor;

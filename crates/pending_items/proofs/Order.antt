@@ -53,10 +53,10 @@ pub item-pending : (c : Committee) (es : List Entry) (x : Item) → itemInOrder 
 unfolding itemInOrder itemFull itemStored itemSuits
 item-pending c es x h =
     let h₁ = and-right (ltb (x .start) (x .end)) _ h in
-    let f = holds-some (itemSuits x) (at es x) (and-left (holds (itemSuits x) (at es x)) _ h₁) in
+    let f = holds-some (λ e. itemSuits x (e .block)) (at es x) (and-left (holds (λ e. itemSuits x (e .block)) (at es x)) _ h₁) in
     record {
       full = ltb-true _ _ (and-left (ltb (x .start) (x .end)) _ h);
-      votes = and-right (holds (itemSuits x) (at es x)) _ h₁;
+      votes = and-right (holds (λ e. itemSuits x (e .block)) (at es x)) _ h₁;
       entry = f .0;
       found = f .1;
       shares = shares-at (f .0 .block) (x .start) (x .end) (and-left (sharesIn (f .0 .block) (x .start) (x .end)) _ (f .2));

@@ -68,12 +68,12 @@ unfoldable pub sharesIn : Block → ℕ → ℕ → Bool
 sharesIn b start end = allOf (isShareAt b) (countFrom start (end - start))
 
 -- 01: "offsets shares, votes .. holding the sharer"
-unfoldable pub itemSuits : Item → Entry → Bool
-itemSuits x e = sharesIn (e .block) (x .start) (x .end) && member (x .aggregator .votes) (author (e .block))
+unfoldable pub itemSuits : Item → Block → Bool
+itemSuits x b = sharesIn b (x .start) (x .end) && member (x .aggregator .votes) (author b)
 
 -- 01: "positions stored, offsets shares, votes .. holding the sharer": what the store has to say of an item
 unfoldable pub itemStored : List Entry → Item → Bool
-itemStored es x = holds (itemSuits x) (find (λ e. eqb (e .position) (x .position)) es)
+itemStored es x = holds (λ e. itemSuits x (e .block)) (find (λ e. eqb (e .position) (x .position)) es)
 
 -- 01: "not empty", "positions stored, offsets shares, votes known and holding the sharer, stake their sum"
 unfoldable pub itemInOrder : Committee → List Entry → Item → Bool

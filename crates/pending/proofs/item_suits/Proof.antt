@@ -5,7 +5,7 @@ use Rattle.blocks.specs.Reference.{BlockReference}
 use Rattle.types.specs.Values.{asReference}
 use Rattle.store_layout.proofs.Loops.{refuses}
 use Rattle.table_words.specs.Answers.{asItem}
-use Rattle.pending.specs.Step.{suits}
+use Rattle.pending_items.specs.Table.{itemSuits}
 use borrow.Author.Needs.{needs}
 use Rattle.pending.proofs.item_suits.Statement.{statement}
 use Rattle.pending.proofs.item_suits.Tie as tie
@@ -14,7 +14,7 @@ shares-in-requires : tie.Need-shares-in-requires
 shares-in-requires c κs = search needs
 
 returns : tie.Need-returns
-unfolding suits asItem
+unfolding itemSuits asItem
 returns c =
     let n = c .before .before .before in
     refuses (rw (sym (n .shares-in .ensures .0) ∙ not-true _ (c .if1 .taken)))
@@ -26,7 +26,7 @@ contains-requires : tie.Need-contains-requires
 contains-requires c κs = search needs
 
 returns-2 : tie.Need-returns-2
-unfolding suits asItem asReference
+unfolding itemSuits asItem asReference
 returns-2 c =
     let n = c .before .before .before .before .before .before .before .before in
     let all = not-false _ (c .before .before .before .before .before .if1 .left) in
