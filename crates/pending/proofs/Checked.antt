@@ -28,7 +28,7 @@ use Rattle.store_layout.proofs.Visit.{one-position}
 use Rattle.pending_items.specs.Items.{Item, noItem, itemBefore}
 use Rattle.pending_items.specs.Table.{itemsOf, itemSuits, itemStored, tableStored}
 use Rattle.pending_items.proofs.Items.{Ordered, before-facts}
-use Rattle.pending.specs.Step.{Placed, OnEntry, Passed, EntryFrom, Ahead, WalkedTo}
+use Rattle.pending.specs.Step.{NotPast, OnEntry, Passed, EntryFrom, Ahead, WalkedTo}
 use Rattle.pending.specs.declared.Walk.{Walk}
 use Rattle.pending.proofs.Entries.{stands-next}
 use Rattle.pending.proofs.Offsets.{placed-first, placed-later}
@@ -86,13 +86,13 @@ module _ (s : Bytes) (x : Item) where
 
   -- the place of the walk, or the first of the item's block
   pub place-there : (w : Walk) (at : ℕ) (c : StatementCursor) → Ahead s w x → isEntry s (x .position) ≡ true → at ≡ x .position
-      → c ≡ pick (eqb at (w .last)) (w .cursor) (cursorAt (blockAt s (x .position)) 0) → Placed (blockAt s (x .position)) (x .start) c
+      → c ≡ pick (eqb at (w .last)) (w .cursor) (cursorAt (blockAt s (x .position)) 0) → NotPast (blockAt s (x .position)) (x .start) c
   place-there w at c a h p e = go (eqb at (w .last)) refl e
     where
       b : Block
       b = blockAt s (x .position)
 
-      go : (t : Bool) → eqb at (w .last) ≡ t → c ≡ pick t (w .cursor) (cursorAt b 0) → Placed b (x .start) c
+      go : (t : Bool) → eqb at (w .last) ≡ t → c ≡ pick t (w .cursor) (cursorAt b 0) → NotPast b (x .start) c
       go true q z = rw z (a .placed h (sym (eqb-true at (w .last) q) ∙ p))
       go false q z = placed-first b (x .start) c z
 
@@ -105,13 +105,13 @@ module _ (s : Bytes) (x : Item) where
     entry-here : isEntry s (x .position) ≡ true
     entry-here = rw p at h
 
-    pub part-place : (w : Walk) (c : StatementCursor) → Ahead s w x → c ≡ pick (eqb at (w .last)) (w .cursor) (cursorAt (blockIn v) 0) → Placed (blockIn v) (x .start) c
+    pub part-place : (w : Walk) (c : StatementCursor) → Ahead s w x → c ≡ pick (eqb at (w .last)) (w .cursor) (cursorAt (blockIn v) 0) → NotPast (blockIn v) (x .start) c
     part-place w c a q = rw same-block (place-there w at c a entry-here p (rw same-block at q))
 
     pub part-stored : itemStored (entries (recordsOf s)) x ≡ itemSuits x (blockIn v)
     part-stored = rw same-block (is-there entry-here)
 
-    pub part-walked : (c : StatementCursor) → Placed (blockIn v) (x .end) c → WalkedTo s x (record { at = at; last = at; cursor = c })
+    pub part-walked : (c : StatementCursor) → NotPast (blockIn v) (x .end) c → WalkedTo s x (record { at = at; last = at; cursor = c })
     part-walked c q = record { stands = h; at = p; last = p; placed = rw same-block at q }
 
   -- the items after this one are ahead of the walk

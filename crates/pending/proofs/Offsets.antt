@@ -15,7 +15,7 @@ use Rattle.block_record.specs.Cursor.{cursorAt}
 use Rattle.block_record.specs.declared.StatementCursor.{StatementCursor}
 use Rattle.shared_ranges.proofs.Walk.{placed-index, placed}
 use Rattle.pending_items.specs.Table.{sharesIn}
-use Rattle.pending.specs.Step.{Placed}
+use Rattle.pending.specs.Step.{NotPast}
 
 at-index : (ss : List Statement) (o : ℕ) → o < length ss → holds isShare (getElem? ss o) ≡ isShare (getD ss o noStatement)
 unfolding holds
@@ -55,15 +55,15 @@ module _ (b : Block) (start end : ℕ) where
 
 module _ (b : Block) where
   -- a place that is not past an offset is not past a later one
-  pub placed-later : (o q : ℕ) (c : StatementCursor) → o ≤ q → Placed b o c → Placed b q c
+  pub placed-later : (o q : ℕ) (c : StatementCursor) → o ≤ q → NotPast b o c → NotPast b q c
   placed-later o q c h p = record { right = p .right; inside = p .inside; before = omega (arith, p .before) }
 
   -- the first place is past nothing
-  pub placed-first : (o : ℕ) (c : StatementCursor) → c ≡ cursorAt b 0 → Placed b o c
+  pub placed-first : (o : ℕ) (c : StatementCursor) → c ≡ cursorAt b 0 → NotPast b o c
   placed-first o c e = let i = placed-index b c 0 e in record { right = placed b c 0 e; inside = omega (arith, i); before = omega (arith, i) }
 
   -- the place after one before the offset
-  pub placed-next : (o : ℕ) (c d : StatementCursor) → Placed b o c → c .index < o → c .index < length (b .statements) → d ≡ cursorAt b (c .index + 1) → Placed b o d
+  pub placed-next : (o : ℕ) (c d : StatementCursor) → NotPast b o c → c .index < o → c .index < length (b .statements) → d ≡ cursorAt b (c .index + 1) → NotPast b o d
   placed-next o c d p h k e =
       let i = placed-index b d (c .index + 1) e in
       record { right = placed b d (c .index + 1) e; inside = omega (arith, i); before = omega (arith, i) }
@@ -75,13 +75,13 @@ pub record Sharing (b : Block) (start end o : ℕ) (c : StatementCursor) : Type 
   pub from : start ≤ o
   pub most : o ≤ end
   pub shares : (q : ℕ) → start ≤ q → q < o → isShareAt b q ≡ true
-  pub place : Placed b o c
+  pub place : NotPast b o c
 
 module _ (b : Block) (start end : ℕ) where
-  pub sharing-start : (c : StatementCursor) → start ≤ end → Placed b start c → Sharing b start end start c
+  pub sharing-start : (c : StatementCursor) → start ≤ end → NotPast b start c → Sharing b start end start c
   sharing-start c h p = record { from = omega arith; most = h; shares = λ q (l : start ≤ q) (u : q < start). absurd (omega arith); place = p }
 
-  pub sharing-on : (o : ℕ) (c d : StatementCursor) → Sharing b start end o c → o < end → isShareAt b o ≡ true → Placed b o d → Sharing b start end (o + 1) d
+  pub sharing-on : (o : ℕ) (c d : StatementCursor) → Sharing b start end o c → o < end → isShareAt b o ≡ true → NotPast b o d → Sharing b start end (o + 1) d
   sharing-on o c d s h e p =
       record { from = omega (arith, s .from); most = omega arith; shares = λ q l u. go q l u (decLt q o); place = placed-later b o (o + 1) d (omega arith) p }
     where
@@ -92,7 +92,7 @@ module _ (b : Block) (start end : ℕ) where
   pub sharing-no : (o : ℕ) (c : StatementCursor) → Sharing b start end o c → o < end → isShareAt b o ≡ false → sharesIn b start end ≡ false
   sharing-no o c s h e = one-missing b start end o (s .from) h e
 
-  pub sharing-all : (o : ℕ) (c : StatementCursor) → Sharing b start end o c → end ≤ o → (true ≡ sharesIn b start end) × (true ≡ true → Placed b end c)
+  pub sharing-all : (o : ℕ) (c : StatementCursor) → Sharing b start end o c → end ≤ o → (true ≡ sharesIn b start end) × (true ≡ true → NotPast b end c)
   sharing-all o c s h =
       let z : o ≡ end = omega (arith, s .most) in
       (sym (all-shares b start end (λ q l (u : q < end). s .shares q l (omega arith))), λ _. rw (← z) (s .place))

@@ -16,7 +16,7 @@ use Rattle.pending_items.specs.Items.{Item}
 use Rattle.pending.specs.declared.Walk.{Walk}
 
 -- a place among the statements that is not past an offset
-pub record Placed (b : Block) (o : ℕ) (c : StatementCursor) : Type 0 where
+pub record NotPast (b : Block) (o : ℕ) (c : StatementCursor) : Type 0 where
   pub right : c ≡ cursorAt b (c .index)
   pub inside : c .index ≤ length (b .statements)
   pub before : c .index ≤ o
@@ -38,11 +38,11 @@ pub record EntryFrom (s : Bytes) (p at : ℕ) : Type 0 where
 -- the walk has not passed the item
 pub record Ahead (s : Bytes) (w : Walk) (x : Item) : Type 0 where
   pub passed : Passed s (w .at) (x .position)
-  pub placed : isEntry s (x .position) ≡ true → w .last ≡ x .position → Placed (blockAt s (x .position)) (x .start) (w .cursor)
+  pub placed : isEntry s (x .position) ≡ true → w .last ≡ x .position → NotPast (blockAt s (x .position)) (x .start) (w .cursor)
 
 -- the walk stands at the item's entry, not past the item's end
 pub record WalkedTo (s : Bytes) (x : Item) (w : Walk) : Type 0 where
   pub stands : isEntry s (w .at) ≡ true
   pub at : w .at ≡ x .position
   pub last : w .last ≡ x .position
-  pub placed : Placed (blockAt s (x .position)) (x .end) (w .cursor)
+  pub placed : NotPast (blockAt s (x .position)) (x .end) (w .cursor)

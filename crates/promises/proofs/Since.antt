@@ -22,7 +22,7 @@ use Rattle.finality.specs.Ancestry.{Ancestor, itself, included, VoteIn, byAccep
 use Rattle.finality.proofs.Asked.{in-order-stored}
 use Rattle.finality.proofs.Votes.{covered, is-covered, statement-vote}
 use Rattle.promises.specs.Feeds.{Accepted, storedBlocks}
-use Rattle.promises.specs.Shares.{Vote, statementVotes, votesFrom, countedVotes, countedVoters, NoneLeft}
+use Rattle.promises.specs.Shares.{Vote, isVoteFor, votesFrom, countedVotes, countedVoters, NoneLeft}
 use Rattle.promises.specs.ThirdStatement.{ShareStands, stays, gone, VotedOnlySince, Announced, Start, engineOf, acceptedOf}
 use Rattle.promises.proofs.Storing.{StoreOf}
 use Rattle.promises.proofs.Finals.{blocks-are, store-of}
@@ -34,10 +34,10 @@ abbrev voters : List Vote → List AuthorityIndex
 voters vs = map (λ v. v .voter) vs
 
 -- a statement that votes is counted
-voted-from : (k : ℕ) (a : AuthorityIndex) (i : ℕ) (ss : List Statement) (l : TransactionLocator) (s : Statement) → s ∈ ss → statementVotes l s ≡ true → a ∈ voters (votesFrom k a i ss l)
+voted-from : (k : ℕ) (a : AuthorityIndex) (i : ℕ) (ss : List Statement) (l : TransactionLocator) (s : Statement) → s ∈ ss → isVoteFor l s ≡ true → a ∈ voters (votesFrom k a i ss l)
 unfolding votesFrom
 voted-from k a i (s ∷ ss) l s′ here h = rw h here
-voted-from k a i (x ∷ ss) l s (there m) h = go (statementVotes l x) (voted-from k a (i + 1) ss l s m h)
+voted-from k a i (x ∷ ss) l s (there m) h = go (isVoteFor l x) (voted-from k a (i + 1) ss l s m h)
   where
     go : (t : Bool) → a ∈ voters (votesFrom k a (i + 1) ss l)
         → a ∈ voters (pick t (record { place = record { feed = k; statement = i }; voter = a } ∷ votesFrom k a (i + 1) ss l) (votesFrom k a (i + 1) ss l))
@@ -45,24 +45,24 @@ voted-from k a i (x ∷ ss) l s (there m) h = go (statementVotes l x) (voted-fro
     go false n = n
 
 -- a block votes for the locator where one of its statements does
-pub vote-meant : (b : Block) (l : TransactionLocator) → VoteIn b l ↔ (anyOf (statementVotes l) (b .statements) ≡ true)
-unfolding statementVotes holds votedRange oneRange newRange
+pub vote-meant : (b : Block) (l : TransactionLocator) → VoteIn b l ↔ (anyOf (isVoteFor l) (b .statements) ≡ true)
+unfolding isVoteFor holds votedRange oneRange newRange
 vote-meant b l = (to, from)
   where
-    to : VoteIn b l → anyOf (statementVotes l) (b .statements) ≡ true
-    to (byAccept m) = in-any (statementVotes l) m (is-covered (oneRange l) l (record { of = refl; from = omega arith; below = omega arith }))
-    to (byRange r m e f g) = in-any (statementVotes l) m (is-covered r l (record { of = e; from = f; below = g }))
+    to : VoteIn b l → anyOf (isVoteFor l) (b .statements) ≡ true
+    to (byAccept m) = in-any (isVoteFor l) m (is-covered (oneRange l) l (record { of = refl; from = omega arith; below = omega arith }))
+    to (byRange r m e f g) = in-any (isVoteFor l) m (is-covered r l (record { of = e; from = f; below = g }))
 
-    from : anyOf (statementVotes l) (b .statements) ≡ true → VoteIn b l
+    from : anyOf (isVoteFor l) (b .statements) ≡ true → VoteIn b l
     from h =
-        let x = any-in (statementVotes l) (b .statements) h in
+        let x = any-in (isVoteFor l) (b .statements) h in
         let r = holds-some (λ q. covers q l) (votedRange (x .0)) (x .2) in
         statement-vote b l (r .0) (x .0) (x .1) (r .1) (covered (r .0) l (r .2))
 
 -- its vote is counted
 block-voted : (k i : ℕ) (b : Block) (l : TransactionLocator) → VoteIn b l → author b ∈ voters (votesFrom k (author b) i (b .statements) l)
 block-voted k i b l v =
-    let x = any-in (statementVotes l) (b .statements) (vote-meant b l .0 v) in
+    let x = any-in (isVoteFor l) (b .statements) (vote-meant b l .0 v) in
     voted-from k (author b) i (b .statements) l (x .0) (x .1) (x .2)
 
 module _ (l : TransactionLocator) (own : Accepted) (earlier : List Accepted) (its : own .block .reference ≡ l .block) (share : isShareAt (own .block) (l .offset) ≡ true) where

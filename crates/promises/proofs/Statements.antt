@@ -16,7 +16,7 @@ use Rattle.pending_items.proofs.Items.{heldAt}
 use Rattle.feeds.specs.ProcessBlock.{Event, Processing, vote, votes}
 use Rattle.feeds.proofs.ProcessBlock.{Sound, sound-vote}
 use Rattle.feeds.proofs.View.{positionIn, held-vote, processedBy, processed-vote}
-use Rattle.promises.specs.Shares.{Place, Vote, statementVotes, votesFrom, votesUnder, announces, announcedBy}
+use Rattle.promises.specs.Shares.{Place, Vote, isVoteFor, votesFrom, votesUnder, announces, announcedBy}
 use Rattle.promises.proofs.Standing.{afterVote, tells, Stands, stands-vote}
 
 -- ---- what events announce
@@ -101,7 +101,7 @@ module _ (c : Committee) (rs : List Record) (l : TransactionLocator) (e : Entry)
   pub stands-statements : (vs : List Vote) (ps : List Place) (i : ℕ) (ss : List Statement) → ((j : ℕ) → getElem? (b .statements) (i + j) ≡ getElem? ss j)
       → (z : Processing) → Sound c (entries rs) z → Stands c l vs (held z) (ps ++ told z)
       → Stands c l (vs ++ votesFrom k a i ss l) (held (votes c (entries rs) a i ss z)) (ps ++ told (votes c (entries rs) a i ss z))
-  unfolding votes votesFrom statementVotes
+  unfolding votes votesFrom isVoteFor
   stands-statements vs ps i [] at z w h = rw append-nil h
   stands-statements vs ps i (s ∷ ss) at z w h =
       subst (λ (us : List Vote). Stands c l us (held last) (ps ++ told last)) (append-assoc vs (pick t (voteAt i ∷ []) []) (votesFrom k a (i + 1) ss l) ∙ ap (λ (us : List Vote). vs ++ us) (join t))

@@ -26,14 +26,14 @@ pub record Vote : Type 0 where
   pub voter : AuthorityIndex
 
 -- an accept of the locator or a range covering it
-unfoldable pub statementVotes : TransactionLocator → Statement → Bool
-statementVotes l s = holds (λ r. covers r l) (votedRange s)
+unfoldable pub isVoteFor : TransactionLocator → Statement → Bool
+isVoteFor l s = holds (λ r. covers r l) (votedRange s)
 
 -- 01: "A vote for a locator is there an accept of it or a range covering it": those among a block's statements from index i on
 unfoldable pub votesFrom : ℕ → AuthorityIndex → ℕ → List Statement → TransactionLocator → List Vote
 votesFrom k a i [] l = []
 votesFrom k a i (s ∷ ss) l =
-    pick (statementVotes l s)
+    pick (isVoteFor l s)
     (record { place = record { feed = k; statement = i }; voter = a } ∷ votesFrom k a (i + 1) ss l)
     (votesFrom k a (i + 1) ss l)
 

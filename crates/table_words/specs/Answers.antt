@@ -9,7 +9,7 @@ use Rattle.stake_aggregator.specs.Answers.{asAggregator}
 use Rattle.table_words.specs.declared.Item as code-item
 use Rattle.table_words.specs.declared.Found.{Found}
 use Rattle.table_words.specs.declared.Found.the-variants.{At, Nothing}
-use Rattle.table_words.specs.declared.Stretch.{Stretch}
+use Rattle.table_words.specs.declared.ItemStretch.{ItemStretch}
 use Rattle.pending_items.specs.Items.{Item, noItem, itemHolds, itemAt}
 
 -- an item's position, offsets and votes
@@ -27,7 +27,7 @@ foundItem xs (At i) = some (getD xs i noItem)
 foundItem xs Nothing = none
 
 -- what stands at the offset o of the entry at p stands at each offset up to the stretch's end, which is not past `end`
-pub record Constant (xs : List Item) (p o end : ℕ) (s : Stretch) : Type 0 where
+pub record Constant (xs : List Item) (p o end : ℕ) (s : ItemStretch) : Type 0 where
   pub found : FoundBy (itemHolds p o) xs (s .found)
   pub onward : o < s .end
   pub most : s .end ≤ end

@@ -26,7 +26,7 @@ pub enum Found {
 }
 
 // What stands at an offset, and the end (excluded) of the offsets at which it stands.
-pub struct Stretch {
+pub struct ItemStretch {
     pub found: Found,
     pub end: u64,
 }
@@ -201,31 +201,31 @@ pub fn inside(t: &[u64], p: u64, o: u64) -> Found
 }
 
 // What stands at the offset o of the entry at p, and up to where: the end of the item that holds it, the start of the next, or `end`.
-pub fn stretch_at(t: &[u64], p: u64, o: u64, end: u64) -> Stretch
+pub fn stretch_at(t: &[u64], p: u64, o: u64, end: u64) -> ItemStretch
     requires { ⌜ HoldsItems (now t) × (o < end) ⌝ }
     ensures { λ r. ⌜ Constant (itemsOf (now (t .entry))) p o end r ⌝ }
 {
     let i = search(t, p, o);
     if item_count(t) <= i {
-        return Stretch {
+        return ItemStretch {
             found: Found::Nothing,
             end,
         };
     }
     let x = item_at(t, i);
     if x.position != p {
-        return Stretch {
+        return ItemStretch {
             found: Found::Nothing,
             end,
         };
     }
     if o < x.start {
-        return Stretch {
+        return ItemStretch {
             found: Found::Nothing,
             end: smaller(x.start, end),
         };
     }
-    Stretch {
+    ItemStretch {
         found: Found::At(i),
         end: smaller(x.end, end),
     }

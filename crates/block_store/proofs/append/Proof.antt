@@ -24,8 +24,8 @@ read-u16-requires c κs = omega (arith, laid-out (c .before .before .before .bef
 reference-requires : tie.Need-reference-requires
 reference-requires c κs = search needs
 
-place-of-requires : tie.Need-place-of-requires
-place-of-requires c κs =
+chain-place-requires : tie.Need-chain-place-requires
+chain-place-requires c κs =
     let a = c .before .before .before .before .before .before .before .before .args in
     (c .before .before .before .before .before .before .before .before .pre .0, rw (c .reference .ensures) (not-stored-none (recordsOf (a .store .now)) (blockIn (a .rec .now) .reference) (c .before .before .before .before .before .before .before .before .pre .1 .1 .0)))
 
@@ -50,7 +50,7 @@ cast-write-entry c = search needs
 cast-write-entry-2 : tie.Need-cast-write-entry-2
 cast-write-entry-2 c =
     let m = roomy (c .before .before .before .before .before .before .before .before .before .before .before .args .store .now) (c .before .before .before .before .before .before .before .before .before .before .before .pre .0) (c .before .before .before .before .before .before .before .before .before .before .before .args .rec .now) (c .before .before .before .before .before .before .before .before .before .before .before .pre .1 .1 .1) in
-    let k = reach (c .before .before .before .before .before .before .before .before .before .before .before .args .store .now) (c .before .before .before .before .before .before .before .before .before .before .before .pre .0) (asReference (c .before .before .before .reference .result)) (c .before .before .place-of .result .below) (c .before .before .place-of .result .above) (c .before .before .place-of .ensures) in
+    let k = reach (c .before .before .before .before .before .before .before .before .before .before .before .args .store .now) (c .before .before .before .before .before .before .before .before .before .before .before .pre .0) (asReference (c .before .before .before .reference .result)) (c .before .before .chain-place .result .below) (c .before .before .chain-place .result .above) (c .before .before .chain-place .ensures) in
     omega (arith, m .short, k .above-in)
 
 write-entry-requires : tie.Need-write-entry-requires
@@ -71,7 +71,7 @@ write-u16-requires c κs = omega (arith, laid-out (c .before .before .before .be
 
 write-u32-requires-2 : tie.Need-write-u32-requires-2
 write-u32-requires-2 c κs =
-    let k = reach (c .before .before .before .before .before .before .before .before .before .before .before .before .before .before .before .before .before .before .before .before .before .before .before .args .store .now) (c .before .before .before .before .before .before .before .before .before .before .before .before .before .before .before .before .before .before .before .before .before .before .before .pre .0) (asReference (c .before .before .before .before .before .before .before .before .before .before .before .before .before .before .before .reference .result)) (c .before .before .before .before .before .before .before .before .before .before .before .before .before .before .place-of .result .below) (c .before .before .before .before .before .before .before .before .before .before .before .before .before .before .place-of .result .above) (c .before .before .before .before .before .before .before .before .before .before .before .before .before .before .place-of .ensures) in
+    let k = reach (c .before .before .before .before .before .before .before .before .before .before .before .before .before .before .before .before .before .before .before .before .before .before .before .args .store .now) (c .before .before .before .before .before .before .before .before .before .before .before .before .before .before .before .before .before .before .before .before .before .before .before .pre .0) (asReference (c .before .before .before .before .before .before .before .before .before .before .before .before .before .before .before .reference .result)) (c .before .before .before .before .before .before .before .before .before .before .before .before .before .before .chain-place .result .below) (c .before .before .before .before .before .before .before .before .before .before .before .before .before .before .chain-place .result .above) (c .before .before .before .before .before .before .before .before .before .before .before .before .before .before .chain-place .ensures) in
     omega (arith, k .below-in, c .before .before .before .before .before .before .before .before .before .before .before .write-entry .kept .0, c .before .before .before .before .before .before .before .write-u32 .kept .0, c .before .before .before .write-u16 .kept .0)
 
 same-length : tie.Need-same-length
@@ -84,10 +84,10 @@ returns c =
     let rec : Bytes = a .rec .now in
     let used : ℕ = c .before .before .before .before .before .before .before .before .before .before .before .before .before .before .before .before .before .before .before .before .before .before .read-u32 .result in
     let b : AllBytes s = bytes-of s (λ i h. omega (arith, c .before .before .before .before .before .before .before .before .before .before .before .before .before .before .before .before .before .before .before .before .before .before .before .before .before .slice-known .given i)) in
-    let p : Between s (blockIn rec .reference) (c .before .before .before .before .before .before .before .before .before .before .before .before .before .before .before .before .before .place-of .result .below) (c .before .before .before .before .before .before .before .before .before .before .before .before .before .before .before .before .before .place-of .result .above) = rw (c .before .before .before .before .before .before .before .before .before .before .before .before .before .before .before .before .before .before .reference .ensures) at (c .before .before .before .before .before .before .before .before .before .before .before .before .before .before .before .before .before .place-of .ensures) in
+    let p : Between s (blockIn rec .reference) (c .before .before .before .before .before .before .before .before .before .before .before .before .before .before .before .before .before .chain-place .result .below) (c .before .before .before .before .before .before .before .before .before .before .before .before .before .before .before .before .before .chain-place .result .above) = rw (c .before .before .before .before .before .before .before .before .before .before .before .before .before .before .before .before .before .before .reference .ensures) at (c .before .before .before .before .before .before .before .before .before .before .before .before .before .before .before .before .before .chain-place .ensures) in
     c .before .before .write-u322 .ensures
     ∙ rw (c .before .before .before .before .before .before .write-u16 .ensures, c .before .before .before .before .before .before .before .before .before .before .write-u32 .ensures, c .before .before .before .before .before .before .before .before .before .before .before .before .before .before .write-entry .ensures)
-    (appended-so s b (c .before .before .before .before .before .before .before .before .before .before .before .before .before .before .before .before .before .before .before .before .before .before .before .before .before .before .pre .0) rec (c .before .before .before .before .before .before .before .before .before .before .before .before .before .before .before .before .before .place-of .result .below) (c .before .before .before .before .before .before .before .before .before .before .before .before .before .before .before .before .before .place-of .result .above) used (used + 8 + length rec) (c .before .before .before .before .before .before .before .before .before .before .before .before .before .before .before .before .before .before .before .before .read-u16 .result + 1) p (c .before .before .before .before .before .before .before .before .before .before .before .before .before .before .before .before .before .before .before .before .before .before .before .before .before .before .pre .1 .1 .1)
+    (appended-so s b (c .before .before .before .before .before .before .before .before .before .before .before .before .before .before .before .before .before .before .before .before .before .before .before .before .before .before .pre .0) rec (c .before .before .before .before .before .before .before .before .before .before .before .before .before .before .before .before .before .chain-place .result .below) (c .before .before .before .before .before .before .before .before .before .before .before .before .before .before .before .before .before .chain-place .result .above) used (used + 8 + length rec) (c .before .before .before .before .before .before .before .before .before .before .before .before .before .before .before .before .before .before .before .before .read-u16 .result + 1) p (c .before .before .before .before .before .before .before .before .before .before .before .before .before .before .before .before .before .before .before .before .before .before .before .before .before .before .pre .1 .1 .1)
     (c .before .before .before .before .before .before .before .before .before .before .before .before .before .before .before .before .before .before .before .before .before .before .read-u32 .ensures) (omega (arith, c .before .before .before .before .before .before .before .before .before .before .before .before .before .before .before .before .before .before .before .before .before .before .read-u32 .ensures)) (omega (arith, c .before .before .before .before .before .before .before .before .before .before .before .before .before .before .before .before .before .before .before .before .read-u16 .ensures)))
 
 pub append-spec : {M : Type 1} → statement M
@@ -97,7 +97,7 @@ append-spec =
     read-u32-requires
     read-u16-requires
     reference-requires
-    place-of-requires
+    chain-place-requires
     add-end
     cast-end
     add-end-2

@@ -6,13 +6,13 @@ use Rattle.blocks.specs.Block.{isShare}
 use native.Mathlib.Omega.{arith}
 use borrow.Author.Needs.{needs}
 use Rattle.blocks.specs.Record.{blockIn}
-use Rattle.pending.specs.Step.{Placed}
+use Rattle.pending.specs.Step.{NotPast}
 use Rattle.pending.proofs.Offsets.{share-there, share-past, placed-next}
 use Rattle.pending.proofs.share_at.Statement.{statement}
 use Rattle.pending.proofs.share_at.Tie as tie
 
 abbrev Inv-loop : tie.InvT-loop
-Inv-loop rec o count cursor₀ cursor = Placed (blockIn rec) o cursor
+Inv-loop rec o count cursor₀ cursor = NotPast (blockIn rec) o cursor
 
 abbrev μ-loop : tie.MeasureT-loop
 μ-loop rec o count cursor₀ cursor = o - cursor .index

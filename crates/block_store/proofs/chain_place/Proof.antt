@@ -10,8 +10,8 @@ use Rattle.store_layout.proofs.Loops.{entry-room}
 use Rattle.store_layout.proofs.Lookups.{none-is}
 use Rattle.store_layout.proofs.Search.{laid-out}
 use Rattle.block_store.proofs.Along.{Along, along-start, along-start-last, along-entry, met-found, met-on, met-last, between-met, between-end}
-use Rattle.block_store.proofs.place_of.Statement.{statement}
-use Rattle.block_store.proofs.place_of.Tie as tie
+use Rattle.block_store.proofs.chain_place.Statement.{statement}
+use Rattle.block_store.proofs.chain_place.Tie as tie
 
 abbrev Inv-loop : tie.InvT-loop
 Inv-loop store block below₀ at₀ left₀ below at left = (a : Along store (asReference block) at left) × LastAt (a .passed) below
@@ -77,8 +77,8 @@ returns-2 c = between-met (c .before .before .before .before .before .before .be
 returns-3 : tie.Need-returns-3 Inv-loop μ-loop
 returns-3 c = between-end (c .before .before .before .before .before .args .store .now) (c .before .before .before .before .before .pre .0) (asReference (c .before .before .before .before .before .args .block)) (c .before .loop .at) (c .before .loop .left) (c .before .loop .inv .0) (c .before .loop .below) (omega arith) (c .before .loop .inv .1)
 
-pub place-of-spec : {M : Type 1} → statement M
-place-of-spec =
+pub chain-place-spec : {M : Type 1} → statement M
+chain-place-spec =
     tie.close
     (tie.spec
     Inv-loop
