@@ -1,0 +1,21 @@
+use native.Mathlib.Omega.{arith}
+use Rattle.stakes_chain.specs.Layout.{place}
+use borrow.Author.Needs.{needs}
+use Rattle.stakes_chain.proofs.place.Statement.{statement}
+use Rattle.stakes_chain.proofs.place.Tie as tie
+
+sub-result : tie.Need-sub-result
+sub-result c = search needs
+
+mul-result : tie.Need-mul-result
+mul-result c = search needs
+
+add-result : tie.Need-add-result
+add-result c = search needs
+
+returns : tie.Need-returns
+unfolding place
+returns c = omega arith
+
+pub place-spec : {M : Type 1} → statement M
+place-spec = tie.close (tie.spec sub-result mul-result add-result returns)

@@ -1,0 +1,4 @@
+pub mod Layout
+pub mod Chain
+pub mod Answers
+pub mod Claims

@@ -1,0 +1,5 @@
+pub mod Computing
+mod Loaded
+mod Claimed
+mod Evaluated
+mod Fills

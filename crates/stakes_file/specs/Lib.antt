@@ -1,0 +1,4 @@
+pub mod Load
+pub mod Answers
+pub mod Claims
+pub mod Examples
