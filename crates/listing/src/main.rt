@@ -1,6 +1,7 @@
-// Prints the listing of standard input (document 01, "Reference runs").
+// Prints the listing of standard input (document 01, "Reference runs"). The member count 255 asks for the file `stakes` in the folder that it
+// is run in (document 02, "Five").
 use libc::STDIN_FILENO;
 
 fn main() {
-    listing_run::listing(STDIN_FILENO);
+    listing_run::listing(STDIN_FILENO, b"stakes");
 }

@@ -1,4 +1,4 @@
-// The listing of each file that a program's arguments name, under a heading.
+// Listings of files under headings: of each file that a program's arguments name, or of one with each of them as the file of stakes.
 use libc::STDOUT_FILENO;
 
 fn print_heading(name: &[u8]) {
@@ -7,15 +7,21 @@ fn print_heading(name: &[u8]) {
     io::write_all(STDOUT_FILENO, b"\n");
 }
 
-fn run_file(name: &[u8]) {
-    print_heading(name);
-    let fd = os::open_read(name);
+// The listing of an input, with a file of stakes.
+fn run_input(input: &[u8], stakes: &[u8]) {
+    let fd = os::open_read(input);
     if fd < 0 {
-        os::fail(name);
+        os::fail(input);
         return;
     }
-    listing_run::listing(fd);
+    listing_run::listing(fd, stakes);
     libc::close(fd);
+}
+
+// The listing of one file, under a heading; its stakes, where it asks for a file, are those of `stakes`.
+pub fn run_file(name: &[u8]) {
+    print_heading(name);
+    run_input(name, b"stakes");
 }
 
 fn run_argument(i: usize) {
@@ -30,6 +36,23 @@ pub fn run_arguments() {
     let mut i = 1;
     while i < count {
         run_argument(i);
+        i += 1;
+    }
+}
+
+fn run_table(input: &[u8], i: usize) {
+    let mut path = io::buffer();
+    let length = os::arg(i, &mut path);
+    print_heading(&path[..length]);
+    run_input(input, &path[..length]);
+}
+
+// Prints the listing of one input with every argument as the file of stakes.
+pub fn run_tables(input: &[u8]) {
+    let count = os::arg_count();
+    let mut i = 1;
+    while i < count {
+        run_table(input, i);
         i += 1;
     }
 }

@@ -13,33 +13,11 @@ pub struct Printed {
 }
 
 // Fills the first `size` bytes, and answers how many there were.
-fn read_front(fd: i32, bytes: &mut [u8], size: usize) -> usize
+pub fn read_front(fd: i32, bytes: &mut [u8], size: usize) -> usize
     requires { ⌜ size ≤ length (now bytes) ⌝ }
     ensures { λ r. ⌜ r ≤ size ⌝ }
 {
     io::read_full(fd, &mut bytes[..size])
-}
-
-// The stakes that follow the member count.
-fn read_stakes(fd: i32, count: u8, bytes: &mut [u8], stakes: &mut [u64]) -> usize
-    requires { ⌜ (length (now bytes) ≡ 2032) × (length (now stakes) ≡ 254) ⌝ }
-    ensures { λ r. ⌜ r ≤ 254 ⌝ }
-{
-    let size = listing_lib::stake_bytes(count);
-    let got = read_front(fd, bytes, size);
-    listing_lib::committee_of(count, &bytes[..got], stakes)
-}
-
-// Reads the committee's stakes and answers how many they are.
-pub fn read_committee(fd: i32, stakes: &mut [u64]) -> usize
-    requires { ⌜ length (now stakes) ≡ 254 ⌝ }
-    ensures { λ r. ⌜ r ≤ 254 ⌝ }
-{
-    let mut head = [0u8; 1];
-    let got = io::read_full(fd, &mut head);
-    let count = listing_lib::member_count(&head[..got]);
-    let mut bytes = [0u8; 2032];
-    read_stakes(fd, count, &mut bytes, stakes)
 }
 
 // What the next four bytes say.

@@ -2,10 +2,12 @@
 ghost use mathlib.Core.Path.{_≡_};
 ghost use mathlib.Core.List.{List};
 ghost use Prim.Native.Nat.{_+_, _*_, _≤_, _<_};
-ghost use lib.ListN.{length, take, getD};
+ghost use lib.ListN.{length, getD};
+ghost use Rattle.stakes_file.specs.Answers.{stakesIn, membersAtMost};
 ghost use Rattle.listing_lib.specs.Lines.{decimal, hexDigit, hex, fields, refusedLine, eventName, eventLine, finalLine, endLine, Wrote};
-ghost use Rattle.listing_lib.specs.Input.{stakeBytes, listedCommittee, sizeOf};
+ghost use Rattle.listing_lib.specs.Input.{stakeBytes, listedStakes, sizeOf};
 ghost use Rattle.listing_lib.specs.Text.{numbers, numberLine};
+use stakes_file::LoadAnswer;
 
 // What the next bytes say of the record that follows: there is none, the framing is broken, or how long it is.
 pub enum Size {
@@ -53,30 +55,18 @@ pub fn stake_bytes(count: u8) -> usize
     8 * (count as usize)
 }
 
-// Puts the stakes of the committee in front and answers how many they are; `read` is what was read after the count.
-pub fn committee_of(count: u8, read: &[u8], stakes: &mut [u64]) -> usize
+// Puts the stakes of the committee in front; `read` is what was read after the count, and `file` the file of stakes, which only the count
+// 255 asks for.
+pub fn committee_of(count: u8, read: &[u8], file: &[u8], stakes: &mut [u64]) -> LoadAnswer
     requires { ⌜ 254 ≤ length (now stakes) ⌝ }
-    ensures { λ r. ⌜ (r ≤ 254) × (take r (now (stakes .exit)) ≡ listedCommittee count (now (read .entry))) ⌝ }
+    ensures { λ r. ⌜ membersAtMost 254 r × (stakesIn r (now (stakes .exit)) ≡ listedStakes count (now (read .entry)) (now (file .entry))) ⌝ }
 {
     if count == 255 {
-        let course = committee::course_committee();
-        copy(&course, &mut stakes[..7]);
-        return 7;
+        return stakes_file::load(file, stakes);
     }
     let n = count as usize;
     words::words_of(read, &mut stakes[..n]);
-    n
-}
-
-fn copy(from: &[u64], to: &mut [u64])
-    requires { ⌜ length (now from) ≡ length (now to) ⌝ }
-    ensures { λ r. ⌜ now (to .exit) ≡ now (from .entry) ⌝ }
-{
-    let mut i = 0;
-    while i < from.len() {
-        to[i] = from[i];
-        i += 1;
-    }
+    LoadAnswer::Members(n)
 }
 
 // ---- text: each function writes from `at` on and answers where it ended

@@ -11,6 +11,7 @@ use committee::RoundNumber;
 use feeding::FeedAnswer;
 use final_list::StretchesAnswer;
 use listing_lib::Size;
+use stakes_file::LoadAnswer;
 use types::BlockDigest;
 use types::BlockReference;
 use types::TransactionLocator;
@@ -314,7 +315,7 @@ fn refuse(number: u64) {
     listing_io::print_end(&mut out, at, 0, 0, 0, 0, 0);
 }
 
-// The run over stakes that were read.
+// The run over stakes that were read: those of the input are checked here, and the file's again.
 fn run_with(fd: i32, stakes: &[u64]) {
     let set = committee::new_committee(stakes);
     match set {
@@ -323,9 +324,12 @@ fn run_with(fd: i32, stakes: &[u64]) {
     }
 }
 
-// Reads an input and prints its lines.
-pub fn listing(fd: i32) {
+// Reads an input and prints its lines; `file` names the file of stakes, which the member count 255 asks for.
+pub fn listing(fd: i32, file: &[u8]) {
     let mut stakes = [0u64; 254];
-    let count = listing_io::read_committee(fd, &mut stakes);
-    run_with(fd, &stakes[..count]);
+    let answer = listing_stakes::read_committee(fd, file, &mut stakes);
+    match answer {
+        LoadAnswer::Members(count) => run_with(fd, &stakes[..count]),
+        LoadAnswer::Refused(number) => refuse(number),
+    }
 }

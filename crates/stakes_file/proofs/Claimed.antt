@@ -6,7 +6,6 @@ use mathlib.Core.Option.{Option, none, some}
 use Prim.Native.Nat.{ℕ, _+_, _≤_}
 use native.Mathlib.Omega.{arith}
 use lib.ListN.{length, take, drop}
-use borrow.Author.Tests.{not-false}
 use Rattle.base.specs.Lists.{isEmpty, _∈_, here, there}
 use Rattle.base.specs.Checks.{Answer, passes, checked, refused, answered}
 use Rattle.base.specs.Le.{Bytes, leAt, leNumber}
@@ -21,15 +20,7 @@ use Rattle.stakes_names.specs.Names.{nameAt, goodNames, WellNamed}
 use Rattle.stakes_names.proofs.Names.{names-meant}
 use Rattle.stakes_file.specs.Load.{stakeAt, membersAt, memberChecks, loadAlong, load}
 use Rattle.stakes_file.specs.Claims.{Loaded, LoadedMeant, NeverBroken, EmptyFile, BrokenChain, BadNames, ThenCommittee, OffChain, Claims}
-use Rattle.stakes_file.proofs.Loaded.{clash, checked-answered, checked-passes, small-refusal, load-empty, load-broken, load-chained, along-bad, along-good}
-
-passes-sound : (c : Committee) → passes (committeeChecks c) ≡ true → broken c ≡ false
-unfolding broken
-passes-sound c h = rw h
-
-sound-passes : (c : Committee) → broken c ≡ false → passes (committeeChecks c) ≡ true
-unfolding broken
-sound-passes c h = not-false (passes (committeeChecks c)) h
+use Rattle.stakes_file.proofs.Loaded.{clash, passes-sound, sound-passes, checked-answered, checked-passes, small-refusal, load-empty, load-broken, load-chained, along-bad, along-good}
 
 -- the names of a chain are good or not, and loading goes on or not
 data Names (f : Bytes) (is : List ℕ) : Type 0 where
@@ -109,9 +100,8 @@ course-sound : broken courseCommittee ≡ false
 unfolding computing
 course-sound = refl
 
-never-broken : NeverBroken
-unfolding NeverBroken
-never-broken f c e = go (isEmpty f) refl
+pub load-sound : (f : Bytes) (c : Committee) → load f ≡ answered c → broken c ≡ false
+load-sound f c e = go (isEmpty f) refl
   where
     go : (t : Bool) → isEmpty f ≡ t → broken c ≡ false
     go true h = let q = sym (load-empty f h) ∙ e in let s : courseCommittee ≡ c = cc in rw (← s) course-sound
@@ -145,7 +135,7 @@ pub claimed : Claims
 claimed =
     record {
       loaded = loaded-meant;
-      neverBroken = never-broken;
+      neverBroken = unfold NeverBroken in load-sound;
       emptyFile = empty-file;
       brokenChain = broken-chain;
       badNames = bad-names;

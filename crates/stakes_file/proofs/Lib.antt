@@ -3,3 +3,4 @@ mod Loaded
 mod Claimed
 mod Evaluated
 mod Fills
+pub mod Front

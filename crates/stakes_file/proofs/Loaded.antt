@@ -7,10 +7,11 @@ use Prim.Native.Nat.{ℕ, _≤_, _<_}
 use native.Mathlib.Omega.{arith}
 use lib.Dec.{ltb, eqb}
 use lib.ListN.{length, take}
+use borrow.Author.Tests.{not-false}
 use Rattle.base.specs.Lists.{pick, isEmpty, anyOf, allOf}
 use Rattle.base.specs.Checks.{Check, Answer, passes, refusal, checked, refused, answered}
 use Rattle.base.specs.Le.{Bytes}
-use Rattle.committee.specs.Committee.{Committee, totalStake, committeeChecks, newCommittee, courseCommittee}
+use Rattle.committee.specs.Committee.{Committee, broken, totalStake, committeeChecks, newCommittee, courseCommittee}
 use Rattle.committee.specs.Answers.{asNewCommittee}
 use Rattle.committee.specs.declared.Stake as code-stake
 use Rattle.committee.specs.declared.NewCommittee.the-variants.{Taken, Broken}
@@ -62,6 +63,14 @@ small-refusal {A} c a n l h = go (eqb (length c) 0) (anyOf (λ s. eqb s 0) c) (l
     go false false true s k = let e : _≡_ {A = ℕ} 3 n = cc in omega arith
     go false false false true k = let e : _≡_ {A = ℕ} 4 n = cc in omega arith
     go false false false false k = let z : _≡_ {A = ℕ} 0 1 = cc in omega arith
+
+pub passes-sound : (c : Committee) → passes (committeeChecks c) ≡ true → broken c ≡ false
+unfolding broken
+passes-sound c h = rw h
+
+pub sound-passes : (c : Committee) → broken c ≡ false → passes (committeeChecks c) ≡ true
+unfolding broken
+sound-passes c h = not-false (passes (committeeChecks c)) h
 
 -- ---- loading
 
