@@ -94,6 +94,16 @@ uint64_t lomkhvide_payload_length(const uint8_t *stakes, size_t stakes_len, cons
 uint64_t lomkhvide_payload_start(const uint8_t *stakes, size_t stakes_len, const uint8_t *store, size_t store_len,
                                  const uint8_t *locator, size_t locator_len);
 
+/* Loads a network's own stakes from the bytes of its file `stakes`; no bytes are the course committee, and so is a file that is absent.
+ * The number of members, at most 128; their stakes are written to the front of `stakes`, one word each, as every other call is lent them,
+ * and the bytes after them keep their content. The file is an index of 2 bytes and records of 26: the index of the next one 2, a name 16
+ * (zero padded, not empty), a stake 8. Indexes start at 1, the leading one names the first record, and 0 ends the chain.
+ * Refused, in this order: 56 over 65,536 bytes, bytes that end inside the index or a record, an index that is not in the file or comes a
+ * second time; 57 a bad or repeated name on the chain; 1 to 4 as of a committee; 40 `stakes` not of 128 words.
+ * It needs at most 28 KB of stack. */
+#define LOMKHVIDE_STAKES_LEN ((size_t)1024)
+uint64_t lomkhvide_load_stakes(const uint8_t *file, size_t file_len, uint8_t *stakes, size_t stakes_len);
+
 /* ---- The blast calendar
  *
  * A calendar is at most 64 windows in which nothing may be loaded, two words each: start and end (excluded) in seconds of the week, at

@@ -352,6 +352,98 @@ static void feeding(void) {
     same("no byte past the table", memcmp(lent.table + t, kept.table + t, sizeof lent.table - t), 0);
 }
 
+/* A record of the file of stakes. Answers where the next one goes. */
+static uint8_t *put_member(uint8_t *to, uint16_t next, const char *name, uint64_t stake) {
+    to[0] = (uint8_t)next;
+    to[1] = (uint8_t)(next >> 8);
+    memset(to + 2, 0, 16);
+    memcpy(to + 2, name, strlen(name));
+    put_word(to + 18, stake);
+    return to + 26;
+}
+
+/* Loads from a file that is lent from its own allocation. */
+static uint64_t load(const uint8_t *file, size_t n, uint8_t *stakes, size_t stakes_len) {
+    uint8_t *bytes = malloc(n + 1);
+    memcpy(bytes, file, n);
+    uint64_t word = lomkhvide_load_stakes(bytes, n, stakes, stakes_len);
+    free(bytes);
+    return word;
+}
+
+static void loading(void) {
+    static uint8_t file[2 + 26 * 2522], stakes[LOMKHVIDE_STAKES_LEN + 8], want[LOMKHVIDE_STAKES_LEN + 8];
+    const size_t room = LOMKHVIDE_STAKES_LEN;
+    memset(stakes, 9, sizeof stakes);
+    memcpy(want, stakes, sizeof stakes);
+    /* the second record, the third, then the first */
+    file[0] = 2;
+    uint8_t *end = put_member(put_member(put_member(file + 2, 0, "quarry", 7), 3, "karst", 2), 1, "dam", 3);
+    const size_t three = (size_t)(end - file);
+    for (size_t n = 1; n < three; n++) {
+        same("a file cut short", load(file, n, stakes, room), refused(56));
+    }
+    for (size_t n = 1; n < 26; n++) {
+        same("bytes after the last record", load(file, three + n, stakes, room), refused(56));
+    }
+    for (size_t n = 0; n <= sizeof stakes; n++) {
+        if (n != room) {
+            same("room of any length", load(file, three, stakes, n), refused(40));
+            same("56 before 40", load(file, three - 1, stakes, n), refused(56));
+            same("the course committee", load(file, 0, stakes, n), refused(40));
+        }
+    }
+    same("refused, so nothing is written", memcmp(stakes, want, sizeof stakes), 0);
+    same("three members", load(file, three, stakes, room), 3);
+    put_word(want, 2);
+    put_word(want + 8, 3);
+    put_word(want + 16, 7);
+    same("in chain order, and no byte past them", memcmp(stakes, want, sizeof stakes), 0);
+    same("they are a committee", lomkhvide_new_committee(stakes, 24), 12);
+    file[0] = 0;
+    same("nobody on the chain", load(file, three, stakes, room), refused(1));
+    same("the index alone", load(file, 2, stakes, room), refused(1));
+    file[0] = 4;
+    same("an index past the last record", load(file, three, stakes, room), refused(56));
+    file[0] = 1;
+    file[1] = 1;
+    same("its high byte counts", load(file, three, stakes, room), refused(56));
+    file[1] = 0;
+    put_member(file + 2, 3, "quarry", 7);
+    same("an index for the second time", load(file, three, stakes, room), refused(56));
+    put_member(file + 2, 2, "karst", 0);
+    put_member(file + 28, 0, "karst", 2);
+    same("a name for the second time", load(file, three, stakes, room), refused(57));
+    file[4] = 0;
+    same("a byte after a zero", load(file, three, stakes, room), refused(57));
+    put_member(file + 2, 2, "", 2);
+    same("no name", load(file, three, stakes, room), refused(57));
+    put_member(file + 2, 2, "sixteen letters.", 0);
+    same("a stake of zero", load(file, three, stakes, room), refused(2));
+    put_member(file + 2, 2, "sixteen letters.", UINT64_C(1) << 63);
+    same("a total over the most", load(file, three, stakes, room), refused(4));
+    same("refused, so nothing is written", memcmp(stakes, want, sizeof stakes), 0);
+    /* as many records as fit, each with the next one after it; the last is the most that 65,536 bytes hold */
+    for (size_t i = 1; i <= 2522; i++) {
+        char name[17];
+        snprintf(name, sizeof name, "owner %zu", i);
+        put_member(file + 2 + 26 * (i - 1), (uint16_t)(i + 1), name, 1);
+    }
+    for (size_t n = 2519; n <= 2522; n++) {
+        file[2 + 26 * (n - 1)] = 0;
+        file[2 + 26 * (n - 1) + 1] = 0;
+        same("thousands of members", load(file, 2 + 26 * n, stakes, room), n <= 2520 ? refused(3) : refused(56));
+        file[2 + 26 * (n - 1)] = (uint8_t)(n + 1);
+        file[2 + 26 * (n - 1) + 1] = (uint8_t)((n + 1) >> 8);
+    }
+    for (size_t n = 127; n <= 129; n++) {
+        file[2 + 26 * (n - 1)] = 0;
+        file[2 + 26 * (n - 1) + 1] = 0;
+        same("as many as a committee has", load(file, 2 + 26 * 2520, stakes, room), n <= 128 ? n : refused(3));
+        file[2 + 26 * (n - 1)] = (uint8_t)(n + 1);
+    }
+}
+
 /* ---- the blast calendar */
 
 /* Asks for the first open second over n bytes of a calendar, lent from their own allocation; `found` gets the word that was written. */
@@ -454,6 +546,7 @@ static void calendars(void) {
 }
 
 int main(void) {
+    loading();
     committees();
     quorums();
     adding();

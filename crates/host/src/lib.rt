@@ -14,6 +14,7 @@ ghost use Rattle.host_lib.specs.Payload.{payloadLengthCall, payloadStartCall};
 ghost use Rattle.host_finals.specs.Finality.{finalityCall};
 ghost use Rattle.host_finals.specs.Stretches.{stretchesCall};
 ghost use Rattle.host_calendar.specs.Calendar.{isOpenCall, nextOpenCall};
+ghost use Rattle.host_stakes.specs.LoadStakes.{loadStakesCall};
 use committee::NewCommittee;
 use committee::Stake;
 use feeding::FeedAnswer;
@@ -206,6 +207,15 @@ pub extern "C" fn lomkhvide_feed(
         FeedAnswer::Events(count) => count,
         FeedAnswer::Refused(number) => REFUSED + number,
     }
+}
+
+// Loads a network's own stakes from the bytes of its file: the number of members, whose stakes stand at the front, a word each.
+#[no_mangle]
+pub extern "C" fn lomkhvide_load_stakes(file: &[u8], stakes: &mut [u8]) -> u64
+    ensures { λ r. ⌜ r ≡ encoded (loadStakesCall (now (file .entry)) (now (stakes .entry)) .answer) ⌝ }
+    ensures { λ r. ⌜ now (stakes .exit) ≡ loadStakesCall (now (file .entry)) (now (stakes .entry)) .stakes ⌝ }
+{
+    host_stakes::load_stakes(file, stakes)
 }
 
 // ---- the blast calendar

@@ -7,7 +7,7 @@ use Prim.Native.Nat.{ℕ, _+_, _≤_}
 use native.Mathlib.Omega.{arith}
 use lib.ListN.{length, take, drop}
 use Rattle.base.specs.Lists.{isEmpty, _∈_, here, there}
-use Rattle.base.specs.Checks.{Answer, passes, checked, refused, answered}
+use Rattle.base.specs.Checks.{passes, checked, refused, answered}
 use Rattle.base.specs.Le.{Bytes, leAt, leNumber}
 use Rattle.base.proofs.Tests.{fails, not-both}
 use Rattle.committee.proofs.Computing.{computing}
@@ -20,7 +20,7 @@ use Rattle.stakes_names.specs.Names.{nameAt, goodNames, WellNamed}
 use Rattle.stakes_names.proofs.Names.{names-meant}
 use Rattle.stakes_file.specs.Load.{stakeAt, membersAt, memberChecks, loadAlong, load}
 use Rattle.stakes_file.specs.Claims.{Loaded, LoadedMeant, NeverBroken, EmptyFile, BrokenChain, BadNames, ThenCommittee, OffChain, Claims}
-use Rattle.stakes_file.proofs.Loaded.{clash, passes-sound, sound-passes, checked-answered, checked-passes, small-refusal, load-empty, load-broken, load-chained, along-bad, along-good}
+use Rattle.stakes_file.proofs.Loaded.{clash, refused-same, passes-sound, sound-passes, checked-answered, checked-passes, small-refusal, load-empty, load-broken, load-chained, along-bad, along-good}
 
 -- the names of a chain are good or not, and loading goes on or not
 data Names (f : Bytes) (is : List ℕ) : Type 0 where
@@ -34,15 +34,12 @@ names-of f is k = go (goodNames (map (nameAt f) is)) refl
     go true e = good (names-meant f is (k .once) .0 e) (load-chained f is k ∙ along-good f is e)
     go false e = bad (λ w. not-both (names-meant f is (k .once) .1 w) e) (load-chained f is k ∙ along-bad f is e)
 
-same-number : {m n : ℕ} → _≡_ {A = Answer Committee} (refused m) (refused n) → m ≡ n
-same-number p = cc
-
 broken-chain : BrokenChain
 unfolding BrokenChain
 broken-chain f h = (λ e is k. there e is (names-of f is k), λ g. back g (chainOf f) refl)
   where
     there : load f ≡ refused 56 → (is : List ℕ) → Names f is → ⊥
-    there e is (bad w d) = let q : _≡_ {A = ℕ} 56 57 = same-number (sym e ∙ d) in omega arith
+    there e is (bad w d) = let q : _≡_ {A = ℕ} 56 57 = refused-same (sym e ∙ d) in omega arith
     there e is (good w d) = small-refusal (membersAt f is) (membersAt f is) 56 (omega arith) (sym d ∙ e)
 
     back : ((is : List ℕ) → Chained f is → ⊥) → (o : Option (List ℕ)) → chainOf f ≡ o → load f ≡ refused 56

@@ -1,22 +1,27 @@
 -- Loading with room for every member: what was lent begins with the table. Assumes nothing.
 use mathlib.Core.Path.{_≡_, refl, sym, ap, _∙_}
-use mathlib.Core.Bool.{true}
-use mathlib.Core.List.{List}
-use Prim.Native.Nat.{ℕ, _≤_}
+use mathlib.Core.Bool.{Bool, true, false}
+use mathlib.Core.List.{List, map}
+use mathlib.Core.Option.{Option, none, some}
+use Prim.Native.Nat.{ℕ, _≤_, _<_}
+use native.Mathlib.Decide.{decLt}
 use native.Mathlib.Omega.{arith}
 use lib.Dec.{leb}
 use lib.ListN.{length, take}
 use lib.Seq.{sets, sets-eq, take-at}
 use borrow.Author.Tests.{le-leb}
+use Rattle.base.specs.Lists.{isEmpty}
 use Rattle.base.specs.Checks.{Answer, refused, answered}
 use Rattle.base.specs.Le.{Bytes}
 use Rattle.committee.specs.Committee.{Committee}
 use Rattle.committee.proofs.Bounds.{few-members}
+use Rattle.stakes_chain.specs.Chain.{chainOf}
+use Rattle.stakes_names.specs.Names.{nameAt, goodNames}
 use Rattle.stakes_file.specs.declared.LoadAnswer.{LoadAnswer}
 use Rattle.stakes_file.specs.declared.LoadAnswer.the-variants.{Members, Refused}
-use Rattle.stakes_file.specs.Load.{LoadCall, load, loadedInto}
+use Rattle.stakes_file.specs.Load.{LoadCall, membersAt, loadAlong, load, loadedInto}
 use Rattle.stakes_file.specs.Answers.{asLoad, stakesIn, membersAtMost}
-use Rattle.stakes_file.proofs.Loaded.{clash}
+use Rattle.stakes_file.proofs.Loaded.{clash, refused-same, small-refusal, load-empty, load-broken, load-some, along-bad, along-good}
 use Rattle.stakes_file.proofs.Claimed.{load-sound}
 
 -- a table that is loaded has at most 128 members
@@ -53,3 +58,26 @@ module _ (words out : List ℕ) (r : LoadAnswer) (room : 128 ≤ length words) w
 pub at-most : (m n : ℕ) (r : LoadAnswer) → m ≤ n → membersAtMost m r → membersAtMost n r
 at-most m n (Members k) l h = omega arith
 at-most m n (Refused k) l h = omega arith
+
+-- the numbers of loading are at most 57
+pub load-most : (f : Bytes) (n : ℕ) → load f ≡ refused n → n ≤ 57
+load-most f n e = go (isEmpty f) refl
+  where
+    named : (is : List ℕ) (t : Bool) → goodNames (map (nameAt f) is) ≡ t → loadAlong f (some is) ≡ refused n → n ≤ 57
+    named is false g d = let z : 57 ≡ n = refused-same (sym (along-bad f is g) ∙ d) in omega arith
+    named is true g d = small (decLt 4 n)
+      where
+        small : Dec (4 < n) → n ≤ 57
+        small (yes l) = absurd (small-refusal (membersAt f is) (membersAt f is) n l (sym (along-good f is g) ∙ d))
+        small (no l) = omega arith
+
+    chained : isEmpty f ≡ false → (o : Option (List ℕ)) → chainOf f ≡ o → n ≤ 57
+    chained h none d = let z : 56 ≡ n = refused-same (sym (load-broken f h d) ∙ e) in omega arith
+    chained h (some is) d = named is (goodNames (map (nameAt f) is)) refl (sym (load-some f is h d) ∙ e)
+
+    go : (t : Bool) → isEmpty f ≡ t → n ≤ 57
+    go true h = absurd (clash e (load-empty f h))
+    go false h = chained h (chainOf f) refl
+
+pub members-fit : (m n : ℕ) (r : LoadAnswer) → r ≡ Members n → membersAtMost m r → n ≤ m
+members-fit m n r e h = rw e at h

@@ -29,6 +29,9 @@ use Rattle.stakes_file.specs.Load.{membersAt, memberChecks, loadAlong, l
 pub clash : {A : Type 0} {a : Answer A} {n : ℕ} {x : A} → a ≡ refused n → a ≡ answered x → ⊥
 clash h k = let z : _≡_ {A = ℕ} 0 1 = cc in omega arith
 
+pub refused-same : {m n : ℕ} → _≡_ {A = Answer Committee} (refused m) (refused n) → m ≡ n
+refused-same p = cc
+
 module _ {A : Type 0} (ks : List Check) where
   pub checked-answered : (a b : A) → checked ks a ≡ answered b → (passes ks ≡ true) × (a ≡ b)
   unfolding checked

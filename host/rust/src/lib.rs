@@ -91,6 +91,7 @@ mod calls {
             locator: *const u8,
             locator_len: usize,
         ) -> u64;
+        pub fn lomkhvide_load_stakes(file: *const u8, file_len: usize, stakes: *mut u8, stakes_len: usize) -> u64;
         pub fn lomkhvide_is_open(calendar: *const u8, calendar_len: usize, time: u64) -> u64;
         pub fn lomkhvide_next_open(calendar: *const u8, calendar_len: usize, time: u64, found: *mut u8, found_len: usize) -> u64;
     }
@@ -457,6 +458,23 @@ impl Committee {
     }
 }
 
+/// Loads stakes into the bytes that are lent for them, and answers how many there are; or 56, 57, 1 to 4, 40.
+fn load_stakes(file: &[u8], stakes: &mut [u8]) -> Result<usize, Refused> {
+    // The slices are lent for the call alone. The borrow checker sees to it that the one that it writes overlaps no other.
+    let word = unsafe { calls::lomkhvide_load_stakes(file.as_ptr(), file.len(), stakes.as_mut_ptr(), stakes.len()) };
+    Ok(answer(word)? as usize)
+}
+
+impl Committee {
+    /// Loads a network's own stakes from the bytes of its file `stakes`; no bytes are the course committee. Or 56, 57, 1 to 4.
+    pub fn load(file: &[u8]) -> Result<Committee, Refused> {
+        let mut stakes = vec![0; 8 * 128];
+        let members = load_stakes(file, &mut stakes)?;
+        stakes.truncate(8 * members);
+        Committee::from_bytes(stakes)
+    }
+}
+
 /// A window of a blast calendar: start and end (excluded) in seconds of the week, which begins on Monday at 0:00.
 #[derive(Clone, Copy, Debug, PartialEq, Eq)]
 pub struct Window {
@@ -501,6 +519,65 @@ impl Calendar {
 #[cfg(test)]
 mod tests {
     use super::*;
+
+    /// A record of the file of stakes.
+    fn member(next: u16, name: &[u8], stake: u64) -> Vec<u8> {
+        let mut bytes = next.to_le_bytes().to_vec();
+        bytes.extend(name);
+        bytes.resize(18, 0);
+        bytes.extend(stake.to_le_bytes());
+        bytes
+    }
+
+    fn stakes_file(first: u16, members: &[Vec<u8>]) -> Vec<u8> {
+        [first.to_le_bytes().to_vec(), members.concat()].concat()
+    }
+
+    #[test]
+    fn loaded_stakes() {
+        let loaded = |first, members: &[Vec<u8>]| Committee::load(&stakes_file(first, members));
+        let words = |committee: Committee| words_of(committee.stakes());
+        assert_eq!(Committee::load(&[]).map(words), Ok(vec![5, 3, 3, 2, 2, 1, 1]));
+        let three = [member(0, b"quarry", 7), member(3, b"karst", 2), member(1, b"dam", 3)];
+        assert_eq!(loaded(2, &three).map(words), Ok(vec![2, 3, 7]), "members in chain order");
+        assert_eq!(loaded(1, &three).map(words), Ok(vec![7]), "records off the chain are not looked at");
+        assert_eq!(loaded(0, &three), Err(Refused(1)));
+        assert_eq!(loaded(4, &three), Err(Refused(56)));
+        assert_eq!(loaded(1, &[member(2, b"karst", 2), member(1, b"quarry", 7)]), Err(Refused(56)));
+        assert_eq!(loaded(1, &[member(2, b"karst", 2), member(0, b"karst", 0)]), Err(Refused(57)));
+        assert_eq!(loaded(1, &[member(0, b"", 2)]), Err(Refused(57)));
+        assert_eq!(loaded(1, &[member(0, b"a\0b", 2)]), Err(Refused(57)));
+        assert_eq!(loaded(1, &[member(2, b"a", 2), member(0, b"b", 0)]), Err(Refused(2)));
+        let many = |count: u16| -> Vec<u8> {
+            let named = |i: u16| member((i + 1) % (count + 1), &i.to_be_bytes().map(|b| b + 1), 1);
+            stakes_file(1, &(1..=count).map(named).collect::<Vec<_>>())
+        };
+        assert_eq!(Committee::load(&many(128)).unwrap().total_stake(), 128);
+        assert_eq!(Committee::load(&many(129)), Err(Refused(3)));
+        let good = stakes_file(2, &three);
+        for length in 0..good.len() {
+            let got = Committee::load(&good[..length]).map(|committee| committee.total_stake());
+            let want = if length == 0 { Ok(17) } else { Err(Refused(56)) };
+            assert_eq!(got, want, "{length} bytes of the file");
+        }
+    }
+
+    #[test]
+    fn every_length_for_loaded_stakes() {
+        let file = stakes_file(1, &[member(2, b"karst", 2), member(0, b"quarry", 7)]);
+        for length in 0..=1100 {
+            let mut stakes = vec![9; length];
+            let want = if length == 1024 { Ok(2) } else { Err(Refused(40)) };
+            assert_eq!(load_stakes(&file, &mut stakes), want, "{length} bytes for stakes");
+            let mut kept = vec![9; length];
+            if length == 1024 {
+                kept[..16].copy_from_slice(&bytes_of(&[2, 7]));
+            }
+            assert_eq!(stakes, kept, "{length} bytes for stakes");
+            assert_eq!(load_stakes(&file[1..], &mut stakes), Err(Refused(56)), "40 comes last");
+            assert_eq!(stakes, kept, "a refusal writes nothing");
+        }
+    }
 
     #[test]
     fn committees() {

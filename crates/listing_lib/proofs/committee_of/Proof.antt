@@ -10,20 +10,13 @@ use Rattle.listing_lib.specs.Input.{listedStakes}
 use borrow.Author.Needs.{needs}
 use Rattle.listing_lib.proofs.committee_of.Statement.{statement}
 use Rattle.listing_lib.proofs.committee_of.Tie as tie
-use Rattle.listing_lib.proofs.committee_of.Reads as reads
-use Rattle.listing_lib.proofs.committee_of.Lts as lts
-use Rattle.stakes_file.proofs.load.Reads as load-reads
-use Rattle.words.proofs.words_of.Reads as words-of-reads
 
--- src/lib.rt:64:9
 load-requires : tie.Need-load-requires
 load-requires c κs = search needs
 
--- src/lib.rt:64:9
 same-length : tie.Need-same-length
 same-length c = search needs
 
--- src/lib.rt:64:9
 returns : tie.Need-returns
 unfolding listedStakes
 returns c =
@@ -32,25 +25,20 @@ returns c =
     let t = loaded-front (start .stakes .now) (l .last .1 .0) (l .result) (omega arith) (start .file .now) (l .ensures .0) (l .ensures .1) in
     (at-most 128 254 (l .result) (omega arith) (t .0), t .1 ∙ (rw (eq-eqb (start .count) 255 (omega arith))))
 
--- src/lib.rt:67:27
 slice-relend-prefix-words-of : tie.Need-slice-relend-prefix-words-of
 slice-relend-prefix-words-of c = search needs
 
--- src/lib.rt:67:27
 slice-aggregate-words-of : tie.Need-slice-aggregate-words-of
 slice-aggregate-words-of c =
     let start = c .before .before .before .before .before .args in
     sym (length-take-le (start .count) (start .stakes .now) (omega arith))
 
--- src/lib.rt:67:5
 words-of-requires : tie.Need-words-of-requires
 words-of-requires c κs = search needs
 
--- src/lib.rt:59:1
 same-length-2 : tie.Need-same-length-2
 same-length-2 c = search needs
 
--- src/lib.rt:59:1
 returns-2 : tie.Need-returns-2
 unfolding listedStakes stakesIn
 returns-2 c =

@@ -4,62 +4,44 @@ use native.Mathlib.Omega.{arith}
 use borrow.Author.Needs.{needs}
 use Rattle.listing_stakes.proofs.read_stakes.Statement.{statement}
 use Rattle.listing_stakes.proofs.read_stakes.Tie as tie
-use Rattle.listing_stakes.proofs.read_stakes.Reads as reads
-use Rattle.listing_stakes.proofs.read_stakes.Lts as lts
-use Rattle.listing_io.proofs.read_front.Reads as read-front-reads
-use Rattle.listing_lib.proofs.committee_of.Reads as committee-of-reads
-use Rattle.listing_lib.proofs.stake_bytes.Reads as stake-bytes-reads
-use Rattle.listing_stakes.proofs.read_table.Reads as read-table-reads
 
--- src/lib.rt:53:9
 stake-bytes-requires : tie.Need-stake-bytes-requires
 stake-bytes-requires c κs = search needs
 
--- src/lib.rt:54:42
 slice-aggregate-read-front : tie.Need-slice-aggregate-read-front
 slice-aggregate-read-front c = search needs
 
--- src/lib.rt:54:9
 read-front-requires : tie.Need-read-front-requires
 read-front-requires c κs = search needs
 
--- src/lib.rt:56:37
 slice-aggregate-read-table : tie.Need-slice-aggregate-read-table
 slice-aggregate-read-table c = search needs
 
--- src/lib.rt:56:9
 read-table-requires : tie.Need-read-table-requires
 read-table-requires c κs = search needs
 
--- src/lib.rt:57:38
 array-share-prefix-bytes : tie.Need-array-share-prefix-bytes
 array-share-prefix-bytes c = search needs
 
--- src/lib.rt:57:38
 slice-aggregate-committee-of : tie.Need-slice-aggregate-committee-of
 slice-aggregate-committee-of c =
     let got = c .before .before .before .before .before .read-front in
     sym (length-take-le (got .result) (got .last .1 .0) (omega (arith, got .ensures, got .kept .1 .0)))
 
--- src/lib.rt:57:53
 array-share-prefix-file : tie.Need-array-share-prefix-file
 array-share-prefix-file c = search needs
 
--- src/lib.rt:57:53
 slice-aggregate-committee-of-2 : tie.Need-slice-aggregate-committee-of-2
 slice-aggregate-committee-of-2 c =
     let table = c .before .before .before .read-table in
     sym (length-take-le (table .result) (table .last .1 .1 .0) (omega (arith, table .ensures, table .kept .1 .1 .0)))
 
--- src/lib.rt:57:5
 committee-of-requires : tie.Need-committee-of-requires
 committee-of-requires c κs = search needs
 
--- src/lib.rt:48:1
 same-length : tie.Need-same-length
 same-length c = search needs
 
--- src/lib.rt:48:1
 returns : tie.Need-returns
 returns c = search needs
 
