@@ -3,6 +3,7 @@
 
 use crate::compare::{same, same_bytes, Memory, Outcome};
 use crate::engine::{self, Answer};
+use crate::generate;
 use crate::list::List;
 use crate::model::calendar;
 use crate::model::committee::{Committee, COURSE};
@@ -146,7 +147,15 @@ fn cases() -> Vec<Case> {
     let positions = ("positions", vec![5; lent::POSITION_BYTES], lent::POSITION_BYTES + 16);
     let found = ("locator written", vec![5; 56], 80);
     let stretches = ("stretches", vec![5; lent::STRETCHES_BYTES], lent::STRETCHES_BYTES + 100);
+    let file = generate::stakes_file::good(&COURSE);
+    let room = ("stakes written", vec![5; lent::STAKES_BYTES], lent::STAKES_BYTES + 100);
     vec![
+        Case {
+            name: "load_stakes",
+            slices: vec![("file", file.clone(), file.len() + 100), room],
+            engine: over!(|file, stakes| engine::load_stakes(file, stakes)),
+            model: over!(|file, stakes| lent::load_stakes(file, stakes)),
+        },
         Case {
             name: "new_committee",
             slices: vec![stakes.clone()],

@@ -1,4 +1,4 @@
-//! Reference runs: the engine, the unchanged Rust and a model of document 01 on the same lists.
+//! Reference runs: the engine, the unchanged Rust and a model of documents 01 and 02 on the same lists.
 
 pub mod boundary;
 pub mod calendars;
@@ -12,6 +12,7 @@ pub mod generate;
 pub mod graphs;
 pub mod inputs;
 pub mod list;
+pub mod members;
 pub mod model;
 pub mod program;
 pub mod questions;
@@ -21,4 +22,5 @@ pub mod rust;
 #[cfg(has_rust)]
 pub mod sample;
 pub mod shrink;
+pub mod tables;
 pub mod tally;

@@ -7,7 +7,7 @@ use std::time::{Duration, Instant};
 use reference::compare::compare;
 use reference::list::List;
 use reference::tally::Tally;
-use reference::{calendars, exhaustive, generate, program, shrink};
+use reference::{calendars, exhaustive, generate, members, program, shrink, tables};
 
 fn main() {
     let words: Vec<String> = std::env::args().skip(1).collect();
@@ -22,8 +22,11 @@ fn main() {
         Some("list") => one(number(word(1), 0), number(word(2), 1)),
         Some("boundary") => boundary(word(1) == Some("exact")),
         Some("listing") => listing(number(word(1), 1000), number(word(2), 1)),
-        Some("model") => model(word(1).expect("a file")),
+        Some("stakes") => tables(number(word(1), 100_000), number(word(2), 1)),
+        Some("model") => model(word(1).expect("a file"), word(2)),
         Some("inputs") => inputs(word(1) == Some("check")),
+        Some("stakes-file") => stakes_file(word(1).expect("a list")),
+        Some("stakes-list") => stakes_list(word(1).expect("a file of stakes")),
         #[cfg(has_rust)]
         Some("sample") => sample(word(1).expect("a folder"), word(2) == Some("check")),
         #[cfg(has_rust)]
@@ -151,7 +154,8 @@ fn listing(count: u64, seed: u64) {
     }
     let mut failed = 0;
     for n in 0..count {
-        if let Err(text) = program::run(&program::input(seed, n)) {
+        let (input, file) = program::input(seed, n);
+        if let Err(text) = program::run(&input, file.as_deref()) {
             failed += 1;
             println!("input {n} of seed {seed}: {text}");
         }
@@ -159,10 +163,46 @@ fn listing(count: u64, seed: u64) {
     end(count, failed);
 }
 
-/// What `listing` prints for an input, by the model.
-fn model(file: &str) {
-    let input = std::fs::read(file).expect("the input");
-    print!("{}", reference::model::listing::listing(&input));
+/// Generated files of stakes, whole and damaged.
+fn tables(count: u64, seed: u64) {
+    println!("seed {seed}");
+    let (mut met, mut failed) = (Default::default(), 0);
+    for n in 0..count {
+        if let Err(text) = tables::compare(&generate::stakes_file::file(seed, n), &mut met) {
+            failed += 1;
+            println!("file {n} failed: {text}");
+        }
+    }
+    println!("{}", tables::describe(&met));
+    end(count, failed);
+}
+
+/// What `listing` prints for an input, and a file of stakes, by the model.
+fn model(input: &str, stakes: Option<&str>) {
+    let input = std::fs::read(input).expect("the input");
+    let stakes = stakes.map_or(vec![], |file| std::fs::read(file).expect("the file of stakes"));
+    print!("{}", reference::model::listing::listing(&input, &stakes));
+}
+
+/// The file of stakes of a list, to standard output.
+fn stakes_file(list: &str) {
+    match members::from_list(&std::fs::read_to_string(list).expect("the list")) {
+        Ok(file) => std::io::stdout().write_all(&file).expect("the file of stakes is written"),
+        Err(text) => fail(&text),
+    }
+}
+
+/// The members of a file of stakes, as a list.
+fn stakes_list(file: &str) {
+    match members::to_list(&std::fs::read(file).expect("the file of stakes")) {
+        Ok(list) => print!("{list}"),
+        Err(text) => fail(&text),
+    }
+}
+
+fn fail(text: &str) -> ! {
+    eprintln!("{text}");
+    exit(1);
 }
 
 /// Writes the inputs that are checked in, or checks them; and checks the tables of the course page.

@@ -39,7 +39,7 @@ pub fn make() -> Vec<(String, Vec<u8>, String)> {
         if shown.is_subset(&seen) || bytes + input.len() > MOST_BYTES || text.lines().count() > MOST_LINES {
             continue;
         }
-        assert_eq!(text, listing(&input), "the model prints what the Rust's answers make");
+        assert_eq!(text, listing(&input, &[]), "the model prints what the Rust's answers make");
         seen.extend(shown);
         bytes += input.len();
         sample.push((format!("rust_{:02}.bin", sample.len() + 1), input, text));

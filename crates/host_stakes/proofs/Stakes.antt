@@ -5,18 +5,18 @@ use Prim.Native.Nat.{ℕ, _*_, _≤_}
 use native.Mathlib.Nat.{zero-add}
 use native.Mathlib.Omega.{arith}
 use lib.ListN.{length, take, drop, replicate}
-use lib.Seq.{sets, sets-eq}
+use lib.Seq.{sets-eq}
 use borrow.Author.Tests.{eq-eqb, ne-eqb}
 use Rattle.base.specs.Checks.{answered, refused}
 use Rattle.base.specs.Le.{Bytes}
 use Rattle.words.specs.Words.{bytesOf}
 use Rattle.words.proofs.Words.{length-bytesOf}
-use Rattle.stakes_file.specs.Load.{LoadCall, load, loadedInto}
+use Rattle.stakes_file.specs.Load.{load, loadedInto}
 use Rattle.stakes_file.specs.Answers.{asLoad, stakesIn, membersAtMost}
 use Rattle.stakes_file.specs.declared.LoadAnswer.{LoadAnswer}
 use Rattle.stakes_file.specs.declared.LoadAnswer.the-variants.{Members, Refused}
 use Rattle.stakes_file.proofs.Front.{loaded-front, members-fit, load-most}
-use Rattle.host_stakes.specs.LoadStakes.{LoadStakesCall, loadedBytes}
+use Rattle.host_stakes.specs.LoadStakes.{loadedBytes}
 
 module _ (c : List ℕ) (b : Bytes) where
   pub put-other : (length b ≡ 1024 → ⊥) → loadedBytes (answered c) b ≡ record { answer = refused 40; stakes = b }

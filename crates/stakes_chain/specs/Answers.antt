@@ -2,7 +2,7 @@
 use Prim.Native.Nat.{ℕ, _≤_}
 use mathlib.Core.List.{List}
 use mathlib.Core.Option.{Option, none, some}
-use lib.ListN.{length, take}
+use lib.ListN.{take}
 use Rattle.stakes_chain.specs.declared.ChainAnswer.{ChainAnswer}
 use Rattle.stakes_chain.specs.declared.ChainAnswer.the-variants.{Members, Broken}
 

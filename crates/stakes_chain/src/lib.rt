@@ -1,9 +1,8 @@
 // The chain of records in the file `stakes` (document 02, "Five").
 ghost use mathlib.Core.Path.{_≡_};
-ghost use mathlib.Core.Bool.{true};
-ghost use Prim.Native.Nat.{_+_, _<_, _≤_};
+ghost use Prim.Native.Nat.{_<_};
 ghost use lib.ListN.{length};
-ghost use Rattle.stakes_chain.specs.Layout.{wellSized, recordCount, place};
+ghost use Rattle.stakes_chain.specs.Layout.{wellSized, place};
 ghost use Rattle.stakes_chain.specs.Chain.{chainOf};
 ghost use Rattle.stakes_chain.specs.Answers.{asChain, countFits};
 ghost use Rattle.stakes_chain.specs.Claims.{Claims};

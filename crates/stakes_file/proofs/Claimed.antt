@@ -3,18 +3,16 @@ use mathlib.Core.Path.{_≡_, refl, sym, ap, _∙_, subst}
 use mathlib.Core.Bool.{Bool, true, false}
 use mathlib.Core.List.{List, [], _∷_, map}
 use mathlib.Core.Option.{Option, none, some}
-use Prim.Native.Nat.{ℕ, _+_, _≤_}
+use Prim.Native.Nat.{ℕ}
 use native.Mathlib.Omega.{arith}
-use lib.ListN.{length, take, drop}
 use Rattle.base.specs.Lists.{isEmpty, _∈_, here, there}
 use Rattle.base.specs.Checks.{passes, checked, refused, answered}
 use Rattle.base.specs.Le.{Bytes, leAt, leNumber}
-use Rattle.base.proofs.Tests.{fails, not-both}
+use Rattle.base.proofs.Tests.{not-both}
 use Rattle.committee.proofs.Computing.{computing}
 use Rattle.committee.specs.Committee.{Committee, committeeChecks, broken, courseCommittee}
 use Rattle.stakes_chain.specs.Layout.{place}
 use Rattle.stakes_chain.specs.Chain.{Chained, chainOf}
-use Rattle.stakes_chain.specs.Claims.{SameOnChain}
 use Rattle.stakes_chain.proofs.Chains.{chain-found, off-chain, part-same}
 use Rattle.stakes_names.specs.Names.{nameAt, goodNames, WellNamed}
 use Rattle.stakes_names.proofs.Names.{names-meant}

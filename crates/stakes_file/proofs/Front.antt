@@ -7,7 +7,7 @@ use Prim.Native.Nat.{ℕ, _≤_, _<_}
 use native.Mathlib.Decide.{decLt}
 use native.Mathlib.Omega.{arith}
 use lib.Dec.{leb}
-use lib.ListN.{length, take}
+use lib.ListN.{length}
 use lib.Seq.{sets, sets-eq, take-at}
 use borrow.Author.Tests.{le-leb}
 use Rattle.base.specs.Lists.{isEmpty}
@@ -19,7 +19,7 @@ use Rattle.stakes_chain.specs.Chain.{chainOf}
 use Rattle.stakes_names.specs.Names.{nameAt, goodNames}
 use Rattle.stakes_file.specs.declared.LoadAnswer.{LoadAnswer}
 use Rattle.stakes_file.specs.declared.LoadAnswer.the-variants.{Members, Refused}
-use Rattle.stakes_file.specs.Load.{LoadCall, membersAt, loadAlong, load, loadedInto}
+use Rattle.stakes_file.specs.Load.{membersAt, loadAlong, load, loadedInto}
 use Rattle.stakes_file.specs.Answers.{asLoad, stakesIn, membersAtMost}
 use Rattle.stakes_file.proofs.Loaded.{clash, refused-same, small-refusal, load-empty, load-broken, load-some, along-bad, along-good}
 use Rattle.stakes_file.proofs.Claimed.{load-sound}

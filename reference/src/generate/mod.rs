@@ -3,6 +3,7 @@
 mod graph;
 mod special;
 mod stakes;
+pub mod stakes_file;
 
 use crate::damage::damaged;
 use crate::list::List;

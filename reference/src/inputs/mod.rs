@@ -4,6 +4,7 @@ mod counted;
 mod course;
 mod input;
 mod refused;
+mod stakes;
 
 use std::fs;
 use std::path::Path;
@@ -31,14 +32,33 @@ fn inputs() -> Vec<Named> {
 fn files(inputs: &[Named]) -> Vec<(String, Vec<u8>)> {
     let course_run = &inputs[0].1;
     let args: String = inputs.iter().map(|(name, _)| format!("{name}.bin\n")).collect();
-    let stdout: String = inputs.iter().map(|(name, input)| format!("== {name}.bin\n{}", listing(input))).collect();
+    let stdout: String = inputs.iter().map(|(name, input)| format!("== {name}.bin\n{}", listing(input, &[]))).collect();
     let mut files = vec![
         ("listing/stdin".into(), course_run.clone()),
-        ("listing/stdout".into(), listing(course_run).into_bytes()),
+        ("listing/stdout".into(), listing(course_run, &[]).into_bytes()),
         ("listing_runs/args".into(), args.into_bytes()),
         ("listing_runs/stdout".into(), stdout.into_bytes()),
     ];
     files.extend(inputs.iter().map(|(name, input)| (format!("listing_runs/data/{name}.bin"), input.clone())));
+    files.extend(files_of_stakes());
+    files
+}
+
+/// Those of `stakes_runs`: its input with the file `stakes`, then with every other one, and last with one that is absent.
+fn files_of_stakes() -> Vec<(String, Vec<u8>)> {
+    let (input, good, mut tables) = (stakes::input(), stakes::good(), stakes::tables());
+    let mut files: Vec<_> =
+        tables.iter().map(|(name, table)| (format!("stakes_runs/data/{name}.stakes"), table.clone())).collect();
+    tables.push(("absent", vec![]));
+    let args: String = tables.iter().map(|(name, _)| format!("{name}.stakes\n")).collect();
+    let runs: String = tables.iter().map(|(name, table)| format!("== {name}.stakes\n{}", listing(&input, table))).collect();
+    let stdout = format!("== input.bin\n{}{runs}", listing(&input, &good));
+    files.extend([
+        ("stakes_runs/data/input.bin".into(), input),
+        ("stakes_runs/data/stakes".into(), good),
+        ("stakes_runs/args".into(), args.into_bytes()),
+        ("stakes_runs/stdout".into(), stdout.into_bytes()),
+    ]);
     files
 }
 
@@ -61,7 +81,7 @@ fn columns(page: &str, name: &str) -> [String; 2] {
 
 /// What is wrong with an exercise of the course page, if anything.
 fn exercise(page: &str, name: &str, input: &[u8], mistake: Mistake) -> Result<(), String> {
-    let lines = [listing(input), mistaken_listing(input, Some(mistake))];
+    let lines = [listing(input, &[]), mistaken_listing(input, &[], Some(mistake))];
     if lines[0] == lines[1] {
         return Err(format!("{name}: the mistake shows nowhere"));
     }

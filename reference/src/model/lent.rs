@@ -4,6 +4,7 @@ use super::committee::{Committee, Votes};
 use super::feed::{Event, State};
 use super::finality::{Finality, Graph};
 use super::record::{locator_of, number, Locator};
+use super::stakes_file;
 use super::store::Stores;
 use super::table::Table;
 
@@ -16,6 +17,18 @@ pub const STRETCHES_BYTES: usize = STRETCH_BYTES * MOST_STRETCHES;
 
 pub fn new_committee(stakes: &[u8]) -> Answer {
     Ok(Committee::set_from_bytes(stakes)?.total)
+}
+
+pub const STAKES_BYTES: usize = 8 * 128;
+
+/// The members of a file of stakes, written to the front; 40 comes last.
+pub fn load_stakes(file: &[u8], stakes: &mut [u8]) -> Answer {
+    let committee = stakes_file::load(file)?;
+    if stakes.len() != STAKES_BYTES {
+        return Err(40);
+    }
+    put_words(stakes, &committee.stakes);
+    Ok(committee.stakes.len() as u64)
 }
 
 pub fn add(stakes: &[u8], aggregator: &mut [u8], voter: u64) -> Answer {

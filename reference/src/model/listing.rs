@@ -1,10 +1,11 @@
-//! 01, "Program `listing`": the lines that it prints.
+//! 01, "Program `listing`": the lines that it prints; its committee for the member count 255 as in 02.
 
-use super::committee::{Committee, COURSE};
+use super::committee::Committee;
 use super::feed::{Event, Kind, State, EVENT_BYTES};
 use super::finality::Graph;
 use super::mistake::Mistake;
 use super::record::{number, Locator};
+use super::stakes_file;
 
 /// The store that `listing` lends.
 pub const STORE_BYTES: usize = 65_536;
@@ -45,39 +46,39 @@ impl Lines {
     }
 }
 
-/// What an input holds: the stakes, then the records, and whether its framing broke after them.
-pub fn read(input: &[u8]) -> (Vec<u64>, Vec<&[u8]>, bool) {
+/// What an input holds: the committee, then the records, and whether its framing broke after them. `file` is the file of stakes.
+pub fn read<'a>(input: &'a [u8], file: &[u8]) -> (Result<Committee, u64>, Vec<&'a [u8]>, bool) {
     let byte = |i: usize| input.get(i).copied().unwrap_or(0);
-    let (stakes, mut at) = match byte(0) {
-        255 => (COURSE.to_vec(), 1),
+    let (committee, mut at) = match byte(0) {
+        255 => (stakes_file::load(file), 1),
         count => {
             let stake = |i: usize| number(&[0, 1, 2, 3, 4, 5, 6, 7].map(|j| byte(1 + 8 * i + j)));
-            ((0..count as usize).map(stake).collect(), 1 + 8 * count as usize)
+            (Committee::new(&(0..count as usize).map(stake).collect::<Vec<_>>()), 1 + 8 * count as usize)
         }
     };
     let mut records = Vec::new();
     while at < input.len() {
-        let Some(length) = input.get(at..at + 4).map(number) else { return (stakes, records, true) };
+        let Some(length) = input.get(at..at + 4).map(number) else { return (committee, records, true) };
         let record = input.get(at + 4..at + 4 + length as usize);
         match record {
             Some(record) if length <= LONGEST_RECORD => records.push(record),
-            _ => return (stakes, records, true),
+            _ => return (committee, records, true),
         }
         at += 4 + length as usize;
     }
-    (stakes, records, false)
+    (committee, records, false)
 }
 
-/// What `listing` prints for an input.
-pub fn listing(input: &[u8]) -> String {
-    mistaken_listing(input, None)
+/// What `listing` prints for an input beside a file of stakes; an absent one is empty.
+pub fn listing(input: &[u8], file: &[u8]) -> String {
+    mistaken_listing(input, file, None)
 }
 
 /// What it would print, did it make this mistake.
-pub fn mistaken_listing(input: &[u8], mistake: Option<Mistake>) -> String {
-    let (stakes, records, broken) = read(input);
+pub fn mistaken_listing(input: &[u8], file: &[u8], mistake: Option<Mistake>) -> String {
+    let (committee, records, broken) = read(input, file);
     let mut lines = Lines::default();
-    let committee = match Committee::new(&stakes) {
+    let committee = match committee {
         Ok(committee) => committee.mistaken(mistake),
         Err(number) => {
             lines.refused(0, number);

@@ -10,5 +10,6 @@ pub mod lent;
 pub mod listing;
 pub mod mistake;
 pub mod record;
+pub mod stakes_file;
 pub mod store;
 pub mod table;

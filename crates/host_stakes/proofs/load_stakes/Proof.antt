@@ -1,5 +1,4 @@
 use mathlib.Core.Path.{sym}
-use lib.ListN.{length}
 use lib.Seq.{length-take-le}
 use native.Mathlib.Omega.{arith}
 use Rattle.host_calls.specs.Calls.{encoded}

@@ -1,6 +1,5 @@
 use mathlib.Core.Path.{sym, _∙_}
 use native.Mathlib.Omega.{arith}
-use lib.ListN.{length, take}
 use lib.Seq.{length-take-le}
 use Rattle.stakes_chain.proofs.Chains.{chain-found, chained-inside}
 use Rattle.stakes_file.specs.Load.{loadedInto}
