@@ -100,7 +100,7 @@ uint64_t lomkhvide_payload_start(const uint8_t *stakes, size_t stakes_len, const
  * (zero padded, not empty), a stake 8. Indexes start at 1, the leading one names the first record, and 0 ends the chain.
  * Refused, in this order: 56 over 65,536 bytes, bytes that end inside the index or a record, an index that is not in the file or comes a
  * second time; 57 a bad or repeated name on the chain; 1 to 4 as of a committee; 40 `stakes` not of 128 words.
- * It needs at most 28 KB of stack. */
+ * It needs at most 32 KB of stack. */
 #define LOMKHVIDE_STAKES_LEN ((size_t)1024)
 uint64_t lomkhvide_load_stakes(const uint8_t *file, size_t file_len, uint8_t *stakes, size_t stakes_len);
 

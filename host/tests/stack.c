@@ -48,6 +48,14 @@ static void next_open(void) {
     answer = lomkhvide_next_open(calendar, sizeof calendar, 345600, found, sizeof found);
 }
 
+/* One member: "k", stake 1. */
+static const uint8_t file[28] = {[0] = 1, [4] = 'k', [20] = 1};
+static uint8_t stakes[LOMKHVIDE_STAKES_LEN];
+
+static void load_stakes(void) {
+    answer = lomkhvide_load_stakes(file, sizeof file, stakes, sizeof stakes);
+}
+
 static int failed;
 
 static void at_most(const char *what, void (*call)(void), uint64_t want, size_t most) {
@@ -69,6 +77,7 @@ int main(void) {
     }
     at_most("is_open", is_open, 0, 2048);
     at_most("next_open", next_open, 1, 2048);
-    printf("%d passed, %d failed\n", 2 - failed, failed);
+    at_most("load_stakes", load_stakes, 1, 32768);
+    printf("%d passed, %d failed\n", 3 - failed, failed);
     return failed != 0;
 }
