@@ -2,7 +2,7 @@
 use mathlib.Core.Path.{_≡_, refl, sym}
 use mathlib.Core.List.{List, [], _∷_, _++_}
 use mathlib.Core.Bool.{Bool, true, false, not, _&&_}
-use Prim.Native.Nat.{_<_}
+use Prim.Native.Nat.{ℕ, _<_}
 use native.Mathlib.Omega.{arith}
 use lib.Dec.{eqb}
 use borrow.Author.Tests.{not-true, ne-eqb}
@@ -10,7 +10,7 @@ use Rattle.base.specs.Lists.{pick, allOf, _∈_}
 use Rattle.base.proofs.Members.{all-in}
 use Rattle.base.proofs.Tests.{and-left, and-right}
 use Rattle.base.proofs.Lists.{all-left, all-right, Every, none-of, and}
-use Rattle.base.specs.Checks.{Check, refusal, passes}
+use Rattle.base.specs.Checks.{Check, refusal, passes, refused, answered, checked}
 
 -- the first check does not apply, and no other does
 pub passes-first : (k : Check) (ks : List Check) → passes (k ∷ ks) ≡ true → k .applies ≡ false
@@ -55,3 +55,21 @@ refusal-append (k ∷ ks) ys = split (k .applies) refl (refusal-append ks ys)
         → refusal (k ∷ ks ++ ys) ≡ pick (passes (k ∷ ks)) (refusal ys) (refusal (k ∷ ks))
     split true e ih = rw e
     split false e ih = rw e ih
+
+-- a call answered: no check applied, and that is the value
+pub checked-answered : {A : Type 0} (ks : List Check) (a b : A) → checked ks a ≡ answered b → (passes ks ≡ true) × (a ≡ b)
+unfolding checked
+checked-answered {A} ks a b h = go (passes ks) refl h
+  where
+    go : (t : Bool) → passes ks ≡ t → pick t (answered a) (refused (refusal ks)) ≡ answered b → (passes ks ≡ true) × (a ≡ b)
+    go true e k = (e, cc)
+    go false e k = let z : _≡_ {A = ℕ} 0 1 = cc in absurd (omega arith)
+
+-- a call refused: a check applied
+pub checked-refused : {A : Type 0} (ks : List Check) (a : A) (n : ℕ) → checked ks a ≡ refused n → passes ks ≡ false
+unfolding checked
+checked-refused {A} ks a n h = go (passes ks) h
+  where
+    go : (t : Bool) → pick t (answered a) (refused (refusal ks)) ≡ refused n → t ≡ false
+    go true k = let z : _≡_ {A = ℕ} 0 1 = cc in absurd (omega arith)
+    go false k = refl

@@ -7,8 +7,8 @@ use native.Mathlib.Numerals.{add-one}
 use native.Mathlib.Omega.{arith}
 use lib.Dec.{lit<}
 use lib.Arith.{mod-mul}
-use lib.ListN.{length, getD, set}
-use lib.Seq.{drop-cons, sets, getD-set-other}
+use lib.ListN.{length, getD, set, take}
+use lib.Seq.{drop-cons, sets, getD-set-other, take-suc, length-take-le}
 use Rattle.base.specs.Le.{leNumber, leBytes, leAt}
 
 -- every element is a byte
@@ -118,6 +118,11 @@ leBytes-mod (suc n) v =
 pub sets-append : (vs ws l : List ℕ) (i : ℕ) → sets l i (vs ++ ws) ≡ sets (sets l i vs) (i + length vs) ws
 sets-append [] ws l i = simp add-zero
 sets-append (a ∷ vs) ws l i = sets-append vs ws (set l i a) (suc i) ∙ rw (suc-add, ← add-suc)
+
+-- one byte more of a copy
+pub copied : (l from : List ℕ) (at i : ℕ) → i < length from → sets l at (take (i + 1) from) ≡ set (sets l at (take i from)) (at + i) (getD from i 0)
+copied l from at i h =
+    rw (add-one i, take-suc from i 0 h, sets-append (take i from) (getD from i 0 ∷ []) l at, length-take-le i from (omega arith))
 
 -- two numbers written one after the other are the bytes of the whole
 pub written-add : (m n v : ℕ) (l : List ℕ) (p : ℕ) → sets (sets l p (leBytes m v)) (p + m) (leBytes n (v / 256 ^ m)) ≡ sets l p (leBytes (m + n) v)

@@ -30,6 +30,16 @@ module _ {A : Type 0} where
   pairwise p [] = true
   pairwise p (x ∷ xs) = allOf (p x) xs && pairwise p xs
 
+  -- the test holds of the first element, if there is one
+  unfoldable pub firstIs : (A → Bool) → List A → Bool
+  firstIs p [] = true
+  firstIs p (x ∷ xs) = p x
+
+  -- the test holds of every element with the next one
+  unfoldable pub adjacent : (A → A → Bool) → List A → Bool
+  adjacent p [] = true
+  adjacent p (x ∷ xs) = firstIs (p x) xs && adjacent p xs
+
   -- the elements of which the test holds
   unfoldable pub keep : (A → Bool) → List A → List A
   keep p [] = []

@@ -2,7 +2,7 @@
 use Prim.Native.Nat.{ℕ, zero, suc}
 use mathlib.Core.Bool.{Bool}
 use mathlib.Core.List.{List, [], _∷_}
-use mathlib.Core.Option.{Option, none, some}
+use mathlib.Core.Option.{Option, none, some, Option·map}
 use lib.Dec.{leb}
 use lib.ListN.{length, take, drop}
 use Rattle.base.specs.Lists.{pick, isEmpty}
@@ -56,3 +56,17 @@ repeated (suc n) m = do
 unfoldable pub complete : {A : Type 0} → Option (Part A) → Option A
 complete none = none
 complete (some p) = pick (isEmpty (p .rest)) (some (p .value)) none
+
+-- the first of a list with the others, or nothing
+unfoldable pub andOthers : {A : Type 0} → Option (Part A) → (List ℕ → Option (List A)) → Option (List A)
+andOthers none f = none
+andOthers (some p) f = Option·map (λ xs. p .value ∷ xs) (f (p .rest))
+
+-- the same up to the end, at most n times
+unfoldable pub upTo : {A : Type 0} → ℕ → Read A → List ℕ → Option (List A)
+upTo zero m s = pick (isEmpty s) (some []) none
+upTo (suc n) m s = pick (isEmpty s) (some []) (andOthers (m s) (upTo n m))
+
+-- as often as it can be where each takes a byte at least: up to the end, or nothing
+unfoldable pub toEnd : {A : Type 0} → Read A → List ℕ → Option (List A)
+toEnd m s = upTo (length s) m s

@@ -1,4 +1,4 @@
-// Little-endian numbers in byte slices (bincode writes them so in the Rust).
+// Little-endian numbers in byte slices (bincode writes them so in the Rust), and bytes copied.
 ghost use mathlib.Core.Path.{_≡_};
 ghost use Prim.Native.Nat.{_+_, _≤_};
 ghost use lib.ListN.{length};
@@ -54,4 +54,16 @@ pub fn write_u64(s: &mut [u8], at: usize, v: u64)
 {
     write_u32(s, at, (v % 4294967296) as u32);
     write_u32(s, at + 4, (v / 4294967296) as u32);
+}
+
+// Copies bytes to a position, and changes no other.
+pub fn copy_to(s: &mut [u8], at: usize, from: &[u8])
+    requires { ⌜ at + length (now from) ≤ length (now s) ⌝ }
+    ensures { λ r. ⌜ now (s .exit) ≡ sets (now (s .entry)) at (now (from .entry)) ⌝ }
+{
+    let mut i: usize = 0;
+    while i < from.len() {
+        s[at + i] = from[i];
+        i = i + 1;
+    }
 }

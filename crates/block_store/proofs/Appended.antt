@@ -5,11 +5,10 @@ use mathlib.Core.List.{List, [], _∷_, _++_, append-assoc}
 use mathlib.Core.Bool.{true, false}
 use Prim.Native.Nat.{ℕ, _+_, _-_, _≤_, _<_}
 use native.Mathlib.Omega.{arith}
-use native.Mathlib.Numerals.{add-one}
 use lib.Dec.{leb, ltb}
 use borrow.Author.Tests.{lt-ltb, le-ltb, ltb-false, leb-false}
-use lib.ListN.{length, take, drop, set, getD, replicate, length-append, length-drop, take-append-drop}
-use lib.Seq.{sets, drop-drop, take-suc, length-take-le}
+use lib.ListN.{length, take, drop, replicate, length-append, length-drop, take-append-drop}
+use lib.Seq.{sets, drop-drop, length-take-le}
 use Rattle.base.specs.Lists.{_∈_, here}
 use Rattle.base.specs.Le.{Bytes, leAt, leBytes}
 use Rattle.base.proofs.Tests.{fails, neither-left, neither-right}
@@ -51,11 +50,6 @@ two-parts f u n u′ n′ t a b b′ c c′ =
     ∙ ap (λ (k : ℕ). sets ((f ++ u′) ++ (n ++ t)) k n′) (sym eight)
     ∙ sets-seam n′ (f ++ u′) n t (c ∙ sym c′)
     ∙ append-assoc f u′ (n′ ++ t)
-
--- one byte more of a record
-pub copied : (l rec : List ℕ) (at i : ℕ) → i < length rec → sets l at (take (i + 1) rec) ≡ set (sets l at (take i rec)) (at + i) (getD rec i 0)
-copied l rec at i h =
-    rw (add-one i, take-suc rec i 0 h, sets-append (take i rec) (getD rec i 0 ∷ []) l at, length-take-le i rec (omega arith))
 
 -- an entry is written in three parts
 pub entry-written : (l rec : List ℕ) (at next size : ℕ) → sets (sets (sets l at (leBytes 4 next)) (at + 4) (leBytes 4 size)) (at + 8) rec ≡ sets l at (leBytes 4 next ++ (leBytes 4 size ++ rec))

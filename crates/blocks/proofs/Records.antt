@@ -77,11 +77,11 @@ locator-reads l h t =
     )
 
 -- a byte, as a number of one byte
-one-byte : (k : ℕ) → k < 256 → leBytes 1 k ≡ k ∷ []
+pub one-byte : (k : ℕ) → k < 256 → leBytes 1 k ≡ k ∷ []
 unfolding leBytes
 one-byte k h = let e : k % 256 ≡ k = omega arith in rw e
 
-byte-reads : (k : ℕ) (t : List ℕ) → k < 256 → number 1 (k ∷ t) ≡ some (part k t)
+pub byte-reads : (k : ℕ) (t : List ℕ) → k < 256 → number 1 (k ∷ t) ≡ some (part k t)
 byte-reads k t h = rw (one-byte k h) at (number-reads 1 k t h)
 
 pub statement-reads : (s : Statement) → StatementFits s → ReadsBack readStatement statementBytes s
@@ -128,7 +128,7 @@ mark-low : (m : Bool) → leb (pick m 1 0) 1 ≡ true
 mark-low true = refl
 mark-low false = refl
 
-mark-back : (m : Bool) → eqb (pick m 1 0) 1 ≡ m
+pub mark-back : (m : Bool) → eqb (pick m 1 0) 1 ≡ m
 mark-back true = refl
 mark-back false = refl
 
@@ -178,7 +178,7 @@ locator-back =
     record { are = rw (p .are, q .are); right = record { block = p .right; offset = q .fits } }
 
 -- what follows the kind byte k is a statement of that kind
-abbrev After : ℕ → List ℕ → Statement → Type 0
+abbrev pub After : ℕ → List ℕ → Statement → Type 0
 After k y s = One statementBytes StatementFits (k ∷ y) s
 
 share-back : Back readShare (After 0)
@@ -218,7 +218,7 @@ range-back =
     map-back _ (λ e. voteRange (newRange b s e)) (Number 8) _ (number-back 8) λ e z r.
     record { are = rw (p .are, q .are, r .are); right = record { block = p .right; start = q .fits; end = r .fits } }
 
-kind-back : (k : ℕ) → Back (readKind k) (After k)
+pub kind-back : (k : ℕ) → Back (readKind k) (After k)
 unfolding readKind
 kind-back k = go (eqb k 0) (eqb k 1) (eqb k 2) (eqb k 3) refl refl refl refl
   where
@@ -258,7 +258,7 @@ head-tests m i s zs h =
     }
 
 -- a mark of at most 1 is the byte of its test
-mark-byte : (m : ℕ) → m ≤ 1 → m ≡ pick (eqb m 1) 1 0
+pub mark-byte : (m : ℕ) → m ≤ 1 → m ≡ pick (eqb m 1) 1 0
 mark-byte m h = go (eqb m 1) refl
   where
     go : (t : Bool) → eqb m 1 ≡ t → m ≡ pick t 1 0
