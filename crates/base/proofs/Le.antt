@@ -7,7 +7,7 @@ use native.Mathlib.Numerals.{add-one}
 use native.Mathlib.Omega.{arith}
 use lib.Dec.{lit<}
 use lib.Arith.{mod-mul}
-use lib.ListN.{length, getD, set, take}
+use lib.ListN.{length, getD, set, take, drop, take-append-drop}
 use lib.Seq.{drop-cons, sets, getD-set-other, take-suc, length-take-le}
 use Rattle.base.specs.Le.{leNumber, leBytes, leAt}
 
@@ -32,6 +32,9 @@ bytes-left (x ∷ s) t h = (h .0, bytes-left s t (h .1))
 pub bytes-right : (s t : List ℕ) → AllBytes (s ++ t) → AllBytes t
 bytes-right [] t h = h
 bytes-right (x ∷ s) t h = bytes-right s t (h .1)
+
+pub bytes-drop : (n : ℕ) (s : List ℕ) → AllBytes s → AllBytes (drop n s)
+bytes-drop n s h = bytes-right (take n s) (drop n s) (rw (take-append-drop n s) h)
 
 pub length-leBytes : (n v : ℕ) → length (leBytes n v) ≡ n
 unfolding leBytes
@@ -119,10 +122,9 @@ pub sets-append : (vs ws l : List ℕ) (i : ℕ) → sets l i (vs ++ ws) ≡ set
 sets-append [] ws l i = simp add-zero
 sets-append (a ∷ vs) ws l i = sets-append vs ws (set l i a) (suc i) ∙ rw (suc-add, ← add-suc)
 
--- one byte more of a copy
-pub copied : (l from : List ℕ) (at i : ℕ) → i < length from → sets l at (take (i + 1) from) ≡ set (sets l at (take i from)) (at + i) (getD from i 0)
-copied l from at i h =
-    rw (add-one i, take-suc from i 0 h, sets-append (take i from) (getD from i 0 ∷ []) l at, length-take-le i from (omega arith))
+-- the next element of a list that is copied
+pub sets-next : (l vs : List ℕ) (p i : ℕ) → i < length vs → set (sets l p (take i vs)) (p + i) (getD vs i 0) ≡ sets l p (take (i + 1) vs)
+sets-next l vs p i h = sym (rw (add-one, take-suc vs i 0 h, sets-append (take i vs) (getD vs i 0 ∷ []) l p, length-take-le i vs (omega arith)))
 
 -- two numbers written one after the other are the bytes of the whole
 pub written-add : (m n v : ℕ) (l : List ℕ) (p : ℕ) → sets (sets l p (leBytes m v)) (p + m) (leBytes n (v / 256 ^ m)) ≡ sets l p (leBytes (m + n) v)

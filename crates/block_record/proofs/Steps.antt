@@ -13,7 +13,7 @@ use Rattle.base.proofs.Le.{leAt-byte}
 use Rattle.base.proofs.Read.{part}
 use Rattle.base.proofs.Fixed.{Fixed, fixed-items, fixed-bind, fixed-map, fixed-number, Least, least-zero, least-bind, reads-at, short-at, items-at, number-at}
 use Rattle.blocks.specs.Reference.{locator, newRange}
-use Rattle.blocks.specs.Block.{share, accept, reject, voteRange}
+use Rattle.blocks.specs.Block.{Statement, share, accept, reject, voteRange}
 use Rattle.blocks.specs.Record.{readReference, readLocator, readShare, readAccept, readOther, readReject, readRange, readKind, readStatement}
 use Rattle.types.specs.Step.{referenceAt, locatorAt}
 
@@ -94,29 +94,49 @@ module _ (s : List ℕ) (p : ℕ) where
   unfolding readKind fail
   kind-none h a b c d = rw (statement-on h, ne-eqb (getD s p 0) 0 a, ne-eqb (getD s p 0) 1 b, ne-eqb (getD s p 0) 2 c, ne-eqb (getD s p 0) 3 d)
 
+-- ---- a payload after its length of w bytes
+
+unfoldable pub readPayload : ℕ → Read Statement
+readPayload w = do
+  n ← number w
+  payload ← items n
+  give (share payload)
+
+module _ (w : ℕ) (s : List ℕ) (p : ℕ) where
+  pub payload-cut : length s - p < w → readPayload w (drop p s) ≡ none
+  unfolding readPayload
+  payload-cut l = least-at s p (readPayload w) w (λ t h. least-bind (number w) _ w 0 (fixed-number w) (λ n. least-zero _) t (omega arith)) l
+
+  payload-on : p + w ≤ length s → readPayload w (drop p s) ≡ (items (leAt w s p) >>= (λ v. give (share v))) (drop (p + w) s)
+  unfolding readPayload _>>=_ onward
+  payload-on l = rw (number-at w s p l)
+
+  pub payload-short : p + w ≤ length s → length s - (p + w) < leAt w s p → readPayload w (drop p s) ≡ none
+  unfolding _>>=_ onward
+  payload-short l m = rw (payload-on l, short-at (items (leAt w s p)) (leAt w s p) (fixed-items (leAt w s p)) s (p + w) m)
+
+  pub payload-reads : (n : ℕ) → n ≡ leAt w s p → p + w + n ≤ length s
+      → readPayload w (drop p s) ≡ some (part (share (take n (drop (p + w) s))) (drop (p + w + n) s))
+  unfolding _>>=_ onward give
+  payload-reads n e l = rw (payload-on (omega arith), ← e, items-at n s (p + w) l)
+
 -- ---- a share
 
 module _ (s : List ℕ) (p : ℕ) (h : p < length s) (k : getD s p 0 ≡ 0) where
-  is-share : readStatement (drop p s) ≡ readShare (drop (p + 1) s)
+  is-share : readStatement (drop p s) ≡ readPayload 2 (drop (p + 1) s)
+  unfolding readShare readPayload
   is-share = rw (statement-on s p h, kind-share s p k)
 
   pub share-cut : length s - p < 3 → readStatement (drop p s) ≡ none
-  unfolding readShare
-  share-cut l = is-share ∙ least-at s (p + 1) readShare 2 (least-bind (number 2) _ 2 0 (fixed-number 2) (λ n. least-zero _)) (omega arith)
-
-  share-on : p + 3 ≤ length s → readShare (drop (p + 1) s) ≡ (items (leAt 2 s (p + 1)) >>= (λ v. give (share v))) (drop (p + 3) s)
-  unfolding readShare _>>=_ onward
-  share-on l =
-      let e : p + 1 + 2 ≡ p + 3 = omega arith in
-      rw (number-at 2 s (p + 1) (omega arith), e)
+  share-cut l = is-share ∙ payload-cut 2 s (p + 1) (omega arith)
 
   pub share-short : p + 3 ≤ length s → length s - (p + 3) < leAt 2 s (p + 1) → readStatement (drop p s) ≡ none
-  unfolding _>>=_ onward
-  share-short l m = rw (is-share, share-on l, short-at (items (leAt 2 s (p + 1))) (leAt 2 s (p + 1)) (fixed-items (leAt 2 s (p + 1))) s (p + 3) m)
+  share-short l m = is-share ∙ payload-short 2 s (p + 1) (omega arith) (omega arith)
 
   pub share-reads : (n : ℕ) → n ≡ leAt 2 s (p + 1) → p + 3 + n ≤ length s → readStatement (drop p s) ≡ some (part (share (take n (drop (p + 3) s))) (drop (p + 3 + n) s))
-  unfolding _>>=_ onward give
-  share-reads n e l = rw (is-share, share-on (omega arith), ← e, items-at n s (p + 3) l)
+  share-reads n e l =
+      let f : p + 1 + 2 ≡ p + 3 = omega arith in
+      is-share ∙ rw f at (payload-reads 2 s (p + 1) n e (omega arith))
 
 -- ---- an accept
 

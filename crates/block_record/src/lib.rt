@@ -34,7 +34,7 @@ pub struct NextStatement {
 }
 
 // A statement that was read, with the position after it.
-enum Taken {
+pub enum Taken {
     Statement(BaseStatement, usize),
     Malformed,
 }
@@ -103,7 +103,8 @@ fn take_range(s: &[u8], at: usize) -> Taken
     Taken::Statement(BaseStatement::VoteRange(range), at + 65)
 }
 
-fn take_statement(s: &[u8], at: usize) -> Taken
+// The statement whose kind byte stands at a position.
+pub fn take_statement(s: &[u8], at: usize) -> Taken
     ensures { λ r. ⌜ Took (now (s .entry)) at r ⌝ }
 {
     if s.len() <= at {

@@ -49,7 +49,7 @@ given-reads (reject l o) h t = read-same 2 ((locatorBytes l ++ otherBytes o) ++ 
 given-reads (voteRange r) h t =
     read-same 3 ((referenceBytes (r .block) ++ (leBytes 8 (r .start) ++ leBytes 8 (r .end))) ++ t) (lit< tt) refl ∙ statement-reads (voteRange r) h t
 
-some-bytes : (s : Statement) (t : List ℕ) → isEmpty (givenBytes s ++ t) ≡ false
+pub some-bytes : (s : Statement) (t : List ℕ) → isEmpty (givenBytes s ++ t) ≡ false
 unfolding givenBytes statementBytes isEmpty
 some-bytes (share v) t = refl
 some-bytes (accept l) t = refl

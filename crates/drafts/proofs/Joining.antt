@@ -71,7 +71,7 @@ pub locators-first : (r : BlockReference) (s e : ℕ) → s < e → locators (ne
 unfolding locators offsets newRange countFrom
 locators-first r s e h = let k : e - s ≡ suc (e - (s + 1)) = omega arith in rw k
 
-one-right : (l : TransactionLocator) → RightRun (oneRange l)
+pub one-right : (l : TransactionLocator) → RightRun (oneRange l)
 unfolding oneRange newRange
 one-right l = record { filled = omega arith; low = λ (k : l .offset + 1 < l .offset + 1). absurd (omega arith) }
 

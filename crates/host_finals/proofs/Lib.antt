@@ -1,4 +1,3 @@
 pub mod Finals
-pub mod Written
 pub mod NextFinals
 pub mod Stretched

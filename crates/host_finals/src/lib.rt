@@ -17,8 +17,6 @@ ghost use Rattle.host_finals.specs.Claims.{Claims};
 use final_list::StretchesAnswer;
 use finalization_interpreter::FinalityAnswer;
 use next_final::NextFinalAnswer;
-use types::BlockDigest;
-use types::TransactionLocator;
 use vote_starts::MaybeLocator;
 
 const REFUSED: u64 = 9223372036854775808;
@@ -62,57 +60,6 @@ pub fn finality_of(
     finality_words(stakes, store, positions, locator)
 }
 
-// ---- locators written
-
-// The two bytes of a number, the highest first.
-fn write_high_u16(s: &mut [u8], at: usize, v: u16)
-    requires { ⌜ at + 2 ≤ length (now s) ⌝ }
-    ensures { λ _. ⌜ now (s .exit) ≡ sets (now (s .entry)) at (beBytes 2 v) ⌝ }
-{
-    s[at] = (v / 256) as u8;
-    s[at + 1] = (v % 256) as u8;
-}
-
-// The four bytes of a number, the highest first.
-fn write_high_u32(s: &mut [u8], at: usize, v: u32)
-    requires { ⌜ at + 4 ≤ length (now s) ⌝ }
-    ensures { λ _. ⌜ now (s .exit) ≡ sets (now (s .entry)) at (beBytes 4 v) ⌝ }
-{
-    write_high_u16(s, at, (v / 65536) as u16);
-    write_high_u16(s, at + 2, (v % 65536) as u16);
-}
-
-// The eight bytes of a number, the highest first.
-fn write_high_u64(s: &mut [u8], at: usize, v: u64)
-    requires { ⌜ at + 8 ≤ length (now s) ⌝ }
-    ensures { λ _. ⌜ now (s .exit) ≡ sets (now (s .entry)) at (beBytes 8 v) ⌝ }
-{
-    write_high_u32(s, at, (v / 4294967296) as u32);
-    write_high_u32(s, at + 4, (v % 4294967296) as u32);
-}
-
-fn write_digest(s: &mut [u8], at: usize, digest: BlockDigest)
-    requires { ⌜ at + 32 ≤ length (now s) ⌝ }
-    ensures { λ _. ⌜ now (s .exit) ≡ sets (now (s .entry)) at (digestBytes digest) ⌝ }
-{
-    write_high_u64(s, at, digest.0);
-    write_high_u64(s, at + 8, digest.1);
-    write_high_u64(s, at + 16, digest.2);
-    write_high_u64(s, at + 24, digest.3);
-}
-
-fn write_locator(s: &mut [u8], locator: TransactionLocator)
-    requires { ⌜ length (now s) ≡ 56 ⌝ }
-    ensures { λ _. ⌜ now (s .exit) ≡ locatorBytes (asLocator locator) ⌝ }
-{
-    let block = locator.block;
-    let digest = block.digest;
-    base::write_u64(s, 0, block.authority.0);
-    base::write_u64(s, 8, block.round.0);
-    write_digest(s, 16, digest);
-    base::write_u64(s, 48, locator.offset);
-}
-
 // ---- the next final locator
 
 // Where a question goes on: after a locator, or from the start; or bytes that are neither.
@@ -144,7 +91,7 @@ pub fn next_final_of(stakes: &[u64], store: &[u8], after: &[u8], found: &mut [u8
     }
     match next_final::next_final(stakes, store, place) {
         NextFinalAnswer::Found(locator) => {
-            write_locator(found, locator);
+            types::write_locator(found, 0, locator);
             1
         }
         NextFinalAnswer::NoneLeft => 0,

@@ -7,7 +7,7 @@ use native.Mathlib.Omega.{arith}
 use lib.ListN.{length, take, set, getD, length-map}
 use lib.Seq.{sets, sets-eq, take-all, take-at}
 use Rattle.base.specs.Le.{Bytes}
-use Rattle.words.proofs.Stores.{sets-next}
+use Rattle.base.proofs.Le.{sets-next}
 use Rattle.stakes_file.specs.Load.{stakeAt, membersAt}
 
 -- the next word

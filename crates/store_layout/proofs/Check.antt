@@ -14,7 +14,7 @@ use Rattle.base.specs.Le.{Bytes, leBytes, leAt, leNumber}
 use Rattle.base.specs.Read.{Part}
 use Rattle.base.proofs.Tests.{and-left, and-right, same-test, fails}
 use Rattle.base.proofs.Lists.{append-nil, Every, none-of, and, every, every-keep, all-every, every-all, Pairs, no-pairs, with-later, pairwise-pairs, pairs-pairwise}
-use Rattle.base.proofs.Le.{AllBytes, bytes-left, length-leBytes, leBytes-leNumber, leNumber-leBytes, leAt-add}
+use Rattle.base.proofs.Le.{AllBytes, bytes-left, length-leBytes, leBytes-leNumber, leNumber-leBytes, leAt-add, bytes-drop}
 use Rattle.base.proofs.Read.{part}
 use Rattle.base.proofs.Parts.{PartOf, part-taken, part-complete, part-left, part-right, part-part, part-at, part-same}
 use Rattle.committee.specs.Committee.{Committee}
@@ -23,7 +23,7 @@ use Rattle.store_layout.specs.Layout.{Record, usedBy, Entry, referenceOf
 use Rattle.store_layout.specs.Accept.{allAccepted}
 use Rattle.store_layout.specs.Store.{usedLength, blockCount, readEntries, recordsRead, recordsOf, allowedLength, storeInOrder}
 use Rattle.store_layout.specs.Entry.{headerRight, endsAt, readable, chained, laidOut}
-use Rattle.store_layout.proofs.Store.{InOrder, in-order, to-order, longest, used-within, used-is, blockCount-laid, laid, body-laid, entries-reads, recordsOf-right, bytes-drop, length-body, length-header, entries-below}
+use Rattle.store_layout.proofs.Store.{InOrder, in-order, to-order, longest, used-within, used-is, blockCount-laid, laid, body-laid, entries-reads, recordsOf-right, length-body, length-header, entries-below}
 use Rattle.store_layout.proofs.Walk.{Stands, Walked, begun, then, walked-reads, Reached, reads-walked}
 use Rattle.store_layout.proofs.Chain.{Distinct, distinct}
 use Rattle.store_layout.proofs.Payloads.{body-part}

@@ -16,7 +16,7 @@ use Rattle.base.specs.Read.{Part, give, fail, onward, _>>=_, items, number}
 use Rattle.base.proofs.Tests.{and-left, and-right, neither-left, neither-right}
 use Rattle.base.proofs.Orders.{same-true, same-refl}
 use Rattle.base.proofs.Lists.{Every, none-of, and, every}
-use Rattle.base.proofs.Le.{AllBytes, bytes-right, length-leBytes, leNumber-leBytes}
+use Rattle.base.proofs.Le.{AllBytes, bytes-drop, length-leBytes, leNumber-leBytes}
 use Rattle.base.proofs.Read.{part, items-reads, number-of, number-reads, bind-some, Back, give-back, fail-back, bind-back, map-back, Items, items-back, Number, number-back}
 use Rattle.committee.specs.Committee.{Committee}
 use Rattle.blocks.specs.Block.{Block}
@@ -203,9 +203,6 @@ entries-back zero = give-back _ [] none-of
 entries-back (suc n) =
     bind-back _ _ (λ x rs. Every (λ r. AllBytes (r .bytes)) rs) _ (entries-back n) λ rs x h.
     map-back _ (λ r. r ∷ rs) Kept _ entry-back λ r y k. and k h
-
-pub bytes-drop : (n : ℕ) (s : List ℕ) → AllBytes s → AllBytes (drop n s)
-bytes-drop n s h = bytes-right (take n s) (drop n s) (rw (take-append-drop n s) h)
 
 pub recordsOf-bytes : (s : Bytes) → AllBytes s → Every (λ r. AllBytes (r .bytes)) (recordsOf s)
 unfolding recordsOf recordsRead

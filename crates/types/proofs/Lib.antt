@@ -1,2 +1,3 @@
 pub mod References
 pub mod Words
+pub mod Written

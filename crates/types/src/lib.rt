@@ -1,11 +1,13 @@
-// References, locators and ranges of locators, their order, and how they are read from bytes. Follows types.rs.
+// References, locators and ranges of locators, their order, and how they are read from bytes and written. Follows types.rs.
 use committee::AuthorityIndex;
 use committee::RoundNumber;
 ghost use mathlib.Core.Path.{_≡_};
 ghost use Prim.Native.Nat.{_+_, _≤_, _<_};
 ghost use lib.ListN.{length, take, drop};
+ghost use lib.Seq.{sets};
 ghost use Rattle.types.specs.Step.{referenceAt, locatorAt};
 ghost use Rattle.blocks.specs.Reference.{newRange, oneRange};
+ghost use Rattle.blocks.specs.Record.{referenceBytes, locatorBytes};
 ghost use Rattle.types.specs.Values.{beBytes, digestBytes, asReference, asLocator, asRange, wordOrder, keyOrder, referenceOrder, locatorOrder};
 
 // The 32 bytes of a digest as four words, the highest byte first, so that comparing words is comparing bytes.
@@ -177,4 +179,62 @@ pub fn read_locator(s: &[u8], at: usize) -> TransactionLocator
     let block = read_reference(s, at);
     let offset = base::read_u64(s, at + 48);
     TransactionLocator { block, offset }
+}
+
+// ---- writing at a position
+
+// The two bytes of a number, the highest first.
+fn write_high_u16(s: &mut [u8], at: usize, v: u16)
+    requires { ⌜ at + 2 ≤ length (now s) ⌝ }
+    ensures { λ _. ⌜ now (s .exit) ≡ sets (now (s .entry)) at (beBytes 2 v) ⌝ }
+{
+    s[at] = (v / 256) as u8;
+    s[at + 1] = (v % 256) as u8;
+}
+
+// The four bytes of a number, the highest first.
+fn write_high_u32(s: &mut [u8], at: usize, v: u32)
+    requires { ⌜ at + 4 ≤ length (now s) ⌝ }
+    ensures { λ _. ⌜ now (s .exit) ≡ sets (now (s .entry)) at (beBytes 4 v) ⌝ }
+{
+    write_high_u16(s, at, (v / 65536) as u16);
+    write_high_u16(s, at + 2, (v % 65536) as u16);
+}
+
+// The eight bytes of a number, the highest first.
+fn write_high_u64(s: &mut [u8], at: usize, v: u64)
+    requires { ⌜ at + 8 ≤ length (now s) ⌝ }
+    ensures { λ _. ⌜ now (s .exit) ≡ sets (now (s .entry)) at (beBytes 8 v) ⌝ }
+{
+    write_high_u32(s, at, (v / 4294967296) as u32);
+    write_high_u32(s, at + 4, (v % 4294967296) as u32);
+}
+
+fn write_digest(s: &mut [u8], at: usize, digest: BlockDigest)
+    requires { ⌜ at + 32 ≤ length (now s) ⌝ }
+    ensures { λ _. ⌜ now (s .exit) ≡ sets (now (s .entry)) at (digestBytes digest) ⌝ }
+{
+    write_high_u64(s, at, digest.0);
+    write_high_u64(s, at + 8, digest.1);
+    write_high_u64(s, at + 16, digest.2);
+    write_high_u64(s, at + 24, digest.3);
+}
+
+// The 48 bytes of a reference.
+pub fn write_reference(s: &mut [u8], at: usize, block: BlockReference)
+    requires { ⌜ at + 48 ≤ length (now s) ⌝ }
+    ensures { λ _. ⌜ now (s .exit) ≡ sets (now (s .entry)) at (referenceBytes (asReference block)) ⌝ }
+{
+    base::write_u64(s, at, block.authority.0);
+    base::write_u64(s, at + 8, block.round.0);
+    write_digest(s, at + 16, block.digest);
+}
+
+// The 56 bytes of a locator.
+pub fn write_locator(s: &mut [u8], at: usize, locator: TransactionLocator)
+    requires { ⌜ at + 56 ≤ length (now s) ⌝ }
+    ensures { λ _. ⌜ now (s .exit) ≡ sets (now (s .entry)) at (locatorBytes (asLocator locator)) ⌝ }
+{
+    write_reference(s, at, locator.block);
+    base::write_u64(s, at + 48, locator.offset);
 }

@@ -1,4 +1,4 @@
--- A list stored into another, element by element. Assumes nothing.
+-- A list stored into another. Assumes nothing.
 use mathlib.Core.Path.{_≡_, sym, _∙_}
 use mathlib.Core.List.{List, [], _∷_}
 use Prim.Native.Nat.{ℕ, _+_, _<_}
@@ -9,10 +9,6 @@ use lib.ListN.{length, getD, take, set, drop-of-length-le}
 use lib.Seq.{sets, sets-eq, take-suc, length-take-le}
 use Rattle.base.proofs.Lists.{append-nil}
 use Rattle.base.proofs.Le.{sets-append}
-
--- the next element
-pub sets-next : (l vs : List ℕ) (p i : ℕ) → i < length vs → set (sets l p (take i vs)) (p + i) (getD vs i 0) ≡ sets l p (take (i + 1) vs)
-sets-next l vs p i h = sym (rw (add-one, take-suc vs i 0 h, sets-append (take i vs) (getD vs i 0 ∷ []) l p, length-take-le i vs (omega arith)))
 
 -- over the whole list
 pub sets-complete : (l vs : List ℕ) → length vs ≡ length l → sets l 0 vs ≡ vs

@@ -5,7 +5,7 @@ use mathlib.Core.List.{List}
 use native.Mathlib.Omega.{arith}
 use lib.ListN.{length, take, getD, set}
 use lib.Seq.{sets, length-sets, take-all}
-use Rattle.base.proofs.Le.{copied}
+use Rattle.base.proofs.Le.{sets-next}
 use Rattle.base.proofs.copy_to.Statement.{statement}
 use Rattle.base.proofs.copy_to.Tie as tie
 
@@ -37,7 +37,7 @@ loop-again : tie.Need-loop-again Inv-loop μ-loop
 loop-again c =
     let a = c .before .before .before .args in
     let l = c .before .before .loop in
-    (omega arith, ap (λ (x : List ℕ). set x (a .at + l .i) (getD (a .from .now) (l .i) 0)) (l .inv .1) ∙ sym (copied (a .s .now) (a .from .now) (a .at) (l .i) (c .before .loop-test .taken)))
+    (omega arith, ap (λ (x : List ℕ). set x (a .at + l .i) (getD (a .from .now) (l .i) 0)) (l .inv .1) ∙ sets-next (a .s .now) (a .from .now) (a .at) (l .i) (c .before .loop-test .taken))
 
 same-length : tie.Need-same-length Inv-loop μ-loop
 same-length c = ap length (c .before .loop .inv .1) ∙ length-sets (c .before .before .args .s .now) (c .before .before .args .at) (take (c .before .loop .i) (c .before .before .args .from .now))

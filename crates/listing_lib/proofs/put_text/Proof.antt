@@ -4,7 +4,7 @@ use lib.Seq.{sets, take-all}
 use lib.ListN.{length, take, length-set}
 use native.Mathlib.Omega.{arith}
 use borrow.Author.Needs.{needs}
-use Rattle.words.proofs.Stores.{sets-next}
+use Rattle.base.proofs.Le.{sets-next}
 use Rattle.listing_lib.proofs.put_text.Statement.{statement}
 use Rattle.listing_lib.proofs.put_text.Tie as tie
 

@@ -1,4 +1,4 @@
--- Bytes written with the highest first, and locators written. Assumes nothing.
+-- Bytes written with the highest first, and references and locators written. Assumes nothing.
 use mathlib.Core.Path.{_≡_, sym, _∙_}
 use mathlib.Core.List.{List, _++_, reverse-append}
 use Prim.Native.Nat.{ℕ, _+_, _/_, _%_, _^_, _<_}
@@ -9,11 +9,12 @@ use lib.ListN.{length, set, length-append, length-reverse}
 use lib.Seq.{sets}
 use Rattle.base.specs.Le.{leBytes}
 use Rattle.base.proofs.Le.{length-leBytes, leBytes-add, leBytes-mod, sets-append}
-use Rattle.words.proofs.Stores.{sets-complete}
-use Rattle.blocks.specs.Reference.{TransactionLocator}
+use Rattle.blocks.specs.Reference.{BlockReference, locator}
 use Rattle.blocks.specs.Record.{referenceBytes, locatorBytes}
-use Rattle.types.specs.Values.{beBytes, digestBytes}
+use Rattle.types.specs.Values.{beBytes, digestBytes, asReference, asLocator}
 use Rattle.types.specs.declared.BlockDigest as digest
+use Rattle.types.specs.declared.BlockReference as declared
+use Rattle.types.specs.declared.TransactionLocator as locators
 
 pub length-beBytes : (n v : ℕ) → length (beBytes n v) ≡ n
 unfolding beBytes
@@ -50,21 +51,30 @@ pub length-digestBytes : (d : digest.BlockDigest) → length (digestBytes d) ≡
 unfolding digestBytes
 length-digestBytes d = simp (length-append, length-beBytes)
 
--- the parts of a locator written one after the other
-pub locator-written : (t : TransactionLocator) (l : List ℕ) → length (t .block .digest) ≡ 32 → length l ≡ 56
-    → sets (sets (sets (sets l 0 (leBytes 8 (t .block .authority))) 8 (leBytes 8 (t .block .round))) 16 (t .block .digest)) 48 (leBytes 8 (t .offset)) ≡ locatorBytes t
-unfolding locatorBytes referenceBytes
-locator-written t l h k =
-    let a = leBytes 8 (t .block .authority) in
-    let r = leBytes 8 (t .block .round) in
-    let d = t .block .digest in
-    let o = leBytes 8 (t .offset) in
-    let one : length a ≡ 8 = length-leBytes 8 (t .block .authority) in
-    let two : length r ≡ 8 = length-leBytes 8 (t .block .round) in
-    let four : length o ≡ 8 = length-leBytes 8 (t .offset) in
-    let parts : length (a ++ (r ++ d) ++ o) ≡ length l = simp (length-append) (omega arith) in
-    let three : length (a ++ (r ++ d)) ≡ 48 = simp (length-append) (omega arith) in
-    sym (rw (sets-append (a ++ (r ++ d)) o l 0, three, sets-append a (r ++ d) l 0, one, sets-append r d (sets l 0 a) 8, two)) ∙ sets-complete l (a ++ (r ++ d) ++ o) parts
+-- the parts of a reference written one after the other
+pub reference-written : (r : BlockReference) (l : List ℕ) (p : ℕ)
+    → sets (sets (sets l p (leBytes 8 (r .authority))) (p + 8) (leBytes 8 (r .round))) (p + 16) (r .digest) ≡ sets l p (referenceBytes r)
+unfolding referenceBytes
+reference-written r l p =
+    let a = leBytes 8 (r .authority) in
+    let n = leBytes 8 (r .round) in
+    let e : p + 8 + 8 ≡ p + 16 = omega arith in
+    sym (rw (sets-append a (n ++ r .digest) l p, length-leBytes 8 (r .authority), sets-append n (r .digest) (sets l p a) (p + 8), length-leBytes 8 (r .round), e))
+
+pub length-referenceBytes : (r : declared.BlockReference) → length (referenceBytes (asReference r)) ≡ 48
+unfolding referenceBytes asReference
+length-referenceBytes r = simp (length-append, length-leBytes, length-digestBytes)
+
+-- a reference and what follows it
+pub locator-written : (t : locators.TransactionLocator) (l : List ℕ) (p : ℕ)
+    → sets (sets l p (referenceBytes (asReference (t .block)))) (p + 48) (leBytes 8 (t .offset)) ≡ sets l p (locatorBytes (asLocator t))
+unfolding locatorBytes asLocator locator
+locator-written t l p =
+    sym (rw (sets-append (referenceBytes (asReference (t .block))) (leBytes 8 (t .offset)) l p, length-referenceBytes (t .block)))
+
+pub length-locatorBytes : (t : locators.TransactionLocator) → length (locatorBytes (asLocator t)) ≡ 56
+unfolding locatorBytes asLocator locator
+length-locatorBytes t = simp (length-append, length-referenceBytes, length-leBytes)
 
 -- two bytes, the highest first
 pub high-two : (v : ℕ) (l : List ℕ) (p : ℕ) → v < 65536 → set (set l p (v / 256)) (p + 1) (v % 256) ≡ sets l p (beBytes 2 v)
