@@ -88,14 +88,14 @@ lent-meant q d f e =
 
 -- ---- what the checks say
 
-record Writable (d : Draft) : Type 0 where
-  size : length (d .digest) ≡ 32
-  mark : d .mark ≤ 1
-  few-includes : length (d .includes) ≤ 256
-  short : anyOf isLong (d .statements) ≡ false
-  few-statements : length (joined (d .statements)) ≤ 1024
+pub record Writable (d : Draft) : Type 0 where
+  pub size : length (d .digest) ≡ 32
+  pub mark : d .mark ≤ 1
+  pub few-includes : length (d .includes) ≤ 256
+  pub short : anyOf isLong (d .statements) ≡ false
+  pub few-statements : length (joined (d .statements)) ≤ 1024
 
-writable : (d : Draft) → passes (formChecks d) ≡ true → Writable d
+pub writable : (d : Draft) → passes (formChecks d) ≡ true → Writable d
 unfolding formChecks
 writable d h =
     let h₁ = passes-others _ _ h in

@@ -1,0 +1,125 @@
+-- The parts of a record written one after the other, and the writer's answers. Assumes nothing.
+use mathlib.Core.Path.{_≡_, refl, sym, _∙_}
+use mathlib.Core.List.{List, [], _∷_, _++_}
+use mathlib.Core.Option.{Option, none, some}
+use mathlib.Core.Bool.{Bool, true, false, not, _&&_}
+use Prim.Native.Nat.{ℕ, _+_, _≤_, _<_}
+use native.Mathlib.Nat.{zero-add}
+use native.Mathlib.Omega.{arith}
+use lib.Dec.{ltb}
+use lib.ListN.{length, drop, set, length-append}
+use lib.Seq.{sets, sets-eq}
+use borrow.Author.Tests.{lt-ltb, le-ltb}
+use Rattle.base.specs.Lists.{pick, allOf}
+use Rattle.base.specs.Le.{leBytes}
+use Rattle.base.specs.Checks.{Check, _⇒_, refusal, passes, refused, answered, checked}
+use Rattle.base.proofs.Tests.{not-both}
+use Rattle.base.proofs.Lists.{Every, none-of, and}
+use Rattle.base.proofs.Checks.{refusal-append}
+use Rattle.base.proofs.Passing.{passes-append}
+use Rattle.base.proofs.Le.{length-leBytes, sets-append}
+use Rattle.drafts.specs.Draft.{Draft, Request, draftIn}
+use Rattle.drafts.specs.Joining.{joined}
+use Rattle.drafts.specs.Writing.{recordBytes, formChecks, writeChecks, writeDraft, writeRecord}
+use Rattle.write_record.specs.Step.{sizedUp, frontBytes, countBytes}
+use Rattle.write_record.specs.declared.Measured.the-variants.{Fits, Malformed}
+use Rattle.write_record.proofs.Sizing.{Plan}
+
+pub front-written : (l : List ℕ) (a r : ℕ) (d : List ℕ) → sets (sets (sets l 0 (leBytes 8 a)) 8 (leBytes 8 r)) 16 d ≡ sets l 0 (frontBytes a r d)
+unfolding frontBytes
+front-written l a r d =
+    sym (rw (sets-append (leBytes 8 a) (leBytes 8 r ++ d) l 0, length-leBytes 8 a, sets-append (leBytes 8 r) d (sets l 0 (leBytes 8 a)) 8, length-leBytes 8 r))
+
+pub counts-written : (l : List ℕ) (m i n : ℕ)
+    → set (set (set (sets (sets (set l 48 m) 49 (leBytes 2 i)) 51 (leBytes 2 n)) 53 0) 54 0) 55 0 ≡ sets l 48 (countBytes m i n)
+unfolding countBytes
+counts-written l m i n =
+    sym (rw (
+      sets-append (leBytes 2 i) (leBytes 2 n ++ (0 ∷ 0 ∷ 0 ∷ [])) (set l 48 m) 49,
+      length-leBytes 2 i,
+      sets-append (leBytes 2 n) (0 ∷ 0 ∷ 0 ∷ []) (sets (set l 48 m) 49 (leBytes 2 i)) 51,
+      length-leBytes 2 n,
+    ))
+
+-- ---- the record in the slice
+
+-- what is written from the front on
+pub record-written : (l a b c d : List ℕ) (n : ℕ) → length a ≡ 48 → length b ≡ 8 → length c ≡ n → 56 + n + length d ≤ length l
+    → sets (sets (sets (sets l 0 a) 48 b) 56 c) (56 + n) d ≡ (a ++ (b ++ (c ++ d))) ++ drop (length (a ++ (b ++ (c ++ d)))) l
+record-written l a b c d n p q r h =
+    let all = a ++ (b ++ (c ++ d)) in
+    let size : length all ≡ 56 + n + length d = omega (arith, length-append a (b ++ (c ++ d)), length-append b (c ++ d), length-append c d) in
+    sym (rw (sets-append a (b ++ (c ++ d)) l 0, p, sets-append b (c ++ d) (sets l 0 a) 48, q, sets-append c d (sets (sets l 0 a) 48 b) 56, r))
+    ∙ sets-eq all l 0 (omega arith)
+    ∙ rw (zero-add (length all))
+
+-- ---- the answers
+
+refusal-same : (n : ℕ) (ks : List Check) → Every (λ k. k .number ≡ n) ks → passes ks ≡ false → refusal ks ≡ n
+unfolding passes allOf refusal
+refusal-same n [] none-of h = absurd (not-both refl h)
+refusal-same n (k ∷ ks) (and e es) h = go (k .applies) h (refusal-same n ks es)
+  where
+    go : (t : Bool) → not t && passes ks ≡ false → (passes ks ≡ false → refusal ks ≡ n) → pick t (k .number) (refusal ks) ≡ n
+    go true k ih = e
+    go false k ih = ih k
+
+-- one check
+one-fails : (n : ℕ) (t : Bool) → t ≡ true → passes ((t ⇒ n) ∷ []) ≡ false
+unfolding passes allOf
+one-fails n t h = rw h
+
+one-passes : (n : ℕ) (t : Bool) → t ≡ false → passes ((t ⇒ n) ∷ []) ≡ true
+unfolding passes allOf
+one-passes n t h = rw h
+
+-- a draft to which 51 applies
+malformed : (d : Draft) → sizedUp (some d) ≡ Malformed → passes (formChecks d) ≡ false
+unfolding sizedUp
+malformed d k = test (passes (formChecks d)) k
+  where
+    test : (t : Bool) → pick t (Fits (length (joined (d .statements))) (length (recordBytes d))) Malformed ≡ Malformed → t ≡ false
+    test true k = let z : _≡_ {A = ℕ} 0 1 = cc in absurd (omega arith)
+    test false k = refl
+
+refuses-draft : (d : Draft) (out : List ℕ) → passes (formChecks d) ≡ false → writeDraft (some d) out ≡ record { answer = refused 51; out = out }
+unfolding formChecks writeDraft checked writeChecks
+refuses-draft d out f =
+    let short = (ltb (length out) (length (recordBytes d)) ⇒ 50) ∷ [] in
+    let none-passes : passes (formChecks d ++ short) ≡ false = rw (passes-append (formChecks d) short, f) in
+    let first : refusal (formChecks d ++ short) ≡ 51 =
+    rw (refusal-append (formChecks d) short, f) (refusal-same 51 (formChecks d) (and refl (and refl (and refl (and refl (and refl none-of))))) f) in
+    rw (none-passes, first)
+
+module _ (q : Request) (out : List ℕ) where
+  -- 51
+  pub refuses-form : sizedUp (draftIn q) ≡ Malformed → writeRecord q out ≡ record { answer = refused 51; out = out }
+  unfolding writeRecord writeDraft
+  refuses-form h = go (draftIn q) h
+    where
+      go : (o : Option Draft) → sizedUp o ≡ Malformed → writeDraft o out ≡ record { answer = refused 51; out = out }
+      go none k = refl
+      go (some d) k = refuses-draft d out (malformed d k)
+
+  module _ (count bytes : ℕ) (p : Plan q count bytes) where
+    -- 50
+    pub refuses-short : length out < bytes → writeRecord q out ≡ record { answer = refused 50; out = out }
+    unfolding writeRecord writeDraft checked writeChecks refusal
+    refuses-short h =
+        let d = p .draft in
+        let short = (ltb (length out) (length (recordBytes d)) ⇒ 50) ∷ [] in
+        let applies : ltb (length out) (length (recordBytes d)) ≡ true = lt-ltb (length out) (length (recordBytes d)) (omega (arith, p .whole)) in
+        let stops : passes short ≡ false = one-fails 50 _ applies in
+        let none-passes : passes (formChecks d ++ short) ≡ false = rw (passes-append (formChecks d) short, p .passed, stops) in
+        let then : refusal (formChecks d ++ short) ≡ 50 = rw (refusal-append (formChecks d) short, p .passed, applies) in
+        rw (p .given, none-passes, then)
+
+    pub writes-record : bytes ≤ length out → writeRecord q out ≡ record { answer = answered bytes; out = recordBytes (p .draft) ++ drop (length (recordBytes (p .draft))) out }
+    unfolding writeRecord writeDraft checked writeChecks
+    writes-record h =
+        let d = p .draft in
+        let short = (ltb (length out) (length (recordBytes d)) ⇒ 50) ∷ [] in
+        let room : ltb (length out) (length (recordBytes d)) ≡ false = le-ltb (length out) (length (recordBytes d)) (omega (arith, p .whole)) in
+        let goes : passes short ≡ true = one-passes 50 _ room in
+        let all-pass : passes (formChecks d ++ short) ≡ true = rw (passes-append (formChecks d) short, p .passed, goes) in
+        rw (p .given, all-pass, ← p .whole)
