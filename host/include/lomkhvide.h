@@ -122,4 +122,16 @@ uint64_t lomkhvide_is_open(const uint8_t *calendar, size_t calendar_len, uint64_
  * Refused last: 40 `found` not of 8 bytes. */
 uint64_t lomkhvide_next_open(const uint8_t *calendar, size_t calendar_len, uint64_t time, uint8_t *found, size_t found_len);
 
+/* ---- Records of our own */
+
+/* Writes a record of our own to the front of `out`: its length; the bytes after it keep their content. The includes are references of 48
+ * bytes, as in a record. The statements stand one after the other, each as in a record, but a share's length has 4 bytes. Accepts that
+ * follow each other for one block, each offset one above the last, become a range as far as its end stays below 1,048,576.
+ * Refused: 51 a digest not of 32 bytes, a mark other than 0 or 1, includes or statements of another form, over 256 includes, a payload over
+ * 65,535 bytes, over 1,024 statements after joining; then 50 a slice shorter than the record.
+ * It needs at most 2 KB of stack. */
+uint64_t lomkhvide_write_record(uint64_t author, uint64_t round, const uint8_t *digest, size_t digest_len, uint64_t mark,
+                                const uint8_t *includes, size_t includes_len, const uint8_t *statements, size_t statements_len,
+                                uint8_t *out, size_t out_len);
+
 #endif

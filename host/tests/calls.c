@@ -545,6 +545,105 @@ static void calendars(void) {
     same("no byte past it", memcmp(out + 8, kept, sizeof out - 8), 0);
 }
 
+/* ---- records of our own */
+
+/* A statement of that kind, and the locator of an offset under a reference of zeros; answers the bytes written. */
+static size_t put_vote(uint8_t *to, uint8_t kind, uint64_t offset) {
+    memset(to, 0, 57);
+    to[0] = kind;
+    put_word(to + 49, offset);
+    return 57;
+}
+
+/* Writes a record from these statements into n bytes, every slice lent from its own allocation, and holds bytes and answer to `want`
+ * and its length, or to a refusal. */
+static void written(const char *what, const uint8_t *statements, size_t length, const uint8_t *want, size_t n, uint64_t answer) {
+    uint8_t *digest = malloc(32), *include = malloc(48), *own = malloc(length + 1), *out = malloc(n + 1), *kept = malloc(n + 1);
+    memset(digest, 7, 32);
+    memset(include, 3, 48);
+    memcpy(own, statements, length);
+    memset(out, 9, n + 1);
+    memset(kept, 9, n + 1);
+    if (!LOMKHVIDE_IS_REFUSED(answer)) {
+        memcpy(kept, want, answer);
+    }
+    same(what, lomkhvide_write_record(5, 6, digest, 32, 1, include, 48, own, length, out, n), answer);
+    same(what, memcmp(out, kept, n + 1), 0);
+    free(digest);
+    free(include);
+    free(own);
+    free(out);
+    free(kept);
+}
+
+/* A share, two neighbouring accepts, a lone one, a reject, a given range. */
+static void writing(void) {
+    uint8_t given[400], want[400];
+    memset(want, 0, sizeof want);
+    put_word(want, 5);
+    put_word(want + 8, 6);
+    memset(want + 16, 7, 32);
+    want[48] = 1;
+    want[49] = 1;
+    want[51] = 5;
+    memset(want + 56, 3, 48);
+    const uint8_t share[] = {0, 2, 0, 0, 0, 1, 2};
+    size_t n = sizeof share, at = 104;
+    memcpy(given, share, n);
+    want[at + 1] = 2;
+    want[at + 3] = 1;
+    want[at + 4] = 2;
+    at += 5;
+    n += put_vote(given + n, 1, 4);
+    n += put_vote(given + n, 1, 5);
+    want[at] = 3;
+    put_word(want + at + 49, 4);
+    put_word(want + at + 57, 6);
+    at += 65;
+    n += put_vote(given + n, 1, 7);
+    at += put_vote(want + at, 1, 7);
+    n += put_vote(given + n, 2, 8);
+    given[n++] = 0;
+    at += put_vote(want + at, 2, 8);
+    want[at++] = 0;
+    n += put_vote(given + n, 3, 8);
+    put_word(given + n, 9);
+    n += 8;
+    at += put_vote(want + at, 3, 8);
+    put_word(want + at, 9);
+    at += 8;
+    for (size_t length = 0; length < at + 40; length++) {
+        written("a record in a slice of any length", given, n, want, length, length < at ? refused(50) : at);
+    }
+    for (size_t cut = 1; cut < 8; cut++) {
+        written("statements cut short", given, n - cut, want, at, refused(51));
+        written("51 before 50", given, n - cut, want, 0, refused(51));
+    }
+    uint8_t out[400], include[96] = {0};
+    memset(out, 9, sizeof out);
+    for (size_t length = 0; length < 40; length++) {
+        same("a digest of any length", lomkhvide_write_record(5, 6, want, length, 0, include, 0, given, 0, out, 60), length == 32 ? 56 : refused(51));
+    }
+    for (size_t length = 0; length <= sizeof include; length++) {
+        uint64_t answer = length % 48 == 0 ? 56 + length : refused(51);
+        same("includes of any length", lomkhvide_write_record(5, 6, want, 32, 0, include, length, given, 0, out, 200), answer);
+    }
+    same("a mark of 2", lomkhvide_write_record(5, 6, want, 32, 2, include, 0, given, 0, out, 60), refused(51));
+    same("a mark of 256", lomkhvide_write_record(5, 6, want, 32, 256, include, 0, given, 0, out, 60), refused(51));
+    same("a kind of 4", lomkhvide_write_record(5, 6, want, 32, 0, include, 0, (const uint8_t *)"\4", 1, out, 60), refused(51));
+    given[n - 65] = 1;
+    same("bytes left over", lomkhvide_write_record(5, 6, want, 32, 0, include, 0, given, n, out, 300), refused(51));
+    uint8_t *long_share = calloc(5 + 65536, 1);
+    uint8_t *room = malloc(56 + 3 + 65535);
+    put_word(long_share + 1, 65535);
+    same("a payload of 65,535 bytes", lomkhvide_write_record(5, 6, want, 32, 0, include, 0, long_share, 5 + 65535, room, 56 + 3 + 65535), 56 + 3 + 65535);
+    memset(long_share, 0, 9);
+    put_word(long_share + 1, 65536);
+    same("one more", lomkhvide_write_record(5, 6, want, 32, 0, include, 0, long_share, 5 + 65536, room, 56 + 3 + 65535), refused(51));
+    free(long_share);
+    free(room);
+}
+
 int main(void) {
     loading();
     committees();
@@ -553,6 +652,7 @@ int main(void) {
     payloads();
     feeding();
     calendars();
+    writing();
     printf("%d passed, %d failed\n", passed, failed);
     return failed != 0;
 }

@@ -9,7 +9,8 @@ use crate::model::calendar;
 use crate::model::committee::{Committee, COURSE};
 use crate::model::feed::{State, EVENT_BYTES};
 use crate::model::lent;
-use crate::model::record::{Block, Locator, Reference, Statement};
+use crate::model::record::{given_bytes, includes_bytes, Block, Locator, Reference, Statement};
+use crate::model::writing::{write_record, Given};
 
 const CANARY: u8 = 0xc9;
 const FENCE: usize = 64;
@@ -135,8 +136,24 @@ macro_rules! over {
     };
 }
 
+/// The slices of a draft as one; the numbers are always the same.
+fn draft(digest: &[u8], includes: &[u8], statements: &[u8]) -> Given {
+    let (digest, includes, statements) = (digest.to_vec(), includes.to_vec(), statements.to_vec());
+    Given { author: 3, round: 7, digest, mark: 1, includes, statements }
+}
+
 fn cases() -> Vec<Case> {
     let (memory, record, locator) = fed();
+    let shared = locator.block;
+    let drafted = [
+        Statement::Share(vec![7; 5]),
+        Statement::Accept(locator),
+        Statement::Accept(Locator::new(shared, locator.offset + 1)),
+        Statement::Reject(locator, None),
+        Statement::Reject(locator, Some(locator)),
+        Statement::Range(shared, 4, 9),
+        Statement::Accept(locator),
+    ];
     let stakes = ("stakes", memory.stakes.clone(), 8 * 140);
     let store = ("store", memory.store.clone(), memory.store.len() + 100);
     let table = ("table", memory.table.clone(), memory.table.len() + 16);
@@ -211,6 +228,17 @@ fn cases() -> Vec<Case> {
             slices: vec![stakes.clone(), store.clone(), after(&[]), found],
             engine: over!(|stakes, store, after, out| engine::next_final(stakes, store, after, out)),
             model: over!(|stakes, store, after, out| lent::next_final(stakes, store, after, out)),
+        },
+        Case {
+            name: "write_record",
+            slices: vec![
+                ("digest", vec![9; 32], 80),
+                ("includes", includes_bytes(&[shared; 3]), 48 * 5),
+                ("statements", given_bytes(&drafted), given_bytes(&drafted).len() + 100),
+                ("out", vec![5; 600], 700),
+            ],
+            engine: over!(|digest, includes, statements, out| engine::write_record(&draft(digest, includes, statements), out)),
+            model: over!(|digest, includes, statements, out| write_record(&draft(digest, includes, statements), out)),
         },
         Case {
             name: "final_stretches",

@@ -1,5 +1,7 @@
 //! The engine's side: the calls of host/include/lomkhvide.h and nothing else.
 
+use crate::model::writing::Given;
+
 /// An answer, or the number of a refusal.
 pub type Answer = Result<u64, u64>;
 
@@ -62,6 +64,41 @@ pub fn add(stakes: &[u8], aggregator: &mut [u8], voter: u64) -> Answer {
     }
     let (stakes_len, aggregator_len) = (stakes.len(), aggregator.len());
     answer(unsafe { lomkhvide_add(stakes.as_ptr(), stakes_len, aggregator.as_mut_ptr(), aggregator_len, voter) })
+}
+
+pub fn write_record(given: &Given, out: &mut [u8]) -> Answer {
+    extern "C" {
+        fn lomkhvide_write_record(
+            author: u64,
+            round: u64,
+            digest: *const u8,
+            digest_len: usize,
+            mark: u64,
+            includes: *const u8,
+            includes_len: usize,
+            statements: *const u8,
+            statements_len: usize,
+            out: *mut u8,
+            out_len: usize,
+        ) -> u64;
+    }
+    let Given { author, round, digest, mark, includes, statements } = given;
+    let out_len = out.len();
+    answer(unsafe {
+        lomkhvide_write_record(
+            *author,
+            *round,
+            digest.as_ptr(),
+            digest.len(),
+            *mark,
+            includes.as_ptr(),
+            includes.len(),
+            statements.as_ptr(),
+            statements.len(),
+            out.as_mut_ptr(),
+            out_len,
+        )
+    })
 }
 
 pub fn is_quorum(total: u64, amount: u64) -> bool {

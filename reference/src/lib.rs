@@ -24,3 +24,4 @@ pub mod sample;
 pub mod shrink;
 pub mod tables;
 pub mod tally;
+pub mod writing;

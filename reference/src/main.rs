@@ -7,6 +7,7 @@ use std::time::{Duration, Instant};
 use reference::compare::compare;
 use reference::list::List;
 use reference::tally::Tally;
+use reference::writing::Written;
 use reference::{calendars, exhaustive, generate, members, program, shrink, tables};
 
 fn main() {
@@ -22,6 +23,7 @@ fn main() {
         Some("list") => one(number(word(1), 0), number(word(2), 1)),
         Some("boundary") => boundary(word(1) == Some("exact")),
         Some("listing") => listing(number(word(1), 1000), number(word(2), 1)),
+        Some("writing") => writing(number(word(1), 2000), number(word(2), 1)),
         Some("stakes") => tables(number(word(1), 100_000), number(word(2), 1)),
         Some("model") => model(word(1).expect("a file"), word(2)),
         Some("inputs") => inputs(word(1) == Some("check")),
@@ -160,6 +162,22 @@ fn listing(count: u64, seed: u64) {
             println!("input {n} of seed {seed}: {text}");
         }
     }
+    end(count, failed);
+}
+
+/// Records of our own, written and fed.
+fn writing(count: u64, seed: u64) {
+    sides();
+    let mut written = Default::default();
+    let mut failed = 0;
+    for n in 0..count {
+        if let Err(text) = reference::writing::run(seed, n, &mut written) {
+            failed += 1;
+            println!("run {n} of seed {seed}: {text}");
+        }
+    }
+    let Written { records, ranges, malformed, short, fed } = written;
+    println!("records written {records}, with {ranges} joined ranges; refused 51: {malformed}, 50: {short}; written and fed {fed}");
     end(count, failed);
 }
 

@@ -58,3 +58,7 @@ impl RustSide {
         match *self {}
     }
 }
+
+pub fn vote_ranges(_offsets: &[u64]) -> Option<Vec<(u64, u64)>> {
+    None
+}

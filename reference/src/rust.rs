@@ -8,7 +8,7 @@ use std::sync::{Arc, Once};
 
 use mysticeti::block_store::BlockStore;
 use mysticeti::committee::{
-    Authority, Committee, ProcessedTransactionHandler, QuorumThreshold, StakeAggregator, TransactionAggregator,
+    Authority, Committee, ProcessedTransactionHandler, QuorumThreshold, StakeAggregator, TransactionAggregator, VoteRangeBuilder,
 };
 use mysticeti::finalization_interpreter::FinalizationInterpreter;
 use mysticeti::make;
@@ -334,4 +334,12 @@ fn payload_text(payload: &dyn std::any::Any) -> String {
         (_, Some(text)) => text.clone(),
         _ => "a panic without text".into(),
     }
+}
+
+/// The ranges that `VoteRangeBuilder` makes of offsets.
+pub fn vote_ranges(offsets: &[u64]) -> Option<Vec<(u64, u64)>> {
+    let mut builder = VoteRangeBuilder::default();
+    let mut ranges: Vec<_> = offsets.iter().filter_map(|offset| builder.add(*offset)).collect();
+    ranges.extend(builder.finish());
+    Some(ranges.iter().map(|range| (range.start, range.end)).collect())
 }

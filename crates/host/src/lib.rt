@@ -15,6 +15,8 @@ ghost use Rattle.host_finals.specs.Finality.{finalityCall};
 ghost use Rattle.host_finals.specs.Stretches.{stretchesCall};
 ghost use Rattle.host_calendar.specs.Calendar.{isOpenCall, nextOpenCall};
 ghost use Rattle.host_stakes.specs.LoadStakes.{loadStakesCall};
+ghost use Rattle.drafts.specs.Writing.{writeRecord};
+ghost use Rattle.write_record.specs.Answers.{requested};
 use committee::NewCommittee;
 use committee::Stake;
 use feeding::FeedAnswer;
@@ -235,4 +237,23 @@ pub extern "C" fn lomkhvide_next_open(calendar: &[u8], time: u64, found: &mut [u
     ensures { λ r. ⌜ now (found .exit) ≡ nextOpenCall (now (calendar .entry)) time (now (found .entry)) .found ⌝ }
 {
     host_calendar::next_open(calendar, time, found)
+}
+
+// ---- records of our own
+
+// Writes a record of our own into `out`: its length.
+#[no_mangle]
+pub extern "C" fn lomkhvide_write_record(
+    author: u64,
+    round: u64,
+    digest: &[u8],
+    mark: u64,
+    includes: &[u8],
+    statements: &[u8],
+    out: &mut [u8],
+) -> u64
+    ensures { λ r. ⌜ r ≡ encoded (writeRecord (requested author round (now (digest .entry)) mark (now (includes .entry)) (now (statements .entry))) (now (out .entry)) .answer) ⌝ }
+    ensures { λ r. ⌜ now (out .exit) ≡ writeRecord (requested author round (now (digest .entry)) mark (now (includes .entry)) (now (statements .entry))) (now (out .entry)) .out ⌝ }
+{
+    host_records::write_record_of(author, round, digest, mark, includes, statements, out)
 }

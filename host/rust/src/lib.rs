@@ -94,6 +94,19 @@ mod calls {
         pub fn lomkhvide_load_stakes(file: *const u8, file_len: usize, stakes: *mut u8, stakes_len: usize) -> u64;
         pub fn lomkhvide_is_open(calendar: *const u8, calendar_len: usize, time: u64) -> u64;
         pub fn lomkhvide_next_open(calendar: *const u8, calendar_len: usize, time: u64, found: *mut u8, found_len: usize) -> u64;
+        pub fn lomkhvide_write_record(
+            author: u64,
+            round: u64,
+            digest: *const u8,
+            digest_len: usize,
+            mark: u64,
+            includes: *const u8,
+            includes_len: usize,
+            statements: *const u8,
+            statements_len: usize,
+            out: *mut u8,
+            out_len: usize,
+        ) -> u64;
     }
 }
 
@@ -516,6 +529,84 @@ impl Calendar {
     }
 }
 
+/// A record of our own as it is given to the writer.
+#[derive(Clone, Debug, PartialEq, Eq)]
+pub struct Draft {
+    pub author: u64,
+    pub round: u64,
+    pub digest: [u8; 32],
+    /// The epoch mark.
+    pub marked: bool,
+    /// References of 48 bytes: author 8, round 8, digest 32.
+    pub includes: Vec<[u8; 48]>,
+    pub statements: Vec<Given>,
+}
+
+/// A statement of a draft.
+#[derive(Clone, Debug, PartialEq, Eq)]
+pub enum Given {
+    Share(Vec<u8>),
+    Accept(Locator),
+    Reject(Locator, Option<Locator>),
+    /// From the locator's offset to an end (excluded).
+    Range(Locator, u64),
+}
+
+impl Given {
+    fn put(&self, out: &mut Vec<u8>) {
+        match self {
+            Given::Share(payload) => {
+                // A length that 4 bytes do not hold is too long anyway: the writer answers 51 to the largest that they do.
+                let length = u32::try_from(payload.len()).unwrap_or(u32::MAX);
+                out.push(0);
+                out.extend(length.to_le_bytes());
+                out.extend(payload);
+            }
+            Given::Accept(locator) => {
+                out.push(1);
+                out.extend(locator.0);
+            }
+            Given::Reject(locator, other) => {
+                out.push(2);
+                out.extend(locator.0);
+                out.push(other.is_some() as u8);
+                other.iter().for_each(|other| out.extend(other.0));
+            }
+            Given::Range(start, end) => {
+                out.push(3);
+                out.extend(start.0);
+                out.extend(end.to_le_bytes());
+            }
+        }
+    }
+}
+
+impl Draft {
+    /// Writes the record to the front of `out`, with neighbouring accepts as ranges, and gives its length; or 51, 50.
+    pub fn write(&self, out: &mut [u8]) -> Result<usize, Refused> {
+        let includes = self.includes.concat();
+        let mut statements = Vec::new();
+        self.statements.iter().for_each(|statement| statement.put(&mut statements));
+        // The slices are lent for the call alone, and only `out` is written.
+        let word = unsafe {
+            calls::lomkhvide_write_record(
+                self.author,
+                self.round,
+                self.digest.as_ptr(),
+                self.digest.len(),
+                self.marked as u64,
+                includes.as_ptr(),
+                includes.len(),
+                statements.as_ptr(),
+                statements.len(),
+                out.as_mut_ptr(),
+                out.len(),
+            )
+        };
+        answer(word).map(|length| length as usize)
+    }
+}
+
 #[cfg(test)]
 mod tests {
     use super::*;
@@ -784,5 +875,56 @@ mod tests {
             assert_eq!(calendar.is_open(MONDAY), is_open, "{length} bytes");
             assert_eq!(calendar.next_open(MONDAY), next_open, "{length} bytes");
         }
+    }
+
+    #[test]
+    fn writing() {
+        let at = |offset| Locator::new(1, 2, [3; 32], offset);
+        let statements = vec![
+            Given::Share(vec![1, 2]),
+            Given::Accept(at(4)),
+            Given::Accept(at(5)),
+            Given::Accept(at(7)),
+            Given::Reject(at(8), Some(at(9))),
+            Given::Range(at(8), 9),
+        ];
+        let mut draft = Draft { author: 5, round: 6, digest: [7; 32], marked: true, includes: vec![[8; 48]], statements };
+        let need = 56 + 48 + 5 + 65 + 57 + 114 + 65;
+        for length in 0..need + 40 {
+            let mut out = vec![9; length];
+            let answer = draft.write(&mut out);
+            assert_eq!(answer, if length < need { Err(Refused(50)) } else { Ok(need) });
+            let kept = answer.unwrap_or(0);
+            assert!(out[kept..].iter().all(|byte| *byte == 9));
+            if answer.is_ok() {
+                assert_eq!(out[48..56], [1, 1, 0, 5, 0, 0, 0, 0]);
+                assert_eq!(out[109], 3);
+                assert_eq!(out[109 + 49..109 + 65], bytes_of(&[4, 6])[..]);
+            }
+        }
+        draft.statements.push(Given::Share(vec![0; 65_536]));
+        assert_eq!(draft.write(&mut []), Err(Refused(51)));
+        draft.statements.pop();
+        draft.includes = vec![[8; 48]; 257];
+        assert_eq!(draft.write(&mut [0; 20_000]), Err(Refused(51)));
+        draft.includes.pop();
+        assert_eq!(draft.write(&mut [0; 20_000]), Ok(need + 255 * 48));
+    }
+
+    /// Written, fed and asked for.
+    #[test]
+    fn written_and_fed() {
+        let committee = Committee::new(&[1]).unwrap();
+        let (mut store, mut table) = (fresh_store(4096), fresh_table());
+        let mut record = [0; 4096];
+        let first = Draft { author: 0, round: 0, digest: [1; 32], marked: false, includes: vec![], statements: vec![] };
+        let length = first.write(&mut record).unwrap();
+        assert_eq!(committee.feed(&mut store, &mut table, &record[..length]), Ok(vec![]));
+        let include: [u8; 48] = record[..48].try_into().unwrap();
+        let shares = vec![Given::Share(vec![4, 5]), Given::Share(vec![6])];
+        let second = Draft { author: 0, round: 1, digest: [2; 32], marked: false, includes: vec![include], statements: shares };
+        let length = second.write(&mut record).unwrap();
+        assert_eq!(committee.feed(&mut store, &mut table, &record[..length]), Ok(vec![]));
+        assert_eq!(committee.payload(&store, &Locator::new(0, 1, [2; 32], 1)), Ok(&[6][..]));
     }
 }

@@ -13,3 +13,4 @@ pub mod record;
 pub mod stakes_file;
 pub mod store;
 pub mod table;
+pub mod writing;

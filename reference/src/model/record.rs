@@ -97,7 +97,7 @@ impl Block {
         out.extend((self.statements.len() as u16).to_le_bytes());
         out.extend([0; 3]);
         self.includes.iter().for_each(|include| put_reference(&mut out, include));
-        self.statements.iter().for_each(|statement| put_statement(&mut out, statement));
+        self.statements.iter().for_each(|statement| put_statement(&mut out, statement, 2));
         out
     }
 
@@ -111,7 +111,7 @@ impl Block {
             return None;
         }
         let includes = (0..includes).map(|_| reader.reference()).collect::<Option<_>>()?;
-        let statements = (0..statements).map(|_| reader.statement()).collect::<Option<_>>()?;
+        let statements = (0..statements).map(|_| reader.statement(2)).collect::<Option<_>>()?;
         reader.0.is_empty().then_some(Block { reference, marked, includes, statements })
     }
 }
@@ -127,11 +127,12 @@ fn put_locator(out: &mut Vec<u8>, locator: &Locator) {
     out.extend(locator.offset.to_le_bytes());
 }
 
-fn put_statement(out: &mut Vec<u8>, statement: &Statement) {
+/// A statement; a share's length has so many bytes.
+fn put_statement(out: &mut Vec<u8>, statement: &Statement, width: usize) {
     match statement {
         Statement::Share(payload) => {
             out.push(0);
-            out.extend((payload.len() as u16).to_le_bytes());
+            out.extend(&payload.len().to_le_bytes()[..width]);
             out.extend(payload);
         }
         Statement::Accept(locator) => {
@@ -184,10 +185,11 @@ impl<'a> Reader<'a> {
         Some(Locator { block: self.reference()?, offset: self.number(8)? })
     }
 
-    fn statement(&mut self) -> Option<Statement> {
+    /// A statement; a share's length has so many bytes.
+    fn statement(&mut self, width: usize) -> Option<Statement> {
         match self.number(1)? {
             0 => {
-                let length = self.number(2)? as usize;
+                let length = self.number(width)? as usize;
                 Some(Statement::Share(self.take(length)?.to_vec()))
             }
             1 => Some(Statement::Accept(self.locator()?)),
@@ -200,6 +202,38 @@ impl<'a> Reader<'a> {
             _ => None,
         }
     }
+}
+
+/// Includes one after the other, 48 bytes each, and nothing after.
+pub fn includes_of(bytes: &[u8]) -> Option<Vec<Reference>> {
+    let mut reader = Reader(bytes);
+    let mut includes = Vec::new();
+    while !reader.0.is_empty() {
+        includes.push(reader.reference()?);
+    }
+    Some(includes)
+}
+
+/// Statements as they are given to the writer of a record, and nothing after: a share's length has 4 bytes.
+pub fn given_of(bytes: &[u8]) -> Option<Vec<Statement>> {
+    let mut reader = Reader(bytes);
+    let mut statements = Vec::new();
+    while !reader.0.is_empty() {
+        statements.push(reader.statement(4)?);
+    }
+    Some(statements)
+}
+
+pub fn includes_bytes(includes: &[Reference]) -> Vec<u8> {
+    let mut out = Vec::new();
+    includes.iter().for_each(|include| put_reference(&mut out, include));
+    out
+}
+
+pub fn given_bytes(statements: &[Statement]) -> Vec<u8> {
+    let mut out = Vec::new();
+    statements.iter().for_each(|statement| put_statement(&mut out, statement, 4));
+    out
 }
 
 /// A locator of 56 bytes; none of any other number of bytes.

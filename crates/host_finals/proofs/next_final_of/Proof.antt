@@ -4,6 +4,10 @@ use Rattle.host_finals.specs.NextFinal.{NextFinalCall, asAfter, afterOf,
 use Rattle.host_calls.specs.Calls.{encoded}
 use Rattle.next_final.specs.Answers.{asNextFinal}
 use Rattle.vote_starts.specs.Answers.{asMaybe}
+use Rattle.blocks.specs.Record.{locatorBytes}
+use Rattle.types.specs.Values.{asLocator}
+use Rattle.types.proofs.Written.{length-locatorBytes}
+use Rattle.words.proofs.Stores.{sets-complete}
 use native.Mathlib.Omega.{arith}
 use mathlib.Core.Path.{sym, ap, _∙_}
 use borrow.Author.Needs.{needs}
@@ -78,7 +82,9 @@ returns-3 c =
     let place = sym (c .before .before .before .before .before .before .before .before .before .before .before .before .after-of .ensures) ∙ ap asAfter (c .before .before .before .before .before .before .before .before .before .before .place .given .1) in
     let told = sym (c .before .before .before .before .before .before .before .next-final .ensures) ∙ ap asNextFinal (c .before .before .before .before .before .locator .given .1) in
     let e = next-asked (start .stakes .now) (start .store .now) (afterOf (start .after .now)) (start .found .now) _ _ place (c .before .before .before .before .before .before .before .before .if1 .left) told in
-    (sym (ap (λ (x : NextFinalCall). encoded (x .answer)) e), c .before .before .write-locator .ensures ∙ sym (ap (λ (x : NextFinalCall). x .found) e))
+    let l = c .before .before .before .before .before .locator .given .0 .0 in
+    let whole = sets-complete (start .found .now) (locatorBytes (asLocator l)) (omega (arith, length-locatorBytes l, c .before .before .before .before .before .before .before .before .if1 .left)) in
+    (sym (ap (λ (x : NextFinalCall). encoded (x .answer)) e), c .before .before .write-locator .ensures ∙ whole ∙ sym (ap (λ (x : NextFinalCall). x .found) e))
 
 returns-4 : tie.Need-returns-4
 unfolding encoded asAfter asNextFinal foundIn

@@ -1,0 +1,37 @@
+-- The greatest number with which writing is refused, and the word of an answer. Assumes nothing.
+use mathlib.Core.Path.{_≡_, refl, sym, ap, _∙_}
+use mathlib.Core.List.{List}
+use mathlib.Core.Option.{Option, none, some}
+use Prim.Native.Nat.{ℕ, _+_, _≤_}
+use native.Mathlib.Omega.{arith}
+use lib.ListN.{length}
+use Rattle.base.specs.Lists.{allOf}
+use Rattle.base.specs.Checks.{refused}
+use Rattle.drafts.specs.Draft.{Draft, Request, draftIn}
+use Rattle.drafts.specs.Writing.{recordBytes, formChecks, writeChecks, writeDraft, writeRecord}
+use Rattle.write_record.specs.Answers.{asWriteAnswer}
+use Rattle.write_record.specs.declared.WriteAnswer.{WriteAnswer}
+use Rattle.write_record.specs.declared.WriteAnswer.the-variants.{Written, Refused}
+use Rattle.host_calls.specs.Calls.{encoded}
+use Rattle.host_calls.proofs.Numbers.{checked-most}
+
+pub write-most : (q : Request) (out : List ℕ) (n : ℕ) → writeRecord q out .answer ≡ refused n → n ≤ 51
+unfolding writeRecord writeDraft writeChecks formChecks allOf
+write-most q out n h = go (draftIn q) h
+  where
+    go : (o : Option Draft) → writeDraft o out .answer ≡ refused n → n ≤ 51
+    go none k = let z : 51 ≡ n = cc in omega arith
+    go (some d) k = checked-most 51 (writeChecks d out) (length (recordBytes d)) n refl k
+
+-- ---- the word of an answer
+
+module _ (q : Request) (out : List ℕ) (r : WriteAnswer) (e : asWriteAnswer r ≡ writeRecord q out .answer) (n : ℕ) where
+  pub told-length : r ≡ Written n → n ≡ encoded (writeRecord q out .answer)
+  unfolding asWriteAnswer encoded
+  told-length h = rw (← e, h)
+
+  pub told-refusal : r ≡ Refused n → (n ≤ 51) × (9223372036854775808 + n ≡ encoded (writeRecord q out .answer))
+  unfolding asWriteAnswer encoded
+  told-refusal h =
+      let k : writeRecord q out .answer ≡ refused n = sym e ∙ ap asWriteAnswer h in
+      (write-most q out n k, rw k)

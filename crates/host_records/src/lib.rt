@@ -1,0 +1,36 @@
+// What the host's call that writes a record is made of.
+use committee::AuthorityIndex;
+use committee::RoundNumber;
+use write_record::WriteAnswer;
+ghost use mathlib.Core.Path.{_≡_};
+ghost use Rattle.drafts.specs.Writing.{writeRecord};
+ghost use Rattle.write_record.specs.Answers.{requested};
+ghost use Rattle.host_calls.specs.Calls.{encoded};
+
+const REFUSED: u64 = 9223372036854775808;
+
+pub fn write_record_of(
+    author: u64,
+    round: u64,
+    digest: &[u8],
+    mark: u64,
+    includes: &[u8],
+    statements: &[u8],
+    out: &mut [u8],
+) -> u64
+    ensures { λ r. ⌜ r ≡ encoded (writeRecord (requested author round (now (digest .entry)) mark (now (includes .entry)) (now (statements .entry))) (now (out .entry)) .answer) ⌝ }
+    ensures { λ r. ⌜ now (out .exit) ≡ writeRecord (requested author round (now (digest .entry)) mark (now (includes .entry)) (now (statements .entry))) (now (out .entry)) .out ⌝ }
+{
+    match write_record::write_record(
+        AuthorityIndex(author),
+        RoundNumber(round),
+        digest,
+        mark,
+        includes,
+        statements,
+        out,
+    ) {
+        WriteAnswer::Written(length) => length as u64,
+        WriteAnswer::Refused(number) => REFUSED + number,
+    }
+}
