@@ -1,0 +1,10 @@
+pub mod Totals
+pub mod Ranking
+pub mod Weights
+pub mod Kept
+pub mod Chosen
+pub mod Claimed
+pub mod Examples
+pub mod Steps
+pub mod Scans
+pub mod Turns

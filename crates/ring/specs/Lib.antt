@@ -1,0 +1,6 @@
+pub mod Rung
+pub mod Ranked
+pub mod Step
+pub mod Answers
+pub mod Claims
+pub mod Cards
