@@ -23,7 +23,7 @@ use Rattle.table_words.specs.Answers.{FoundBy}
 use Rattle.table_words.specs.declared.Found.{Found}
 use Rattle.table_words.specs.declared.Found.the-variants.{At, Nothing}
 use Rattle.table_words.proofs.Halves.{holds-ordered}
-use Rattle.feeds.specs.Pending.{Standing, pendingChecks, standingOf, pending}
+use Rattle.feeds.specs.Pending.{Standing, pendingChecks, standingOf, standingAt, pending}
 use Rattle.pending.proofs.Lending.{lying, at-none, at-some}
 use Rattle.whom_to_ring.specs.WhomToRing.{ringFor, ringAt, whomToRing, Claims}
 
@@ -46,7 +46,7 @@ module _ (c : Committee) (s : Bytes) (t : List ℕ) (w : AuthoritySet) (l : Tran
     ring-some i x q d = rw (← e, at-some (itemsOf t) (holds-ordered t h) p (l .offset) r f i q, ← d)
 
 pub claimed : Claims
-unfolding pending whomToRing ringAt
+unfolding pending standingAt whomToRing ringAt
 claimed = record { refusedAlike = λ c s t r l n h. alike c s t r l n h (passes (pendingChecks c s t)) (itemAt (itemsOf t) (positionOf (lookup (entries (recordsOf s)) (l .block))) (l .offset)) h }
   where
     none-or : (c : Committee) (r : AuthoritySet) (n : ℕ) (o : Option Item) → standingOf o ≡ refused n → ringFor c r o ≡ refused n
