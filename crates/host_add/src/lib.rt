@@ -28,7 +28,7 @@ fn read_aggregator(bytes: &[u8]) -> StakeAggregator
     StakeAggregator { votes, stake }
 }
 
-fn write_aggregator(bytes: &mut [u8], aggregator: StakeAggregator)
+pub fn write_aggregator(bytes: &mut [u8], aggregator: StakeAggregator)
     requires { ⌜ length (now bytes) ≡ 24 ⌝ }
     ensures { λ _. ⌜ now (bytes .exit) ≡ aggregatorBytes (asAggregator aggregator) ⌝ }
 {

@@ -12,7 +12,7 @@ ghost use Rattle.ring.specs.Answers.{asRing};
 ghost use Rattle.whom_to_ring.specs.WhomToRing.{ringAt, whomToRing, Claims};
 
 // Of a store and a table in order: whom to ring for what stands at a locator.
-fn ring_at(
+pub fn ring_at(
     stakes: &[u64],
     store: &[u8],
     table: &[u64],

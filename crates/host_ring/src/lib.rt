@@ -1,0 +1,91 @@
+// Whom to ring, for a host: stakes, table and locator as bytes, the answer's set and stake as three words.
+use authority_set::AuthoritySet;
+use ring::RingAnswer;
+use stake_aggregator::StakeAggregator;
+ghost use mathlib.Core.Path.{_≡_};
+ghost use lib.ListN.{length};
+ghost use Rattle.ring.specs.Answers.{asRing};
+ghost use Rattle.host_calls.specs.Calls.{encoded};
+ghost use Rattle.host_lib.specs.Payload.{locatorOf};
+ghost use Rattle.host_ring.specs.Ring.{ringIn, askedRing, whomToRingCall};
+
+const REFUSED: u64 = 9223372036854775808;
+
+// 5, 10, 11, then 20 for bytes that are no locator, 40 for no room of three words, then whom to ring.
+fn ring_in(
+    stakes: &[u64],
+    store: &[u8],
+    table: &[u64],
+    reachable: AuthoritySet,
+    locator: &[u8],
+    room: usize,
+) -> RingAnswer
+    ensures { λ r. ⌜ asRing r ≡ ringIn (now (stakes .entry)) (now (store .entry)) (now (table .entry)) reachable (locatorOf (now (locator .entry))) room ⌝ }
+{
+    let refusal = pending::lent_refusal(stakes, store, table);
+    if refusal != 0 {
+        return RingAnswer::Refused(refusal);
+    }
+    if locator.len() != 56 {
+        return RingAnswer::Refused(20);
+    }
+    if room != 24 {
+        return RingAnswer::Refused(40);
+    }
+    whom_to_ring::ring_at(
+        stakes,
+        store,
+        table,
+        reachable,
+        types::read_locator(locator, 0),
+    )
+}
+
+fn ring_of(
+    stakes: &[u64],
+    store: &[u8],
+    table: &[u8],
+    reachable: AuthoritySet,
+    locator: &[u8],
+    room: usize,
+) -> RingAnswer
+    ensures { λ r. ⌜ asRing r ≡ askedRing (now (stakes .entry)) (now (store .entry)) (now (table .entry)) reachable (locatorOf (now (locator .entry))) room ⌝ }
+{
+    if table.len() != 49160 {
+        return RingAnswer::Refused(host_lib::refusal_before(11, stakes, store));
+    }
+    let mut words = [0u64; 6145];
+    words::words_of(table, &mut words);
+    ring_in(stakes, store, &words, reachable, locator, room)
+}
+
+// The number of owners to ring; `found` takes the two words of their set, and their stake.
+pub fn whom_to_ring(
+    stakes: &[u8],
+    store: &[u8],
+    table: &[u8],
+    low: u64,
+    high: u64,
+    locator: &[u8],
+    found: &mut [u8],
+) -> u64
+    ensures { λ r. ⌜ r ≡ encoded (whomToRingCall (now (stakes .entry)) (now (store .entry)) (now (table .entry)) low high (now (locator .entry)) (now (found .entry)) .answer) ⌝ }
+    ensures { λ r. ⌜ now (found .exit) ≡ whomToRingCall (now (stakes .entry)) (now (store .entry)) (now (table .entry)) low high (now (locator .entry)) (now (found .entry)) .found ⌝ }
+{
+    let mut held = [0u64; 128];
+    let n = host_calls::stakes_of(stakes, &mut held);
+    let reachable = AuthoritySet { low, high };
+    match ring_of(&held[..n], store, table, reachable, locator, found.len()) {
+        RingAnswer::Owners(owners, stake) => {
+            host_add::write_aggregator(
+                found,
+                StakeAggregator {
+                    votes: owners,
+                    stake,
+                },
+            );
+            owners.count()
+        }
+        RingAnswer::Refused(number) => REFUSED + number,
+    }
+}
