@@ -78,6 +78,18 @@ uint64_t lomkhvide_pending_stake(const uint8_t *stakes, size_t stakes_len, const
 uint64_t lomkhvide_pending_voters(const uint8_t *stakes, size_t stakes_len, const uint8_t *store, size_t store_len, const uint8_t *table,
                                   size_t table_len, const uint8_t *locator, size_t locator_len);
 
+/* Whom to ring so that a pending locator gets its quorum: the number of owners, and `found` is three words, their set low and high and
+ * their stake. The owners who can be reached are a set in two words, owner i the bit i of the low one, or i - 64 of the high one; numbers
+ * that the committee does not know are ignored. Of the sets of them, without those who have voted, whose votes with those counted hold
+ * quorum it is one of the fewest, of these one of the largest stake, of these the one whose members in ascending order come first: 0 and
+ * three words of zero where the votes counted hold quorum already.
+ * Refused between 20 and 42: 40 `found` not of 24 bytes. Refused last: 60 all of them with the voters miss quorum.
+ * It needs at most 96 KB of stack. */
+#define LOMKHVIDE_RING_LEN ((size_t)24)
+uint64_t lomkhvide_whom_to_ring(const uint8_t *stakes, size_t stakes_len, const uint8_t *store, size_t store_len, const uint8_t *table,
+                                size_t table_len, uint64_t reachable_low, uint64_t reachable_high, const uint8_t *locator,
+                                size_t locator_len, uint8_t *found, size_t found_len);
+
 /* Feeds a block record: the number of its events. The record is stored and counted, and the events are written to the front of `events`,
  * three words each: 1 processed, 2 late or 3 unknown; the statement's index; the offset. The bytes after them keep their content.
  * Refused, in this order: 5; 10; 11; 20 a malformed record; 21 to 30 a record that breaks a rule; 15 events not of 8,192 words, or with

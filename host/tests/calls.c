@@ -444,6 +444,80 @@ static void loading(void) {
     }
 }
 
+/* ---- whom to ring */
+
+/* Asks with `found` of a length, lent from its own allocation, and compares the words that stand there afterwards. */
+static void rung(const char *what, const uint8_t *stakes, size_t table, uint64_t low, uint64_t high, const uint8_t *locator, size_t n, size_t room,
+                 uint64_t want, uint64_t set, uint64_t stake) {
+    uint8_t *found = malloc(room + 24), right[24];
+    memset(found, 9, room + 24);
+    memset(right, 9, sizeof right);
+    same(what, lomkhvide_whom_to_ring(stakes, 24, lent.store, 1024, lent.table, table, low, high, locator, n, found, room), want);
+    if (want >> 63 == 0) {
+        put_word(right, set);
+        put_word(right + 8, 0);
+        put_word(right + 16, stake);
+    }
+    same("the set and the stake, or nothing written", memcmp(found, right, room < 24 ? room : 24), 0);
+    free(found);
+}
+
+/* Owners of stakes 3, 2 and 2, with quorum from 5: owner 0 shares, and nobody else has voted. */
+static void ringing(void) {
+    const size_t t = LOMKHVIDE_TABLE_LEN, v = LOMKHVIDE_EVENTS_LEN;
+    uint8_t stakes[24], first[256], second[256], third[320], locator[60];
+    for (int i = 0; i < 3; i++) {
+        put_word(stakes + 8 * i, i == 0 ? 3 : 2);
+    }
+    memset(&lent, 0, sizeof lent);
+    lent.store[4] = 16;
+    same("the first owner's block", feed(stakes, 24, 1024, t, v, first, put_record(first, 0, 1, NULL, "")), 0);
+    size_t n = put_record(second, 0, 2, NULL, "");
+    second[0] = 1;
+    same("the second owner's", feed(stakes, 24, 1024, t, v, second, n), 0);
+    n = put_record(third, 1, 3, first, "gain");
+    memmove(third + 56 + 96, third + 56 + 48, n - 56 - 48);
+    memcpy(third + 56 + 48, second, 48);
+    third[49] = 2;
+    n += 48;
+    same("a share", feed(stakes, 24, 1024, t, v, third, n), 0);
+    memset(locator, 0, sizeof locator);
+    memcpy(locator, third, 48);
+    kept = lent;
+    rung("of equals the lower number", stakes, t, 6, 0, locator, 56, 24, 1, 2, 2);
+    rung("who can be reached", stakes, t, 4, 0, locator, 56, 24, 1, 4, 2);
+    rung("unknown numbers", stakes, t, ~UINT64_C(3), UINT64_MAX, locator, 56, 24, 1, 4, 2);
+    rung("nobody", stakes, t, 0, 0, locator, 56, 24, refused(60), 0, 0);
+    rung("who has voted, and unknown numbers", stakes, t, ~UINT64_C(6), UINT64_MAX, locator, 56, 24, refused(60), 0, 0);
+    for (size_t room = 0; room < 40; room++) {
+        if (room != 24) {
+            rung("room of any length", stakes, t, 0, 0, locator, 56, room, refused(40), 0, 0);
+        }
+    }
+    for (size_t m = 0; m < sizeof locator; m++) {
+        if (m != 56) {
+            rung("a locator of any length", stakes, t, 6, 0, locator, m, 7, refused(20), 0, 0);
+        }
+    }
+    for (size_t m = 0; m < sizeof lent.table; m += m < 64 ? 1 : 499) {
+        if (m != t) {
+            rung("a table of any length", stakes, m, 6, 0, locator, 7, 7, refused(11), 0, 0);
+        }
+    }
+    locator[48] = 1;
+    rung("42 before 60", stakes, t, 0, 0, locator, 56, 24, refused(42), 0, 0);
+    rung("40 before 42", stakes, t, 0, 0, locator, 56, 23, refused(40), 0, 0);
+    locator[48] = 0;
+    uint8_t found[24];
+    same("no committee", lomkhvide_whom_to_ring(stakes, 23, lent.store, 15, lent.table, 7, 6, 0, locator, 7, found, 7), refused(5));
+    same("no store", lomkhvide_whom_to_ring(stakes, 24, lent.store, 15, lent.table, 7, 6, 0, locator, 7, found, 7), refused(10));
+    same("only read", memcmp(&lent, &kept, sizeof lent), 0);
+    /* the second owner's vote makes quorum: the item would have left, but a table may hold it */
+    put_word(lent.table + 32, 3);
+    put_word(lent.table + 48, 5);
+    rung("quorum already", stakes, t, 0, 0, locator, 56, 24, 0, 0, 0);
+}
+
 /* ---- the blast calendar */
 
 /* Asks for the first open second over n bytes of a calendar, lent from their own allocation; `found` gets the word that was written. */
@@ -651,6 +725,7 @@ int main(void) {
     adding();
     payloads();
     feeding();
+    ringing();
     calendars();
     writing();
     printf("%d passed, %d failed\n", passed, failed);

@@ -56,6 +56,37 @@ static void load_stakes(void) {
     answer = lomkhvide_load_stakes(file, sizeof file, stakes, sizeof stakes);
 }
 
+/* 128 owners, of whom the first shares and all can be reached: most passes over the committee */
+static uint8_t owners[1024], store[65536], table[LOMKHVIDE_TABLE_LEN], events[LOMKHVIDE_EVENTS_LEN], locator[56], ring[LOMKHVIDE_RING_LEN];
+
+static void whom_to_ring(void) {
+    answer = lomkhvide_whom_to_ring(owners, sizeof owners, store, sizeof store, table, sizeof table, UINT64_MAX, UINT64_MAX, locator,
+                                    sizeof locator, ring, sizeof ring);
+}
+
+/* Feeds a block of each owner and one of round 1 that includes them all and shares. */
+static void share(void) {
+    static uint8_t record[8192];
+    store[4] = 16;
+    size_t n = 56;
+    for (size_t i = 0; i < 128; i++) {
+        owners[8 * i] = 1;
+        memset(record + n, 0, 48);
+        record[n] = (uint8_t)i;
+        n += 48;
+    }
+    for (size_t i = 0; i < 128; i++) {
+        uint8_t first[56] = {(uint8_t)i};
+        lomkhvide_feed(owners, sizeof owners, store, sizeof store, table, sizeof table, events, sizeof events, first, sizeof first);
+    }
+    record[8] = 1;
+    record[49] = 128;
+    record[51] = 1;
+    memcpy(record + n, "\0\1\0g", 4);
+    lomkhvide_feed(owners, sizeof owners, store, sizeof store, table, sizeof table, events, sizeof events, record, n + 4);
+    locator[8] = 1;
+}
+
 static int failed;
 
 static void at_most(const char *what, void (*call)(void), uint64_t want, size_t most) {
@@ -78,6 +109,8 @@ int main(void) {
     at_most("is_open", is_open, 0, 2048);
     at_most("next_open", next_open, 1, 2048);
     at_most("load_stakes", load_stakes, 1, 32768);
-    printf("%d passed, %d failed\n", 3 - failed, failed);
+    share();
+    at_most("whom_to_ring", whom_to_ring, 85, 98304);
+    printf("%d passed, %d failed\n", 4 - failed, failed);
     return failed != 0;
 }

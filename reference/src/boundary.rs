@@ -199,10 +199,20 @@ fn cases() -> Vec<Case> {
         },
         Case {
             name: "pending_voters",
-            slices: vec![stakes.clone(), store.clone(), table, locator.clone()],
+            slices: vec![stakes.clone(), store.clone(), table.clone(), locator.clone()],
             engine: over!(|stakes, store, table, locator| engine::pending_voters(stakes, store, table, locator)),
             model: over!(|stakes, store, table, locator| {
                 Ok(lent::pending(stakes, store, table, locator)?.voters.count_ones() as u64)
+            }),
+        },
+        Case {
+            name: "whom_to_ring",
+            slices: vec![stakes.clone(), store.clone(), table, locator.clone(), ("set and stake", vec![5; 24], 40)],
+            engine: over!(|stakes, store, table, locator, out| {
+                engine::whom_to_ring(stakes, store, table, u128::MAX, locator, out)
+            }),
+            model: over!(|stakes, store, table, locator, out| {
+                lent::whom_to_ring(stakes, store, table, u128::MAX, locator, out)
             }),
         },
         Case {

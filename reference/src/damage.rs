@@ -68,6 +68,11 @@ pub fn every_call(memory: &Memory, record: &[u8], locator: &[u8], tally: &mut Ta
     same("pending_stake over damaged memory", "engine", told, votes.map(|votes| votes.stake))?;
     let told = engine::pending_voters(stakes, store, table, locator);
     same("pending_voters over damaged memory", "engine", told, votes.map(|votes| votes.voters.count_ones() as u64))?;
+    let (mut right, mut got) = ([0x3c; 24], [0x3c; 24]);
+    let answer = lent::whom_to_ring(stakes, store, table, u128::MAX, locator, &mut right);
+    let told = engine::whom_to_ring(stakes, store, table, u128::MAX, locator, &mut got);
+    same("whom_to_ring over damaged memory", "engine", told, answer)?;
+    same_bytes("whom_to_ring's set over damaged memory", &got, &right)?;
     questions_of_store(stakes, store, locator)
 }
 

@@ -115,6 +115,48 @@ pub fn is_valid(total: u64, amount: u64) -> bool {
     unsafe { lomkhvide_is_valid(total, amount) == 1 }
 }
 
+pub fn whom_to_ring(
+    stakes: &[u8],
+    store: &[u8],
+    table: &[u8],
+    reachable: u128,
+    locator: &[u8],
+    found: &mut [u8],
+) -> Answer {
+    extern "C" {
+        fn lomkhvide_whom_to_ring(
+            stakes: *const u8,
+            stakes_len: usize,
+            store: *const u8,
+            store_len: usize,
+            table: *const u8,
+            table_len: usize,
+            low: u64,
+            high: u64,
+            locator: *const u8,
+            locator_len: usize,
+            found: *mut u8,
+            found_len: usize,
+        ) -> u64;
+    }
+    answer(unsafe {
+        lomkhvide_whom_to_ring(
+            stakes.as_ptr(),
+            stakes.len(),
+            store.as_ptr(),
+            store.len(),
+            table.as_ptr(),
+            table.len(),
+            reachable as u64,
+            (reachable >> 64) as u64,
+            locator.as_ptr(),
+            locator.len(),
+            found.as_mut_ptr(),
+            found.len(),
+        )
+    })
+}
+
 // ---- the blast calendar
 
 pub fn is_open(calendar: &[u8], time: u64) -> Answer {

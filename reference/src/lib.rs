@@ -16,6 +16,7 @@ pub mod members;
 pub mod model;
 pub mod program;
 pub mod questions;
+pub mod rings;
 pub mod rng;
 #[cfg_attr(not(has_rust), path = "no_rust.rs")]
 pub mod rust;

@@ -8,7 +8,7 @@ use reference::compare::compare;
 use reference::list::List;
 use reference::tally::Tally;
 use reference::writing::Written;
-use reference::{calendars, exhaustive, generate, members, program, shrink, tables};
+use reference::{calendars, exhaustive, generate, members, program, rings, shrink, tables};
 
 fn main() {
     let words: Vec<String> = std::env::args().skip(1).collect();
@@ -19,6 +19,7 @@ fn main() {
             let count = number(word(1), 1000);
             end(count, calendars(count, number(word(2), 1)))
         }
+        Some("rings") => end(rings::COUNT, rings(rings::COUNT)),
         Some("exhaustive") => exhaustive(number(word(1), exhaustive::COUNT)),
         Some("list") => one(number(word(1), 0), number(word(2), 1)),
         Some("boundary") => boundary(word(1) == Some("exact")),
@@ -98,7 +99,21 @@ fn lists(count: u64, seed: u64) {
     println!("seed {seed}");
     let failed = run(count, |n| list(seed, n));
     let weeks = count / 20;
-    end(count + weeks, failed + calendars(weeks, seed));
+    let committees = (count / 20).min(rings::COUNT);
+    end(count + weeks + committees, failed + calendars(weeks, seed) + rings(committees));
+}
+
+/// Whom to ring, in the first of the small committees: in how many it failed.
+fn rings(count: u64) -> u64 {
+    let mut failed = 0;
+    for n in 0..count {
+        if let Err(text) = rings::compare(n) {
+            failed += 1;
+            println!("whom to ring, committee {n}, failed: {text}");
+        }
+    }
+    println!("whom to ring: every set of voters and of owners within reach in {count} committees");
+    failed
 }
 
 /// Blast calendars, on the engine and the model: how many failed.

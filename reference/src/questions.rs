@@ -3,9 +3,9 @@
 use std::collections::BTreeSet;
 
 use crate::compare::{same, same_bytes, Outcome, Sides};
-use crate::engine;
+use crate::engine::{self, Answer};
 use crate::model::finality::{Finality, Graph};
-use crate::model::lent::{stretches, write_finality, write_stretches, MOST_STRETCHES, POSITION_BYTES, STRETCHES_BYTES};
+use crate::model::lent::{stretches, whom_to_ring, write_finality, write_stretches, MOST_STRETCHES, POSITION_BYTES, STRETCHES_BYTES};
 use crate::model::record::{number, Locator, Reference};
 use crate::rng::Rng;
 use crate::tally::Tally;
@@ -28,8 +28,10 @@ pub fn ask(sides: &Sides, rng: &mut Rng, tally: &mut Tally) -> Outcome {
     for locator in &asked {
         let finality = graph.finality(locator);
         tally.not_finals += !finality.is_final as u64;
-        tally.questions += 5;
+        tally.questions += 7;
         one(sides, locator, &finality)?;
+        tally.rings(&rung(sides, locator, u128::MAX)?);
+        tally.rings(&rung(sides, locator, rng.word() as u128 | (rng.word() as u128) << 64)?);
     }
     asked_on(sides, &list, rng)?;
     in_bulk(sides, &graph, rng)
@@ -94,6 +96,17 @@ fn one(sides: &Sides, locator: &Locator, finality: &Finality) -> Outcome {
     let right = votes.map(|votes| votes.voters.count_ones() as u64);
     same(&format!("pending_voters of {locator:?}"), "engine", got, right)?;
     Ok(())
+}
+
+/// Whom to ring for a locator.
+fn rung(sides: &Sides, locator: &Locator, reachable: u128) -> Result<Answer, String> {
+    let (lent, bytes) = (&sides.engine, locator.bytes());
+    let (mut got, mut right) = ([0x3c; 24], [0x3c; 24]);
+    let told = engine::whom_to_ring(&lent.stakes, &lent.store, &lent.table, reachable, &bytes, &mut got);
+    let answer = whom_to_ring(&lent.stakes, &lent.store, &lent.table, reachable, &bytes, &mut right);
+    same(&format!("whom to ring for {locator:?}, reachable {reachable:x}"), "engine", told, answer)?;
+    same_bytes(&format!("the set and stake to ring for {locator:?}, reachable {reachable:x}"), &got, &right)?;
+    Ok(told)
 }
 
 /// The next final locator, asked on until none (or a few times, from a random place, where the list is long).

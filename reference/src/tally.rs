@@ -14,6 +14,8 @@ pub struct Tally {
     pub not_finals: u64,
     pub pending: u64,
     pub questions: u64,
+    /// Answers about whom to ring: with somebody to ring, with nobody, and 60.
+    pub rung: [u64; 3],
     pub damaged: BTreeMap<u64, u64>,
 }
 
@@ -28,6 +30,15 @@ impl Tally {
         }
     }
 
+    pub fn rings(&mut self, told: &Result<u64, u64>) {
+        match told {
+            Ok(0) => self.rung[1] += 1,
+            Ok(_) => self.rung[0] += 1,
+            Err(60) => self.rung[2] += 1,
+            Err(_) => {}
+        }
+    }
+
     pub fn describe(&self) -> String {
         let each = |counts: &BTreeMap<u64, u64>| {
             counts.iter().map(|(number, count)| format!("{number}: {count}")).collect::<Vec<_>>().join(", ")
@@ -36,6 +47,7 @@ impl Tally {
         format!(
             "records accepted {}; refused {{{}}}\nevents: processed {}, late {}, unknown {}\n\
              locators answered final {}, not final {}; pending items {}; questions {}\n\
+             of pending ones, somebody to ring {}, nobody {}, 60 {}\n\
              answers over damaged memory (0: none refused) {{{}}}",
             self.accepted,
             each(&self.refused),
@@ -46,6 +58,9 @@ impl Tally {
             self.not_finals,
             self.pending,
             self.questions,
+            self.rung[0],
+            self.rung[1],
+            self.rung[2],
             each(&self.damaged),
         )
     }

@@ -17,6 +17,7 @@ ghost use Rattle.host_calendar.specs.Calendar.{isOpenCall, nextOpenCall};
 ghost use Rattle.host_stakes.specs.LoadStakes.{loadStakesCall};
 ghost use Rattle.drafts.specs.Writing.{writeRecord};
 ghost use Rattle.write_record.specs.Answers.{requested};
+ghost use Rattle.host_ring.specs.Ring.{whomToRingCall};
 use committee::NewCommittee;
 use committee::Stake;
 use feeding::FeedAnswer;
@@ -256,4 +257,21 @@ pub extern "C" fn lomkhvide_write_record(
     ensures { λ r. ⌜ now (out .exit) ≡ writeRecord (requested author round (now (digest .entry)) mark (now (includes .entry)) (now (statements .entry))) (now (out .entry)) .out ⌝ }
 {
     host_records::write_record_of(author, round, digest, mark, includes, statements, out)
+}
+
+// The number of owners to ring so that a pending locator gets its quorum; `found` takes their set and their stake.
+#[no_mangle]
+pub extern "C" fn lomkhvide_whom_to_ring(
+    stakes: &[u8],
+    store: &[u8],
+    table: &[u8],
+    low: u64,
+    high: u64,
+    locator: &[u8],
+    found: &mut [u8],
+) -> u64
+    ensures { λ r. ⌜ r ≡ encoded (whomToRingCall (now (stakes .entry)) (now (store .entry)) (now (table .entry)) low high (now (locator .entry)) (now (found .entry)) .answer) ⌝ }
+    ensures { λ r. ⌜ now (found .exit) ≡ whomToRingCall (now (stakes .entry)) (now (store .entry)) (now (table .entry)) low high (now (locator .entry)) (now (found .entry)) .found ⌝ }
+{
+    host_ring::whom_to_ring(stakes, store, table, low, high, locator, found)
 }

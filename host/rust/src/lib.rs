@@ -53,6 +53,20 @@ mod calls {
             locator: *const u8,
             locator_len: usize,
         ) -> u64;
+        pub fn lomkhvide_whom_to_ring(
+            stakes: *const u8,
+            stakes_len: usize,
+            store: *const u8,
+            store_len: usize,
+            table: *const u8,
+            table_len: usize,
+            reachable_low: u64,
+            reachable_high: u64,
+            locator: *const u8,
+            locator_len: usize,
+            found: *mut u8,
+            found_len: usize,
+        ) -> u64;
         pub fn lomkhvide_feed(
             stakes: *const u8,
             stakes_len: usize,
@@ -255,6 +269,13 @@ pub struct Pending {
     pub voters: u64,
 }
 
+/// The fewest owners whose votes bring a pending locator to quorum: owner i is bit i; and their stake.
+#[derive(Clone, Copy, Debug, PartialEq, Eq)]
+pub struct ToRing {
+    pub owners: u128,
+    pub stake: u64,
+}
+
 /// What became of an offset that a statement of the record votes on.
 #[derive(Clone, Copy, Debug, PartialEq, Eq)]
 pub enum Outcome {
@@ -426,6 +447,32 @@ impl Committee {
             )
         };
         Ok(Pending { stake: answer(stake)?, voters: answer(voters)? })
+    }
+
+    /// Whom to ring so that a pending locator gets its quorum, of the owners who can be reached (owner i is bit i); or 5, 10, 11, 42, 60.
+    pub fn whom_to_ring(&self, store: &[u8], table: &[u8], reachable: u128, locator: &Locator) -> Result<ToRing, Refused> {
+        let (stakes, locator) = (&self.stakes, &locator.0);
+        let mut found = [0; 24];
+        // The slices are lent for the call alone, and the call writes `found` only.
+        let word = unsafe {
+            calls::lomkhvide_whom_to_ring(
+                stakes.as_ptr(),
+                stakes.len(),
+                store.as_ptr(),
+                store.len(),
+                table.as_ptr(),
+                table.len(),
+                reachable as u64,
+                (reachable >> 64) as u64,
+                locator.as_ptr(),
+                locator.len(),
+                found.as_mut_ptr(),
+                found.len(),
+            )
+        };
+        answer(word)?;
+        let words = words_of(&found);
+        Ok(ToRing { owners: words[0] as u128 | (words[1] as u128) << 64, stake: words[2] })
     }
 
     /// Puts a voter into the aggregator: what the vote did; or 6, 21, and the aggregator is as it was.
@@ -750,6 +797,36 @@ mod tests {
         bytes[8] = records.len() as u8;
         bytes.resize(bytes.len() + 100, 7);
         bytes
+    }
+
+    #[test]
+    fn whom_to_ring() {
+        // owner 0 of three shares; quorum is from 5
+        let committee = Committee::new(&[3, 2, 2]).unwrap();
+        let (first, mut second) = (record(0, 1, &[], &[]), record(0, 2, &[], &[]));
+        second[0] = 1;
+        let third = record(1, 3, &[&first[..48], &second[..48]].concat(), &[b"gain"]);
+        let mut store = vec![0; 1024];
+        store[4] = 16;
+        let mut table = vec![0; 8 * 6145];
+        for record in [&first, &second, &third] {
+            assert_eq!(committee.feed(&mut store, &mut table, record), Ok(vec![]));
+        }
+        let mut digest = [0; 32];
+        digest[3] = 3;
+        let ask = |reachable, offset| committee.whom_to_ring(&store, &table, reachable, &Locator::new(0, 1, digest, offset));
+        assert_eq!(ask(6, 0), Ok(ToRing { owners: 2, stake: 2 }));
+        assert_eq!(ask(u128::MAX, 0), Ok(ToRing { owners: 2, stake: 2 }));
+        assert_eq!(ask(!3, 0), Ok(ToRing { owners: 4, stake: 2 }));
+        assert_eq!(ask(!6, 0), Err(Refused(60)));
+        assert_eq!(ask(0, 1), Err(Refused(42)));
+        for length in (0..200).chain(8 * 6145 - 20..8 * 6145).chain([8 * 6145 + 8]) {
+            let other = vec![0; length];
+            let told = committee.whom_to_ring(&store, &other, 6, &Locator::new(0, 1, digest, 0));
+            assert_eq!(told, Err(Refused(11)), "a table of {length} bytes");
+        }
+        let told = committee.whom_to_ring(&store[..15], &table, 6, &Locator::new(0, 1, digest, 0));
+        assert_eq!(told, Err(Refused(10)));
     }
 
     #[test]

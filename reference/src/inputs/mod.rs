@@ -9,8 +9,10 @@ mod stakes;
 use std::fs;
 use std::path::Path;
 
+use crate::model::committee::{Committee, COURSE};
 use crate::model::listing::{listing, mistaken_listing};
 use crate::model::mistake::Mistake;
+use crate::model::ring;
 
 const ROOT: &str = concat!(env!("CARGO_MANIFEST_DIR"), "/..");
 
@@ -91,6 +93,31 @@ fn exercise(page: &str, name: &str, input: &[u8], mistake: Mistake) -> Result<()
     Ok(())
 }
 
+/// What is wrong with the exercise about whom to ring, if anything: in the course committee owners 2, 3 and 6 have voted.
+fn ringing(page: &str) -> Result<(), String> {
+    let committee = Committee::new(&COURSE).unwrap();
+    let exercise = page.split_once("\n## 6. ").map_or("", |(_, rest)| rest);
+    let rows: Vec<&str> = exercise.lines().filter(|line| line.starts_with('|')).skip(2).collect();
+    for row in &rows {
+        let cells: Vec<&str> = row.split('|').map(str::trim).collect();
+        let reachable = cells[1].split(", ").fold(0, |set, owner| set | 1u128 << owner.parse::<u32>().unwrap_or(127));
+        let right = match ring::by_sets(&committee, 0b1001100, reachable) {
+            Ok((owners, stake)) => {
+                let owners = (0..128).filter(|i| owners >> i & 1 == 1).map(|i| i.to_string());
+                [owners.collect::<Vec<_>>().join(", "), stake.to_string()]
+            }
+            Err(number) => [number.to_string(), String::new()],
+        };
+        if cells[2..4] != right {
+            return Err(format!("docs/COURSE.md has another answer for those who can be reached, {}: {right:?}", cells[1]));
+        }
+    }
+    if rows.is_empty() {
+        return Err("docs/COURSE.md has no table of whom to ring".into());
+    }
+    Ok(())
+}
+
 /// Writes a file, or checks that it is what is made.
 fn file(place: &str, content: &[u8], check: bool) -> Result<(), String> {
     let path = Path::new(ROOT).join("crates").join(place);
@@ -112,5 +139,5 @@ pub fn run(check: bool) -> Vec<Result<(), String>> {
         exercise(&page, name, input, *mistake)
     });
     let files = files(&inputs);
-    exercises.chain(files.iter().map(|(place, content)| file(place, content, check))).collect()
+    exercises.chain([ringing(&page)]).chain(files.iter().map(|(place, content)| file(place, content, check))).collect()
 }

@@ -4,6 +4,7 @@ use super::committee::{Committee, Votes};
 use super::feed::{Event, State};
 use super::finality::{Finality, Graph};
 use super::record::{locator_of, number, Locator};
+use super::ring;
 use super::stakes_file;
 use super::store::Stores;
 use super::table::Table;
@@ -70,6 +71,25 @@ pub fn pending(stakes: &[u8], store: &[u8], table: &[u8], locator: &[u8]) -> Res
     let stored = stores.get(&locator.block).ok_or(42u64)?;
     let item = table.find(stored.position, locator.offset).ok_or(42u64)?;
     Ok(table.items[item].votes)
+}
+
+/// Whom to ring: the number of owners, and three words, their set and their stake. 40 stands between the pending question's 20 and 42.
+pub fn whom_to_ring(
+    stakes: &[u8],
+    store: &[u8],
+    table: &[u8],
+    reachable: u128,
+    locator: &[u8],
+    found: &mut [u8],
+) -> Answer {
+    let votes = match pending(stakes, store, table, locator) {
+        Err(number) if number != 42 => return Err(number),
+        _ if found.len() != 24 => return Err(40),
+        votes => votes?,
+    };
+    let (owners, stake) = ring::whom_to_ring(&Committee::lent(stakes)?, votes.voters, reachable)?;
+    put_words(found, &[owners as u64, (owners >> 64) as u64, stake]);
+    Ok(owners.count_ones() as u64)
 }
 
 /// Where a payload stands, and its length: 5, 10, 20, 41.

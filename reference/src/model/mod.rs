@@ -10,6 +10,7 @@ pub mod lent;
 pub mod listing;
 pub mod mistake;
 pub mod record;
+pub mod ring;
 pub mod stakes_file;
 pub mod store;
 pub mod table;
