@@ -1,13 +1,27 @@
 // What is checked of a record before it is stored and counted.
+use committee::NewCommittee;
 ghost use mathlib.Core.Path.{_≡_};
 ghost use mathlib.Core.Bool.{true, false};
 ghost use Rattle.base.specs.Checks.{refusal};
 ghost use Rattle.committee.specs.Committee.{broken};
 ghost use Rattle.blocks.specs.Record.{wellFormed, blockIn};
+ghost use Rattle.blocks.specs.Verify.{bodyChecks};
 ghost use Rattle.store_layout.specs.Accept.{blockChecks};
 ghost use Rattle.store_layout.specs.Store.{recordsOf};
 ghost use Rattle.store_layout.specs.Entry.{laidOut};
 ghost use Rattle.record_checks.specs.Step.{acceptChecks};
+
+// 24 to 29 of a well-formed record, or 0.
+fn body_refusal(stakes: &[u64], rec: &[u8]) -> u64
+    requires { ⌜ (wellFormed (now rec) ≡ true) × (broken (now stakes) ≡ false) ⌝ }
+    ensures { λ r. ⌜ r ≡ refusal (bodyChecks (now (stakes .entry)) (blockIn (now (rec .entry)))) ⌝ }
+{
+    let NewCommittee::Taken(total) = committee::new_committee(stakes) else {
+        // Never so: the committee is not broken.
+        return 5;
+    };
+    threshold_clock::body_refusal(stakes, total, rec)
+}
 
 // 21 to 30: what is checked of a well-formed record before the store; 0 where none applies.
 pub fn block_refusal(stakes: &[u64], store: &[u8], rec: &[u8]) -> u64
@@ -21,7 +35,7 @@ pub fn block_refusal(stakes: &[u64], store: &[u8], rec: &[u8]) -> u64
     if block_store::lookup(store, block_record::reference(rec)) != 0 {
         return 23;
     }
-    let body = threshold_clock::body_refusal(stakes, rec);
+    let body = body_refusal(stakes, rec);
     if body != 0 {
         return body;
     }

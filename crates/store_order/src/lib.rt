@@ -1,4 +1,6 @@
 // Whether a lent store is in order (10): entries, chain, and each record accepted after those before it.
+use committee::NewCommittee;
+use committee::Stake;
 use types::BlockReference;
 use types::Ordering;
 ghost use Prim.Native.Nat.{_+_, _≤_};
@@ -8,7 +10,7 @@ ghost use lib.Dec.{ltb};
 ghost use lib.ListN.{length, take};
 ghost use Rattle.base.specs.Lists.{allOf, pairwise};
 ghost use Rattle.base.specs.Le.{leAt};
-ghost use Rattle.committee.specs.Committee.{broken};
+ghost use Rattle.committee.specs.Committee.{broken, totalStake};
 ghost use Rattle.blocks.specs.Record.{wellFormed, blockIn};
 ghost use Rattle.types.specs.Values.{asReference};
 ghost use Rattle.store_layout.specs.Layout.{entries, positionOf, lookup};
@@ -200,8 +202,8 @@ fn includes_before(store: &[u8], order: &[u64], rec: &[u8], at: usize) -> bool
 }
 
 // Whether the record at a position is accepted after those before it (21 to 30).
-fn entry_accepted(stakes: &[u64], store: &[u8], order: &[u64], at: usize) -> bool
-    requires { ⌜ (broken (now stakes) ≡ false) × ((laidOut (now store) ≡ true) × ((now order ≡ sortedPositions (recordsOf (now store))) × (isEntry (now store) at ≡ true))) ⌝ }
+fn entry_accepted(stakes: &[u64], total: Stake, store: &[u8], order: &[u64], at: usize) -> bool
+    requires { ⌜ ((broken (now stakes) ≡ false) × (total .0 ≡ totalStake (now stakes))) × ((laidOut (now store) ≡ true) × ((now order ≡ sortedPositions (recordsOf (now store))) × (isEntry (now store) at ≡ true))) ⌝ }
     ensures { λ r. ⌜ r ≡ acceptedAt (now (stakes .entry)) (recordsOf (now (store .entry))) at ⌝ }
 {
     let from = at + 8;
@@ -209,10 +211,32 @@ fn entry_accepted(stakes: &[u64], store: &[u8], order: &[u64], at: usize) -> boo
     if threshold_clock::head_refusal(stakes, &store[from..end]) != 0 {
         return false;
     }
-    if threshold_clock::body_refusal(stakes, &store[from..end]) != 0 {
+    if threshold_clock::body_refusal(stakes, total, &store[from..end]) != 0 {
         return false;
     }
     includes_before(store, order, &store[from..end], at)
+}
+
+// Whether every record is accepted after those before it, with the total of the stakes at hand.
+fn accepted_in_turn(
+    stakes: &[u64],
+    total: Stake,
+    store: &[u8],
+    starts: &[u64],
+    order: &[u64],
+) -> bool
+    requires { ⌜ ((broken (now stakes) ≡ false) × (total .0 ≡ totalStake (now stakes))) × ((laidOut (now store) ≡ true) × ((now order ≡ sortedPositions (recordsOf (now store))) × (now starts ≡ positions (recordsOf (now store))))) ⌝ }
+    ensures { λ r. ⌜ r ≡ allAccepted (now (stakes .entry)) (recordsOf (now (store .entry))) ⌝ }
+{
+    let mut i: usize = 0;
+    while i < starts.len() {
+        let at = starts[i] as usize;
+        if !entry_accepted(stakes, total, store, order, at) {
+            return false;
+        }
+        i = i + 1;
+    }
+    true
 }
 
 // Whether every record is accepted after those before it.
@@ -220,15 +244,11 @@ fn all_accepted(stakes: &[u64], store: &[u8], starts: &[u64], order: &[u64]) -> 
     requires { ⌜ (broken (now stakes) ≡ false) × ((laidOut (now store) ≡ true) × ((now order ≡ sortedPositions (recordsOf (now store))) × (now starts ≡ positions (recordsOf (now store))))) ⌝ }
     ensures { λ r. ⌜ r ≡ allAccepted (now (stakes .entry)) (recordsOf (now (store .entry))) ⌝ }
 {
-    let mut i: usize = 0;
-    while i < starts.len() {
-        let at = starts[i] as usize;
-        if !entry_accepted(stakes, store, order, at) {
-            return false;
-        }
-        i = i + 1;
-    }
-    true
+    let NewCommittee::Taken(total) = committee::new_committee(stakes) else {
+        // Never so: the committee is not broken.
+        return false;
+    };
+    accepted_in_turn(stakes, total, store, starts, order)
 }
 
 // Whether the store is in order (10), for a committee that is not broken.

@@ -2,8 +2,8 @@
 use authority_set::AuthoritySet;
 use block_record::BaseStatement;
 use committee::FoundStake;
-use committee::NewCommittee;
 use committee::RoundNumber;
+use committee::Stake;
 use types::BlockReference;
 use types::TransactionLocatorRange;
 ghost use mathlib.Core.Path.{_≡_};
@@ -15,7 +15,7 @@ ghost use Rattle.blocks.specs.Reference.{maxLen};
 ghost use Rattle.base.specs.Lists.{pick};
 ghost use Rattle.base.specs.Le.{Bytes};
 ghost use Rattle.base.specs.Checks.{refusal, passes};
-ghost use Rattle.committee.specs.Committee.{broken};
+ghost use Rattle.committee.specs.Committee.{broken, totalStake};
 ghost use Rattle.authority_set.specs.AuthoritySet.{inserted};
 ghost use Rattle.blocks.specs.Record.{wellFormed, blockIn};
 ghost use Rattle.block_record.specs.Values.{asStatement};
@@ -146,22 +146,18 @@ fn previous_authors(stakes: &[u64], rec: &[u8]) -> AuthoritySet
 }
 
 // The clock of a record whose includes pass their checks: authors of includes at round - 1 hold quorum.
-pub fn threshold_clock_valid_non_genesis(stakes: &[u64], rec: &[u8]) -> bool
-    requires { ⌜ (wellFormed (now rec) ≡ true) × ((broken (now stakes) ≡ false) × (passes (flatten (map (includeChecks (now stakes) (blockIn (now rec))) (blockIn (now rec) .includes))) ≡ true)) ⌝ }
+pub fn threshold_clock_valid_non_genesis(stakes: &[u64], total: Stake, rec: &[u8]) -> bool
+    requires { ⌜ ((wellFormed (now rec) ≡ true) × ((broken (now stakes) ≡ false) × (passes (flatten (map (includeChecks (now stakes) (blockIn (now rec))) (blockIn (now rec) .includes))) ≡ true))) × (total .0 ≡ totalStake (now stakes)) ⌝ }
     ensures { λ r. ⌜ r ≡ clockValid (now (stakes .entry)) (blockIn (now (rec .entry))) ⌝ }
 {
-    let NewCommittee::Taken(total) = committee::new_committee(stakes) else {
-        // Never so: the committee is not broken.
-        return false;
-    };
     let voters = previous_authors(stakes, rec);
     let stake = authority_set::stake_of(stakes, voters);
     committee::is_quorum(total, stake)
 }
 
 // 24 to 29 of a well-formed record, or 0.
-pub fn body_refusal(stakes: &[u64], rec: &[u8]) -> u64
-    requires { ⌜ (wellFormed (now rec) ≡ true) × (broken (now stakes) ≡ false) ⌝ }
+pub fn body_refusal(stakes: &[u64], total: Stake, rec: &[u8]) -> u64
+    requires { ⌜ ((wellFormed (now rec) ≡ true) × (broken (now stakes) ≡ false)) × (total .0 ≡ totalStake (now stakes)) ⌝ }
     ensures { λ r. ⌜ r ≡ refusal (bodyChecks (now (stakes .entry)) (blockIn (now (rec .entry)))) ⌝ }
 {
     let of_includes = includes_refusal(stakes, rec);
@@ -176,7 +172,7 @@ pub fn body_refusal(stakes: &[u64], rec: &[u8]) -> u64
     if reference.round.0 == 0 {
         return 0;
     }
-    if threshold_clock_valid_non_genesis(stakes, rec) {
+    if threshold_clock_valid_non_genesis(stakes, total, rec) {
         return 0;
     }
     29

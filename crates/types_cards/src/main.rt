@@ -17,7 +17,7 @@ fn print_number(n: u64) {
 
 // The first refusal of a record by itself, or 0.
 fn verify(stakes: &[u64], rec: &[u8]) -> u64 {
-    let NewCommittee::Taken(_) = committee::new_committee(stakes) else {
+    let NewCommittee::Taken(total) = committee::new_committee(stakes) else {
         return 5;
     };
     if !block_record::well_formed(rec) {
@@ -27,7 +27,7 @@ fn verify(stakes: &[u64], rec: &[u8]) -> u64 {
     if refused != 0 {
         return refused;
     }
-    threshold_clock::body_refusal(stakes, rec)
+    threshold_clock::body_refusal(stakes, total, rec)
 }
 
 // A line of a card on a record.

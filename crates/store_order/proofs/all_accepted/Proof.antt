@@ -1,99 +1,42 @@
+use Rattle.base.proofs.Tests.{not-both}
+use Rattle.committee.proofs.Answers.{taken-sound, broken-sound}
 use borrow.Author.Needs.{needs}
-use Prim.Native.Nat.{ℕ, _≤_, _<_, _-_}
-use mathlib.Core.Path.{_≡_, refl, sym, ap, _∙_}
-use mathlib.Core.List.{List}
-use native.Mathlib.Omega.{arith}
-use lib.ListN.{length, getD}
-use borrow.Author.Tests.{not-true, not-false}
-use Rattle.store_layout.specs.Layout.{Record}
-use Rattle.store_layout.specs.Store.{recordsOf}
-use Rattle.store_layout.specs.Check.{acceptedAt}
-use Rattle.store_layout.specs.Entry.{positions}
-use Rattle.store_layout.proofs.Loops.{place-entry, length-positions}
-use Rattle.store_layout.proofs.Sorted.{is-in}
-use Rattle.store_layout.proofs.Search.{laid-out}
-use Rattle.store_order.proofs.Accepting.{Accepting, accepting-start, accepting-on, accepting-stop, accepting-end}
 use Rattle.store_order.proofs.all_accepted.Statement.{statement}
 use Rattle.store_order.proofs.all_accepted.Tie as tie
 
-abbrev Inv-loop : tie.InvT-loop
-Inv-loop stakes store starts order i₀ i = (i ≤ length starts) × Accepting stakes (recordsOf store) i
+new-committee-requires : tie.Need-new-committee-requires
+new-committee-requires c κs = search needs
 
-abbrev μ-loop : tie.MeasureT-loop
-μ-loop stakes store starts order i₀ i = length starts - i
+enum-known-total : tie.Need-enum-known-total
+enum-known-total c = search needs
 
-loop-holds : tie.Need-loop-holds Inv-loop μ-loop
-loop-holds c = (omega arith, accepting-start (c .before .before .before .before .args .stakes .now) (recordsOf (c .before .before .before .before .args .store .now)))
+enum-told : tie.Need-enum-told
+enum-told c = search needs
 
-mul-at : tie.Need-mul-at Inv-loop μ-loop
-mul-at c = search needs
-
-shared-slice-read-at : tie.Need-shared-slice-read-at Inv-loop μ-loop
-shared-slice-read-at c = search needs
-
-entry-accepted-requires : tie.Need-entry-accepted-requires Inv-loop μ-loop
-entry-accepted-requires c κs =
-    let a = c .before .before .before .before .before .before .before .args in
-    let l = c .before .before .loop in
-    let k = c .before .before .before .before .before .before .before .pre in (
-      k .0,
-      (
-        k .1 .0,
-        (
-          k .1 .1 .0,
-          place-entry (a .store .now) (laid-out (a .store .now) (k .1 .0) .tested) (a .starts .now) (k .1 .1 .1) (getD (a .starts .now) (l .i) 0)
-              (is-in (getD (a .starts .now) (l .i) 0) (a .starts .now) (l .i) (c .before .loop-test .taken) refl),
-        ),
-      ),
-    )
-
-returns : tie.Need-returns Inv-loop μ-loop
+returns : tie.Need-returns
 returns c =
-    let a = c .before .before .before .before .before .before .before .before .before .args in
-    let l = c .before .before .before .before .loop in
-    let c₀ : List ℕ = a .stakes .now in
-    let rs : List Record = recordsOf (a .store .now) in
-    let q : a .starts .now ≡ positions rs = c .before .before .before .before .before .before .before .before .before .pre .1 .1 .1 in
-    let inside : l .i < length rs = omega (arith, ap length q, length-positions rs) in
-    let decided : c .before .entry-accepted .result ≡ acceptedAt c₀ rs (getD (positions rs) (l .i) 0) = c .before .entry-accepted .ensures ∙ ap (λ (x : List ℕ). acceptedAt c₀ rs (getD x (l .i) 0)) q in
-    sym (accepting-stop c₀ rs (l .i) (l .inv .1) inside (sym decided ∙ not-true (c .before .entry-accepted .result) (c .if1 .taken)))
+    let m = c .before .before in
+    let o = m .before .before .before .before .before in
+    let k = o .args .stakes .now in
+    absurd (not-both (broken-sound k _ (rw (c .enum-told .given .1) at (m .new-committee .ensures))) (o .pre .0))
 
-add-i : tie.Need-add-i Inv-loop μ-loop
-add-i c = search needs
+accepted-in-turn-requires : tie.Need-accepted-in-turn-requires
+accepted-in-turn-requires c κs =
+    let m = c .before .before .before in
+    let o = m .before .before .before .before .before in
+    let k = o .args .stakes .now in
+    ((o .pre .0, taken-sound k (c .before .total .given .0 .0) (rw (c .before .total .given .1) at (m .new-committee .ensures)) .1), o .pre .1)
 
-loop-less : tie.Need-loop-less Inv-loop μ-loop
-loop-less c = search needs
-
-loop-again : tie.Need-loop-again Inv-loop μ-loop
-loop-again c =
-    let a = c .before .before .before .before .before .before .before .before .before .args in
-    let l = c .before .before .before .before .loop in
-    let c₀ : List ℕ = a .stakes .now in
-    let rs : List Record = recordsOf (a .store .now) in
-    let q : a .starts .now ≡ positions rs = c .before .before .before .before .before .before .before .before .before .pre .1 .1 .1 in
-    let inside : l .i < length rs = omega (arith, ap length q, length-positions rs) in
-    let decided : c .before .entry-accepted .result ≡ acceptedAt c₀ rs (getD (positions rs) (l .i) 0) = c .before .entry-accepted .ensures ∙ ap (λ (x : List ℕ). acceptedAt c₀ rs (getD x (l .i) 0)) q in
-    (omega arith, accepting-on c₀ rs (l .i) (l .inv .1) inside (sym decided ∙ not-false (c .before .entry-accepted .result) (c .if1 .left)))
-
-returns-2 : tie.Need-returns-2 Inv-loop μ-loop
-returns-2 c =
-    let a = c .before .before .before .before .before .before .args in
-    let l = c .before .loop in
-    let rs : List Record = recordsOf (a .store .now) in
-    sym (accepting-end (a .stakes .now) rs (l .i) (l .inv .1) (omega (arith, ap length (c .before .before .before .before .before .before .pre .1 .1 .1), length-positions rs)))
+returns-2 : tie.Need-returns-2
+returns-2 c = c .accepted-in-turn .ensures
 
 pub all-accepted-spec : {M : Type 1} → statement M
 all-accepted-spec =
     tie.close
     (tie.spec
-    Inv-loop
-    μ-loop
-    loop-holds
-    mul-at
-    shared-slice-read-at
-    entry-accepted-requires
+    new-committee-requires
+    enum-known-total
+    enum-told
     returns
-    add-i
-    loop-less
-    loop-again
+    accepted-in-turn-requires
     returns-2)

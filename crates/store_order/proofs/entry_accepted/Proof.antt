@@ -49,7 +49,7 @@ part-body-refusal-end : tie.Need-part-body-refusal-end
 part-body-refusal-end c = omega (arith, entry-room (c .before .before .before .before .before .before .before .args .store .now) (c .before .before .before .before .before .before .before .args .at) (c .before .before .before .before .before .before .before .pre .1 .1 .1) .inside, c .before .before .before .record-end .ensures)
 
 body-refusal-requires : tie.Need-body-refusal-requires
-body-refusal-requires c κs = (rw (record-part (c .before .before .before .before .before .before .before .before .args .store .now) (c .before .before .before .before .before .before .before .before .args .at) (c .before .before .before .before .record-end .result) (c .before .before .before .before .record-end .ensures)) (entry-room (c .before .before .before .before .before .before .before .before .args .store .now) (c .before .before .before .before .before .before .before .before .args .at) (c .before .before .before .before .before .before .before .before .pre .1 .1 .1) .formed), c .before .before .before .before .before .before .before .before .pre .0)
+body-refusal-requires c κs = ((rw (record-part (c .before .before .before .before .before .before .before .before .args .store .now) (c .before .before .before .before .before .before .before .before .args .at) (c .before .before .before .before .record-end .result) (c .before .before .before .before .record-end .ensures)) (entry-room (c .before .before .before .before .before .before .before .before .args .store .now) (c .before .before .before .before .before .before .before .before .args .at) (c .before .before .before .before .before .before .before .before .pre .1 .1 .1) .formed), c .before .before .before .before .before .before .before .before .pre .0 .0), c .before .before .before .before .before .before .before .before .pre .0 .1)
 
 returns-2 : tie.Need-returns-2
 unfolding blockAt

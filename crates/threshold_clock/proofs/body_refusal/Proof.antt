@@ -57,7 +57,7 @@ threshold-clock-valid-non-genesis-requires c κs =
     let k = o .args .stakes .now in
     let b = blockIn (o .args .rec .now) in
     let s = c .before .before .before .before in
-    (o .pre .0, (o .pre .1, zero-passes _ (includes-numbered k b (b .includes)) (sym (i .includes-refusal .ensures) ∙ s .before .if1 .left)))
+    ((o .pre .0 .0, (o .pre .0 .1, zero-passes _ (includes-numbered k b (b .includes)) (sym (i .includes-refusal .ensures) ∙ s .before .if1 .left))), o .pre .1)
 
 returns-4 : tie.Need-returns-4
 unfolding ofIncludes ofStatements
