@@ -1,9 +1,6 @@
 // The engine's calls for a host in Rust or C, over numbers and byte slices.
-// A call answers one word: below 2^63 it is the answer, and 2^63 + n is refusal n (`encoded` in host_lib, specs/Calls).
+// A call answers one word: below 2^63 it is the answer, and 2^63 + n is refusal n (`encoded` in host_calls, specs/Calls).
 ghost use mathlib.Core.Path.{_≡_};
-ghost use Prim.Native.Nat.{_+_};
-ghost use lib.ListN.{length};
-ghost use Rattle.base.specs.Checks.{refusal};
 ghost use Rattle.committee.specs.Committee.{quorumOf, validOf};
 ghost use Rattle.host_calls.specs.Calls.{encoded, flag, newCommitteeCall};
 ghost use Rattle.host_add.specs.Add.{addCall};
@@ -18,36 +15,13 @@ ghost use Rattle.host_stakes.specs.LoadStakes.{loadStakesCall};
 ghost use Rattle.drafts.specs.Writing.{writeRecord};
 ghost use Rattle.write_record.specs.Answers.{requested};
 ghost use Rattle.host_ring.specs.Ring.{whomToRingCall};
-use committee::NewCommittee;
-use committee::Stake;
-use feeding::FeedAnswer;
-use finalization_interpreter::FinalityAnswer;
-use payload::PayloadLength;
-use payload::PayloadPlace;
-use pending::PendingAnswer;
-
-const REFUSED: u64 = 9223372036854775808;
 
 // Sets a committee: its total stake.
 #[no_mangle]
 pub extern "C" fn lomkhvide_new_committee(stakes: &[u8]) -> u64
     ensures { λ r. ⌜ r ≡ encoded (newCommitteeCall (now (stakes .entry))) ⌝ }
 {
-    if stakes.len() % 8 != 0 {
-        return REFUSED + 5;
-    }
-    if 128 < stakes.len() / 8 {
-        if host_calls::has_zero_word(stakes) {
-            return REFUSED + 2;
-        }
-        return REFUSED + 3;
-    }
-    let mut held = [0u64; 128];
-    let n = host_calls::stakes_of(stakes, &mut held);
-    match committee::new_committee(&held[..n]) {
-        NewCommittee::Taken(total) => total.0,
-        NewCommittee::Broken(number) => REFUSED + number,
-    }
+    host_committee::new_committee(stakes)
 }
 
 // Whether an amount of stake is quorum of a total: 1 or 0.
@@ -55,7 +29,7 @@ pub extern "C" fn lomkhvide_new_committee(stakes: &[u8]) -> u64
 pub extern "C" fn lomkhvide_is_quorum(total: u64, amount: u64) -> u64
     ensures { λ r. ⌜ r ≡ flag (quorumOf total amount) ⌝ }
 {
-    host_calls::flag(committee::is_quorum(Stake(total), Stake(amount)))
+    host_committee::is_quorum(total, amount)
 }
 
 // Whether it is valid: 1 or 0.
@@ -63,7 +37,7 @@ pub extern "C" fn lomkhvide_is_quorum(total: u64, amount: u64) -> u64
 pub extern "C" fn lomkhvide_is_valid(total: u64, amount: u64) -> u64
     ensures { λ r. ⌜ r ≡ flag (validOf total amount) ⌝ }
 {
-    host_calls::flag(committee::is_valid(Stake(total), Stake(amount)))
+    host_committee::is_valid(total, amount)
 }
 
 // Puts a vote into an aggregator of three words: what the vote did, 0 to 4 (host_add).
@@ -80,12 +54,7 @@ pub extern "C" fn lomkhvide_add(stakes: &[u8], aggregator: &mut [u8], voter: u64
 pub extern "C" fn lomkhvide_payload_length(stakes: &[u8], store: &[u8], locator: &[u8]) -> u64
     ensures { λ r. ⌜ r ≡ encoded (payloadLengthCall (now (stakes .entry)) (now (store .entry)) (now (locator .entry))) ⌝ }
 {
-    let mut held = [0u64; 128];
-    let n = host_calls::stakes_of(stakes, &mut held);
-    match host_lib::payload_length(&held[..n], store, locator) {
-        PayloadLength::Bytes(length) => length,
-        PayloadLength::Refused(number) => REFUSED + number,
-    }
+    host_payload::payload_length(stakes, store, locator)
 }
 
 // Where in the store it begins.
@@ -93,12 +62,7 @@ pub extern "C" fn lomkhvide_payload_length(stakes: &[u8], store: &[u8], locator:
 pub extern "C" fn lomkhvide_payload_start(stakes: &[u8], store: &[u8], locator: &[u8]) -> u64
     ensures { λ r. ⌜ r ≡ encoded (payloadStartCall (now (stakes .entry)) (now (store .entry)) (now (locator .entry))) ⌝ }
 {
-    let mut held = [0u64; 128];
-    let n = host_calls::stakes_of(stakes, &mut held);
-    match host_lib::payload_place(&held[..n], store, locator) {
-        PayloadPlace::Stands(start, _) => start as u64,
-        PayloadPlace::Refused(number) => REFUSED + number,
-    }
+    host_payload::payload_start(stakes, store, locator)
 }
 
 // Whether a locator is final: 2 · number of certifying blocks, and 1 more where it is; their positions are written to the front.
@@ -112,13 +76,7 @@ pub extern "C" fn lomkhvide_finality(
     ensures { λ r. ⌜ r ≡ encoded (finalityCall (now (stakes .entry)) (now (store .entry)) (now (positions .entry)) (now (locator .entry)) .answer) ⌝ }
     ensures { λ r. ⌜ now (positions .exit) ≡ finalityCall (now (stakes .entry)) (now (store .entry)) (now (positions .entry)) (now (locator .entry)) .positions ⌝ }
 {
-    let mut held = [0u64; 128];
-    let n = host_calls::stakes_of(stakes, &mut held);
-    match host_finals::finality_of(&held[..n], store, positions, locator) {
-        FinalityAnswer::Final(count) => 2 * count + 1,
-        FinalityAnswer::NotFinal(count) => 2 * count,
-        FinalityAnswer::Refused(number) => REFUSED + number,
-    }
+    host_finality::finality(stakes, store, positions, locator)
 }
 
 // The stake of a pending locator.
@@ -131,12 +89,7 @@ pub extern "C" fn lomkhvide_pending_stake(
 ) -> u64
     ensures { λ r. ⌜ r ≡ encoded (pendingStakeCall (now (stakes .entry)) (now (store .entry)) (now (table .entry)) (now (locator .entry))) ⌝ }
 {
-    let mut held = [0u64; 128];
-    let n = host_calls::stakes_of(stakes, &mut held);
-    match host_lib::pending_of(&held[..n], store, table, locator) {
-        PendingAnswer::Standing(stake, _) => stake.0,
-        PendingAnswer::Refused(number) => REFUSED + number,
-    }
+    host_pending::pending_stake(stakes, store, table, locator)
 }
 
 // The number of its voters.
@@ -149,12 +102,7 @@ pub extern "C" fn lomkhvide_pending_voters(
 ) -> u64
     ensures { λ r. ⌜ r ≡ encoded (pendingVotersCall (now (stakes .entry)) (now (store .entry)) (now (table .entry)) (now (locator .entry))) ⌝ }
 {
-    let mut held = [0u64; 128];
-    let n = host_calls::stakes_of(stakes, &mut held);
-    match host_lib::pending_of(&held[..n], store, table, locator) {
-        PendingAnswer::Standing(_, voters) => voters,
-        PendingAnswer::Refused(number) => REFUSED + number,
-    }
+    host_pending::pending_voters(stakes, store, table, locator)
 }
 
 // The least final locator after a given one, or from the start: 1 where it was written, 0 where none is left.
@@ -204,12 +152,7 @@ pub extern "C" fn lomkhvide_feed(
     ensures { λ r. ⌜ now (table .exit) ≡ feedCall (now (stakes .entry)) (now (store .entry)) (now (table .entry)) (now (events .entry)) (now (rec .entry)) .table ⌝ }
     ensures { λ r. ⌜ now (events .exit) ≡ feedCall (now (stakes .entry)) (now (store .entry)) (now (table .entry)) (now (events .entry)) (now (rec .entry)) .events ⌝ }
 {
-    let mut held = [0u64; 128];
-    let n = host_calls::stakes_of(stakes, &mut held);
-    match host_lib::feed_of(&held[..n], store, table, events, rec) {
-        FeedAnswer::Events(count) => count,
-        FeedAnswer::Refused(number) => REFUSED + number,
-    }
+    host_feed::feed(stakes, store, table, events, rec)
 }
 
 // Loads a network's own stakes from the bytes of its file: the number of members, whose stakes stand at the front, a word each.

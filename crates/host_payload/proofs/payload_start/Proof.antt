@@ -7,8 +7,8 @@ use Rattle.payload.specs.Answers.{asPlace, payloadPlace}
 use Rattle.host_lib.specs.Payload.{locatorOf, startOf, payloadStartCall}
 use Rattle.host_calls.specs.Calls.{encoded}
 use Rattle.host_lib.proofs.Locators.{asked-most, place-most}
-use Rattle.host.proofs.lomkhvide_payload_start.Statement.{statement}
-use Rattle.host.proofs.lomkhvide_payload_start.Tie as tie
+use Rattle.host_payload.proofs.payload_start.Statement.{statement}
+use Rattle.host_payload.proofs.payload_start.Tie as tie
 
 slice-aggregate-stakes-of : tie.Need-slice-aggregate-stakes-of
 slice-aggregate-stakes-of c = search needs
@@ -47,8 +47,8 @@ returns-2 : tie.Need-returns-2
 unfolding encoded payloadStartCall asPlace startOf
 returns-2 c = rw (← c .before .before .before .before .before .before .stakes-of .ensures .1, ← c .before .before .before .payload-place .ensures, c .before .number .given .1)
 
-pub lomkhvide-payload-start-spec : {M : Type 1} → statement M
-lomkhvide-payload-start-spec =
+pub payload-start-spec : {M : Type 1} → statement M
+payload-start-spec =
     tie.close
     (tie.spec
     slice-aggregate-stakes-of

@@ -1,6 +1,6 @@
 use borrow.Author.Needs.{needs}
-use Rattle.host.proofs.lomkhvide_is_quorum.Statement.{statement}
-use Rattle.host.proofs.lomkhvide_is_quorum.Tie as tie
+use Rattle.host_committee.proofs.is_quorum.Statement.{statement}
+use Rattle.host_committee.proofs.is_quorum.Tie as tie
 
 is-quorum-requires : tie.Need-is-quorum-requires
 is-quorum-requires c κs = search needs
@@ -11,5 +11,5 @@ flag-requires c κs = search needs
 returns : tie.Need-returns
 returns c = rw (← c .before .is-quorum .ensures) (c .flag .ensures)
 
-pub lomkhvide-is-quorum-spec : {M : Type 1} → statement M
-lomkhvide-is-quorum-spec = tie.close (tie.spec is-quorum-requires flag-requires returns)
+pub is-quorum-spec : {M : Type 1} → statement M
+is-quorum-spec = tie.close (tie.spec is-quorum-requires flag-requires returns)

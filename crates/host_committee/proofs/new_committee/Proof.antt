@@ -10,8 +10,8 @@ use Rattle.base.specs.Checks.{refused}
 use Rattle.host_calls.specs.Calls.{encoded}
 use Rattle.host_calls.proofs.Numbers.{committee-refusals}
 use Rattle.host_calls.proofs.Calls.{call-ragged, call-many, call-held}
-use Rattle.host.proofs.lomkhvide_new_committee.Statement.{statement}
-use Rattle.host.proofs.lomkhvide_new_committee.Tie as tie
+use Rattle.host_committee.proofs.new_committee.Statement.{statement}
+use Rattle.host_committee.proofs.new_committee.Tie as tie
 
 add-result : tie.Need-add-result
 add-result c = search needs
@@ -80,8 +80,8 @@ returns-5 c =
     let told = c .before .before .before .new-committee .ensures in
     rw (call-held s (omega arith) (c .before .before .before .before .before .before .before .before .if2 .left), ← c .before .before .before .before .before .before .stakes-of .ensures .1, ← told, c .before .number .given .1)
 
-pub lomkhvide-new-committee-spec : {M : Type 1} → statement M
-lomkhvide-new-committee-spec =
+pub new-committee-spec : {M : Type 1} → statement M
+new-committee-spec =
     tie.close
     (tie.spec
     add-result

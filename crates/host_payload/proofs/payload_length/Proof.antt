@@ -8,8 +8,8 @@ use Rattle.store_layout.specs.Payload.{payloadLength}
 use Rattle.host_lib.specs.Payload.{locatorOf, payloadLengthCall}
 use Rattle.host_calls.specs.Calls.{encoded}
 use Rattle.host_lib.proofs.Locators.{asked-most, length-most}
-use Rattle.host.proofs.lomkhvide_payload_length.Statement.{statement}
-use Rattle.host.proofs.lomkhvide_payload_length.Tie as tie
+use Rattle.host_payload.proofs.payload_length.Statement.{statement}
+use Rattle.host_payload.proofs.payload_length.Tie as tie
 
 slice-aggregate-stakes-of : tie.Need-slice-aggregate-stakes-of
 slice-aggregate-stakes-of c = search needs
@@ -48,8 +48,8 @@ returns-2 : tie.Need-returns-2
 unfolding encoded payloadLengthCall asPayloadLength
 returns-2 c = rw (← c .before .before .before .before .before .before .stakes-of .ensures .1, ← c .before .before .before .payload-length .ensures, c .before .number .given .1)
 
-pub lomkhvide-payload-length-spec : {M : Type 1} → statement M
-lomkhvide-payload-length-spec =
+pub payload-length-spec : {M : Type 1} → statement M
+payload-length-spec =
     tie.close
     (tie.spec
     slice-aggregate-stakes-of

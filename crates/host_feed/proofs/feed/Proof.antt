@@ -7,8 +7,8 @@ use lib.ListN.{take}
 use lib.Seq.{length-take-le}
 use mathlib.Core.Path.{sym, ap, _∙_}
 use borrow.Author.Needs.{needs}
-use Rattle.host.proofs.lomkhvide_feed.Statement.{statement}
-use Rattle.host.proofs.lomkhvide_feed.Tie as tie
+use Rattle.host_feed.proofs.feed.Statement.{statement}
+use Rattle.host_feed.proofs.feed.Tie as tie
 
 slice-aggregate-stakes-of : tie.Need-slice-aggregate-stakes-of
 slice-aggregate-stakes-of c = search needs
@@ -65,8 +65,8 @@ returns-2 : tie.Need-returns-2
 unfolding encoded feedCall asFeedAnswer
 returns-2 c = (rw (← c .before .before .before .before .before .before .before .before .before .before .before .before .before .before .before .stakes-of .ensures .1, ← c .before .before .before .before .before .before .before .before .before .feed-of .ensures .0, c .before .number .given .1), (rw (← c .before .before .before .before .before .before .before .before .before .before .before .before .before .before .before .stakes-of .ensures .1) (c .before .before .before .before .before .before .before .before .before .feed-of .ensures .1 .0), (rw (← c .before .before .before .before .before .before .before .before .before .before .before .before .before .before .before .stakes-of .ensures .1) (c .before .before .before .before .before .before .before .before .before .feed-of .ensures .1 .1 .0), rw (← c .before .before .before .before .before .before .before .before .before .before .before .before .before .before .before .stakes-of .ensures .1) (c .before .before .before .before .before .before .before .before .before .feed-of .ensures .1 .1 .1))))
 
-pub lomkhvide-feed-spec : {M : Type 1} → statement M
-lomkhvide-feed-spec =
+pub feed-spec : {M : Type 1} → statement M
+feed-spec =
     tie.close
     (tie.spec
     slice-aggregate-stakes-of

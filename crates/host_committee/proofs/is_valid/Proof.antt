@@ -1,6 +1,6 @@
 use borrow.Author.Needs.{needs}
-use Rattle.host.proofs.lomkhvide_is_valid.Statement.{statement}
-use Rattle.host.proofs.lomkhvide_is_valid.Tie as tie
+use Rattle.host_committee.proofs.is_valid.Statement.{statement}
+use Rattle.host_committee.proofs.is_valid.Tie as tie
 
 is-valid-requires : tie.Need-is-valid-requires
 is-valid-requires c κs = search needs
@@ -11,5 +11,5 @@ flag-requires c κs = search needs
 returns : tie.Need-returns
 returns c = rw (← c .before .is-valid .ensures) (c .flag .ensures)
 
-pub lomkhvide-is-valid-spec : {M : Type 1} → statement M
-lomkhvide-is-valid-spec = tie.close (tie.spec is-valid-requires flag-requires returns)
+pub is-valid-spec : {M : Type 1} → statement M
+is-valid-spec = tie.close (tie.spec is-valid-requires flag-requires returns)
