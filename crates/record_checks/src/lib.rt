@@ -12,7 +12,7 @@ ghost use Rattle.store_layout.specs.Entry.{laidOut};
 ghost use Rattle.record_checks.specs.Step.{acceptChecks};
 
 // 24 to 29 of a well-formed record, or 0.
-fn body_refusal(stakes: &[u64], rec: &[u8]) -> u64
+pub fn body_refusal(stakes: &[u64], rec: &[u8]) -> u64
     requires { ⌜ (wellFormed (now rec) ≡ true) × (broken (now stakes) ≡ false) ⌝ }
     ensures { λ r. ⌜ r ≡ refusal (bodyChecks (now (stakes .entry)) (blockIn (now (rec .entry)))) ⌝ }
 {

@@ -8,11 +8,11 @@ use Rattle.types_cards.proofs.verify.Tie as tie
 new-committee-requires : tie.Need-new-committee-requires
 new-committee-requires c κs = search needs
 
+enum-known-total : tie.Need-enum-known-total
+enum-known-total c = search needs
+
 enum-told : tie.Need-enum-told
 enum-told c = search needs
-
-enum-told-2 : tie.Need-enum-told-2
-enum-told-2 c = search needs
 
 returns : tie.Need-returns
 returns c = search needs
@@ -32,10 +32,11 @@ returns-3 c = search needs
 body-refusal-requires : tie.Need-body-refusal-requires
 body-refusal-requires c κs =
     let w = c .before .before .before in
-    let m = w .before .before .before in
+    let t = w .before .before in
+    let m = t .before .before in
     let k = m .before .before .before .args .stakes .now in
-    let taken = taken-sound k (w .before .enum-told .given .0 .0) (rw (w .before .enum-told .given .1) at (m .new-committee .ensures)) in
-    (sym (w .well-formed .ensures) ∙ not-false _ (c .before .before .if1 .left), taken .0)
+    let taken = taken-sound k (t .total .given .0 .0) (rw (t .total .given .1) at (m .new-committee .ensures)) in
+    ((sym (w .well-formed .ensures) ∙ not-false _ (c .before .before .if1 .left), taken .0), taken .1)
 
 returns-4 : tie.Need-returns-4
 returns-4 c = search needs
@@ -45,8 +46,8 @@ verify-spec =
     tie.close
     (tie.spec
     new-committee-requires
+    enum-known-total
     enum-told
-    enum-told-2
     returns
     well-formed-requires
     returns-2
