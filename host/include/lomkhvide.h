@@ -61,7 +61,7 @@ uint64_t lomkhvide_next_final(const uint8_t *stakes, size_t stakes_len, const ui
                               size_t after_len, uint8_t *found, size_t found_len);
 
 /* The final list after a given locator, or from the start where `after` has no bytes, in stretches of neighbouring final locators of one
- * block that have the same certifying blocks: 2 * number of stretches, at most 128, and 1 more where final locators follow them. Each is
+ * block that have the same certifying blocks, each as long as can be: 2 * number of stretches, at most 128, and 1 more where final locators follow them. Each is
  * ten words: author, round, the digest in four words (each eight of its bytes, the first one highest), first offset, end offset
  * (excluded), number of certifying blocks, their authors' stake. The bytes after them keep their content. Asked on after the last locator
  * of the last stretch, until none follow, it gives every final locator in ascending order.

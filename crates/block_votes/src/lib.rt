@@ -96,14 +96,22 @@ fn votes_for(rec: &[u8], locator: TransactionLocator) -> bool
 
 // ---- the block at a position
 
+// Whether it votes for the locator.
+pub fn votes_at(store: &[u8], at: usize, locator: TransactionLocator) -> bool
+    requires { ⌜ isEntry (now store) at ≡ true ⌝ }
+    ensures { λ r. ⌜ r ≡ votesFor (blockAt (now (store .entry)) at) (asLocator locator) ⌝ }
+{
+    let from = at + 8;
+    let end = store_order::record_end(store, at);
+    votes_for(&store[from..end], locator)
+}
+
 // Its author, if it votes for the locator; else nobody.
 pub fn own_vote_at(store: &[u8], at: usize, locator: TransactionLocator) -> AuthoritySet
     requires { ⌜ (isEntry (now store) at ≡ true) × (blockAt (now store) at .reference .authority < 128) ⌝ }
     ensures { λ r. ⌜ r ≡ ownVote (blockAt (now (store .entry)) at) (asLocator locator) ⌝ }
 {
-    let from = at + 8;
-    let end = store_order::record_end(store, at);
-    if !votes_for(&store[from..end], locator) {
+    if !votes_at(store, at, locator) {
         return AuthoritySet::new();
     }
     let block = store_order::reference_at(store, at);

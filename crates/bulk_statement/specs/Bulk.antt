@@ -10,14 +10,16 @@ use Rattle.base.specs.Le.{Bytes}
 use Rattle.base.specs.Checks.{answered}
 use Rattle.committee.specs.Committee.{Committee, broken}
 use Rattle.blocks.specs.Reference.{TransactionLocator}
+use Rattle.finality.specs.Finality.{blocksOf}
 use Rattle.finality.specs.NextFinal.{FinalList}
-use Rattle.final_list.specs.Stretches.{FinalStretch, stretchLocators, stretches, reached, finalStretches}
-use Rattle.final_list.specs.Claims.{Alike}
+use Rattle.stretches.specs.Stretches.{wide, FinalStretch, stretchLocators, stretches, reached}
+use Rattle.stretches.specs.Bulk.{finalStretches}
+use Rattle.stretches.specs.Claims.{Longest, Alike}
 use Rattle.promises.specs.ThirdStatement.{Start, engineOf, SameRecords}
 
 -- the stretches that a slice holds
 abbrev pub held : Committee → Bytes → List ℕ → Option TransactionLocator → List FinalStretch
-held c s out after = stretches c s (length out / 10) after
+held c s out after = stretches c (blocksOf s) (wide c (blocksOf s)) (length out / 10) after
 
 -- the question in bulk is answered: so many stretches, and whether more final locators follow
 abbrev pub Answered : Committee → Bytes → List ℕ → Option TransactionLocator → Bool → Type 0
@@ -40,6 +42,9 @@ pub record BulkStatement : Type 0 where
   -- each locator of a stretch is final, with as many certifying blocks as the finality question names, and with their authors' stake
   pub alike : (c : Committee) → broken c ≡ false → (t : Start) (ts : List FinalStretch) → StretchesOn c (engineOf c t .store) none ts
       → (x : FinalStretch) → x ∈ ts → (l : TransactionLocator) → l ∈ stretchLocators x → Alike c (engineOf c t .store) x l
+  -- and a stretch is as long as these stay the same
+  pub longest : (c : Committee) → broken c ≡ false → (t : Start) (ts : List FinalStretch) → StretchesOn c (engineOf c t .store) none ts
+      → (x : FinalStretch) → x ∈ ts → Longest (blocksOf (engineOf c t .store)) (wide c (blocksOf (engineOf c t .store))) x
   -- "Every other list from a fresh engine under that committee that leaves the same records stored, in whatever order, gives the same final list."
   pub sameList : (c : Committee) → broken c ≡ false → (t u : Start) → SameRecords c t u → (ts us : List FinalStretch)
       → StretchesOn c (engineOf c t .store) none ts → StretchesOn c (engineOf c u .store) none us → spreadOut ts ≡ spreadOut us

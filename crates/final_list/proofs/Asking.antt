@@ -12,19 +12,21 @@ use Rattle.committee.specs.Committee.{Committee, broken}
 use Rattle.blocks.specs.Reference.{TransactionLocator}
 use Rattle.store_layout.specs.Store.{storeInOrder}
 use Rattle.finality.specs.NextFinal.{nextFinalChecks}
-use Rattle.final_list.specs.Stretches.{stretches, Given, givenAfter, wordsAfter, finalStretches}
+use Rattle.finality.specs.Finality.{blocksOf}
+use Rattle.stretches.specs.Stretches.{Listing, stretches}
+use Rattle.stretches.specs.Bulk.{Given, givenAfter, wordsAfter, listStretches}
 
-module _ (c : Committee) (s : Bytes) (out : List ℕ) (after : Option TransactionLocator) where
-  pub bulk-broken : broken c ≡ true → record { answer = refused 5; out = out } ≡ finalStretches c s out after
-  unfolding finalStretches nextFinalChecks checked passes refusal allOf
+module _ (c : Committee) (s : Bytes) (k : Listing) (out : List ℕ) (after : Option TransactionLocator) where
+  pub bulk-broken : broken c ≡ true → record { answer = refused 5; out = out } ≡ listStretches c s k out after
+  unfolding listStretches nextFinalChecks checked passes refusal allOf
   bulk-broken h = rw h
 
   module _ (b : broken c ≡ false) where
-    pub bulk-disordered : storeInOrder c s ≡ false → record { answer = refused 10; out = out } ≡ finalStretches c s out after
-    unfolding finalStretches nextFinalChecks checked passes refusal allOf
+    pub bulk-disordered : storeInOrder c s ≡ false → record { answer = refused 10; out = out } ≡ listStretches c s k out after
+    unfolding listStretches nextFinalChecks checked passes refusal allOf
     bulk-disordered h = rw (b, h)
 
-    pub bulk-asked : storeInOrder c s ≡ true → (a : Answer Given) (ws : List ℕ) → a ≡ answered (givenAfter c s after (stretches c s (length out / 10) after))
-        → ws ≡ wordsAfter (stretches c s (length out / 10) after) out → record { answer = a; out = ws } ≡ finalStretches c s out after
-    unfolding finalStretches nextFinalChecks checked passes refusal allOf
+    pub bulk-asked : storeInOrder c s ≡ true → (a : Answer Given) (ws : List ℕ) → a ≡ answered (givenAfter k after (stretches c (blocksOf s) k (length out / 10) after))
+        → ws ≡ wordsAfter (stretches c (blocksOf s) k (length out / 10) after) out → record { answer = a; out = ws } ≡ listStretches c s k out after
+    unfolding listStretches nextFinalChecks checked passes refusal allOf
     bulk-asked o a ws e f = rw (b, o, e, f)

@@ -1,7 +1,3 @@
 pub mod Words
-pub mod Edges
-pub mod Alike
 pub mod Filling
 pub mod Asking
-pub mod Tables
-pub mod Claimed

@@ -3,7 +3,7 @@ use mathlib.Core.Bool.{true, false}
 use Rattle.base.specs.Checks.{Answer, refused, answered}
 use Rattle.final_list.specs.declared.StretchesAnswer.{StretchesAnswer}
 use Rattle.final_list.specs.declared.StretchesAnswer.the-variants.{Last, More, Refused}
-use Rattle.final_list.specs.Stretches.{Given}
+use Rattle.stretches.specs.Bulk.{Given}
 
 -- the number of stretches written, and whether a final locator follows them; or 5, 10
 unfoldable pub asStretches : StretchesAnswer → Answer Given

@@ -1,4 +1,2 @@
-pub mod Stretches
-pub mod Claims
 pub mod Answers
 pub mod Step

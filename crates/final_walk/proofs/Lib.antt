@@ -1,4 +1,1 @@
-pub mod Ends
-pub mod Table
-pub mod Marks
 pub mod Walking

@@ -1,194 +1,25 @@
-// Finality of one locator after another: the votes and the includes of a store read once, then a walk over words.
+// The blocks that certify a locator, by a walk over the stored blocks in ascending reference order.
 use authority_set::AuthoritySet;
-use block_record::BaseStatement;
-use committee::AuthorityIndex;
-use committee::RoundNumber;
 use committee::Stake;
 use finalization_interpreter::Certifiers;
-use types::BlockDigest;
-use types::BlockReference;
 use types::TransactionLocator;
-use types::TransactionLocatorRange;
-use vote_starts::MaybeLocator;
 ghost use mathlib.Core.Path.{_≡_};
 ghost use mathlib.Core.Bool.{true, false, not, _&&_};
-ghost use Prim.Native.Nat.{ℕ, _+_, _*_, _≤_, _<_};
+ghost use Prim.Native.Nat.{_+_, _*_, _≤_, _<_};
 ghost use lib.Dec.{eqb};
-ghost use lib.ListN.{length, getD};
-ghost use lib.Seq.{sets};
+ghost use lib.ListN.{length};
 ghost use Rattle.base.specs.Lists.{pick};
-ghost use Rattle.base.specs.Le.{Bytes};
 ghost use Rattle.committee.specs.Committee.{broken, totalStake};
 ghost use Rattle.authority_set.specs.AuthoritySet.{nobody, inserted, united};
-ghost use Rattle.blocks.specs.Block.{author, spans};
-ghost use Rattle.blocks.specs.Record.{wellFormed, blockIn};
-ghost use Rattle.types.specs.Values.{asReference, asLocator, asRange};
-ghost use Rattle.block_record.specs.Values.{asStatement};
+ghost use Rattle.blocks.specs.Block.{author};
+ghost use Rattle.types.specs.Values.{asLocator};
 ghost use Rattle.store_layout.specs.Entry.{blockAt, isEntry};
-ghost use Rattle.block_votes.specs.Walk.{spanOf, Sorted, SortedStore, blockAtPlace};
-ghost use Rattle.final_walk.specs.Table.{voteWords, placeAt, rangeAt, votedBy, EndsFit, RecordedBy, Tabled, TabledBy};
-ghost use Rattle.final_walk.specs.Places.{Noted, Placed, withVoters, gathered, Sure, Marks, Certify, CertifyMarked};
+ghost use Rattle.block_votes.specs.Walk.{Sorted, SortedStore};
+ghost use Rattle.include_places.specs.Places.{Placed};
+ghost use Rattle.vote_table.specs.Table.{Tabled};
+ghost use Rattle.final_walk.specs.Walk.{withVoters, Sure, Owned, OwnedBelow, SameWords, CertifyMarked, CertifyFlagged};
 
-// ---- the votes of the stored blocks, nine words each
-
-// What a statement votes for.
-pub enum Vote {
-    Range(TransactionLocatorRange),
-    Nothing,
-}
-
-// How many votes the table holds; or it is too short.
-pub enum Tabling {
-    Now(usize),
-    Full,
-}
-
-// Writes a vote of the block at a place.
-fn write_vote(votes: &mut [u64], m: usize, k: usize, range: TransactionLocatorRange)
-    requires { ⌜ 9 * m + 9 ≤ length (now votes) ⌝ }
-    ensures { λ _. ⌜ now (votes .exit) ≡ sets (now (votes .entry)) (9 * m) (voteWords k range) ⌝ }
-{
-    let at = 9 * m;
-    let block = range.block;
-    let digest = block.digest;
-    votes[at] = k as u64;
-    votes[at + 1] = block.authority.0;
-    votes[at + 2] = block.round.0;
-    votes[at + 3] = digest.0;
-    votes[at + 4] = digest.1;
-    votes[at + 5] = digest.2;
-    votes[at + 6] = digest.3;
-    votes[at + 7] = range.offset_start_inclusive;
-    votes[at + 8] = range.offset_end_exclusive;
-}
-
-// The range of a vote.
-pub fn read_vote(votes: &[u64], i: usize) -> TransactionLocatorRange
-    requires { ⌜ 9 * i + 9 ≤ length (now votes) ⌝ }
-    ensures { λ r. ⌜ asRange r ≡ rangeAt (now (votes .entry)) i ⌝ }
-{
-    let at = 9 * i;
-    let authority = AuthorityIndex(votes[at + 1]);
-    let round = RoundNumber(votes[at + 2]);
-    let digest = BlockDigest(votes[at + 3], votes[at + 4], votes[at + 5], votes[at + 6]);
-    let block = BlockReference {
-        authority,
-        round,
-        digest,
-    };
-    TransactionLocatorRange {
-        block,
-        offset_start_inclusive: votes[at + 7],
-        offset_end_exclusive: votes[at + 8],
-    }
-}
-
-// What the statement at an offset of a block votes for.
-fn vote_of(block: BlockReference, offset: u64, statement: BaseStatement) -> Vote
-    requires { ⌜ ((s : Bytes) → EndsFit (spanOf (asReference block) offset (asStatement s statement))) ⌝ }
-    ensures { λ r. ⌜ ((s : Bytes) → votedBy r ≡ spanOf (asReference block) offset (asStatement s statement)) ⌝ }
-{
-    match statement {
-        BaseStatement::Share(_, _) => {
-            Vote::Range(TransactionLocatorRange::one(TransactionLocator { block, offset }))
-        }
-        BaseStatement::Accept(l) => Vote::Range(TransactionLocatorRange::one(l)),
-        BaseStatement::Reject(_) => Vote::Nothing,
-        BaseStatement::RejectFor(_, _) => Vote::Nothing,
-        BaseStatement::VoteRange(r) => Vote::Range(r),
-    }
-}
-
-// Puts the votes of the block of a record, which stands at a place, after the first m.
-fn table_record(rec: &[u8], k: usize, votes: &mut [u64], m: usize) -> Tabling
-    requires { ⌜ ((wellFormed (now rec) ≡ true) × EndsFit (spans (blockIn (now rec)))) × (9 * m ≤ length (now votes)) ⌝ }
-    ensures { λ r. ⌜ RecordedBy (blockIn (now (rec .entry))) k (now (votes .entry)) (now (votes .exit)) m r ⌝ }
-{
-    let count = block_record::statement_count(rec);
-    let block = block_record::reference(rec);
-    let mut cursor = block_record::first_statement(rec);
-    let mut n = m;
-    while cursor.index < count {
-        let next = block_record::next_statement(rec, cursor);
-        let statement = next.statement;
-        let vote = vote_of(block, cursor.index as u64, statement);
-        cursor = next.next;
-        let Vote::Range(range) = vote else {
-            continue;
-        };
-        if votes.len() - 9 * n < 9 {
-            return Tabling::Full;
-        }
-        write_vote(votes, n, k, range);
-        n += 1;
-    }
-    Tabling::Now(n)
-}
-
-// Puts the votes of all stored blocks into a table.
-pub fn table_votes(stakes: &[u64], store: &[u8], order: &[u64], votes: &mut [u64]) -> Tabling
-    requires { ⌜ Sorted (now stakes) (now store) (now order) ⌝ }
-    ensures { λ r. ⌜ TabledBy (now (store .entry)) (now (order .entry)) (now (votes .exit)) r ⌝ }
-{
-    let mut m: usize = 0;
-    let mut k: usize = 0;
-    while k < order.len() {
-        let at = order[k] as usize;
-        let from = at + 8;
-        let end = store_order::record_end(store, at);
-        let tabled = table_record(&store[from..end], k, votes, m);
-        let Tabling::Now(n) = tabled else {
-            return Tabling::Full;
-        };
-        m = n;
-        k += 1;
-    }
-    Tabling::Now(m)
-}
-
-// ---- the places of includes
-
-// Writes the places of the includes of the block at a place.
-fn note_includes(
-    store: &[u8],
-    order: &[u64],
-    k: usize,
-    count: usize,
-    places: &mut [u64],
-    from: usize,
-)
-    requires { ⌜ (SortedStore (now store) (now order) × (k < length (now order))) × ((count ≡ length (blockAtPlace (now store) (now order) k .includes)) × (from + count ≤ length (now places))) ⌝ }
-    ensures { λ _. ⌜ Noted (now (store .entry)) (now (order .entry)) k from count (now (places .entry)) (now (places .exit)) ⌝ }
-{
-    let at = order[k] as usize;
-    let mut j: usize = 0;
-    while j < count {
-        let include = block_votes::include_at(store, at, j);
-        places[from + j] = block_votes::place_of(store, order, include) as u64;
-        j += 1;
-    }
-}
-
-// Writes the places of all includes, block by block in ascending reference order; false where they do not fit.
-pub fn note_places(store: &[u8], order: &[u64], places: &mut [u64]) -> bool
-    requires { ⌜ SortedStore (now store) (now order) ⌝ }
-    ensures { λ r. ⌜ (r ≡ true → Placed (now (store .entry)) (now (order .entry)) (now (places .exit)) (length (now (order .entry)))) ⌝ }
-{
-    let mut i: usize = 0;
-    let mut k: usize = 0;
-    while k < order.len() {
-        let count = block_votes::include_count_at(store, order[k] as usize);
-        if places.len() - i < count {
-            return false;
-        }
-        note_includes(store, order, k, count, places, i);
-        i += count;
-        k += 1;
-    }
-    true
-}
-
-// ---- the walk
+// ---- the steps of the walk
 
 // A set of voters, and whether it holds quorum.
 struct Checked {
@@ -208,23 +39,6 @@ fn check(stakes: &[u64], total: Stake, last: Checked, voters: AuthoritySet) -> C
     }
     let quorum = committee::is_quorum(total, authority_set::stake_of(stakes, voters));
     Checked { voters, quorum }
-}
-
-// The voters of the includes of a block, whose places stand from a word on.
-fn gather(memo: &[u64], places: &[u64], from: usize, count: usize) -> AuthoritySet
-    requires { ⌜ (from + count ≤ length (now places)) × ((j : ℕ) → j < count → 2 * getD (now places) (from + j) 0 + 1 < length (now memo)) ⌝ }
-    ensures { λ r. ⌜ r ≡ gathered (now (memo .entry)) (now (places .entry)) from count ⌝ }
-{
-    let mut voters = AuthoritySet::new();
-    let mut j: usize = 0;
-    while j < count {
-        let p = places[from + j] as usize;
-        let low = memo[2 * p];
-        let high = memo[2 * p + 1];
-        voters = voters::union(voters, AuthoritySet { low, high });
-        j += 1;
-    }
-    voters
 }
 
 // The voters below, and the author of the block at a position if its own vote is marked.
@@ -260,34 +74,47 @@ fn certifies_at(store: &[u8], at: usize, quorum: bool) -> bool
     quorum
 }
 
-// Marks the places of the blocks that vote for a locator.
-fn mark_votes(votes: &[u64], m: usize, locator: TransactionLocator, own: &mut [u64])
-    requires { ⌜ ((9 * m ≤ length (now votes)) × ((j : ℕ) → j < m → placeAt (now votes) j < length (now own))) × ((k : ℕ) → getD (now own) k 0 ≡ 0) ⌝ }
-    ensures { λ _. ⌜ Marks (now (votes .entry)) m (asLocator locator) (now (own .exit)) ⌝ }
+// Marks the places, from one on, of the blocks that vote for a locator.
+fn mark_rest(store: &[u8], order: &[u64], from: usize, locator: TransactionLocator, own: &mut [u64])
+    requires { ⌜ (SortedStore (now store) (now order) × (from ≤ length (now order))) × ((length (now order) ≤ length (now own)) × OwnedBelow (now store) (now order) (asLocator locator) (now own) from) ⌝ }
+    ensures { λ _. ⌜ Owned (now (store .entry)) (now (order .entry)) (asLocator locator) (now (own .exit)) ⌝ }
 {
-    let mut i: usize = 0;
-    while i < m {
-        let range = read_vote(votes, i);
-        let k = votes[9 * i] as usize;
-        i += 1;
-        if !block_votes::covers(range, locator) {
+    let mut k = from;
+    while k < order.len() {
+        let i = k;
+        let at = order[i] as usize;
+        k += 1;
+        if !block_votes::votes_at(store, at, locator) {
             continue;
         }
-        own[k] = 1;
+        own[i] = 1;
     }
 }
 
-// Walks over the blocks in ascending reference order: an include stands at a lower place, so its voters are known.
+// A word for a test.
+fn flag(yes: bool) -> u64
+    ensures { λ r. ⌜ r ≡ pick yes 1 0 ⌝ }
+{
+    if yes {
+        return 1;
+    }
+    0
+}
+
+// Walks over the blocks in ascending reference order: an include stands at a lower place, so its voters are known. Writes 1 for each block
+// that certifies, and 0 for each other one.
 fn walk(
     stakes: &[u64],
     total: Stake,
     store: &[u8],
     order: &[u64],
     places: &[u64],
+    noted: usize,
     own: &[u64],
+    certified: &mut [u64],
 ) -> Certifiers
-    requires { ⌜ ((Sorted (now stakes) (now store) (now order) × (total .0 ≡ totalStake (now stakes))) × (length (now order) ≤ 1024)) × ((length (now own) ≡ 1024) × Placed (now store) (now order) (now places) (length (now order))) ⌝ }
-    ensures { λ r. ⌜ CertifyMarked (now (stakes .entry)) (now (store .entry)) (now (order .entry)) (now (own .entry)) r ⌝ }
+    requires { ⌜ ((Sorted (now stakes) (now store) (now order) × (total .0 ≡ totalStake (now stakes))) × (length (now order) ≤ 1024)) × ((length (now own) ≡ 1024) × ((length (now certified) ≡ 1024) × Placed (now store) (now order) (now places) noted)) ⌝ }
+    ensures { λ r. ⌜ CertifyMarked (now (stakes .entry)) (now (store .entry)) (now (order .entry)) (now (own .entry)) (now (certified .exit)) r ⌝ }
 {
     let mut memo = [0u64; 2048];
     let mut authors = AuthoritySet::new();
@@ -300,13 +127,15 @@ fn walk(
     while k < order.len() {
         let at = order[k] as usize;
         let count = block_votes::include_count_at(store, at);
-        let below = gather(&memo, places, i, count);
+        let below = include_places::gather_at(store, order, places, noted, k, i, &memo);
         let voters = with_own(store, at, own[k], below);
         note_voters(&mut memo, k, voters);
         checked = check(stakes, total, checked, voters);
+        let yes = certifies_at(store, at, checked.quorum);
+        certified[k] = flag(yes);
         i += count;
         k += 1;
-        if !certifies_at(store, at, checked.quorum) {
+        if !yes {
             continue;
         }
         blocks += 1;
@@ -316,7 +145,8 @@ fn walk(
     Certifiers { blocks, authors }
 }
 
-// The blocks that certify a locator, by the tables of votes and of places.
+// The blocks that certify a locator: the votes of the blocks at the first places are those of a table, and the places of includes are noted
+// for the first blocks; the rest is read from the store. Writes 1 for each block that certifies, and 0 for each other one.
 pub fn certifiers_of(
     stakes: &[u64],
     total: Stake,
@@ -324,13 +154,32 @@ pub fn certifiers_of(
     order: &[u64],
     votes: &[u64],
     m: usize,
+    tabled: usize,
     places: &[u64],
+    noted: usize,
     locator: TransactionLocator,
+    certified: &mut [u64],
 ) -> Certifiers
-    requires { ⌜ ((Sorted (now stakes) (now store) (now order) × (total .0 ≡ totalStake (now stakes))) × (length (now order) ≤ 1024)) × (Tabled (now store) (now order) (now votes) (length (now order)) m × Placed (now store) (now order) (now places) (length (now order))) ⌝ }
-    ensures { λ r. ⌜ Certify (now (stakes .entry)) (now (store .entry)) (asLocator locator) r ⌝ }
+    requires { ⌜ (((Sorted (now stakes) (now store) (now order) × (total .0 ≡ totalStake (now stakes))) × (length (now order) ≤ 1024)) × (length (now certified) ≡ 1024)) × (((tabled ≤ length (now order)) × Tabled (now store) (now order) (now votes) tabled m) × Placed (now store) (now order) (now places) noted) ⌝ }
+    ensures { λ r. ⌜ CertifyFlagged (now (stakes .entry)) (now (store .entry)) (now (order .entry)) (asLocator locator) (now (certified .exit)) r ⌝ }
 {
     let mut own = [0u64; 1024];
-    mark_votes(votes, m, locator, &mut own);
-    walk(stakes, total, store, order, places, &own)
+    vote_table::mark_votes(votes, m, locator, &mut own);
+    mark_rest(store, order, tabled, locator, &mut own);
+    walk(stakes, total, store, order, places, noted, &own, certified)
+}
+
+// Whether two lists have the same first n words.
+pub fn same_words(a: &[u64], b: &[u64], n: usize) -> bool
+    requires { ⌜ (n ≤ length (now a)) × (n ≤ length (now b)) ⌝ }
+    ensures { λ r. ⌜ SameWords (now (a .entry)) (now (b .entry)) n r ⌝ }
+{
+    let mut k: usize = 0;
+    while k < n {
+        if a[k] != b[k] {
+            return false;
+        }
+        k += 1;
+    }
+    true
 }

@@ -8,15 +8,16 @@ use native.Mathlib.Omega.{arith}
 use lib.ListN.{length}
 use borrow.Author.Tests.{eq-eqb, ne-eqb}
 use Rattle.base.specs.Lists.{pick, allOf}
-use Rattle.base.specs.Le.{Bytes}
 use Rattle.base.specs.Checks.{refusal, passes, Answer, refused, answered, checked}
 use Rattle.committee.specs.Committee.{Committee}
 use Rattle.blocks.specs.Reference.{TransactionLocator}
+use Rattle.blocks.specs.Block.{Block}
 use Rattle.words.specs.Words.{wordsIn, wordsOf, bytesOf}
 use Rattle.finality.specs.Finality.{blocksOf}
-use Rattle.finality.specs.NextFinal.{leastFinal, nextFinalChecks}
+use Rattle.finality.specs.NextFinal.{nextFinalChecks}
 use Rattle.final_list.specs.Answers.{asStretches}
-use Rattle.final_list.specs.Stretches.{lastLocator, stretchAt, fromFound, stretches, Given, givenAfter, finalStretches}
+use Rattle.stretches.specs.Stretches.{Listing, wide, lastLocator, stretchAt, fromFound, stretches}
+use Rattle.stretches.specs.Bulk.{Given, givenAfter, listStretches, finalStretches}
 use Rattle.final_list.specs.declared.StretchesAnswer.{StretchesAnswer}
 use Rattle.final_list.specs.declared.StretchesAnswer.the-variants.{Last, More, Refused}
 use Rattle.host_lib.specs.Payload.{refusalBefore}
@@ -24,26 +25,26 @@ use Rattle.host_finals.specs.Stretches.{stretchesNumber, stretchesIn, as
 use Rattle.host_calls.proofs.Numbers.{checked-most}
 
 -- no more stretches than asked for
-few-stretches : (c : Committee) (s : Bytes) (n : ℕ) (after : Option TransactionLocator) → length (stretches c s n after) ≤ n
+few-stretches : (c : Committee) (bs : List Block) (k : Listing) (n : ℕ) (after : Option TransactionLocator) → length (stretches c bs k n after) ≤ n
 unfolding stretches fromFound
-few-stretches c s zero after = omega arith
-few-stretches c s (suc n) after = go (leastFinal c (blocksOf s) after) (few-stretches c s n)
+few-stretches c bs k zero after = omega arith
+few-stretches c bs k (suc n) after = go (k .next after) (few-stretches c bs k n)
   where
-    go : (o : Option TransactionLocator) → ((b : Option TransactionLocator) → length (stretches c s n b) ≤ n)
-        → length (fromFound o λ l. stretchAt c s l ∷ stretches c s n (some (lastLocator (stretchAt c s l)))) ≤ suc n
+    go : (o : Option TransactionLocator) → ((b : Option TransactionLocator) → length (stretches c bs k n b) ≤ n)
+        → length (fromFound o λ l. stretchAt c bs k l ∷ stretches c bs k n (some (lastLocator (stretchAt c bs k l)))) ≤ suc n
     go none h = omega arith
-    go (some l) h = omega (arith, h (some (lastLocator (stretchAt c s l))))
+    go (some l) h = omega (arith, h (some (lastLocator (stretchAt c bs k l))))
 
 -- so the answer leaves room for the word
 given-few : (c : Committee) (s ws : List ℕ) (after : Option TransactionLocator) (g : Given) → finalStretches c s ws after .answer ≡ answered g → g .stretches ≤ length ws / 10
-unfolding finalStretches checked givenAfter
+unfolding listStretches checked givenAfter
 given-few c s ws after g e = by (passes (nextFinalChecks c s)) e
   where
     told : Given
-    told = givenAfter c s after (stretches c s (length ws / 10) after)
+    told = givenAfter (wide c (blocksOf s)) after (stretches c (blocksOf s) (wide c (blocksOf s)) (length ws / 10) after)
 
     by : (t : Bool) → _≡_ {A = Answer Given} (pick t (answered told) (refused (refusal (nextFinalChecks c s)))) (answered g) → g .stretches ≤ length ws / 10
-    by true e = let z : told ≡ g = cc in omega (arith, ap (λ (x : Given). x .stretches) z, few-stretches c s (length ws / 10) after)
+    by true e = let z : told ≡ g = cc in omega (arith, ap (λ (x : Given). x .stretches) z, few-stretches c (blocksOf s) (wide c (blocksOf s)) (length ws / 10) after)
     by false e = let z : _≡_ {A = ℕ} 0 1 = cc in absurd (omega arith)
 
 pub counts-fit : (c : Committee) (s ws : List ℕ) (after : Option TransactionLocator) (r : StretchesAnswer) → length ws ≡ 1280
@@ -54,7 +55,7 @@ counts-fit c s ws after (More n) h e = omega (arith, given-few c s ws after _ (s
 counts-fit c s ws after (Refused n) h e = few-numbers n (sym e)
   where
     few-numbers : (n : ℕ) → finalStretches c s ws after .answer ≡ refused n → n ≤ 10
-    few-numbers n e = unfold finalStretches nextFinalChecks allOf in checked-most 10 (nextFinalChecks c s) _ n refl e
+    few-numbers n e = unfold listStretches nextFinalChecks allOf in checked-most 10 (nextFinalChecks c s) _ n refl e
 
 -- as words
 pub stretches-in : (c : Committee) (s out : List ℕ) (after : Option TransactionLocator) → length out ≡ 10240

@@ -11,7 +11,7 @@ use Rattle.blocks.specs.Reference.{TransactionLocator}
 use Rattle.words.specs.Words.{wordsOf, bytesOf}
 use Rattle.final_list.specs.declared.StretchesAnswer.{StretchesAnswer}
 use Rattle.final_list.specs.declared.StretchesAnswer.the-variants.{Last, More, Refused}
-use Rattle.final_list.specs.Stretches.{Given, finalStretches}
+use Rattle.stretches.specs.Bulk.{Given, finalStretches}
 use Rattle.host_calls.specs.Calls.{flag, committeeOf}
 use Rattle.host_lib.specs.Payload.{refusalBefore}
 use Rattle.host_finals.specs.NextFinal.{afterOf}

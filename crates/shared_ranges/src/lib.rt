@@ -38,7 +38,7 @@ pub fn is_share(statement: BaseStatement) -> bool
 }
 
 // The place after the statements that are shares, or that are none, from a place on.
-fn skip_statements(rec: &[u8], from: StatementCursor, shares: bool) -> StatementCursor
+pub fn skip_statements(rec: &[u8], from: StatementCursor, shares: bool) -> StatementCursor
     requires { ⌜ (wellFormed (now rec) ≡ true) × ((from ≡ cursorAt (blockIn (now rec)) (from .index)) × (from .index ≤ length (blockIn (now rec) .statements))) ⌝ }
     ensures { λ r. ⌜ r ≡ cursorAt (blockIn (now (rec .entry))) (from .index + leading shares (drop (from .index) (blockIn (now (rec .entry)) .statements))) ⌝ }
 {

@@ -2,21 +2,20 @@
 use mathlib.Core.Path.{_≡_, refl, sym, ap, _∙_}
 use mathlib.Core.Logic.{_⊎_, inl, inr}
 use mathlib.Core.Bool.{Bool, true, false}
-use mathlib.Core.List.{List, [], _∷_, _++_, map, map-append, Option·toList}
+use mathlib.Core.List.{List, [], _∷_, _++_, map, map-append}
 use mathlib.Core.Option.{Option, none, some}
-use Prim.Native.Nat.{ℕ, _+_, _≤_, _<_}
-use lib.ListN.{length, getD, drop}
+use Prim.Native.Nat.{ℕ, _≤_}
+use lib.ListN.{length}
 use Rattle.base.specs.Lists.{pick, keep}
 use Rattle.base.proofs.Tests.{fails, not-both}
 use Rattle.base.proofs.Lists.{keep-append}
 use Rattle.blocks.specs.Reference.{TransactionLocator, TransactionLocatorRange, locatorBefore}
-use Rattle.blocks.specs.Block.{Block, spansFrom, spans}
-use Rattle.blocks.specs.Record.{noStatement}
+use Rattle.blocks.specs.Block.{Block}
 use Rattle.blocks.proofs.References.{locator-trans, locator-total}
 use Rattle.finality.specs.NextFinal.{lesserLocator, leastLocator}
-use Rattle.block_votes.specs.Walk.{spanOf}
+use Rattle.block_spans.specs.Joined.{joinedAt, joinedSpans}
+use Rattle.block_spans.proofs.Joining.{joined-first, joined-end}
 use Rattle.vote_starts.specs.Walk.{startOf, lesserOf}
-use Rattle.block_votes.proofs.Reading.{spans-on, spans-end}
 
 pub lesser-none : (o : Option TransactionLocator) → lesserOf o none ≡ o
 unfolding lesserOf lesserLocator
@@ -49,32 +48,27 @@ unfolding leastLocator lesserOf
 least-append [] ys = refl
 least-append (x ∷ xs) ys = ap (lesserLocator x) (least-append xs ys) ∙ sym (lesser-assoc (some x) (leastLocator xs) (leastLocator ys))
 
--- ---- the starts of a block, statement by statement
+-- ---- the starts of a block, span by span
 
 module _ (b : Block) (p : TransactionLocator → Bool) where
   -- the least where a vote of the statements from index i on begins
   abbrev pub leastFrom : ℕ → Option TransactionLocator
-  leastFrom i = leastLocator (keep p (map startOf (spansFrom (b .reference) i (drop i (b .statements)))))
+  leastFrom i = leastLocator (keep p (map startOf (joinedAt b i)))
 
-  pub least-start : leastLocator (keep p (map startOf (spans b))) ≡ leastFrom 0
-  unfolding spans
-  least-start = refl
+  pub least-start : leastLocator (keep p (map startOf (joinedSpans b))) ≡ leastFrom 0
+  least-start = ap (λ (qs : List TransactionLocatorRange). leastLocator (keep p (map startOf qs))) (joined-first b)
 
   pub least-end : (i : ℕ) (o : Option TransactionLocator) → length (b .statements) ≤ i → lesserOf o (leastFrom i) ≡ o
   unfolding leastLocator keep
-  least-end i o h = rw (spans-end (b .reference) (b .statements) i h) (lesser-none o)
+  least-end i o h = rw (joined-end b i h) (lesser-none o)
 
-  pub least-on : (i : ℕ) (start best next : Option TransactionLocator) → i < length (b .statements)
-      → Option·toList start ≡ map startOf (spanOf (b .reference) i (getD (b .statements) i noStatement))
-      → next ≡ lesserOf best (leastLocator (keep p (Option·toList start)))
-      → lesserOf best (leastFrom i) ≡ lesserOf next (leastFrom (i + 1))
-  least-on i start best next h e f =
-      let here : List TransactionLocatorRange = spanOf (b .reference) i (getD (b .statements) i noStatement) in
-      let rest : List TransactionLocatorRange = spansFrom (b .reference) (i + 1) (drop (i + 1) (b .statements)) in
-      let one : leastFrom i ≡ lesserOf (leastLocator (keep p (Option·toList start))) (leastFrom (i + 1)) =
-      ap (λ (qs : List TransactionLocatorRange). leastLocator (keep p (map startOf qs))) (spans-on (b .reference) (b .statements) i h)
-      ∙ ap (λ (ls : List TransactionLocator). leastLocator (keep p ls)) (map-append startOf here rest)
-      ∙ ap leastLocator (keep-append p (map startOf here) (map startOf rest))
-      ∙ least-append (keep p (map startOf here)) (keep p (map startOf rest))
-      ∙ ap (λ (ls : List TransactionLocator). lesserOf (leastLocator (keep p ls)) (leastFrom (i + 1))) (sym e) in
-      ap (lesserOf best) one ∙ sym (lesser-assoc best (leastLocator (keep p (Option·toList start))) (leastFrom (i + 1))) ∙ ap (λ (o : Option TransactionLocator). lesserOf o (leastFrom (i + 1))) (sym f)
+  pub least-on : (i n : ℕ) (qs : List TransactionLocatorRange) (best next : Option TransactionLocator) → joinedAt b i ≡ qs ++ joinedAt b n
+      → next ≡ lesserOf best (leastLocator (keep p (map startOf qs)))
+      → lesserOf best (leastFrom i) ≡ lesserOf next (leastFrom n)
+  least-on i n qs best next e f =
+      let one : leastFrom i ≡ lesserOf (leastLocator (keep p (map startOf qs))) (leastFrom n) =
+      ap (λ (xs : List TransactionLocatorRange). leastLocator (keep p (map startOf xs))) e
+      ∙ ap (λ (ls : List TransactionLocator). leastLocator (keep p ls)) (map-append startOf qs (joinedAt b n))
+      ∙ ap leastLocator (keep-append p (map startOf qs) (map startOf (joinedAt b n)))
+      ∙ least-append (keep p (map startOf qs)) (keep p (map startOf (joinedAt b n))) in
+      ap (lesserOf best) one ∙ sym (lesser-assoc best (leastLocator (keep p (map startOf qs))) (leastFrom n)) ∙ ap (λ (o : Option TransactionLocator). lesserOf o (leastFrom n)) (sym f)

@@ -11,6 +11,7 @@ use lib.ListN.{length, getD, drop, drop-of-length-le}
 use lib.Seq.{drop-cons}
 use Rattle.base.specs.Lists.{pick, keep, _∈_, here, there}
 use Rattle.base.specs.Le.{Bytes}
+use Rattle.base.proofs.Lists.{keep-append}
 use Rattle.base.proofs.Tests.{and-both, and-left, and-right, fails, not-both, holds-or-not}
 use Rattle.base.proofs.Members.{in-empty, in-keep, keep-in, in-map, map-in, in-flatten, flatten-in}
 use Rattle.committee.specs.Committee.{Committee}
@@ -22,11 +23,11 @@ use Rattle.finality.specs.Voters.{isFinal}
 use Rattle.finality.specs.Finality.{blocksOf}
 use Rattle.finality.specs.NextFinal.{isAfter, justAfter, candidates, leastLocator}
 use Rattle.block_votes.specs.Walk.{Sorted}
-use Rattle.vote_starts.specs.Walk.{startOf, lesserOf}
+use Rattle.block_spans.specs.Joined.{joinedSpans}
+use Rattle.vote_starts.specs.Walk.{startOf, lesserOf, startsAt}
 use Rattle.finality.proofs.Least.{Least, one-of, no-one, least-locator}
 use Rattle.vote_starts.proofs.Minimum.{lesser-none, lesser-assoc, least-append}
 use Rattle.finality.proofs.Asked.{later-after}
-use Rattle.finalization_interpreter.proofs.Certify.{position-block, block-position}
 
 -- ---- there is one least
 
@@ -79,43 +80,26 @@ module _ {A : Type 0} (p q : A → Bool) (f : (x : A) → q x ≡ true → p x �
 -- ---- over the stored blocks
 
 module _ (s : Bytes) (p : TransactionLocator → Bool) where
-  abbrev startsAt : ℕ → List TransactionLocator
-  startsAt q = keep p (map startOf (spans (blockAt s q)))
-
   -- the least start of the blocks at some positions
   abbrev pub leastOver : List ℕ → Option TransactionLocator
-  leastOver ps = leastLocator (flatten (map startsAt ps))
+  leastOver ps = leastLocator (keep p (startsAt s ps))
 
-  pub least-over-on : (order : List ℕ) (k : ℕ) (best next : Option TransactionLocator) → k < length order → next ≡ lesserOf best (leastLocator (startsAt (getD order k 0)))
+  over-next : (order : List ℕ) (k : ℕ) → k < length order → leastOver (drop k order) ≡ lesserOf (leastLocator (keep p (map startOf (joinedSpans (blockAt s (getD order k 0)))))) (leastOver (drop (k + 1) order))
+  unfolding startsAt flatten
+  over-next order k h =
+      let one : List TransactionLocator = map startOf (joinedSpans (blockAt s (getD order k 0))) in
+      let rest : List TransactionLocator = flatten (map (λ q. map startOf (joinedSpans (blockAt s q))) (drop (suc k) order)) in
+      rw (drop-cons order k 0 h, add-one k) (ap leastLocator (keep-append p one rest) ∙ least-append (keep p one) (keep p rest))
+
+  pub least-over-on : (order : List ℕ) (k : ℕ) (best next : Option TransactionLocator) → k < length order
+      → next ≡ lesserOf best (leastLocator (keep p (map startOf (joinedSpans (blockAt s (getD order k 0))))))
       → lesserOf best (leastOver (drop k order)) ≡ lesserOf next (leastOver (drop (k + 1) order))
-  unfolding flatten
   least-over-on order k best next h e =
-      rw (drop-cons order k 0 h, add-one k, least-append (startsAt (getD order k 0)) (flatten (map startsAt (drop (suc k) order))), e) (sym (lesser-assoc best (leastLocator (startsAt (getD order k 0))) (leastOver (drop (suc k) order))))
+      rw (over-next order k h, e) (sym (lesser-assoc best (leastLocator (keep p (map startOf (joinedSpans (blockAt s (getD order k 0)))))) (leastOver (drop (k + 1) order))))
 
   pub least-over-end : (order : List ℕ) (k : ℕ) (best : Option TransactionLocator) → length order ≤ k → lesserOf best (leastOver (drop k order)) ≡ best
-  unfolding leastLocator flatten
+  unfolding leastLocator keep startsAt flatten
   least-over-end order k best h = rw (drop-of-length-le order h) (lesser-none best)
-
-module _ (c : Committee) (s : Bytes) (order : List ℕ) (o : Sorted c s order) (p : TransactionLocator → Bool) where
-  pub least-over : leastOver s p order ≡ leastLocator (keep p (candidates (blocksOf s) none))
-  unfolding candidates justAfter startOf
-  least-over = least-same (flatten (map (startsAt s p) order)) (keep p (candidates (blocksOf s) none)) there-too back
-    where
-      there-too : (m : TransactionLocator) → m ∈ flatten (map (startsAt s p) order) → m ∈ keep p (candidates (blocksOf s) none)
-      there-too m i =
-          let x = flatten-in (map (startsAt s p) order) i in
-          let q = map-in (startsAt s p) order (x .2) in
-          let k = keep-in p (map startOf (spans (blockAt s (q .0)))) (subst (λ (ls : List TransactionLocator). m ∈ ls) (sym (q .2)) (x .1)) in
-          in-keep p (candidates (blocksOf s) none) (in-flatten (k .0) (in-map (λ b. map startOf (spans b)) (position-block c s m order o (q .0) (q .1)))) (k .1)
-
-      back : (m : TransactionLocator) → m ∈ keep p (candidates (blocksOf s) none) → m ∈ flatten (map (startsAt s p) order)
-      back m i =
-          let k = keep-in p (candidates (blocksOf s) none) i in
-          let x = flatten-in (map (λ b. map startOf (spans b)) (blocksOf s)) (k .0) in
-          let b = map-in (λ d. map startOf (spans d)) (blocksOf s) (x .2) in
-          let q = block-position c s m order o (b .0) (b .1) in
-          let j : m ∈ map startOf (spans (blockAt s (q .0))) = subst (λ (ls : List TransactionLocator). m ∈ ls) (sym (ap (λ (d : Block). map startOf (spans d)) (q .2) ∙ b .2)) (x .1) in
-          in-flatten (in-keep p (map startOf (spans (blockAt s (q .0)))) j (k .1)) (in-map (startsAt s p) (q .1))
 
 -- ---- the least final start
 

@@ -1,7 +1,12 @@
--- Machinery for the contracts of private functions: reading blocks where they stand, and what is remembered of them. Assumes nothing: these are definitions.
+-- Machinery for the contracts of inner functions: where votes begin, and the lesser of two locators. Assumes nothing: these are definitions.
+use Prim.Native.Nat.{ℕ}
+use mathlib.Core.List.{List, map, flatten}
 use mathlib.Core.Option.{Option, none, some}
 use Rattle.blocks.specs.Reference.{TransactionLocator, TransactionLocatorRange, locator}
+use Rattle.base.specs.Le.{Bytes}
+use Rattle.store_layout.specs.Entry.{blockAt}
 use Rattle.finality.specs.NextFinal.{lesserLocator}
+use Rattle.block_spans.specs.Joined.{joinedSpans}
 
 -- where a range begins
 unfoldable pub startOf : TransactionLocatorRange → TransactionLocator
@@ -11,3 +16,7 @@ startOf r = locator (r .block) (r .start)
 unfoldable pub lesserOf : Option TransactionLocator → Option TransactionLocator → Option TransactionLocator
 lesserOf none o = o
 lesserOf (some l) o = lesserLocator l o
+
+-- where the votes of the blocks at some positions begin
+unfoldable pub startsAt : Bytes → List ℕ → List TransactionLocator
+startsAt s ps = flatten (map (λ p. map startOf (joinedSpans (blockAt s p))) ps)

@@ -1,24 +1,22 @@
-// Where votes begin: the least locator after a given one at which a vote of a stored block begins. Follows finalization_interpreter.rs.
-use block_record::BaseStatement;
-use types::BlockReference;
+// Where votes begin: the least locator after a given one at which a vote of some stored blocks begins. Follows finalization_interpreter.rs.
+use block_spans::Vote;
 use types::Ordering;
 use types::TransactionLocator;
+use types::TransactionLocatorRange;
 ghost use mathlib.Core.Path.{_≡_};
 ghost use mathlib.Core.Bool.{true};
-ghost use mathlib.Core.Option.{none};
-ghost use mathlib.Core.List.{[], _∷_, map, Option·toList};
+ghost use mathlib.Core.List.{[], _∷_, map};
+ghost use Prim.Native.Nat.{_≤_};
+ghost use lib.ListN.{length, drop};
 ghost use Rattle.base.specs.Lists.{keep};
-ghost use Rattle.base.specs.Le.{Bytes};
 ghost use Rattle.blocks.specs.Reference.{locatorBefore};
-ghost use Rattle.blocks.specs.Block.{spans};
 ghost use Rattle.blocks.specs.Record.{wellFormed, blockIn};
-ghost use Rattle.types.specs.Values.{asReference, asLocator};
-ghost use Rattle.block_record.specs.Values.{asStatement};
-ghost use Rattle.finality.specs.Finality.{blocksOf};
-ghost use Rattle.finality.specs.NextFinal.{isAfter, leastLocator, candidates};
+ghost use Rattle.types.specs.Values.{asLocator, asRange};
+ghost use Rattle.finality.specs.NextFinal.{isAfter, leastLocator};
+ghost use Rattle.block_votes.specs.Walk.{SortedStore};
+ghost use Rattle.block_spans.specs.Joined.{VotesFit, joinedSpans};
 ghost use Rattle.vote_starts.specs.Answers.{asMaybe};
-ghost use Rattle.block_votes.specs.Walk.{spanOf, SortedStore};
-ghost use Rattle.vote_starts.specs.Walk.{startOf, lesserOf};
+ghost use Rattle.vote_starts.specs.Walk.{startOf, lesserOf, startsAt};
 
 // ---- where votes begin
 
@@ -66,59 +64,56 @@ pub fn lesser(best: MaybeLocator, last: MaybeLocator, locator: TransactionLocato
     MaybeLocator::Locator(locator)
 }
 
-// Where the vote of the statement at an offset of a block begins.
-fn start_of(block: BlockReference, offset: u64, statement: BaseStatement) -> MaybeLocator
-    ensures { λ r. ⌜ ((s : Bytes) → Option·toList (asMaybe r) ≡ map startOf (spanOf (asReference block) offset (asStatement s statement))) ⌝ }
+// Where a range begins.
+pub fn start_of(range: TransactionLocatorRange) -> TransactionLocator
+    ensures { λ r. ⌜ asLocator r ≡ startOf (asRange range) ⌝ }
 {
-    match statement {
-        BaseStatement::Share(_, _) => MaybeLocator::Locator(TransactionLocator { block, offset }),
-        BaseStatement::Accept(l) => MaybeLocator::Locator(l),
-        BaseStatement::Reject(_) => MaybeLocator::Nothing,
-        BaseStatement::RejectFor(_, _) => MaybeLocator::Nothing,
-        BaseStatement::VoteRange(r) => {
-            let of = r.block;
-            MaybeLocator::Locator(TransactionLocator {
-                block: of,
-                offset: r.offset_start_inclusive,
-            })
-        }
+    let block = range.block;
+    TransactionLocator {
+        block,
+        offset: range.offset_start_inclusive,
     }
 }
 
 // The least of the best so far and where the votes of the block of a record begin, after the given locator.
 fn least_start_in(rec: &[u8], last: MaybeLocator, best: MaybeLocator) -> MaybeLocator
-    requires { ⌜ wellFormed (now rec) ≡ true ⌝ }
-    ensures { λ r. ⌜ asMaybe r ≡ lesserOf (asMaybe best) (leastLocator (keep (isAfter (asMaybe last)) (map startOf (spans (blockIn (now (rec .entry))))))) ⌝ }
+    requires { ⌜ (wellFormed (now rec) ≡ true) × VotesFit (blockIn (now rec)) ⌝ }
+    ensures { λ r. ⌜ asMaybe r ≡ lesserOf (asMaybe best) (leastLocator (keep (isAfter (asMaybe last)) (map startOf (joinedSpans (blockIn (now (rec .entry))))))) ⌝ }
 {
     let count = block_record::statement_count(rec);
     let block = block_record::reference(rec);
     let mut cursor = block_record::first_statement(rec);
     let mut least = best;
     while cursor.index < count {
-        let next = block_record::next_statement(rec, cursor);
-        let statement = next.statement;
-        let start = start_of(block, cursor.index as u64, statement);
-        cursor = next.next;
-        let MaybeLocator::Locator(l) = start else {
+        let found = block_spans::next_span(rec, block, cursor);
+        let vote = found.vote;
+        cursor = found.next;
+        let Vote::Range(range) = vote else {
             continue;
         };
-        least = lesser(least, last, l);
+        least = lesser(least, last, start_of(range));
     }
     least
 }
 
-// The least locator after the given one at which a vote of a stored block begins.
-pub fn least_start(store: &[u8], order: &[u64], last: MaybeLocator) -> MaybeLocator
-    requires { ⌜ SortedStore (now store) (now order) ⌝ }
-    ensures { λ r. ⌜ asMaybe r ≡ leastLocator (keep (isAfter (asMaybe last)) (candidates (blocksOf (now (store .entry))) none)) ⌝ }
+// The least of the best so far and where the votes of the blocks from a place on begin, after the given locator.
+pub fn least_start(
+    store: &[u8],
+    order: &[u64],
+    from: usize,
+    last: MaybeLocator,
+    best: MaybeLocator,
+) -> MaybeLocator
+    requires { ⌜ SortedStore (now store) (now order) × (from ≤ length (now order)) ⌝ }
+    ensures { λ r. ⌜ asMaybe r ≡ lesserOf (asMaybe best) (leastLocator (keep (isAfter (asMaybe last)) (startsAt (now (store .entry)) (drop from (now (order .entry)))))) ⌝ }
 {
-    let mut least = MaybeLocator::Nothing;
-    let mut k: usize = 0;
+    let mut least = best;
+    let mut k = from;
     while k < order.len() {
         let at = order[k] as usize;
-        let from = at + 8;
+        let start = at + 8;
         let end = store_order::record_end(store, at);
-        least = least_start_in(&store[from..end], last, least);
+        least = least_start_in(&store[start..end], last, least);
         k += 1;
     }
     least

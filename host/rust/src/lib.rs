@@ -856,8 +856,8 @@ mod tests {
         }
         let shares: Vec<Locator> = (0..3).map(|offset| Locator::new(0, 1, digest, offset)).collect();
         assert_eq!(listed, shares);
-        let stretch = |offset| Stretch { first: shares[offset], end: offset as u64 + 1, blocks: 1, stake: committee.total_stake() };
-        let all = Stretches { stretches: (0..3).map(stretch).collect(), more: false };
+        let stretch = |offset: usize| Stretch { first: shares[offset], end: 3, blocks: 1, stake: committee.total_stake() };
+        let all = Stretches { stretches: vec![stretch(0)], more: false };
         assert_eq!(committee.final_stretches(&store, None), Ok(all));
         let last = Stretches { stretches: vec![stretch(2)], more: false };
         assert_eq!(committee.final_stretches(&store, Some(&shares[1])), Ok(last));

@@ -77,23 +77,6 @@ impl<'a> Graph<'a> {
         voted
     }
 
-    /// Where a share, an accept or a range begins or ends.
-    pub fn edges(&self) -> BTreeSet<Locator> {
-        let mut edges = BTreeSet::new();
-        for block in &self.blocks {
-            for (offset, statement) in block.statements.iter().enumerate() {
-                let (reference, start, end) = match statement {
-                    Statement::Share(_) => (block.reference, offset as u64, offset as u64 + 1),
-                    Statement::Accept(locator) => (locator.block, locator.offset, locator.offset + 1),
-                    Statement::Range(reference, start, end) => (*reference, *start, *end),
-                    Statement::Reject(..) => continue,
-                };
-                edges.extend([Locator::new(reference, start), Locator::new(reference, end)]);
-            }
-        }
-        edges
-    }
-
     /// The final list.
     pub fn final_list(&self) -> Vec<(Locator, Finality)> {
         let each = self.voted().into_iter().map(|locator| (locator, self.finality(&locator)));

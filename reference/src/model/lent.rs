@@ -164,7 +164,7 @@ pub fn write_stretches(stretches: &[Stretch], out: &mut [u8]) -> u64 {
     2 * fit as u64 + (fit < stretches.len()) as u64
 }
 
-/// Neighbouring final locators with the same certifying blocks, between two places where a vote begins or ends.
+/// Neighbouring final locators with the same certifying blocks, as many as there are.
 #[derive(Clone, Copy, PartialEq, Eq, Debug)]
 pub struct Stretch {
     pub first: Locator,
@@ -189,13 +189,12 @@ impl Stretch {
 
 /// The final list after a locator, in stretches.
 pub fn stretches(graph: &Graph, after: Option<Locator>) -> Vec<Stretch> {
-    let edges = graph.edges();
     let mut stretches: Vec<Stretch> = Vec::new();
+    let mut certifying = Vec::new();
     for (locator, finality) in graph.final_list().into_iter().filter(|(locator, _)| Some(*locator) > after) {
+        let alike = certifying == finality.certifying;
         match stretches.last_mut() {
-            Some(last) if last.first.block == locator.block && last.end == locator.offset && !edges.contains(&locator) => {
-                last.end += 1
-            }
+            Some(last) if last.first.block == locator.block && last.end == locator.offset && alike => last.end += 1,
             _ => stretches.push(Stretch {
                 first: locator,
                 end: locator.offset + 1,
@@ -203,6 +202,7 @@ pub fn stretches(graph: &Graph, after: Option<Locator>) -> Vec<Stretch> {
                 stake: finality.stake,
             }),
         }
+        certifying = finality.certifying;
     }
     stretches
 }

@@ -14,34 +14,15 @@ use borrow.Author.Needs.{needs}
 use Rattle.block_votes.proofs.own_vote_at.Statement.{statement}
 use Rattle.block_votes.proofs.own_vote_at.Tie as tie
 
-add-from : tie.Need-add-from
-add-from c = omega (arith, entry-room (c .before .args .store .now) (c .before .args .at) (c .before .pre .0) .inside)
-
-record-end-requires : tie.Need-record-end-requires
-record-end-requires c κs = search needs
-
-sub-votes-for : tie.Need-sub-votes-for
-sub-votes-for c = search needs
-
-part-votes-for-start : tie.Need-part-votes-for-start
-part-votes-for-start c = search needs
-
-part-votes-for-end : tie.Need-part-votes-for-end
-part-votes-for-end c = omega (arith, entry-room (c .before .before .args .store .now) (c .before .before .args .at) (c .before .before .pre .0) .inside, c .record-end .ensures)
-
-votes-for-requires : tie.Need-votes-for-requires
-votes-for-requires c κs = let a = c .before .before .before .args in
-    rw (record-part (a .store .now) (a .at) (c .before .record-end .result) (c .before .record-end .ensures)) (entry-room (a .store .now) (a .at) (c .before .before .before .pre .0) .formed)
+votes-at-requires : tie.Need-votes-at-requires
+votes-at-requires c κs = search needs
 
 new-requires : tie.Need-new-requires
 new-requires c κs = search needs
 
 returns : tie.Need-returns
-unfolding blockAt
-returns c = let a = c .before .before .before .before .before .before .args in
-    let e : votesFor (blockAt (a .store .now) (a .at)) (asLocator (a .locator)) ≡ false =
-    rw (record-part (a .store .now) (a .at) (c .before .before .before .before .record-end .result) (c .before .before .before .before .record-end .ensures)) at (sym (c .before .before .votes-for .ensures) ∙ not-true _ (c .before .if1 .taken)) in
-    c .new .ensures ∙ sym (own-no (blockAt (a .store .now) (a .at)) (asLocator (a .locator)) e)
+returns c = let a = c .before .before .before .before .args in
+    c .new .ensures ∙ sym (own-no (blockAt (a .store .now) (a .at)) (asLocator (a .locator)) (sym (c .before .before .votes-at .ensures) ∙ not-true _ (c .before .if1 .taken)))
 
 reference-at-requires : tie.Need-reference-at-requires
 reference-at-requires c κs = search needs
@@ -51,25 +32,19 @@ new-requires-2 c κs = search needs
 
 insert-requires : tie.Need-insert-requires
 unfolding asReference
-insert-requires c κs = let p = c .before .before .before .before .before .before .before in rw (ap (λ r. r .authority) (c .before .reference-at .ensures)) (p .pre .1)
+insert-requires c κs = let p = c .before .before .before .before .before in rw (ap (λ r. r .authority) (c .before .reference-at .ensures)) (p .pre .1)
 
 returns-2 : tie.Need-returns-2
-unfolding blockAt asReference
-returns-2 c = let a = c .before .before .before .before .before .before .before .before .args in
-    let e : votesFor (blockAt (a .store .now) (a .at)) (asLocator (a .locator)) ≡ true =
-    rw (record-part (a .store .now) (a .at) (c .before .before .before .before .before .before .record-end .result) (c .before .before .before .before .before .before .record-end .ensures)) at (sym (c .before .before .before .before .votes-for .ensures) ∙ not-false _ (c .before .before .before .if1 .left)) in
+unfolding asReference
+returns-2 c = let a = c .before .before .before .before .before .before .args in
+    let e : votesFor (blockAt (a .store .now) (a .at)) (asLocator (a .locator)) ≡ true = sym (c .before .before .before .before .votes-at .ensures) ∙ not-false _ (c .before .before .before .if1 .left) in
     c .insert .ensures ∙ rw (c .before .new2 .ensures) (ap (λ r. inserted nobody (r .authority)) (c .before .before .reference-at .ensures)) ∙ sym (own-yes (blockAt (a .store .now) (a .at)) (asLocator (a .locator)) e)
 
 pub own-vote-at-spec : {M : Type 1} → statement M
 own-vote-at-spec =
     tie.close
     (tie.spec
-    add-from
-    record-end-requires
-    sub-votes-for
-    part-votes-for-start
-    part-votes-for-end
-    votes-for-requires
+    votes-at-requires
     new-requires
     returns
     reference-at-requires

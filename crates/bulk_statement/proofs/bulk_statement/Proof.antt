@@ -1,7 +1,7 @@
 use mathlib.Core.Path.{_≡_, sym, _∙_}
 use Rattle.promises.specs.ThirdStatement.{engineOf}
 use Rattle.promises.proofs.Finals.{store-of, gives-finals, same-list}
-use Rattle.bulk_statement.proofs.Asked.{spread-on, alike-on}
+use Rattle.bulk_statement.proofs.Asked.{spread-on, alike-on, longest-on}
 use Rattle.bulk_statement.proofs.bulk_statement.Statement.{statement}
 use Rattle.bulk_statement.proofs.bulk_statement.Tie as tie
 
@@ -10,6 +10,7 @@ returns c =
     record {
       spread = λ d b t ts on ls k. spread-on d (engineOf d t .store) b (store-of d t .order) on ls k;
       alike = λ d b t ts on. alike-on d (engineOf d t .store) b (store-of d t .order) on;
+      longest = λ d b t ts on. longest-on d (engineOf d t .store) b (store-of d t .order) on;
       sameList = λ d b t u same ts us on un.
           let f = gives-finals d b t in
           let g = gives-finals d b u in

@@ -1,80 +1,151 @@
-use borrow.Author.Tests.{not-false}
-use Rattle.block_votes.proofs.Sorting.{some-committee}
-use Rattle.final_walk.specs.Table.{TabledBy}
+use Rattle.final_list.proofs.Filling.{stretches-none, stretches-full, stretch-parts, fill-start, fill-more, fill-words, given-last, given-more}
+use Rattle.final_list.specs.Step.{Filled}
+use Rattle.final_list.specs.Answers.{asStretches}
+use Rattle.final_search.specs.Search.{asNext, FoundRight}
+use Rattle.final_walk.specs.Walk.{Certify}
+use Rattle.stretches.proofs.Wide.{wide-lawful, positions-many}
+use Rattle.stretches.proofs.Spreading.{next-shown, shown-ends}
+use Rattle.stretches.specs.Bulk.{Given}
+use Rattle.stretches.specs.Stretches.{wide, lastLocator, stretchAt}
+use Rattle.vote_starts.specs.Answers.{asMaybe}
+use Rattle.finality.specs.NextFinal.{leastFinal}
+use Rattle.finality.specs.Finality.{blocksOf}
+use Rattle.finality.specs.Voters.{certifiers}
+use Rattle.types.specs.Values.{asLocator}
+use Rattle.blocks.specs.Reference.{locator}
+use Rattle.authority_set.specs.AuthoritySet.{stakeOf}
+use Rattle.base.specs.Checks.{Answer, answered}
+use lib.ListN.{length}
+use native.Mathlib.Omega.{arith}
+use mathlib.Core.Option.{none, some}
+use mathlib.Core.Path.{_≡_, refl, sym, ap, _∙_}
+use Prim.Native.Nat.{_-_, _*_, _/_, _<_, _≤_, _+_}
 use borrow.Author.Needs.{needs}
 use Rattle.final_list.proofs.fill.Statement.{statement}
 use Rattle.final_list.proofs.fill.Tie as tie
 
-slice-aggregate-table-votes : tie.Need-slice-aggregate-table-votes
-slice-aggregate-table-votes c = search needs
+abbrev Inv-loop : tie.InvT-loop
+Inv-loop stakes total store order votes m tabled places noted out₀ room certified₀ n₀ last₀ out certified n last = (length certified ≡ 1024) × Filled stakes (blocksOf store) (wide stakes (blocksOf store)) room (asMaybe last₀) out₀ out (asMaybe last) n
 
-table-votes-requires : tie.Need-table-votes-requires
-table-votes-requires c κs = search needs
+abbrev μ-loop : tie.MeasureT-loop
+μ-loop stakes total store order votes m tabled places noted out₀ room certified₀ n₀ last₀ out certified n last = room - n
 
-enum-known-tabled : tie.Need-enum-known-tabled
-enum-known-tabled c = search needs
+loop-holds : tie.Need-loop-holds Inv-loop μ-loop
+loop-holds c = let a = (c .before .before .before .before .before .before .args) in (refl, fill-start (a .stakes .now) (blocksOf (a .store .now)) (wide (a .stakes .now) (blocksOf (a .store .now))) (length (a .out .now) / 10) (asMaybe (a .after)) (a .out .now))
 
-enum-told : tie.Need-enum-told
+slice-aggregate-final-after : tie.Need-slice-aggregate-final-after Inv-loop μ-loop
+slice-aggregate-final-after c = sym (c .before .loop .inv .0)
+
+final-after-requires : tie.Need-final-after-requires Inv-loop μ-loop
+final-after-requires c κs = ((c .before .before .before .before .before .before .before .before .pre .0, c .before .loop .inv .0), c .before .before .before .before .before .before .before .before .pre .1)
+
+enum-known-next : tie.Need-enum-known-next Inv-loop μ-loop
+enum-known-next c = search needs
+
+enum-told : tie.Need-enum-told Inv-loop μ-loop
 enum-told c = search needs
 
-fill-large-requires : tie.Need-fill-large-requires
-fill-large-requires c κs = search needs
+same-length : tie.Need-same-length Inv-loop μ-loop
+same-length c = c .before .before .before .before .before .loop .inv .1 .long
 
-same-length : tie.Need-same-length
-same-length c = search needs
+returns : tie.Need-returns Inv-loop μ-loop
+unfolding asStretches asNext
+returns c = let a = (c .before .before .before .before .before .before .before .before .before .before .before .before .args) in
+    let bs = blocksOf (a .store .now) in
+    let k = wide (a .stakes .now) bs in
+    let room = length (a .out .now) / 10 in
+    let g = (c .before .before .before .before .before .loop) in
+    let e : leastFinal (a .stakes .now) bs (asMaybe (g .last)) ≡ none = sym (c .before .before .before .final-after .ensures .0) ∙ ap asNext (c .enum-told .given .1) in
+    let z = stretches-none (a .stakes .now) bs k (room - g .n) (asMaybe (g .last)) e in
+    (ap {B = Answer Given} answered (given-last (a .stakes .now) bs k room (asMaybe (a .after)) (a .out .now) (g .out) (asMaybe (g .last)) (g .n) (g .inv .1) z e), fill-words (a .stakes .now) bs k room (asMaybe (a .after)) (a .out .now) (g .out) (asMaybe (g .last)) (g .n) (g .inv .1) z)
 
-returns : tie.Need-returns
-returns c = search needs
+same-length-2 : tie.Need-same-length-2 Inv-loop μ-loop
+same-length-2 c = c .before .before .before .before .before .before .before .loop .inv .1 .long
 
-slice-aggregate-note-places : tie.Need-slice-aggregate-note-places
-slice-aggregate-note-places c = search needs
+returns-2 : tie.Need-returns-2 Inv-loop μ-loop
+unfolding asStretches asNext
+returns-2 c = let a = (c .before .before .before .before .before .before .before .before .before .before .before .before .before .before .args) in
+    let bs = blocksOf (a .store .now) in
+    let k = wide (a .stakes .now) bs in
+    let room = length (a .out .now) / 10 in
+    let g = (c .before .before .before .before .before .before .before .loop) in
+    let l = asLocator (c .before .before .next .given .0 .0 .locator) in
+    let e : leastFinal (a .stakes .now) bs (asMaybe (g .last)) ≡ some l = sym (c .before .before .before .before .before .final-after .ensures .0) ∙ ap asNext (c .before .before .next .given .1) in
+    let z = stretches-full (a .stakes .now) bs k (room - g .n) (asMaybe (g .last)) (omega (arith, c .if1 .taken)) in
+    (ap {B = Answer Given} answered (given-more (a .stakes .now) bs k room (asMaybe (a .after)) (a .out .now) (g .out) (asMaybe (g .last)) (g .n) (g .inv .1) z l e), fill-words (a .stakes .now) bs k room (asMaybe (a .after)) (a .out .now) (g .out) (asMaybe (g .last)) (g .n) (g .inv .1) z)
 
-note-places-requires : tie.Need-note-places-requires
-note-places-requires c κs = some-committee (c .before .before .before .before .before .before .before .before .before .before .before .pre .0 .0)
+stake-of-requires : tie.Need-stake-of-requires Inv-loop μ-loop
+stake-of-requires c κs = c .before .before .before .before .before .before .before .before .before .before .before .before .before .before .before .before .pre .0 .0 .0 .sound
 
-fill-large-requires-2 : tie.Need-fill-large-requires-2
-fill-large-requires-2 c κs = search needs
+slice-aggregate-stretch-end : tie.Need-slice-aggregate-stretch-end Inv-loop μ-loop
+slice-aggregate-stretch-end c = sym (c .before .before .before .before .before .before .before .before .before .final-after .kept .1 .1 .1 .1 .1 .1 .1 .1 .1 .1 .0 ∙ c .before .before .before .before .before .before .before .before .before .before .before .loop .inv .0)
 
-same-length-2 : tie.Need-same-length-2
-same-length-2 c = search needs
+stretch-end-requires : tie.Need-stretch-end-requires Inv-loop μ-loop
+unfolding asNext FoundRight
+stretch-end-requires c κs = let a = (c .before .before .before .before .before .before .before .before .before .before .before .before .before .before .before .before .before .before .args) in
+    let bs = blocksOf (a .store .now) in
+    let k = wide (a .stakes .now) bs in
+    let room = length (a .out .now) / 10 in
+    let g = (c .before .before .before .before .before .before .before .before .before .before .before .loop) in
+    let l = asLocator (c .before .before .before .before .before .before .next .given .0 .0 .locator) in
+    let e : leastFinal (a .stakes .now) bs (asMaybe (g .last)) ≡ some l = sym (c .before .before .before .before .before .before .before .before .before .final-after .ensures .0) ∙ ap asNext (c .before .before .before .before .before .before .next .given .1) in
+    let q = rw (c .before .before .before .before .before .before .next .given .1) at (c .before .before .before .before .before .before .before .before .before .final-after .ensures .1) in
+    (((c .before .before .before .before .before .before .before .before .before .before .before .before .before .before .before .before .before .before .pre .0, c .before .before .before .before .before .before .before .before .before .final-after .kept .1 .1 .1 .1 .1 .1 .1 .1 .1 .1 .0 ∙ g .inv .0), c .before .before .before .before .before .before .before .before .before .before .before .before .before .before .before .before .before .before .pre .1), (next-shown (a .stakes .now) bs k (wide-lawful (a .stakes .now) bs) (asMaybe (g .last)) l e, q .1))
 
-returns-2 : tie.Need-returns-2
-returns-2 c = search needs
+write-stretch-requires : tie.Need-write-stretch-requires Inv-loop μ-loop
+write-stretch-requires c κs = omega (arith, c .before .before .before .before .before .before .before .before .before .before .before .before .before .loop .inv .1 .inside, c .before .before .before .before .before .before .before .before .before .before .before .before .before .loop .inv .1 .long, c .before .before .before .before .before .before .if1 .left)
 
-slice-aggregate-fill-by-tables : tie.Need-slice-aggregate-fill-by-tables
-slice-aggregate-fill-by-tables c = search needs
+sub-t34 : tie.Need-sub-t34 Inv-loop μ-loop
+unfolding asNext asLocator locator
+sub-t34 c = let a = (c .before .before .before .before .before .before .before .before .before .before .before .before .before .before .before .before .before .before .before .before .before .before .before .before .args) in
+    let bs = blocksOf (a .store .now) in
+    let k = wide (a .stakes .now) bs in
+    let room = length (a .out .now) / 10 in
+    let g = (c .before .before .before .before .before .before .before .before .before .before .before .before .before .before .before .before .before .loop) in
+    let l = asLocator (c .before .before .before .before .before .before .before .before .before .before .before .before .next .given .0 .0 .locator) in
+    let e : leastFinal (a .stakes .now) bs (asMaybe (g .last)) ≡ some l = sym (c .before .before .before .before .before .before .before .before .before .before .before .before .before .before .before .final-after .ensures .0) ∙ ap asNext (c .before .before .before .before .before .before .before .before .before .before .before .before .next .given .1) in
+    omega (arith, shown-ends (a .stakes .now) bs k (wide-lawful (a .stakes .now) bs) l (next-shown (a .stakes .now) bs k (wide-lawful (a .stakes .now) bs) (asMaybe (g .last)) l e) .longer, c .before .before .before .before .before .stretch-end .ensures)
 
-slice-aggregate-fill-by-tables-2 : tie.Need-slice-aggregate-fill-by-tables-2
-slice-aggregate-fill-by-tables-2 c = search needs
+add-n : tie.Need-add-n Inv-loop μ-loop
+add-n c = omega (arith, c .before .before .before .before .before .before .before .before .before .before .before .before .before .before .before .before .before .loop .inv .1 .inside, c .before .before .before .before .before .before .before .before .before .before .if1 .left, (c .before .before .before .before .before .before .before .before .before .before .before .before .before .before .before .before .before .before .before .before .before .before .before .before .good))
 
-fill-by-tables-requires : tie.Need-fill-by-tables-requires
-unfolding TabledBy
-fill-by-tables-requires c κs = (c .before .before .before .before .before .before .before .before .before .before .before .before .before .before .before .before .before .pre, (rw (c .before .before .before .before .before .before .before .before .tabled .given .1) at (c .before .before .before .before .before .before .before .before .before .before .before .table-votes .ensures), c .before .before .before .before .before .note-places .ensures (not-false _ (c .before .before .before .if1 .left))))
+loop-less : tie.Need-loop-less Inv-loop μ-loop
+loop-less c = omega (arith, c .before .before .before .before .before .before .before .before .before .before .before .before .before .before .before .before .before .loop .inv .1 .inside, c .before .before .before .before .before .before .before .before .before .before .if1 .left)
 
-same-length-3 : tie.Need-same-length-3
-same-length-3 c = search needs
-
-returns-3 : tie.Need-returns-3
-returns-3 c = search needs
+loop-again : tie.Need-loop-again Inv-loop μ-loop
+unfolding asMaybe asNext asLocator locator lastLocator stretchAt FoundRight Certify certifiers
+loop-again c = let a = (c .before .before .before .before .before .before .before .before .before .before .before .before .before .before .before .before .before .before .before .before .before .before .before .before .args) in
+    let bs = blocksOf (a .store .now) in
+    let k = wide (a .stakes .now) bs in
+    let room = length (a .out .now) / 10 in
+    let g = (c .before .before .before .before .before .before .before .before .before .before .before .before .before .before .before .before .before .loop) in
+    let l = asLocator (c .before .before .before .before .before .before .before .before .before .before .before .before .next .given .0 .0 .locator) in
+    let e : leastFinal (a .stakes .now) bs (asMaybe (g .last)) ≡ some l = sym (c .before .before .before .before .before .before .before .before .before .before .before .before .before .before .before .final-after .ensures .0) ∙ ap asNext (c .before .before .before .before .before .before .before .before .before .before .before .before .next .given .1) in
+    let q = rw (c .before .before .before .before .before .before .before .before .before .before .before .before .next .given .1) at (c .before .before .before .before .before .before .before .before .before .before .before .before .before .before .before .final-after .ensures .1) in
+    let t = c .before .before .before .before .before .stretch-end .ensures in
+    let u = stretch-parts (a .stakes .now) bs k l _ _ _ t (q .0 .0 ∙ positions-many (a .stakes .now) (a .store .now) l (c .before .before .before .before .before .before .before .before .before .before .before .before .before .before .before .before .before .before .before .before .before .before .before .before .pre .0 .0 .0 .inOrder)) (c .before .before .before .before .before .before .before .stake-of .ensures ∙ ap (stakeOf (a .stakes .now)) (q .0 .1)) in
+    (c .before .before .before .before .before .before .before .before .before .before .before .before .before .before .before .final-after .kept .1 .1 .1 .1 .1 .1 .1 .1 .1 .1 .0 ∙ g .inv .0, rw (c .before .before .before .write-stretch .ensures, u, t) (fill-more (a .stakes .now) bs k room (asMaybe (a .after)) (a .out .now) (g .out) (asMaybe (g .last)) (g .n) (g .inv .1) (omega (arith, g .inv .1 .inside, c .before .before .before .before .before .before .before .before .before .before .if1 .left)) (omega arith) l e))
 
 pub fill-spec : {M : Type 1} → statement M
 fill-spec =
     tie.close
     (tie.spec
-    slice-aggregate-table-votes
-    table-votes-requires
-    enum-known-tabled
+    Inv-loop
+    μ-loop
+    loop-holds
+    slice-aggregate-final-after
+    final-after-requires
+    enum-known-next
     enum-told
-    fill-large-requires
     same-length
     returns
-    slice-aggregate-note-places
-    note-places-requires
-    fill-large-requires-2
     same-length-2
     returns-2
-    slice-aggregate-fill-by-tables
-    slice-aggregate-fill-by-tables-2
-    fill-by-tables-requires
-    same-length-3
-    returns-3)
+    stake-of-requires
+    slice-aggregate-stretch-end
+    stretch-end-requires
+    write-stretch-requires
+    sub-t34
+    add-n
+    loop-less
+    loop-again)

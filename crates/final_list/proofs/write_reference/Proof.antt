@@ -4,7 +4,7 @@ use native.Mathlib.Omega.{arith}
 use native.Mathlib.Numerals.{towards-suc}
 use lib.ListN.{length-set}
 use Rattle.types.specs.Values.{digestBytes, asReference}
-use Rattle.final_list.specs.Stretches.{digestWords, referenceWords}
+use Rattle.stretches.specs.Bulk.{digestWords, referenceWords}
 use Rattle.final_list.proofs.Words.{digest-words}
 use borrow.Author.Needs.{needs}
 use Rattle.final_list.proofs.write_reference.Statement.{statement}

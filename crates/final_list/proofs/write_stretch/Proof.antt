@@ -3,7 +3,7 @@ use native.Mathlib.Omega.{arith}
 use lib.ListN.{length-set}
 use Rattle.blocks.specs.Reference.{locator}
 use Rattle.types.specs.Values.{asReference, asLocator}
-use Rattle.final_list.specs.Stretches.{stretchWords}
+use Rattle.stretches.specs.Bulk.{stretchWords}
 use Rattle.final_list.specs.Step.{stretchOf}
 use Rattle.final_list.proofs.Words.{rest-written}
 use borrow.Author.Needs.{needs}

@@ -1,6 +1,6 @@
 use mathlib.Core.Path.{_≡_, refl, sym, ap, _∙_}
 use Rattle.committee.specs.Committee.{isQuorum}
-use Rattle.final_walk.specs.Places.{Sure}
+use Rattle.final_walk.specs.Walk.{Sure}
 use borrow.Author.Needs.{needs}
 use Rattle.final_walk.proofs.check.Statement.{statement}
 use Rattle.final_walk.proofs.check.Tie as tie

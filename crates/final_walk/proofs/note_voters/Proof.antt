@@ -1,5 +1,5 @@
 use mathlib.Core.Path.{refl}
-use Rattle.final_walk.specs.Places.{withVoters}
+use Rattle.final_walk.specs.Walk.{withVoters}
 use borrow.Author.Needs.{needs}
 use Rattle.final_walk.proofs.note_voters.Statement.{statement}
 use Rattle.final_walk.proofs.note_voters.Tie as tie

@@ -1,0 +1,21 @@
+-- What the code's answers say. Assumes nothing: these are definitions.
+use Prim.Native.Nat.{ℕ, _≤_, _<_}
+use mathlib.Core.Path.{_≡_}
+use mathlib.Core.List.{List, [], _∷_}
+use lib.ListN.{length}
+use Rattle.blocks.specs.Reference.{TransactionLocatorRange}
+use Rattle.blocks.specs.Block.{Block}
+use Rattle.types.specs.Values.{asRange}
+use Rattle.block_record.specs.Cursor.{cursorAt}
+use Rattle.block_record.specs.declared.StatementCursor.{StatementCursor}
+use Rattle.block_spans.specs.declared.Vote.{Vote}
+use Rattle.block_spans.specs.declared.Vote.the-variants.{Range, Nothing}
+
+-- the ranges voted for
+unfoldable pub votedBy : Vote → List TransactionLocatorRange
+votedBy (Range q) = asRange q ∷ []
+votedBy Nothing = []
+
+-- a place further on in the block
+unfoldable pub OnwardIn : Block → ℕ → StatementCursor → Type 0
+OnwardIn b i next = (i < next .index) × ((next .index ≤ length (b .statements)) × (next ≡ cursorAt b (next .index)))

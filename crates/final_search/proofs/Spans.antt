@@ -1,0 +1,185 @@
+-- The votes of a table and of the blocks after it are those of all blocks. Assumes nothing.
+use mathlib.Core.Path.{_≡_, refl, sym, ap, subst, _∙_}
+use mathlib.Core.Logic.{_⊎_, inl, inr}
+use mathlib.Core.Bool.{Bool}
+use mathlib.Core.List.{List, [], _∷_, _++_, map, flatten}
+use Prim.Native.Nat.{ℕ, zero, suc, _+_, _≤_, _<_}
+use native.Mathlib.Omega.{arith}
+use native.Mathlib.Decide.{decLt}
+use lib.ListN.{length, getD, drop}
+use Rattle.base.specs.Lists.{keep, countFrom, _∈_, here, there}
+use Rattle.base.specs.Le.{Bytes}
+use Rattle.base.proofs.Lists.{keep-append}
+use Rattle.base.proofs.Places.{in-place}
+use Rattle.base.proofs.Members.{in-left, in-right, in-append, in-map, map-in, in-flatten, flatten-in, in-keep, keep-in, in-countFrom, countFrom-in}
+use Rattle.blocks.specs.Reference.{BlockReference, TransactionLocator, TransactionLocatorRange}
+use Rattle.blocks.specs.Block.{Block}
+use Rattle.store_layout.specs.Entry.{blockAt}
+use Rattle.finality.specs.Finality.{blocksOf}
+use Rattle.finality.specs.NextFinal.{leastLocator}
+use Rattle.block_votes.specs.Walk.{SortedStore, blockAtPlace}
+use Rattle.block_votes.proofs.Sorting.{place-stored}
+use Rattle.finalization_interpreter.proofs.Certify.{position-block, block-position}
+use Rattle.block_spans.specs.Joined.{joinedSpans}
+use Rattle.vote_starts.specs.Walk.{startOf, lesserOf, startsAt}
+use Rattle.vote_starts.proofs.Minimum.{least-append}
+use Rattle.vote_starts.proofs.Starts.{least-same}
+use Rattle.stretches.specs.Stretches.{edgesOf, edgesBy, nearest}
+use Rattle.stretches.proofs.Nearest.{nearest-same, nearest-append}
+use Rattle.vote_edges.specs.Edges.{edgesIn, edgesAt}
+use Rattle.vote_table.specs.Table.{placeAt, rangeAt, tableRanges, Tabled}
+use Rattle.final_search.specs.Search.{votedStarts}
+
+-- a number stands at a place of a list
+pub place-in : (xs : List ℕ) (x : ℕ) → x ∈ xs → (k : ℕ) × ((k < length xs) × (getD xs k 0 ≡ x))
+place-in (y ∷ xs) x here = (0, (omega arith, refl))
+place-in (y ∷ xs) x (there m) = let r = place-in xs x m in (suc (r .0), (omega (arith, r .1 .0), r .1 .1))
+
+dropped-in : (n : ℕ) (xs : List ℕ) (x : ℕ) → x ∈ drop n xs → x ∈ xs
+dropped-in zero xs x m = m
+dropped-in (suc n) [] x m = m
+dropped-in (suc n) (y ∷ xs) x m = there (dropped-in n xs x m)
+
+in-dropped : (n k : ℕ) (xs : List ℕ) → n ≤ k → k < length xs → getD xs k 0 ∈ drop n xs
+in-dropped zero k xs h l = in-place 0 xs k l
+in-dropped (suc n) k [] h l = absurd (omega arith)
+in-dropped (suc n) zero (y ∷ xs) h l = absurd (omega arith)
+in-dropped (suc n) (suc k) (y ∷ xs) h l = in-dropped n k xs (omega arith) (omega arith)
+
+-- every span of a stored block stands in the table, or in a block from place n on; and nothing else does
+module _ (s : Bytes) (order : List ℕ) (o : SortedStore s order) (t : List ℕ) (n m : ℕ) (few : n ≤ length order) (w : Tabled s order t n m) (l : TransactionLocator) where
+  data Somewhere (q : TransactionLocatorRange) : Type 0 where
+    in-table : q ∈ tableRanges t m → Somewhere q
+    in-store : (p : ℕ) → p ∈ drop n order → q ∈ joinedSpans (blockAt s p) → Somewhere q
+
+  record Stored (q : TransactionLocatorRange) : Type 0 where
+    block : Block
+    stands : block ∈ blocksOf s
+    span : q ∈ joinedSpans block
+
+  held : (k : ℕ) → k < n → (q : TransactionLocatorRange) → q ∈ joinedSpans (blockAtPlace s order k) → q ∈ tableRanges t m
+  unfolding tableRanges
+  held k h q i =
+      let x = w .complete k h q i in
+      subst (λ (y : TransactionLocatorRange). y ∈ map (rangeAt t) (countFrom 0 m)) (x .range) (in-map (rangeAt t) (in-countFrom 0 m (x .index) (omega arith) (omega (arith, x .below))))
+
+  somewhere : (q : TransactionLocatorRange) → Stored q → Somewhere q
+  unfolding SortedStore blockAtPlace
+  somewhere q z =
+      let x = block-position (o .0) s l order (o .1) (z .block) (z .stands) in
+      let y = place-in order (x .0) (x .1) in
+      go (y .0) (y .1 .0) (subst (λ (d : Block). q ∈ joinedSpans d) (sym (ap (blockAt s) (y .1 .1) ∙ x .2)) (z .span)) (decLt (y .0) n)
+    where
+      go : (k : ℕ) → k < length order → q ∈ joinedSpans (blockAt s (getD order k 0)) → Dec (k < n) → Somewhere q
+      go k h e (yes i) = in-table (held k i q e)
+      go k h e (no i) = in-store (getD order k 0) (in-dropped n k order (omega arith) h) e
+
+  stored : (q : TransactionLocatorRange) → Somewhere q → Stored q
+  unfolding tableRanges SortedStore
+  stored q (in-table i) =
+      let x = map-in (rangeAt t) (countFrom 0 m) i in
+      let y = w .sound (x .0) (omega (arith, countFrom-in 0 m (x .1))) in
+      record {
+        block = blockAtPlace s order (placeAt t (x .0));
+        stands = place-stored s order o (placeAt t (x .0)) (omega (arith, y .0));
+        span = subst (λ (z : TransactionLocatorRange). z ∈ joinedSpans (blockAtPlace s order (placeAt t (x .0)))) (x .2) (y .1);
+      }
+  stored q (in-store p i j) = record { block = blockAt s p; stands = position-block (o .0) s l order (o .1) p (dropped-in n order p i); span = j }
+
+  -- ---- where they begin
+
+  module _ (f : TransactionLocator → Bool) where
+    begun-in : (x : TransactionLocator) → x ∈ (map startOf (tableRanges t m) ++ startsAt s (drop n order)) → (q : TransactionLocatorRange) × (Somewhere q × (startOf q ≡ x))
+    unfolding startsAt
+    begun-in x i = go (in-append (map startOf (tableRanges t m)) i)
+      where
+        go : (x ∈ map startOf (tableRanges t m)) ⊎ (x ∈ flatten (map (λ p. map startOf (joinedSpans (blockAt s p))) (drop n order))) → (q : TransactionLocatorRange) × (Somewhere q × (startOf q ≡ x))
+        go (inl j) = let y = map-in startOf (tableRanges t m) j in (y .0, (in-table (y .1), y .2))
+        go (inr j) =
+            let y = flatten-in (map (λ p. map startOf (joinedSpans (blockAt s p))) (drop n order)) j in
+            let z = map-in (λ p. map startOf (joinedSpans (blockAt s p))) (drop n order) (y .2) in
+            let v = map-in startOf (joinedSpans (blockAt s (z .0))) (subst (λ (ls : List TransactionLocator). x ∈ ls) (sym (z .2)) (y .1)) in
+            (v .0, (in-store (z .0) (z .1) (v .1), v .2))
+
+    in-begun : (q : TransactionLocatorRange) → Somewhere q → startOf q ∈ (map startOf (tableRanges t m) ++ startsAt s (drop n order))
+    unfolding startsAt
+    in-begun q (in-table i) = in-left _ (in-map startOf i)
+    in-begun q (in-store p i j) = in-right (map startOf (tableRanges t m)) (in-flatten (in-map startOf j) (in-map (λ p. map startOf (joinedSpans (blockAt s p))) i))
+
+    in-voted : (q : TransactionLocatorRange) → Stored q → startOf q ∈ votedStarts s
+    unfolding votedStarts
+    in-voted q z = in-flatten (in-map startOf (z .span)) (in-map (λ b. map startOf (joinedSpans b)) (z .stands))
+
+    voted-in : (x : TransactionLocator) → x ∈ votedStarts s → (q : TransactionLocatorRange) × (Stored q × (startOf q ≡ x))
+    unfolding votedStarts
+    voted-in x i =
+        let y = flatten-in (map (λ b. map startOf (joinedSpans b)) (blocksOf s)) i in
+        let b = map-in (λ b. map startOf (joinedSpans b)) (blocksOf s) (y .2) in
+        let v = map-in startOf (joinedSpans (b .0)) (subst (λ (ls : List TransactionLocator). x ∈ ls) (sym (b .2)) (y .1)) in
+        (v .0, (record { block = b .0; stands = b .1; span = v .1 }, v .2))
+
+    pub starts-all : lesserOf (leastLocator (keep f (map startOf (tableRanges t m)))) (leastLocator (keep f (startsAt s (drop n order)))) ≡ leastLocator (keep f (votedStarts s))
+    starts-all =
+        sym (least-append (keep f (map startOf (tableRanges t m))) (keep f (startsAt s (drop n order))))
+        ∙ ap leastLocator (sym (keep-append f (map startOf (tableRanges t m)) (startsAt s (drop n order))))
+        ∙ least-same (keep f (map startOf (tableRanges t m) ++ startsAt s (drop n order))) (keep f (votedStarts s)) there-too back
+      where
+        there-too : (x : TransactionLocator) → x ∈ keep f (map startOf (tableRanges t m) ++ startsAt s (drop n order)) → x ∈ keep f (votedStarts s)
+        there-too x i =
+            let k = keep-in f (map startOf (tableRanges t m) ++ startsAt s (drop n order)) i in
+            let q = begun-in x (k .0) in
+            in-keep f (votedStarts s) (subst (λ (y : TransactionLocator). y ∈ votedStarts s) (q .1 .1) (in-voted (q .0) (stored (q .0) (q .1 .0)))) (k .1)
+
+        back : (x : TransactionLocator) → x ∈ keep f (votedStarts s) → x ∈ keep f (map startOf (tableRanges t m) ++ startsAt s (drop n order))
+        back x i =
+            let k = keep-in f (votedStarts s) i in
+            let q = voted-in x (k .0) in
+            in-keep f (map startOf (tableRanges t m) ++ startsAt s (drop n order))
+            (subst (λ (y : TransactionLocator). y ∈ (map startOf (tableRanges t m) ++ startsAt s (drop n order))) (q .1 .1) (in-begun (q .0) (somewhere (q .0) (q .1 .0)))) (k .1)
+
+  -- ---- their edges
+
+  module _ (r : BlockReference) where
+    edged-in : (e : ℕ) → e ∈ (edgesIn r (tableRanges t m) ++ edgesAt s r (drop n order)) → (q : TransactionLocatorRange) × (Somewhere q × (e ∈ edgesOf r q))
+    unfolding edgesIn edgesAt
+    edged-in e i = go (in-append (flatten (map (edgesOf r) (tableRanges t m))) i)
+      where
+        in-these : (qs : List TransactionLocatorRange) → e ∈ flatten (map (edgesOf r) qs) → (q : TransactionLocatorRange) × ((q ∈ qs) × (e ∈ edgesOf r q))
+        in-these qs j =
+            let y = flatten-in (map (edgesOf r) qs) j in
+            let z = map-in (edgesOf r) qs (y .2) in
+            (z .0, (z .1, subst (λ (es : List ℕ). e ∈ es) (sym (z .2)) (y .1)))
+
+        go : (e ∈ flatten (map (edgesOf r) (tableRanges t m))) ⊎ (e ∈ flatten (map (λ p. flatten (map (edgesOf r) (joinedSpans (blockAt s p)))) (drop n order))) → (q : TransactionLocatorRange) × (Somewhere q × (e ∈ edgesOf r q))
+        go (inl j) = let y = in-these (tableRanges t m) j in (y .0, (in-table (y .1 .0), y .1 .1))
+        go (inr j) =
+            let y = flatten-in (map (λ p. flatten (map (edgesOf r) (joinedSpans (blockAt s p)))) (drop n order)) j in
+            let z = map-in (λ p. flatten (map (edgesOf r) (joinedSpans (blockAt s p)))) (drop n order) (y .2) in
+            let v = in-these (joinedSpans (blockAt s (z .0))) (subst (λ (es : List ℕ). e ∈ es) (sym (z .2)) (y .1)) in
+            (v .0, (in-store (z .0) (z .1) (v .1 .0), v .1 .1))
+
+    in-edged : (e : ℕ) (q : TransactionLocatorRange) → Somewhere q → e ∈ edgesOf r q → e ∈ (edgesIn r (tableRanges t m) ++ edgesAt s r (drop n order))
+    unfolding edgesIn edgesAt
+    in-edged e q (in-table i) j = in-left _ (in-flatten j (in-map (edgesOf r) i))
+    in-edged e q (in-store p i k) j =
+        in-right (flatten (map (edgesOf r) (tableRanges t m))) (in-flatten (in-flatten j (in-map (edgesOf r) k)) (in-map (λ p. flatten (map (edgesOf r) (joinedSpans (blockAt s p)))) i))
+
+    in-all : (e : ℕ) (q : TransactionLocatorRange) → Stored q → e ∈ edgesOf r q → e ∈ edgesBy joinedSpans (blocksOf s) r
+    unfolding edgesBy
+    in-all e q z j = in-flatten (in-flatten j (in-map (edgesOf r) (z .span))) (in-map (λ b. flatten (map (edgesOf r) (joinedSpans b))) (z .stands))
+
+    all-in : (e : ℕ) → e ∈ edgesBy joinedSpans (blocksOf s) r → (q : TransactionLocatorRange) × (Stored q × (e ∈ edgesOf r q))
+    unfolding edgesBy
+    all-in e i =
+        let y = flatten-in (map (λ b. flatten (map (edgesOf r) (joinedSpans b))) (blocksOf s)) i in
+        let b = map-in (λ b. flatten (map (edgesOf r) (joinedSpans b))) (blocksOf s) (y .2) in
+        let z = flatten-in (map (edgesOf r) (joinedSpans (b .0))) (subst (λ (es : List ℕ). e ∈ es) (sym (b .2)) (y .1)) in
+        let v = map-in (edgesOf r) (joinedSpans (b .0)) (z .2) in
+        (v .0, (record { block = b .0; stands = b .1; span = v .1 }, subst (λ (es : List ℕ). e ∈ es) (sym (v .2)) (z .1)))
+
+    pub edges-all : (a : ℕ) → nearest a (nearest a 0 (edgesIn r (tableRanges t m))) (edgesAt s r (drop n order)) ≡ nearest a 0 (edgesBy joinedSpans (blocksOf s) r)
+    edges-all a =
+        sym (nearest-append a 0 (edgesIn r (tableRanges t m)) (edgesAt s r (drop n order)))
+        ∙ nearest-same a 0 (edgesIn r (tableRanges t m) ++ edgesAt s r (drop n order)) (edgesBy joinedSpans (blocksOf s) r)
+        (λ e i. let q = edged-in e i in in-all e (q .0) (stored (q .0) (q .1 .0)) (q .1 .1))
+        (λ e i. let q = all-in e i in in-edged e (q .0) (somewhere (q .0) (q .1 .0)) (q .1 .1))

@@ -1,0 +1,41 @@
+-- Machinery for the contracts of inner functions: what the search stands on, and what it finds. Assumes nothing: these are definitions.
+use Prim.Native.Nat.{ℕ, _≤_}
+use mathlib.Core.Path.{_≡_}
+use mathlib.Core.List.{List, map, flatten}
+use mathlib.Core.Option.{Option, none, some}
+use lib.ListN.{length}
+use Rattle.base.specs.Le.{Bytes}
+use Rattle.committee.specs.Committee.{Committee, Stake, totalStake}
+use Rattle.blocks.specs.Reference.{TransactionLocator}
+use Rattle.types.specs.Values.{asLocator}
+use Rattle.finality.specs.Finality.{blocksOf}
+use Rattle.block_votes.specs.Walk.{Sorted}
+use Rattle.block_spans.specs.Joined.{joinedSpans}
+use Rattle.vote_starts.specs.Walk.{startOf}
+use Rattle.vote_table.specs.Table.{Tabled}
+use Rattle.include_places.specs.Places.{Placed}
+use Rattle.final_walk.specs.Walk.{CertifyFlagged}
+use Rattle.final_search.specs.declared.NextStretch as next
+use Rattle.final_search.specs.declared.NextStretch.the-variants.{At, Nothing}
+
+-- a store in order, its positions and the total stake
+abbrev pub Ready : Committee → Stake → Bytes → List ℕ → Type 0
+Ready c total s order = (Sorted c s order × (total ≡ totalStake c)) × (length order ≤ 1024)
+
+-- the votes of the first blocks in a table, and the places of the includes of the first blocks
+abbrev pub Tables : Bytes → List ℕ → List ℕ → ℕ → ℕ → List ℕ → ℕ → Type 0
+Tables s order votes m tabled places noted = ((tabled ≤ length order) × Tabled s order votes tabled m) × Placed s order places noted
+
+-- where the votes of the stored blocks begin
+unfoldable pub votedStarts : Bytes → List TransactionLocator
+votedStarts s = flatten (map (λ b. map startOf (joinedSpans b)) (blocksOf s))
+
+-- a final locator that was found, or none
+unfoldable pub asNext : next.NextStretch → Option TransactionLocator
+asNext (At f) = some (asLocator (f .locator))
+asNext Nothing = none
+
+-- with its certifying blocks
+unfoldable pub FoundRight : Committee → Bytes → List ℕ → List ℕ → next.NextStretch → Type 0
+FoundRight c s order flags (At f) = CertifyFlagged c s order (asLocator (f .locator)) flags (f .found)
+FoundRight c s order flags Nothing = Unit {0}

@@ -1,0 +1,251 @@
+// The next stretch of final locators: the least final locator after a given one, and where its stretch ends.
+use committee::Stake;
+use finalization_interpreter::Certifiers;
+use types::BlockReference;
+use types::TransactionLocator;
+use vote_starts::MaybeLocator;
+ghost use mathlib.Core.Path.{_≡_};
+ghost use mathlib.Core.Bool.{true, _&&_};
+ghost use Prim.Native.Nat.{_≤_};
+ghost use lib.ListN.{length};
+ghost use Rattle.base.specs.Lists.{keep};
+ghost use Rattle.types.specs.Values.{asReference, asLocator};
+ghost use Rattle.finality.specs.Voters.{isFinal};
+ghost use Rattle.finality.specs.Finality.{blocksOf};
+ghost use Rattle.finality.specs.NextFinal.{isAfter, leastLocator, leastFinal};
+ghost use Rattle.vote_starts.specs.Answers.{asMaybe};
+ghost use Rattle.block_votes.specs.Walk.{SortedStore};
+ghost use Rattle.block_spans.specs.Joined.{joinedSpans};
+ghost use Rattle.stretches.specs.Stretches.{edgesBy, wide, nearest, stretchEnd};
+ghost use Rattle.vote_table.specs.Table.{Tabled};
+ghost use Rattle.final_walk.specs.Walk.{Flags};
+ghost use Rattle.final_search.specs.Search.{Ready, Tables, votedStarts, asNext, FoundRight};
+
+// A final locator, and its certifying blocks.
+pub struct FoundFinal {
+    pub locator: TransactionLocator,
+    pub found: Certifiers,
+}
+
+pub enum NextStretch {
+    At(FoundFinal),
+    Nothing,
+}
+
+// ---- the table first, then the store
+
+// The least locator after the given one at which a vote begins.
+fn first_start(
+    store: &[u8],
+    order: &[u64],
+    votes: &[u64],
+    m: usize,
+    tabled: usize,
+    last: MaybeLocator,
+) -> MaybeLocator
+    requires { ⌜ SortedStore (now store) (now order) × ((tabled ≤ length (now order)) × Tabled (now store) (now order) (now votes) tabled m) ⌝ }
+    ensures { λ r. ⌜ asMaybe r ≡ leastLocator (keep (isAfter (asMaybe last)) (votedStarts (now (store .entry)))) ⌝ }
+{
+    let least = vote_table::table_start(votes, m, last);
+    vote_starts::least_start(store, order, tabled, last, least)
+}
+
+// The least offset of a block above a given one at which a vote begins or ends; 0 where there is none.
+fn next_edge(
+    store: &[u8],
+    order: &[u64],
+    votes: &[u64],
+    m: usize,
+    tabled: usize,
+    block: BlockReference,
+    offset: u64,
+) -> u64
+    requires { ⌜ SortedStore (now store) (now order) × ((tabled ≤ length (now order)) × Tabled (now store) (now order) (now votes) tabled m) ⌝ }
+    ensures { λ r. ⌜ r ≡ nearest offset 0 (edgesBy joinedSpans (blocksOf (now (store .entry))) (asReference block)) ⌝ }
+{
+    let near = vote_table::table_edge(votes, m, block, offset);
+    vote_edges::least_edge(store, order, tabled, block, offset, near)
+}
+
+// ---- the least final locator
+
+// The least final locator after the given one among those at which a vote begins. Where one is found, a word for each block says whether it
+// certifies it.
+fn final_start(
+    stakes: &[u64],
+    total: Stake,
+    store: &[u8],
+    order: &[u64],
+    votes: &[u64],
+    m: usize,
+    tabled: usize,
+    places: &[u64],
+    noted: usize,
+    after: MaybeLocator,
+    certified: &mut [u64],
+) -> NextStretch
+    requires { ⌜ (Ready (now stakes) (total .0) (now store) (now order) × (length (now certified) ≡ 1024)) × Tables (now store) (now order) (now votes) m tabled (now places) noted ⌝ }
+    ensures { λ r. ⌜ (asNext r ≡ leastLocator (keep (λ l. isAfter (asMaybe after) l && isFinal (now (stakes .entry)) (blocksOf (now (store .entry))) l) (votedStarts (now (store .entry))))) × FoundRight (now (stakes .entry)) (now (store .entry)) (now (order .entry)) (now (certified .exit)) r ⌝ }
+{
+    let mut last = after;
+    loop {
+        let start = first_start(store, order, votes, m, tabled, last);
+        let MaybeLocator::Locator(locator) = start else {
+            return NextStretch::Nothing;
+        };
+        let found = final_walk::certifiers_of(
+            stakes,
+            total,
+            store,
+            order,
+            votes,
+            m,
+            tabled,
+            places,
+            noted,
+            locator,
+            certified,
+        );
+        if committee::is_quorum(total, authority_set::stake_of(stakes, found.authors)) {
+            return NextStretch::At(FoundFinal { locator, found });
+        }
+        last = start;
+    }
+}
+
+// The least final locator after the given one, and likewise the words of its certifying blocks.
+pub fn final_after(
+    stakes: &[u64],
+    total: Stake,
+    store: &[u8],
+    order: &[u64],
+    votes: &[u64],
+    m: usize,
+    tabled: usize,
+    places: &[u64],
+    noted: usize,
+    after: MaybeLocator,
+    certified: &mut [u64],
+) -> NextStretch
+    requires { ⌜ (Ready (now stakes) (total .0) (now store) (now order) × (length (now certified) ≡ 1024)) × Tables (now store) (now order) (now votes) m tabled (now places) noted ⌝ }
+    ensures { λ r. ⌜ (asNext r ≡ leastFinal (now (stakes .entry)) (blocksOf (now (store .entry))) (asMaybe after)) × FoundRight (now (stakes .entry)) (now (store .entry)) (now (order .entry)) (now (certified .exit)) r ⌝ }
+{
+    let MaybeLocator::Locator(given) = after else {
+        return final_start(
+            stakes,
+            total,
+            store,
+            order,
+            votes,
+            m,
+            tabled,
+            places,
+            noted,
+            after,
+            certified,
+        );
+    };
+    if given.offset == 18446744073709551615 {
+        // No offset follows, so only a later block can have the next one.
+        return final_start(
+            stakes,
+            total,
+            store,
+            order,
+            votes,
+            m,
+            tabled,
+            places,
+            noted,
+            after,
+            certified,
+        );
+    }
+    let block = given.block;
+    let locator = TransactionLocator {
+        block,
+        offset: given.offset + 1,
+    };
+    let found = final_walk::certifiers_of(
+        stakes,
+        total,
+        store,
+        order,
+        votes,
+        m,
+        tabled,
+        places,
+        noted,
+        locator,
+        certified,
+    );
+    if committee::is_quorum(total, authority_set::stake_of(stakes, found.authors)) {
+        return NextStretch::At(FoundFinal { locator, found });
+    }
+    final_start(
+        stakes,
+        total,
+        store,
+        order,
+        votes,
+        m,
+        tabled,
+        places,
+        noted,
+        after,
+        certified,
+    )
+}
+
+// ---- its stretch
+
+// Where the stretch of a final locator ends, of which a word for each block says whether it certifies it: from edge to edge while the
+// certifying blocks stay the same.
+pub fn stretch_end(
+    stakes: &[u64],
+    total: Stake,
+    store: &[u8],
+    order: &[u64],
+    votes: &[u64],
+    m: usize,
+    tabled: usize,
+    places: &[u64],
+    noted: usize,
+    locator: TransactionLocator,
+    certified: &[u64],
+) -> u64
+    requires { ⌜ ((Ready (now stakes) (total .0) (now store) (now order) × (length (now certified) ≡ 1024)) × Tables (now store) (now order) (now votes) m tabled (now places) noted) × ((isFinal (now stakes) (blocksOf (now store)) (asLocator locator) ≡ true) × Flags (now stakes) (now store) (now order) (asLocator locator) (now certified)) ⌝ }
+    ensures { λ r. ⌜ r ≡ stretchEnd (blocksOf (now (store .entry))) (wide (now (stakes .entry)) (blocksOf (now (store .entry)))) (asLocator locator) ⌝ }
+{
+    let mut other = [0u64; 1024];
+    let mut end = next_edge(
+        store,
+        order,
+        votes,
+        m,
+        tabled,
+        locator.block,
+        locator.offset,
+    );
+    loop {
+        let block = locator.block;
+        let at = TransactionLocator { block, offset: end };
+        let _found = final_walk::certifiers_of(
+            stakes,
+            total,
+            store,
+            order,
+            votes,
+            m,
+            tabled,
+            places,
+            noted,
+            at,
+            &mut other,
+        );
+        if !final_walk::same_words(certified, &other, order.len()) {
+            return end;
+        }
+        end = next_edge(store, order, votes, m, tabled, block, end);
+    }
+}

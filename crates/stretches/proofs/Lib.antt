@@ -1,0 +1,6 @@
+pub mod Nearest
+pub mod Ends
+pub mod Spreading
+pub mod Wide
+pub mod Starting
+pub mod Claimed
