@@ -1,7 +1,7 @@
 -- Asked on from the start until none, the question gives the final list. Assumes nothing.
 use mathlib.Core.Path.{_≡_, refl, sym, ap, ap₂, _∙_, subst}
 use mathlib.Core.Logic.{_⊎_, inl, inr, _↔_}
-use mathlib.Core.Bool.{true, false}
+use mathlib.Core.Bool.{Bool, true, false}
 use mathlib.Core.List.{List, [], _∷_}
 use mathlib.Core.Option.{Option, none, some}
 use Rattle.base.specs.Lists.{allOf, _∈_, here, there}
@@ -11,7 +11,6 @@ use Rattle.base.proofs.Tests.{not-both}
 use Rattle.base.proofs.Members.{in-empty, in-cases}
 use Rattle.committee.specs.Committee.{Committee, broken}
 use Rattle.blocks.specs.Reference.{TransactionLocator, locatorBefore}
-use Rattle.blocks.specs.Block.{Block}
 use Rattle.blocks.proofs.References.{locator-irrefl, locator-trans}
 use Rattle.store_layout.specs.Store.{recordsOf, storeInOrder}
 use Rattle.store_layout.proofs.Stored.{WellStored}
@@ -19,7 +18,7 @@ use Rattle.store_layout.proofs.Store.{in-order}
 use Rattle.store_layout.proofs.Accepted.{accepted-stored}
 use Rattle.finality.specs.Voters.{isFinal}
 use Rattle.finality.specs.Finality.{blocksOf}
-use Rattle.finality.specs.NextFinal.{isAfter, LeastFinal, least, nothing, leastFinal, nextFinalChecks, nextFinal, AskedOn, done, onward, FinalList, finalList}
+use Rattle.finality.specs.NextFinal.{isAfter, LeastOf, least, nothing, leastFinal, nextFinalChecks, nextFinal, AskedOf, done, onward, FinalList, finalList}
 use Rattle.finality.proofs.Candidates.{least-final}
 use Rattle.finality.proofs.FinalList.{Ascending, none-left, and-then, final-list-ascending, final-list-in}
 
@@ -48,18 +47,24 @@ pub next-answers : (c : Committee) (s : Bytes) (after : Option TransactionLocato
 unfolding nextFinal nextFinalChecks checked passes refusal allOf
 next-answers c s after b h = rw (b, h)
 
-module _ (c : Committee) (bs : List Block) where
-  -- the list is what is final after the given locator
-  Rest : Option TransactionLocator → List TransactionLocator → Type 0
-  Rest after ls = (l : TransactionLocator) → (l ∈ ls) ↔ ((isFinal c bs l ≡ true) × (isAfter after l ≡ true))
+-- what comes after a locator that is after the given one is after it too
+pub later-after : (after : Option TransactionLocator) (l m : TransactionLocator) → isAfter after l ≡ true → locatorBefore l m ≡ true → isAfter after m ≡ true
+unfolding isAfter
+later-after none l m h k = refl
+later-after (some x) l m h k = locator-trans x l m h k
 
-  nothing-left : (after : Option TransactionLocator) → Rest after [] → {o : Option TransactionLocator} → LeastFinal c bs after o → o ≡ none
+module _ (test : TransactionLocator → Bool) where
+  -- the list is that of which the test holds after the given locator
+  Rest : Option TransactionLocator → List TransactionLocator → Type 0
+  Rest after ls = (l : TransactionLocator) → (l ∈ ls) ↔ ((test l ≡ true) × (isAfter after l ≡ true))
+
+  nothing-left : (after : Option TransactionLocator) → Rest after [] → {o : Option TransactionLocator} → LeastOf test after o → o ≡ none
   unfolding Rest
   nothing-left after r (least l f k g) = absurd (in-empty (r l .1 (f, k)))
   nothing-left after r (nothing g) = refl
 
   first-left : (after : Option TransactionLocator) (l : TransactionLocator) {ls : List TransactionLocator} → ((m : TransactionLocator) → m ∈ ls → locatorBefore l m ≡ true) → Rest after (l ∷ ls)
-      → {o : Option TransactionLocator} → LeastFinal c bs after o → o ≡ some l
+      → {o : Option TransactionLocator} → LeastOf test after o → o ≡ some l
   unfolding Rest
   first-left after l {ls} h r (least x f k g) = split (in-cases (r x .1 (f, k)))
     where
@@ -68,37 +73,43 @@ module _ (c : Committee) (bs : List Block) where
       split (inr m) = let q = r l .0 here in absurd (not-both (h x m) (g l (q .0) (q .1)))
   first-left after l h r (nothing g) = let q = r l .0 here in absurd (not-both (q .0) (g l (q .1)))
 
-  pub later-after : (after : Option TransactionLocator) (l m : TransactionLocator) → isAfter after l ≡ true → locatorBefore l m ≡ true → isAfter after m ≡ true
-  unfolding isAfter
-  later-after none l m h k = refl
-  later-after (some x) l m h k = locator-trans x l m h k
-
   tail-left : (after : Option TransactionLocator) (l : TransactionLocator) {ls : List TransactionLocator} → ((m : TransactionLocator) → m ∈ ls → locatorBefore l m ≡ true) → Rest after (l ∷ ls) → Rest (some l) ls
   unfolding Rest isAfter
   tail-left after l {ls} h r m = (λ k. (r m .0 (there k) .0, h m k), λ q. back q (in-cases (r m .1 (q .0, later-after after l m (r l .0 here .1) (q .1)))))
     where
-      back : (isFinal c bs m ≡ true) × (locatorBefore l m ≡ true) → (m ≡ l) ⊎ (m ∈ ls) → m ∈ ls
+      back : (test m ≡ true) × (locatorBefore l m ≡ true) → (m ≡ l) ⊎ (m ∈ ls) → m ∈ ls
       back q (inl e) = absurd (locator-irrefl l (rw e at q .1))
       back q (inr k) = k
 
-module _ (c : Committee) (s : Bytes) (b : broken c ≡ false) (h : storeInOrder c s ≡ true) where
-  asked : (after : Option TransactionLocator) {ls : List TransactionLocator} → Ascending ls → Rest c (blocksOf s) after ls → AskedOn c s after ls
-  asked after none-left r = done (next-answers c s after b h ∙ ap {B = Answer (Option TransactionLocator)} answered (nothing-left c (blocksOf s) after r (least-final c (blocksOf s) after)))
-  asked after (and-then {l = l} k a) r =
-      onward {l = l} (next-answers c s after b h ∙ ap {B = Answer (Option TransactionLocator)} answered (first-left c (blocksOf s) after l k r (least-final c (blocksOf s) after)))
-      (asked (some l) a (tail-left c (blocksOf s) after l k r))
+  -- where a question for the next one is not refused, it gives that list when it is asked on
+  asked-of : (next : Option TransactionLocator → Answer (Option TransactionLocator)) (found : Option TransactionLocator → Option TransactionLocator)
+      → ((after : Option TransactionLocator) → next after ≡ answered (found after)) → ((after : Option TransactionLocator) → LeastOf test after (found after))
+      → (after : Option TransactionLocator) {ls : List TransactionLocator} → Ascending ls → Rest after ls → AskedOf next after ls
+  asked-of next found answers finds after none-left r = done (answers after ∙ ap {B = Answer (Option TransactionLocator)} answered (nothing-left after r (finds after)))
+  asked-of next found answers finds after (and-then {l = l} k a) r =
+      onward {l = l} (answers after ∙ ap {B = Answer (Option TransactionLocator)} answered (first-left after l k r (finds after)))
+      (asked-of next found answers finds (some l) a (tail-left after l k r))
 
-  -- 01: "asked on from the start until none, it gives the final list"
-  pub asked-on : FinalList c s (finalList c (blocksOf s))
+  -- and from the start all of which the test holds
+  pub asked-all : (next : Option TransactionLocator → Answer (Option TransactionLocator)) (found : Option TransactionLocator → Option TransactionLocator)
+      → ((after : Option TransactionLocator) → next after ≡ answered (found after)) → ((after : Option TransactionLocator) → LeastOf test after (found after))
+      → {ls : List TransactionLocator} → Ascending ls → ((l : TransactionLocator) → (l ∈ ls) ↔ (test l ≡ true)) → AskedOf next none ls
   unfolding Rest isAfter
-  asked-on = asked none (final-list-ascending c (blocksOf s)) (λ l. let e = final-list-in c (blocksOf s) l in (λ m. (e .0 m, refl), λ q. e .1 (q .0)))
+  asked-all next found answers finds a e = asked-of next found answers finds none a (λ l. (λ m. (e l .0 m, refl), λ q. e l .1 (q .0)))
+
+-- 01: "asked on from the start until none, it gives the final list"
+pub asked-on : (c : Committee) (s : Bytes) → broken c ≡ false → storeInOrder c s ≡ true → FinalList c s (finalList c (blocksOf s))
+asked-on c s b h =
+    asked-all (isFinal c (blocksOf s)) (nextFinal c s) (leastFinal c (blocksOf s)) (λ after. next-answers c s after b h) (λ after. least-final c (blocksOf s) after)
+    (final-list-ascending c (blocksOf s)) (λ l. final-list-in c (blocksOf s) l)
 
 -- the question gives one list
-pub asked-once : (c : Committee) (s : Bytes) {after : Option TransactionLocator} {ls ms : List TransactionLocator} → AskedOn c s after ls → AskedOn c s after ms → ls ≡ ms
+pub asked-once : (next : Option TransactionLocator → Answer (Option TransactionLocator)) {after : Option TransactionLocator} {ls ms : List TransactionLocator}
+    → AskedOf next after ls → AskedOf next after ms → ls ≡ ms
 unfolding told
-asked-once c s (done e) (done f) = refl
-asked-once c s (done e) (onward f b) = absurd (apart (sym e ∙ f))
-asked-once c s (onward e a) (done f) = absurd (apart (sym f ∙ e))
-asked-once c s (onward {l = l} {ls = ls} e a) (onward {l = m} {ls = ms} f b) =
+asked-once next (done e) (done f) = refl
+asked-once next (done e) (onward f b) = absurd (apart (sym e ∙ f))
+asked-once next (onward e a) (done f) = absurd (apart (sym f ∙ e))
+asked-once next (onward {l = l} {ls = ls} e a) (onward {l = m} {ls = ms} f b) =
     let q : l ≡ m = ap (told l) (sym e ∙ f) in
-    ap₂ {C = List TransactionLocator} (λ x xs. x ∷ xs) q (asked-once c s (subst (λ (x : TransactionLocator). AskedOn c s (some x) ls) q a) b)
+    ap₂ {C = List TransactionLocator} (λ x xs. x ∷ xs) q (asked-once next (subst (λ (x : TransactionLocator). AskedOf next (some x) ls) q a) b)

@@ -38,7 +38,8 @@ voters-mono l m bs f r a h = spoken-mono ownVote l m bs own r a h
     own : (d : Block) → d ∈ bs → (x : AuthorityIndex) → member (ownVote d l) x ≡ true → member (ownVote d m) x ≡ true
     own d k x e = let v = own-votes d l x e in votes-own d m x (f d k (v .0)) (v .1)
 
-more-quorum : (c : Committee) (s t : Stake) → s ≤ t → isQuorum c s ≡ true → isQuorum c t ≡ true
+-- more stake holds quorum too
+pub more-quorum : (c : Committee) (s t : Stake) → s ≤ t → isQuorum c s ≡ true → isQuorum c t ≡ true
 unfolding isQuorum
 more-quorum c s t h k = lt-ltb (2 * totalStake c) (3 * t) (omega (arith, ltb-true (2 * totalStake c) (3 * s) k))
 

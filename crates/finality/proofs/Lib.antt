@@ -8,6 +8,7 @@ pub mod Voters
 pub mod Finals
 pub mod Growing
 pub mod Least
+pub mod LeastOf
 pub mod Candidates
 pub mod FinalList
 pub mod Asked

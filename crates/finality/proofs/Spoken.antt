@@ -7,7 +7,7 @@ use Rattle.base.specs.Lists.{pick, anyOf, _∈_, here, there}
 use Rattle.base.proofs.Tests.{or-cases, or-left, or-right, not-both, same-test}
 use Rattle.base.proofs.Members.{in-empty, any-in, in-any, in-map, map-in}
 use Rattle.committee.specs.Committee.{AuthorityIndex}
-use Rattle.authority_set.specs.AuthoritySet.{AuthoritySet, member, united}
+use Rattle.authority_set.specs.AuthoritySet.{AuthoritySet, nobody, member, united}
 use Rattle.authority_set.proofs.Words.{Small, small-nobody, small-united, set-ext}
 use Rattle.authority_set.proofs.Votes.{member-nobody, member-united}
 use Rattle.blocks.specs.Reference.{BlockReference, TransactionLocator, sameReference}
@@ -208,3 +208,17 @@ module _ (own : Speech) where
           → member (pick t (united (own b m) (unions (map (spoken own older m) (b .includes)))) (spoken own older m r)) a ≡ true
       split true ih k = together b older m a ∙ newest-too ih (or-cases (member (own b l) a) _ (sym (together b older l a) ∙ k))
       split false ih k = ih r k
+
+  -- where no block speaks, nobody is heard
+  pub spoken-nobody : (l : TransactionLocator) (bs : List Block) → ((d : Block) → d ∈ bs → own d l ≡ nobody) → (r : BlockReference) → spoken own bs l r ≡ nobody
+  unfolding spoken unions united
+  spoken-nobody l [] f r = refl
+  spoken-nobody l (b ∷ older) f r = rw (f b here) (split (sameReference (b .reference) r) (spoken-nobody l older (λ d m. f d (there m))))
+    where
+      none-of : (is : List BlockReference) → ((i : BlockReference) → spoken own older l i ≡ nobody) → unions (map (spoken own older l) is) ≡ nobody
+      none-of [] g = refl
+      none-of (i ∷ is) g = rw (g i, none-of is g)
+
+      split : (t : Bool) → ((i : BlockReference) → spoken own older l i ≡ nobody) → pick t (united nobody (unions (map (spoken own older l) (b .includes)))) (spoken own older l r) ≡ nobody
+      split true g = rw (none-of (b .includes) g)
+      split false g = g r

@@ -19,12 +19,15 @@ unfoldable pub isAfter : Option TransactionLocator → TransactionLocator → Bo
 isAfter none l = true
 isAfter (some m) l = locatorBefore m l
 
--- 01: "the least final locator after a given one, or from the start, or none": what that means
-pub data LeastFinal (c : Committee) (bs : List Block) (after : Option TransactionLocator) : Option TransactionLocator → Type 0 where
-  least : (l : TransactionLocator) → isFinal c bs l ≡ true → isAfter after l ≡ true
-      → ((m : TransactionLocator) → isFinal c bs m ≡ true → isAfter after m ≡ true → locatorBefore m l ≡ false)
-      → LeastFinal c bs after (some l)
-  nothing : ((m : TransactionLocator) → isAfter after m ≡ true → isFinal c bs m ≡ false) → LeastFinal c bs after none
+-- 01: "the least final locator after a given one, or from the start, or none": what that means, of whatever is asked of a locator
+pub data LeastOf (test : TransactionLocator → Bool) (after : Option TransactionLocator) : Option TransactionLocator → Type 0 where
+  least : (l : TransactionLocator) → test l ≡ true → isAfter after l ≡ true
+      → ((m : TransactionLocator) → test m ≡ true → isAfter after m ≡ true → locatorBefore m l ≡ false)
+      → LeastOf test after (some l)
+  nothing : ((m : TransactionLocator) → isAfter after m ≡ true → test m ≡ false) → LeastOf test after none
+
+abbrev pub LeastFinal : Committee → List Block → Option TransactionLocator → Option TransactionLocator → Type 0
+LeastFinal c bs = LeastOf (isFinal c bs)
 
 -- ---- the same, computed: only where a vote begins, or just after the given locator, can the least one stand
 
@@ -53,11 +56,14 @@ nextFinalChecks c s = (broken c ⇒ 5) ∷ (not (storeInOrder c s) ⇒ 10) ∷ [
 unfoldable pub nextFinal : Committee → Bytes → Option TransactionLocator → Answer (Option TransactionLocator)
 nextFinal c s after = checked (nextFinalChecks c s) (leastFinal c (blocksOf s) after)
 
--- 01: "asked on from the start until none, it gives the final list": what the question gives, asked on after a locator
-pub data AskedOn (c : Committee) (s : Bytes) : Option TransactionLocator → List TransactionLocator → Type 0 where
-  done : {after : Option TransactionLocator} → nextFinal c s after ≡ answered none → AskedOn c s after []
+-- 01: "asked on from the start until none, it gives the final list": what a question for the next one gives, asked on after a locator
+pub data AskedOf (next : Option TransactionLocator → Answer (Option TransactionLocator)) : Option TransactionLocator → List TransactionLocator → Type 0 where
+  done : {after : Option TransactionLocator} → next after ≡ answered none → AskedOf next after []
   onward : {after : Option TransactionLocator} {l : TransactionLocator} {ls : List TransactionLocator}
-      → nextFinal c s after ≡ answered (some l) → AskedOn c s (some l) ls → AskedOn c s after (l ∷ ls)
+      → next after ≡ answered (some l) → AskedOf next (some l) ls → AskedOf next after (l ∷ ls)
+
+abbrev pub AskedOn : Committee → Bytes → Option TransactionLocator → List TransactionLocator → Type 0
+AskedOn c s = AskedOf (nextFinal c s)
 
 abbrev pub FinalList : Committee → Bytes → List TransactionLocator → Type 0
 FinalList c s ls = AskedOn c s none ls

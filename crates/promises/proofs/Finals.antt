@@ -26,7 +26,7 @@ use Rattle.finality.specs.Ancestry.{Final}
 use Rattle.finality.specs.Voters.{isFinal}
 use Rattle.finality.specs.Finality.{blocksOf, certifyingPositions, finalityChecks, finality}
 use Rattle.finality.specs.Claims.{FinalMeant}
-use Rattle.finality.specs.NextFinal.{FinalList, finalList}
+use Rattle.finality.specs.NextFinal.{nextFinal, FinalList, finalList}
 use Rattle.finality.proofs.Claimed.{final-meant}
 use Rattle.finality.proofs.FinalList.{Ascending, none-left, and-then, final-list-ascending, final-list-in, final-list-order}
 use Rattle.finality.proofs.Asked.{in-order-stored, asked-on, asked-once}
@@ -133,7 +133,7 @@ same-list c b t u f ls ms x y =
     let k = store-of c u in
     let s : Bytes = engineOf c t .store in
     let r : Bytes = engineOf c u .store in
-    asked-once c s x (asked-on c s b (h .order))
+    asked-once (nextFinal c s) x (asked-on c s b (h .order))
     ∙ final-list-order c (in-order-stored c s (h .order)) (in-order-stored c r (k .order))
     (λ e. (block-carried c c s r (acceptedOf c t) (acceptedOf c u) h k (λ z. f z .0) e, block-carried c c r s (acceptedOf c u) (acceptedOf c t) k h (λ z. f z .1) e))
-    ∙ asked-once c r (asked-on c r b (k .order)) y
+    ∙ asked-once (nextFinal c r) (asked-on c r b (k .order)) y

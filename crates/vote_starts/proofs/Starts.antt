@@ -130,7 +130,7 @@ module _ (all : List TransactionLocator) (final : TransactionLocator → Bool) w
 
     earlier : (m : TransactionLocator) → isAfter (some l) m ≡ true → isAfter last m ≡ true
     unfolding isAfter
-    earlier m h = later-after [] [] last l m (keep-in (isAfter last) all (first-after .0) .1) h
+    earlier m h = later-after last l m (keep-in (isAfter last) all (first-after .0) .1) h
 
     pub not-final : final l ≡ false → leastLocator (finalAfter (some l)) ≡ leastLocator (finalAfter last)
     unfolding isAfter
