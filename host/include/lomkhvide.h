@@ -146,4 +146,20 @@ uint64_t lomkhvide_write_record(uint64_t author, uint64_t round, const uint8_t *
                                 const uint8_t *includes, size_t includes_len, const uint8_t *statements, size_t statements_len,
                                 uint8_t *out, size_t out_len);
 
+/* The same of the record's second edition, with the time of the block's creation in nanoseconds. A record's edition is its byte 53: 0, or 2
+ * and then 16 bytes of time, lowest first, between the 56 of the header and the includes; feeding refuses any other, and a time above
+ * 2^64 - 1, as malformed (20).
+ * It needs at most 2 KB of stack. */
+uint64_t lomkhvide_write_timed_record(uint64_t author, uint64_t round, const uint8_t *digest, size_t digest_len, uint64_t mark,
+                                      uint64_t time, const uint8_t *includes, size_t includes_len, const uint8_t *statements,
+                                      size_t statements_len, uint8_t *out, size_t out_len);
+
+/* The time of a stored block, by its reference, the 48 bytes that it has in a record: 1, and it is written to `found` as a word; or 0 where
+ * its record has none, or no such block is stored.
+ * Refused, in this order: 5; 10; 20 a reference not of 48 bytes; 40 `found` not of 8 bytes.
+ * It needs at most 24 KB of stack. */
+#define LOMKHVIDE_REFERENCE_LEN ((size_t)48)
+uint64_t lomkhvide_creation_time(const uint8_t *stakes, size_t stakes_len, const uint8_t *store, size_t store_len,
+                                 const uint8_t *reference, size_t reference_len, uint8_t *found, size_t found_len);
+
 #endif

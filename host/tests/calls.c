@@ -718,6 +718,79 @@ static void writing(void) {
     free(room);
 }
 
+/* ---- the time of a block */
+
+/* A record of round 0 by the first owner: of the second edition with its time where it has 72 bytes, and of the first where it has 56. */
+static uint64_t fed(uint8_t *store, const uint8_t *record, size_t length) {
+    static uint8_t table[LOMKHVIDE_TABLE_LEN], events[LOMKHVIDE_EVENTS_LEN];
+    const uint8_t stakes[8] = {1};
+    memset(table, 0, sizeof table);
+    memset(store, 0, 400);
+    store[4] = 16;
+    return lomkhvide_feed(stakes, sizeof stakes, store, 400, table, sizeof table, events, sizeof events, record, length);
+}
+
+static void times(void) {
+    const uint64_t last = UINT64_MAX;
+    uint8_t digest[32], want[72] = {0}, out[112], kept[112], store[400], found[16];
+    memset(digest, 7, sizeof digest);
+    memset(want + 16, 7, 32);
+    want[53] = 2;
+    put_word(want + 56, last - 1);
+    memset(kept, 9, sizeof kept);
+    for (size_t length = 0; length <= sizeof out; length++) {
+        memset(out, 9, sizeof out);
+        uint64_t answer = length < 72 ? refused(50) : 72;
+        same("a record with a time, in a slice of any length", lomkhvide_write_timed_record(0, 0, digest, 32, 0, last - 1, digest, 0, digest, 0, out, length), answer);
+        same("its bytes", memcmp(out, length < 72 ? kept : want, 72), 0);
+        same("no byte past it", memcmp(out + 72, kept, sizeof out - 72), 0);
+    }
+    same("a mark of 2", lomkhvide_write_timed_record(0, 0, digest, 32, 2, 5, digest, 0, digest, 0, out, 0), refused(51));
+    /* every byte of the edition and of the time */
+    for (size_t at = 53; at < 72; at++) {
+        for (unsigned byte = 0; byte < 256; byte++) {
+            uint8_t record[72];
+            memcpy(record, want, sizeof record);
+            record[at] = (uint8_t)byte;
+            int good = at < 56 ? byte == (at == 53 ? 2 : 0) : at < 64 || byte == 0;
+            same("a byte of the edition or of the time", fed(store, record, sizeof record), good ? 0 : refused(20));
+        }
+    }
+    for (size_t length = 0; length < 72; length++) {
+        same("cut short", fed(store, want, length), refused(20));
+    }
+    /* the time of the stored block */
+    const uint8_t stakes[8] = {1};
+    const size_t lengths[] = {48, 8};
+    uint8_t reference[64] = {0};
+    memset(reference + 16, 7, 32);
+    same("fed", fed(store, want, sizeof want), 0);
+    for (size_t n = 0; n <= 60; n++) {
+        for (size_t room = 0; room <= sizeof found; room++) {
+            memset(found, 9, sizeof found);
+            uint64_t answer = n != lengths[0] ? refused(20) : room != lengths[1] ? refused(40) : 1;
+            same("a reference and room of any length", lomkhvide_creation_time(stakes, 8, store, 400, reference, n, found, room), answer);
+            uint8_t time[16];
+            memset(time, 9, sizeof time);
+            if (answer == 1) {
+                put_word(time, last - 1);
+            }
+            same("the time", memcmp(found, time, sizeof found), 0);
+        }
+    }
+    same("no committee", lomkhvide_creation_time(stakes, 7, store, 3, reference, 3, found, 3), refused(5));
+    same("no store", lomkhvide_creation_time(stakes, 8, store, 3, reference, 3, found, 3), refused(10));
+    reference[0] = 1;
+    memset(found, 9, sizeof found);
+    same("another reference", lomkhvide_creation_time(stakes, 8, store, 400, reference, 48, found, 8), 0);
+    same("nothing is written", memcmp(found, kept, sizeof found), 0);
+    reference[0] = 0;
+    want[53] = 0;
+    same("fed without a time", fed(store, want, 56), 0);
+    same("no time", lomkhvide_creation_time(stakes, 8, store, 400, reference, 48, found, 8), 0);
+    same("nothing is written", memcmp(found, kept, sizeof found), 0);
+}
+
 int main(void) {
     loading();
     committees();
@@ -728,6 +801,7 @@ int main(void) {
     ringing();
     calendars();
     writing();
+    times();
     printf("%d passed, %d failed\n", passed, failed);
     return failed != 0;
 }

@@ -87,6 +87,16 @@ static void share(void) {
     locator[8] = 1;
 }
 
+static uint8_t out[128];
+
+static void write_timed_record(void) {
+    answer = lomkhvide_write_timed_record(0, 0, owners, 32, 0, 5, owners, 0, owners, 0, out, sizeof out);
+}
+
+static void creation_time(void) {
+    answer = lomkhvide_creation_time(owners, sizeof owners, store, sizeof store, locator, 48, found, sizeof found);
+}
+
 static int failed;
 
 static void at_most(const char *what, void (*call)(void), uint64_t want, size_t most) {
@@ -111,6 +121,8 @@ int main(void) {
     at_most("load_stakes", load_stakes, 1, 32768);
     share();
     at_most("whom_to_ring", whom_to_ring, 85, 98304);
-    printf("%d passed, %d failed\n", 4 - failed, failed);
+    at_most("write_timed_record", write_timed_record, 72, 2048);
+    at_most("creation_time", creation_time, 0, 24576);
+    printf("%d passed, %d failed\n", 6 - failed, failed);
     return failed != 0;
 }

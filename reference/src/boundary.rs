@@ -104,10 +104,11 @@ fn fed() -> (Memory, Vec<u8>, Locator) {
     for round in 0..4 {
         for author in 0..4 {
             let includes = if round == 0 { vec![] } else { (0..4).map(|author| reference(author, round - 1)).collect() };
-            blocks.push(Block { reference: reference(author, round), marked: false, includes, statements: vec![] });
+            blocks.push(Block { reference: reference(author, round), marked: false, includes, statements: vec![], time: None });
         }
     }
     let shared = blocks[4].reference;
+    blocks[4].time = Some(1_700_000_000_000_000_000);
     blocks[4].statements = (0..5u8).map(|length| Statement::Share(vec![7; length as usize])).collect();
     blocks[9].statements = vec![Statement::Range(shared, 1, 4)];
     blocks[10].statements = vec![Statement::Accept(Locator::new(shared, 2)), Statement::Range(shared, 0, 7)];
@@ -137,9 +138,9 @@ macro_rules! over {
 }
 
 /// The slices of a draft as one; the numbers are always the same.
-fn draft(digest: &[u8], includes: &[u8], statements: &[u8]) -> Given {
+fn draft(digest: &[u8], time: Option<u64>, includes: &[u8], statements: &[u8]) -> Given {
     let (digest, includes, statements) = (digest.to_vec(), includes.to_vec(), statements.to_vec());
-    Given { author: 3, round: 7, digest, mark: 1, includes, statements }
+    Given { author: 3, round: 7, digest, mark: 1, time, includes, statements }
 }
 
 fn cases() -> Vec<Case> {
@@ -247,8 +248,27 @@ fn cases() -> Vec<Case> {
                 ("statements", given_bytes(&drafted), given_bytes(&drafted).len() + 100),
                 ("out", vec![5; 600], 700),
             ],
-            engine: over!(|digest, includes, statements, out| engine::write_record(&draft(digest, includes, statements), out)),
-            model: over!(|digest, includes, statements, out| write_record(&draft(digest, includes, statements), out)),
+            engine: over!(|digest, includes, statements, out| engine::write_record(&draft(digest, None, includes, statements), out)),
+            model: over!(|digest, includes, statements, out| write_record(&draft(digest, None, includes, statements), out)),
+        },
+        Case {
+            name: "write_timed_record",
+            slices: vec![
+                ("digest", vec![9; 32], 80),
+                ("includes", includes_bytes(&[shared; 3]), 48 * 5),
+                ("statements", given_bytes(&drafted), given_bytes(&drafted).len() + 100),
+                ("out", vec![5; 616], 716),
+            ],
+            engine: over!(|digest, includes, statements, out| {
+                engine::write_record(&draft(digest, Some(9), includes, statements), out)
+            }),
+            model: over!(|digest, includes, statements, out| write_record(&draft(digest, Some(9), includes, statements), out)),
+        },
+        Case {
+            name: "creation_time",
+            slices: vec![stakes.clone(), store.clone(), ("reference", shared.bytes().to_vec(), 80), ("time written", vec![5; 8], 40)],
+            engine: over!(|stakes, store, reference, out| engine::creation_time(stakes, store, reference, out)),
+            model: over!(|stakes, store, reference, out| lent::creation_time(stakes, store, reference, out)),
         },
         Case {
             name: "final_stretches",

@@ -83,6 +83,12 @@ fn questions_of_store(stakes: &[u8], store: &[u8], locator: &[u8]) -> Outcome {
     same("payload_length over damaged memory", "engine", told, payload.map(|payload| payload.1))?;
     let told = engine::payload_start(stakes, store, locator);
     same("payload_start over damaged memory", "engine", told, payload.map(|payload| payload.0))?;
+    let reference = &locator[..locator.len().min(48)];
+    let (mut right, mut got) = ([0x3c; 8], [0x3c; 8]);
+    let answer = lent::creation_time(stakes, store, reference, &mut right);
+    let told = engine::creation_time(stakes, store, reference, &mut got);
+    same("creation_time over damaged memory", "engine", told, answer)?;
+    same_bytes("creation_time's time over damaged memory", &got, &right)?;
     let (mut right, mut got) = (vec![0x3c; lent::POSITION_BYTES], vec![0x3c; lent::POSITION_BYTES]);
     let answer = lent::finality(stakes, store, &mut right, locator);
     let told = engine::finality(stakes, store, &mut got, locator);

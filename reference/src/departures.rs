@@ -7,7 +7,7 @@ use crate::rust::{compared, RustSide};
 fn block(author: u64, k: u8, statements: Vec<Statement>) -> Block {
     let mut digest = [0; 32];
     digest[3] = k;
-    Block { reference: Reference { author, round: 1, digest }, marked: false, includes: vec![], statements }
+    Block { reference: Reference { author, round: 1, digest }, marked: false, includes: vec![], statements, time: None }
 }
 
 pub fn show() {

@@ -66,8 +66,23 @@ pub fn add(stakes: &[u8], aggregator: &mut [u8], voter: u64) -> Answer {
     answer(unsafe { lomkhvide_add(stakes.as_ptr(), stakes_len, aggregator.as_mut_ptr(), aggregator_len, voter) })
 }
 
+/// With a time, the call that takes one.
 pub fn write_record(given: &Given, out: &mut [u8]) -> Answer {
     extern "C" {
+        fn lomkhvide_write_timed_record(
+            author: u64,
+            round: u64,
+            digest: *const u8,
+            digest_len: usize,
+            mark: u64,
+            time: u64,
+            includes: *const u8,
+            includes_len: usize,
+            statements: *const u8,
+            statements_len: usize,
+            out: *mut u8,
+            out_len: usize,
+        ) -> u64;
         fn lomkhvide_write_record(
             author: u64,
             round: u64,
@@ -82,8 +97,26 @@ pub fn write_record(given: &Given, out: &mut [u8]) -> Answer {
             out_len: usize,
         ) -> u64;
     }
-    let Given { author, round, digest, mark, includes, statements } = given;
+    let Given { author, round, digest, mark, time, includes, statements } = given;
     let out_len = out.len();
+    if let Some(time) = time {
+        return answer(unsafe {
+            lomkhvide_write_timed_record(
+                *author,
+                *round,
+                digest.as_ptr(),
+                digest.len(),
+                *mark,
+                *time,
+                includes.as_ptr(),
+                includes.len(),
+                statements.as_ptr(),
+                statements.len(),
+                out.as_mut_ptr(),
+                out_len,
+            )
+        });
+    }
     answer(unsafe {
         lomkhvide_write_record(
             *author,
@@ -151,6 +184,33 @@ pub fn whom_to_ring(
             (reachable >> 64) as u64,
             locator.as_ptr(),
             locator.len(),
+            found.as_mut_ptr(),
+            found.len(),
+        )
+    })
+}
+
+pub fn creation_time(stakes: &[u8], store: &[u8], reference: &[u8], found: &mut [u8]) -> Answer {
+    extern "C" {
+        fn lomkhvide_creation_time(
+            stakes: *const u8,
+            stakes_len: usize,
+            store: *const u8,
+            store_len: usize,
+            reference: *const u8,
+            reference_len: usize,
+            found: *mut u8,
+            found_len: usize,
+        ) -> u64;
+    }
+    answer(unsafe {
+        lomkhvide_creation_time(
+            stakes.as_ptr(),
+            stakes.len(),
+            store.as_ptr(),
+            store.len(),
+            reference.as_ptr(),
+            reference.len(),
             found.as_mut_ptr(),
             found.len(),
         )

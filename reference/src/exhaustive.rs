@@ -37,7 +37,7 @@ pub fn list(n: u64) -> List {
         let before = blocks.iter().filter(|block| block.reference.round + 1 == reference.round);
         let includes = before.map(|block| block.reference).collect();
         let statements = statements(take(MENU), i, &references);
-        blocks.push(Block { reference: *reference, marked: mark == i as u64 + 1, includes, statements });
+        blocks.push(Block { reference: *reference, marked: mark == i as u64 + 1, includes, statements, time: None });
     }
     List::roomy(stakes.to_vec(), blocks.iter().map(Block::encode).collect())
 }
@@ -45,7 +45,7 @@ pub fn list(n: u64) -> List {
 fn bare(author: u64, round: u64, k: u8) -> Block {
     let mut digest = [0; 32];
     digest[3] = k;
-    Block { reference: Reference { author, round, digest }, marked: false, includes: vec![], statements: vec![] }
+    Block { reference: Reference { author, round, digest }, marked: false, includes: vec![], statements: vec![], time: None }
 }
 
 fn statements(choice: u64, i: usize, references: &[Reference]) -> Vec<Statement> {

@@ -58,7 +58,7 @@ pub fn longest() -> Vec<Block> {
 }
 
 fn bare(reference: Reference, includes: &[Reference]) -> Block {
-    Block { reference, marked: false, includes: includes.to_vec(), statements: vec![] }
+    Block { reference, marked: false, includes: includes.to_vec(), statements: vec![], time: None }
 }
 
 /// The bytes 0, 0 and the number's two lowest, highest first; then 28 zeros.

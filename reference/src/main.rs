@@ -51,7 +51,7 @@ fn list(seed: u64, n: u64) -> List {
     if n % 4 == 3 {
         exhaustive::list((seed.wrapping_add(n / 4) % exhaustive::COUNT) * STEP % exhaustive::COUNT)
     } else {
-        generate::list(seed, n)
+        generate::timed_list(seed, n)
     }
 }
 

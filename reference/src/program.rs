@@ -24,7 +24,7 @@ const FOLDER: &str = concat!(env!("CARGO_MANIFEST_DIR"), "/target/listing");
 /// Input n of a run: a list as `listing` reads it; every second one with its framing, its stakes or its records damaged. Some ask for a
 /// file of stakes, which may be damaged too, or absent.
 pub fn input(seed: u64, n: u64) -> (Vec<u8>, Option<Vec<u8>>) {
-    let list = generate::list(seed, n);
+    let list = generate::timed_list(seed, n);
     let mut rng = Rng::new(seed ^ n.wrapping_mul(0x9e3779b97f4a7c15));
     let mut input = list.to_listing();
     if rng.once_in(8) {

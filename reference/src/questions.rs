@@ -33,8 +33,35 @@ pub fn ask(sides: &Sides, rng: &mut Rng, tally: &mut Tally) -> Outcome {
         tally.rings(&rung(sides, locator, u128::MAX)?);
         tally.rings(&rung(sides, locator, rng.word() as u128 | (rng.word() as u128) << 64)?);
     }
+    times(sides, rng, tally)?;
     asked_on(sides, &list, rng)?;
     in_bulk(sides, &graph, rng)
+}
+
+/// The times of some stored blocks, as the Rust's blocks have them, and of one that is not stored.
+fn times(sides: &Sides, rng: &mut Rng, tally: &mut Tally) -> Outcome {
+    let blocks = &sides.state.stores.blocks;
+    for _ in 0..if blocks.is_empty() { 0 } else { most_asked(sides) } {
+        let stored = &rng.pick(blocks).block;
+        let right = stored.time;
+        time(sides, &stored.reference, right)?;
+        if let Some(rust) = &sides.rust {
+            let told = rust.creation_time(&stored.reference);
+            same("meta_creation_time_ns", "Rust", told, Some(right.unwrap_or(0) as u128))?;
+        }
+        tally.times[right.is_some() as usize] += 1;
+        let mut other = stored.reference;
+        other.digest[rng.below(32) as usize] ^= 1 << rng.below(8);
+        time(sides, &other, sides.state.stores.get(&other).and_then(|stored| stored.block.time))?;
+    }
+    Ok(())
+}
+
+fn time(sides: &Sides, reference: &Reference, right: Option<u64>) -> Outcome {
+    let mut found = [0x3c; 8];
+    let got = engine::creation_time(&sides.engine.stakes, &sides.engine.store, &reference.bytes(), &mut found);
+    same(&format!("creation_time of {reference:?}"), "engine", got, Ok(right.is_some() as u64))?;
+    same_bytes("the time", &found, &right.map_or([0x3c; 8], u64::to_le_bytes))
 }
 
 /// Some of the locators that have votes, and some beside them.

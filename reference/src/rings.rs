@@ -28,10 +28,10 @@ fn sharing(stakes: &[u64]) -> (Memory, Locator) {
     let genesis: Vec<Reference> = (0..stakes.len() as u64).map(|author| reference(author, 0)).collect();
     let mut blocks: Vec<Block> = genesis
         .iter()
-        .map(|reference| Block { reference: *reference, marked: false, includes: vec![], statements: vec![] })
+        .map(|reference| Block { reference: *reference, marked: false, includes: vec![], statements: vec![], time: None })
         .collect();
     let share = vec![Statement::Share(vec![7])];
-    blocks.push(Block { reference: reference(0, 1), marked: false, includes: genesis, statements: share });
+    blocks.push(Block { reference: reference(0, 1), marked: false, includes: genesis, statements: share, time: None });
     let list = List::roomy(stakes.to_vec(), blocks.iter().map(Block::encode).collect());
     let (mut memory, mut state) = (Memory::new(&list), State::default());
     let committee = Committee::new(stakes).unwrap();

@@ -209,6 +209,11 @@ impl RustSide {
         Ok(list)
     }
 
+    /// A stored block's time; it is 0 where none was given.
+    pub fn creation_time(&self, reference: &Reference) -> Option<u128> {
+        self.store.get_block(make_reference(reference)).map(|block| block.meta_creation_time_ns())
+    }
+
     /// The stake of the blocks' authors, each once.
     pub fn total_stake(&self, blocks: &[Reference]) -> u64 {
         self.committee.get_total_stake(&blocks.iter().map(|block| block.author).collect::<HashSet<u64>>())
@@ -274,7 +279,8 @@ fn make_block(block: &Block) -> mysticeti::data::Data<StatementBlock> {
         }
     };
     let includes = block.includes.iter().map(make_reference).collect();
-    make::block(make_reference(&block.reference), block.marked, includes, block.statements.iter().map(statement).collect())
+    let statements = block.statements.iter().map(statement).collect();
+    make::block(make_reference(&block.reference), block.marked, includes, statements, block.time.unwrap_or(0) as u128)
 }
 
 fn reference(reference: &BlockReference) -> Reference {

@@ -62,7 +62,7 @@ fn without(list: &List, from: usize, count: usize) -> List {
     list
 }
 
-/// A record without a statement, without an include, without payloads, unmarked.
+/// A record without a statement, without an include, without payloads, unmarked, without its time.
 fn lesser(record: &[u8]) -> Vec<Vec<u8>> {
     let Some(block) = Block::decode(record) else { return vec![] };
     let mut out = Vec::new();
@@ -77,7 +77,10 @@ fn lesser(record: &[u8]) -> Vec<Vec<u8>> {
         out.push(block.encode());
     }
     if block.marked {
-        out.push(Block { marked: false, ..block }.encode());
+        out.push(Block { marked: false, ..block.clone() }.encode());
+    }
+    if block.time.is_some() {
+        out.push(Block { time: None, ..block }.encode());
     }
     out
 }

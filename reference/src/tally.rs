@@ -16,6 +16,8 @@ pub struct Tally {
     pub questions: u64,
     /// Answers about whom to ring: with somebody to ring, with nobody, and 60.
     pub rung: [u64; 3],
+    /// Times asked for of stored blocks without one, and with one.
+    pub times: [u64; 2],
     pub damaged: BTreeMap<u64, u64>,
 }
 
@@ -48,6 +50,7 @@ impl Tally {
             "records accepted {}; refused {{{}}}\nevents: processed {}, late {}, unknown {}\n\
              locators answered final {}, not final {}; pending items {}; questions {}\n\
              of pending ones, somebody to ring {}, nobody {}, 60 {}\n\
+             stored blocks asked for their time: {} have one, {} have none\n\
              answers over damaged memory (0: none refused) {{{}}}",
             self.accepted,
             each(&self.refused),
@@ -61,6 +64,8 @@ impl Tally {
             self.rung[0],
             self.rung[1],
             self.rung[2],
+            self.times[1],
+            self.times[0],
             each(&self.damaged),
         )
     }

@@ -35,7 +35,7 @@ pub fn run(seed: u64, n: u64, written: &mut Written) -> Outcome {
 
 /// The records of a list written by the engine, and then fed to every side.
 fn fed(seed: u64, n: u64, rng: &mut Rng, written: &mut Written) -> Outcome {
-    let mut list = generate::list(seed, n);
+    let mut list = generate::timed_list(seed, n);
     list.records.truncate(60);
     list.store = list.store.max(16);
     let Some(mut sides) = set(&list)? else { return Ok(()) };
@@ -69,6 +69,7 @@ fn apart(block: &Block, rng: &mut Rng) -> Given {
         round: block.reference.round,
         digest: block.reference.digest.to_vec(),
         mark: block.marked as u64,
+        time: block.time,
         includes: includes_bytes(&block.includes),
         statements: given_bytes(&statements.collect::<Vec<_>>()),
     }
@@ -124,6 +125,7 @@ fn draft(rng: &mut Rng) -> Given {
         round: rng.word() >> rng.below(64),
         digest: (0..32).map(|_| rng.word() as u8).collect(),
         mark: rng.below(2),
+        time: rng.once_in(2).then(|| rng.clone().word() >> rng.below(64)),
         includes: includes_bytes(&(0..includes).map(|_| reference(rng)).collect::<Vec<_>>()),
         statements: given_bytes(&statements),
     }
@@ -182,6 +184,7 @@ fn builder(rng: &mut Rng) -> Outcome {
         round: 1,
         digest: vec![0; 32],
         mark: 0,
+        time: None,
         includes: vec![],
         statements: given_bytes(&given),
     };

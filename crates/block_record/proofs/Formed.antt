@@ -1,26 +1,26 @@
 -- A block in a record, in positions, as code tests it. Assumes nothing.
-use mathlib.Core.Path.{_≡_, refl, ap}
+use mathlib.Core.Path.{_≡_, refl, ap, _∙_}
 use mathlib.Core.List.{List, [], _∷_}
-use mathlib.Core.Option.{Option, none, some}
+use mathlib.Core.Option.{Option, none, some, Option·map}
 use mathlib.Core.Bool.{Bool, true, false, not, _&&_}
 use Prim.Native.Nat.{ℕ, zero, suc, _+_, _-_, _*_, _≤_, _<_}
 use native.Mathlib.Numerals.{sub-one}
 use native.Mathlib.Omega.{arith}
 use lib.Dec.{leb, eqb}
 use lib.ListN.{length, getD, take, drop}
-use lib.Seq.{drop-cons}
-use borrow.Author.Tests.{le-leb, leb-true, eqb-true}
-use Rattle.base.specs.Lists.{pick, allOf, isEmpty, isNone}
+use borrow.Author.Tests.{le-leb, leb-true}
+use Rattle.base.specs.Lists.{pick, same, isEmpty, isNone}
 use Rattle.base.specs.Le.{leAt}
 use Rattle.base.specs.Read.{Part, Read, give, fail, onward, _>>=_, items, number, given, repeated, complete}
-use Rattle.base.proofs.Tests.{and-left, and-right}
+use Rattle.base.proofs.Tests.{and-left, and-right, and-both, fails, not-both}
 use Rattle.base.proofs.Le.{leAt-byte}
 use Rattle.base.proofs.Fixed.{fixed-items, fixed-number, fixed-repeated, Least, least-zero, least-bind, reads-at, short-at, items-at, number-at, empty-drop}
 use Rattle.blocks.specs.Reference.{BlockReference}
 use Rattle.blocks.specs.Block.{Statement, Block}
-use Rattle.blocks.specs.Record.{readReference, readStatement, readBlock, blockOf, wellFormed}
-use Rattle.block_record.specs.Step.{statementsOnly}
+use Rattle.blocks.specs.Record.{readReference, readStatement, Edition, Timed, editionBytes, readTime, readIn, editionOf, timedOf, blockOf, wellFormed, bodyStart}
+use Rattle.block_record.specs.Step.{statementsOnly, editionRight}
 use Rattle.block_record.proofs.Steps.{fixed-reference}
+use Rattle.block_record.proofs.Editions.{TimeRead, time-read}
 
 -- all of it is read
 abbrev Whole : {A : Type 0} → Option (Part A) → Bool
@@ -64,74 +64,40 @@ only-done (suc n) s p h k = absurd (omega arith)
 -- ---- the first 56 bytes
 
 -- what the definition tests of the first 56 bytes
-unfoldable pub headRight : List ℕ → Bool
-headRight s =
-    leb (leAt 1 s 48) 1 && leb (leAt 2 s 49) 256 && leb (leAt 2 s 51) 1024 && allOf (λ z. eqb z 0) (take 3 (drop 53 s))
+unfoldable headRight : Edition → List ℕ → Bool
+headRight e s =
+    leb (leAt 1 s 48) 1 && leb (leAt 2 s 49) 256 && leb (leAt 2 s 51) 1024 && same (take 3 (drop 53 s)) (editionBytes e)
 
--- the same, as facts
+-- what code tests of them, and of the time: facts
 pub record Head (s : List ℕ) : Type 0 where
   pub mark : getD s 48 0 ≤ 1
   pub includes : leAt 2 s 49 ≤ 256
   pub statements : leAt 2 s 51 ≤ 1024
-  pub zero₁ : getD s 53 0 ≡ 0
-  pub zero₂ : getD s 54 0 ≡ 0
-  pub zero₃ : getD s 55 0 ≡ 0
-
-module _ (s : List ℕ) (long : 56 ≤ length s) where
-  three : take 3 (drop 53 s) ≡ getD s 53 0 ∷ getD s 54 0 ∷ getD s 55 0 ∷ []
-  three = rw (drop-cons s 53 0 (omega arith), drop-cons s 54 0 (omega arith), drop-cons s 55 0 (omega arith))
-
-  pub head-yes : Head s → headRight s ≡ true
-  unfolding headRight allOf
-  head-yes h =
-      rw (
-        leAt-byte s 48 (omega arith),
-        three,
-        le-leb (getD s 48 0) 1 (h .mark),
-        le-leb (leAt 2 s 49) 256 (h .includes),
-        le-leb (leAt 2 s 51) 1024 (h .statements),
-        h .zero₁,
-        h .zero₂,
-        h .zero₃,
-      )
-
-  pub head-back : headRight s ≡ true → Head s
-  unfolding headRight allOf
-  head-back e =
-      let e₃ : leb (leAt 1 s 48) 1 && leb (leAt 2 s 49) 256 && leb (leAt 2 s 51) 1024 ≡ true = and-left _ _ e in
-      let e₂ : leb (leAt 1 s 48) 1 && leb (leAt 2 s 49) 256 ≡ true = and-left _ _ e₃ in
-      let z : eqb (getD s 53 0) 0 && (eqb (getD s 54 0) 0 && (eqb (getD s 55 0) 0 && true)) ≡ true = rw three at (and-right (leb (leAt 1 s 48) 1 && leb (leAt 2 s 49) 256 && leb (leAt 2 s 51) 1024) _ e) in
-      let z₂ = and-right (eqb (getD s 53 0) 0) _ z in
-      let z₃ = and-right (eqb (getD s 54 0) 0) _ z₂ in
-      record {
-        mark = rw (leAt-byte s 48 (omega arith)) at (leb-true (leAt 1 s 48) 1 (and-left _ _ e₂));
-        includes = leb-true (leAt 2 s 49) 256 (and-right (leb (leAt 1 s 48) 1) _ e₂);
-        statements = leb-true (leAt 2 s 51) 1024 (and-right (leb (leAt 1 s 48) 1 && leb (leAt 2 s 49) 256) _ e₃);
-        zero₁ = eqb-true (getD s 53 0) 0 (and-left _ _ z);
-        zero₂ = eqb-true (getD s 54 0) 0 (and-left _ _ z₂);
-        zero₃ = eqb-true (getD s 55 0) 0 (and-left _ _ z₃);
-      }
-
-  pub head-no : (Head s → ⊥) → headRight s ≡ false
-  head-no f = go (headRight s) refl
-    where
-      go : (t : Bool) → headRight s ≡ t → headRight s ≡ false
-      go true e = absurd (f (head-back e))
-      go false e = e
+  pub edition : editionRight s ≡ true
 
 -- what follows the first 56 bytes
-unfoldable pub readBody : BlockReference → ℕ → ℕ → ℕ → Read Block
-readBody r mark i n = do
+unfoldable readBody : Edition → BlockReference → ℕ → ℕ → ℕ → Read Timed
+readBody e r mark i n = do
+  time ← readTime e
   includes ← repeated i readReference
   statements ← repeated n readStatement
-  give (record { reference = r; marked = eqb mark 1; includes = includes; statements = statements })
+  give (record { block = record { reference = r; marked = eqb mark 1; includes = includes; statements = statements }; time = time })
 
 module _ (s : List ℕ) where
-  pub block-short : length s < 56 → wellFormed s ≡ false
-  unfolding wellFormed blockOf readBlock complete isNone
-  block-short h = rw (least s h)
+  -- well formed is read to the end in its edition
+  whole-in : wellFormed s ≡ Whole (readIn (editionOf s) s)
+  unfolding wellFormed blockOf timedOf isNone
+  whole-in = go (complete (readIn (editionOf s) s))
     where
-      least : Least 56 readBlock
+      go : (o : Option Timed) → not (isNone (Option·map (λ t. t .block) o)) ≡ not (isNone o)
+      go none = refl
+      go (some t) = refl
+
+  pub block-short : length s < 56 → wellFormed s ≡ false
+  unfolding readIn complete isNone
+  block-short h = whole-in ∙ rw (least s h)
+    where
+      least : Least 56 (readIn (editionOf s))
       least =
           least-bind readReference _ 48 8 fixed-reference λ r.
           least-bind (number 1) _ 1 7 (fixed-number 1) λ m.
@@ -139,9 +105,16 @@ module _ (s : List ℕ) where
           least-bind (number 2) _ 2 3 (fixed-number 2) λ n.
           least-bind (items 3) _ 3 0 (fixed-items 3) λ z. least-zero _
 
-  pub block-head : 56 ≤ length s → readBlock s ≡ given (headRight s) (readBody (fixed-reference .value s) (leAt 1 s 48) (leAt 2 s 49) (leAt 2 s 51)) (drop 56 s)
-  unfolding readBlock readBody headRight _>>=_ onward
-  block-head h =
+module _ (s : List ℕ) (long : 56 ≤ length s) where
+  abbrev e : Edition
+  e = editionOf s
+
+  abbrev body : Option (Part Timed)
+  body = readBody e (fixed-reference .value s) (leAt 1 s 48) (leAt 2 s 49) (leAt 2 s 51) (drop 56 s)
+
+  block-head : readIn e s ≡ given (headRight e s) (readBody e (fixed-reference .value s) (leAt 1 s 48) (leAt 2 s 49) (leAt 2 s 51)) (drop 56 s)
+  unfolding readIn readBody headRight _>>=_ onward
+  block-head =
       rw (
         fixed-reference .reads s (omega arith),
         number-at 1 s 48 (omega arith),
@@ -150,29 +123,69 @@ module _ (s : List ℕ) where
         items-at 3 s 53 (omega arith),
       )
 
-  pub block-refused : 56 ≤ length s → headRight s ≡ false → wellFormed s ≡ false
-  unfolding wellFormed blockOf given fail complete isNone
-  block-refused h e = rw (block-head h, e)
+  -- the head is right and the time is read
+  headed : Head s → headRight e s ≡ true
+  unfolding headRight editionRight
+  headed h =
+      rw (
+        leAt-byte s 48 (omega arith),
+        le-leb (getD s 48 0) 1 (h .mark),
+        le-leb (leAt 2 s 49) 256 (h .includes),
+        le-leb (leAt 2 s 51) 1024 (h .statements),
+      )
+      (and-left _ _ (h .edition))
 
-  body-short : (r : BlockReference) (m i n : ℕ) → length s - 56 < i * 48 → readBody r m i n (drop 56 s) ≡ none
-  unfolding readBody _>>=_ onward
-  body-short r m i n k = rw (short-at (repeated i readReference) (i * 48) (fixed-repeated readReference 48 fixed-reference i) s 56 k)
+  head-back : headRight e s ≡ true → not (isNone (readTime e (drop 56 s))) ≡ true → Head s
+  unfolding headRight editionRight
+  head-back h t =
+      let h₃ : leb (leAt 1 s 48) 1 && leb (leAt 2 s 49) 256 && leb (leAt 2 s 51) 1024 ≡ true = and-left _ _ h in
+      let h₂ : leb (leAt 1 s 48) 1 && leb (leAt 2 s 49) 256 ≡ true = and-left _ _ h₃ in
+      record {
+        mark = rw (leAt-byte s 48 (omega arith)) at (leb-true (leAt 1 s 48) 1 (and-left _ _ h₂));
+        includes = leb-true (leAt 2 s 49) 256 (and-right (leb (leAt 1 s 48) 1) _ h₂);
+        statements = leb-true (leAt 2 s 51) 1024 (and-right (leb (leAt 1 s 48) 1 && leb (leAt 2 s 49) 256) _ h₃);
+        edition = and-both _ _ (and-right (leb (leAt 1 s 48) 1 && leb (leAt 2 s 49) 256 && leb (leAt 2 s 51) 1024) _ h) t;
+      }
 
-  body-on : (r : BlockReference) (m i n : ℕ) → 56 + i * 48 ≤ length s → Whole (readBody r m i n (drop 56 s)) ≡ statementsOnly n (drop (56 + i * 48) s)
-  unfolding readBody _>>=_ onward statementsOnly
-  body-on r m i n k =
-      let F = fixed-repeated readReference 48 fixed-reference i in
-      rw (reads-at (repeated i readReference) (i * 48) F s 56 k)
-      (whole-map (repeated n readStatement) (λ ss. record { reference = r; marked = eqb m 1; includes = F .value (drop 56 s); statements = ss }) (drop (56 + i * 48) s))
-
-  pub block-cut : 56 ≤ length s → length s - 56 < leAt 2 s 49 * 48 → wellFormed s ≡ false
-  unfolding wellFormed blockOf given fail complete isNone
-  block-cut h k = rw (block-head h) (go (headRight s))
+  -- a record that is read to the end has a right head
+  pub whole-head : wellFormed s ≡ true → Head s
+  unfolding given fail complete isNone readBody _>>=_ onward
+  whole-head w = go (headRight e s) refl (readTime e (drop 56 s)) refl
     where
-      go : (t : Bool) → Whole (given t (readBody (fixed-reference .value s) (leAt 1 s 48) (leAt 2 s 49) (leAt 2 s 51)) (drop 56 s)) ≡ false
-      go true = rw (body-short (fixed-reference .value s) (leAt 1 s 48) (leAt 2 s 49) (leAt 2 s 51) k)
-      go false = refl
+      go : (t : Bool) → headRight e s ≡ t → (o : Option (Part (Option ℕ))) → readTime e (drop 56 s) ≡ o → Head s
+      go false h o k = absurd (not-both w (whole-in s ∙ rw (block-head, h)))
+      go true h none k = absurd (not-both w (whole-in s ∙ rw (block-head, h, k)))
+      go true h (some p) k = head-back h (rw k)
 
-  pub block-on : 56 ≤ length s → headRight s ≡ true → 56 + leAt 2 s 49 * 48 ≤ length s → wellFormed s ≡ statementsOnly (leAt 2 s 51) (drop (56 + leAt 2 s 49 * 48) s)
-  unfolding wellFormed blockOf given
-  block-on h e k = rw (block-head h, e) (body-on (fixed-reference .value s) (leAt 1 s 48) (leAt 2 s 49) (leAt 2 s 51) k)
+  pub block-refused : (Head s → ⊥) → wellFormed s ≡ false
+  block-refused f = fails (wellFormed s) (λ w. f (whole-head w))
+
+  module _ (h : Head s) where
+    abbrev time : TimeRead s e
+    time = time-read s long (h .edition)
+
+    -- the includes and the statements, read from where they begin
+    abbrev Rest : Option (Part Timed)
+    Rest =
+        (repeated (leAt 2 s 49) readReference >>= (λ is.
+        repeated (leAt 2 s 51) readStatement >>= (λ ss.
+        give (record { block = record { reference = fixed-reference .value s; marked = eqb (leAt 1 s 48) 1; includes = is; statements = ss }; time = time .value }))))
+        (drop (bodyStart s) s)
+
+    pub block-rest : readIn e s ≡ Rest
+    unfolding given readBody bodyStart _>>=_ onward
+    block-rest = rw (block-head, headed h, time .reads)
+
+    pub block-cut : length s - bodyStart s < leAt 2 s 49 * 48 → wellFormed s ≡ false
+    unfolding complete isNone _>>=_ onward
+    block-cut k = whole-in s ∙ rw (block-rest, short-at (repeated (leAt 2 s 49) readReference) (leAt 2 s 49 * 48) (fixed-repeated readReference 48 fixed-reference (leAt 2 s 49)) s (bodyStart s) k)
+
+    pub block-on : bodyStart s + leAt 2 s 49 * 48 ≤ length s → wellFormed s ≡ statementsOnly (leAt 2 s 51) (drop (bodyStart s + leAt 2 s 49 * 48) s)
+    unfolding _>>=_ onward statementsOnly
+    block-on k =
+        let i = leAt 2 s 49 in
+        let F = fixed-repeated readReference 48 fixed-reference i in
+        whole-in s ∙ rw (block-rest, reads-at (repeated i readReference) (i * 48) F s (bodyStart s) k)
+        (whole-map (repeated (leAt 2 s 51) readStatement)
+        (λ ss. record { block = record { reference = fixed-reference .value s; marked = eqb (leAt 1 s 48) 1; includes = F .value (drop (bodyStart s) s); statements = ss }; time = time .value })
+        (drop (bodyStart s + i * 48) s))

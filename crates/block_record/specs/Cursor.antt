@@ -2,15 +2,15 @@
 use Prim.Native.Nat.{ℕ, _+_}
 use mathlib.Core.Bool.{Bool, true, _&&_}
 use lib.Dec.{eqb}
-use Rattle.blocks.specs.Block.{Block}
+use Rattle.base.specs.Le.{Bytes}
 use Rattle.blocks.specs.Record.{statementStart}
 use Rattle.block_record.specs.declared.StatementCursor.{StatementCursor}
 use Rattle.block_record.specs.declared.BaseStatement.{BaseStatement}
 use Rattle.block_record.specs.declared.BaseStatement.the-variants.{Share, Accept, Reject, RejectFor, VoteRange}
 
 -- the place of the statement of that index
-unfoldable pub cursorAt : Block → ℕ → StatementCursor
-cursorAt b i = record { at = statementStart b i; index = i }
+unfoldable pub cursorAt : Bytes → ℕ → StatementCursor
+cursorAt r i = record { at = statementStart r i; index = i }
 
 -- 01: "0 share, length 2 and payload": the payload of a share stands from 3 bytes after its start to the start of the next statement
 unfoldable pub payloadBetween : ℕ → ℕ → BaseStatement → Bool

@@ -1,13 +1,13 @@
 -- Machinery for the contracts of private functions: what stands at a position of a record. Assumes nothing: these are definitions.
 use Prim.Native.Nat.{ℕ, _≤_}
 use mathlib.Core.Path.{_≡_}
-use mathlib.Core.Bool.{Bool, true, not}
+use mathlib.Core.Bool.{Bool, true, not, _&&_}
 use mathlib.Core.Option.{none, some}
-use lib.ListN.{length, drop}
-use Rattle.base.specs.Lists.{isNone}
+use lib.ListN.{length, take, drop}
+use Rattle.base.specs.Lists.{same, isNone}
 use Rattle.base.specs.Le.{Bytes}
 use Rattle.base.specs.Read.{repeated, complete}
-use Rattle.blocks.specs.Record.{readStatement}
+use Rattle.blocks.specs.Record.{readStatement, editionBytes, readTime, editionOf}
 use Rattle.block_record.specs.Values.{asStatement}
 use Rattle.block_record.specs.Cursor.{payloadBetween}
 use Rattle.block_record.specs.declared.Taken.{Taken}
@@ -23,3 +23,7 @@ Took s p Malformed = readStatement (drop p s) ≡ none
 -- n statements and nothing after them
 unfoldable pub statementsOnly : ℕ → Bytes → Bool
 statementsOnly n s = not (isNone (complete (repeated n readStatement s)))
+
+-- the three bytes of the edition, and its time
+unfoldable pub editionRight : Bytes → Bool
+editionRight s = same (take 3 (drop 53 s)) (editionBytes (editionOf s)) && not (isNone (readTime (editionOf s) (drop 56 s)))

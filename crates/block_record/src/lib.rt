@@ -6,11 +6,11 @@ ghost use mathlib.Core.Path.{_≡_};
 ghost use Prim.Native.Nat.{_+_, _≤_, _<_};
 ghost use lib.ListN.{length, getD, drop};
 ghost use mathlib.Core.Bool.{true};
-ghost use Rattle.blocks.specs.Record.{wellFormed, blockIn, noReference, noStatement};
+ghost use Rattle.blocks.specs.Record.{wellFormed, blockIn, timeIn, bodyStart, noReference, noStatement};
 ghost use Rattle.block_record.specs.Cursor.{cursorAt, payloadBetween};
-ghost use Rattle.block_record.specs.Step.{Took, statementsOnly};
+ghost use Rattle.block_record.specs.Step.{Took, statementsOnly, editionRight};
 ghost use Rattle.types.specs.Values.{asReference};
-ghost use Rattle.block_record.specs.Values.{asStatement};
+ghost use Rattle.block_record.specs.Values.{asStatement, asTime};
 
 // A statement of a record. Of a share: where its payload starts in the record, and its length.
 pub enum BaseStatement {
@@ -37,6 +37,12 @@ pub struct NextStatement {
 pub enum Taken {
     Statement(BaseStatement, usize),
     Malformed,
+}
+
+// The time of a block's creation, in nanoseconds, where its record has one.
+pub enum CreationTime {
+    Given(u64),
+    NotGiven,
 }
 
 // ---- statements: each of the four takes the position of a kind byte, its own
@@ -145,6 +151,40 @@ fn statements_only(s: &[u8], from: usize, count: usize) -> bool
 
 // ---- a record
 
+// The three bytes of the edition are 0 0 0, or 2 0 0 and a time of 64 bits follows.
+fn edition_formed(rec: &[u8]) -> bool
+    requires { ⌜ 56 ≤ length (now rec) ⌝ }
+    ensures { λ r. ⌜ r ≡ editionRight (now (rec .entry)) ⌝ }
+{
+    if rec[54] != 0 {
+        return false;
+    }
+    if rec[55] != 0 {
+        return false;
+    }
+    if rec[53] == 0 {
+        return true;
+    }
+    if rec[53] != 2 {
+        return false;
+    }
+    if rec.len() < 72 {
+        return false;
+    }
+    base::read_u64(rec, 64) == 0
+}
+
+// Where its includes begin.
+fn body_start(rec: &[u8]) -> usize
+    requires { ⌜ 56 ≤ length (now rec) ⌝ }
+    ensures { λ r. ⌜ r ≡ bodyStart (now (rec .entry)) ⌝ }
+{
+    if rec[53] == 2 {
+        return 72;
+    }
+    56
+}
+
 // The record is not malformed (20).
 pub fn well_formed(rec: &[u8]) -> bool
     ensures { λ r. ⌜ r ≡ wellFormed (now (rec .entry)) ⌝ }
@@ -163,19 +203,14 @@ pub fn well_formed(rec: &[u8]) -> bool
     if 1024 < statements {
         return false;
     }
-    if rec[53] != 0 {
+    if !edition_formed(rec) {
         return false;
     }
-    if rec[54] != 0 {
+    let body = body_start(rec);
+    if rec.len() - body < includes * 48 {
         return false;
     }
-    if rec[55] != 0 {
-        return false;
-    }
-    if rec.len() - 56 < includes * 48 {
-        return false;
-    }
-    statements_only(rec, 56 + includes * 48, statements)
+    statements_only(rec, body + includes * 48, statements)
 }
 
 // Of a well-formed record: its reference.
@@ -207,7 +242,18 @@ pub fn include(rec: &[u8], k: usize) -> BlockReference
     requires { ⌜ (wellFormed (now rec) ≡ true) × (k < length (blockIn (now rec) .includes)) ⌝ }
     ensures { λ r. ⌜ asReference r ≡ getD (blockIn (now (rec .entry)) .includes) k noReference ⌝ }
 {
-    types::read_reference(rec, 56 + k * 48)
+    types::read_reference(rec, body_start(rec) + k * 48)
+}
+
+// The time of its creation, in nanoseconds, where it has one.
+pub fn creation_time(rec: &[u8]) -> CreationTime
+    requires { ⌜ wellFormed (now rec) ≡ true ⌝ }
+    ensures { λ r. ⌜ asTime r ≡ timeIn (now (rec .entry)) ⌝ }
+{
+    if rec[53] != 2 {
+        return CreationTime::NotGiven;
+    }
+    CreationTime::Given(base::read_u64(rec, 56))
 }
 
 // The number of its statements.
@@ -221,18 +267,18 @@ pub fn statement_count(rec: &[u8]) -> usize
 // The place of its first statement.
 pub fn first_statement(rec: &[u8]) -> StatementCursor
     requires { ⌜ wellFormed (now rec) ≡ true ⌝ }
-    ensures { λ r. ⌜ r ≡ cursorAt (blockIn (now (rec .entry))) 0 ⌝ }
+    ensures { λ r. ⌜ r ≡ cursorAt (now (rec .entry)) 0 ⌝ }
 {
     StatementCursor {
-        at: 56 + 48 * include_count(rec),
+        at: body_start(rec) + 48 * include_count(rec),
         index: 0,
     }
 }
 
 // The statement at a place, and the next place.
 pub fn next_statement(rec: &[u8], cursor: StatementCursor) -> NextStatement
-    requires { ⌜ (wellFormed (now rec) ≡ true) × ((cursor ≡ cursorAt (blockIn (now rec)) (cursor .index)) × (cursor .index < length (blockIn (now rec) .statements))) ⌝ }
-    ensures { λ r. ⌜ (asStatement (now (rec .entry)) (r .statement) ≡ getD (blockIn (now (rec .entry)) .statements) (cursor .index) noStatement) × ((r .next ≡ cursorAt (blockIn (now (rec .entry))) (cursor .index + 1)) × (payloadBetween (cursor .at) (r .next .at) (r .statement) ≡ true)) ⌝ }
+    requires { ⌜ (wellFormed (now rec) ≡ true) × ((cursor ≡ cursorAt (now rec) (cursor .index)) × (cursor .index < length (blockIn (now rec) .statements))) ⌝ }
+    ensures { λ r. ⌜ (asStatement (now (rec .entry)) (r .statement) ≡ getD (blockIn (now (rec .entry)) .statements) (cursor .index) noStatement) × ((r .next ≡ cursorAt (now (rec .entry)) (cursor .index + 1)) × (payloadBetween (cursor .at) (r .next .at) (r .statement) ≡ true)) ⌝ }
 {
     let at = cursor.at;
     let Taken::Statement(statement, end) = take_statement(rec, at) else {

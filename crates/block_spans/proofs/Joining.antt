@@ -19,6 +19,7 @@ use Rattle.finality.proofs.Votes.{covered, is-covered}
 use Rattle.shared_ranges.specs.Step.{isOfKind, leading}
 use Rattle.block_votes.proofs.Reading.{any-append}
 use Rattle.stretches.proofs.Wide.{Over, Telling}
+use Rattle.base.specs.Le.{Bytes}
 use Rattle.block_record.specs.Cursor.{cursorAt}
 use Rattle.block_record.specs.declared.StatementCursor.{StatementCursor}
 use Rattle.block_spans.specs.declared.Vote.{Vote}
@@ -152,13 +153,13 @@ module _ (b : Block) (i : ℕ) where
     leading-inside = omega (arith, leading-most (drop i (b .statements)), length-drop i (b .statements))
 
     -- a run told
-    pub run-told : isShare (getD (b .statements) i noStatement) ≡ true → (next : StatementCursor) → next ≡ cursorAt b (i + leading true (drop i (b .statements)))
-        → (joinedAt b i ≡ newRange (b .reference) i (next .index) ∷ joinedAt b (next .index)) × OnwardIn b i next
+    pub run-told : isShare (getD (b .statements) i noStatement) ≡ true → (r : Bytes) (next : StatementCursor) → next ≡ cursorAt r (i + leading true (drop i (b .statements)))
+        → (joinedAt b i ≡ newRange (b .reference) i (next .index) ∷ joinedAt b (next .index)) × OnwardIn b r i next
     unfolding OnwardIn cursorAt
-    run-told e next q = rw q (joined-shares e, (omega (arith, leading-some e), (leading-inside, refl)))
+    run-told e r next q = rw q (joined-shares e, (omega (arith, leading-some e), (leading-inside, refl)))
 
     -- a vote told, or none
     pub vote-told : isShare (getD (b .statements) i noStatement) ≡ false → (vote : Vote) → votedBy vote ≡ Option·toList (votedRange (getD (b .statements) i noStatement))
-        → (next : StatementCursor) → next ≡ cursorAt b (i + 1) → (joinedAt b i ≡ votedBy vote ++ joinedAt b (next .index)) × OnwardIn b i next
+        → (r : Bytes) (next : StatementCursor) → next ≡ cursorAt r (i + 1) → (joinedAt b i ≡ votedBy vote ++ joinedAt b (next .index)) × OnwardIn b r i next
     unfolding OnwardIn cursorAt
-    vote-told e vote v next q = rw (q, v) (joined-vote e, (omega arith, (omega arith, refl)))
+    vote-told e vote v r next q = rw (q, v) (joined-vote e, (omega arith, (omega arith, refl)))

@@ -3,6 +3,7 @@ use Prim.Native.Nat.{ℕ, _≤_, _<_}
 use mathlib.Core.Path.{_≡_}
 use mathlib.Core.List.{List, [], _∷_}
 use lib.ListN.{length}
+use Rattle.base.specs.Le.{Bytes}
 use Rattle.blocks.specs.Reference.{TransactionLocatorRange}
 use Rattle.blocks.specs.Block.{Block}
 use Rattle.types.specs.Values.{asRange}
@@ -16,6 +17,6 @@ unfoldable pub votedBy : Vote → List TransactionLocatorRange
 votedBy (Range q) = asRange q ∷ []
 votedBy Nothing = []
 
--- a place further on in the block
-unfoldable pub OnwardIn : Block → ℕ → StatementCursor → Type 0
-OnwardIn b i next = (i < next .index) × ((next .index ≤ length (b .statements)) × (next ≡ cursorAt b (next .index)))
+-- a place further on in the record of a block
+unfoldable pub OnwardIn : Block → Bytes → ℕ → StatementCursor → Type 0
+OnwardIn b r i next = (i < next .index) × ((next .index ≤ length (b .statements)) × (next ≡ cursorAt r (next .index)))

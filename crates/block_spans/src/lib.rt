@@ -45,8 +45,8 @@ fn voted(statement: BaseStatement) -> Vote
 
 // What the statements at a place of the record of a block vote for: the shares in a row from there on, or an accept or a range.
 pub fn next_span(rec: &[u8], block: BlockReference, cursor: StatementCursor) -> NextSpan
-    requires { ⌜ ((wellFormed (now rec) ≡ true) × VotesFit (blockIn (now rec))) × ((asReference block ≡ blockIn (now rec) .reference) × ((cursor ≡ cursorAt (blockIn (now rec)) (cursor .index)) × (cursor .index < length (blockIn (now rec) .statements)))) ⌝ }
-    ensures { λ r. ⌜ (joinedAt (blockIn (now (rec .entry))) (cursor .index) ≡ votedBy (r .vote) ++ joinedAt (blockIn (now (rec .entry))) (r .next .index)) × OnwardIn (blockIn (now (rec .entry))) (cursor .index) (r .next) ⌝ }
+    requires { ⌜ ((wellFormed (now rec) ≡ true) × VotesFit (blockIn (now rec))) × ((asReference block ≡ blockIn (now rec) .reference) × ((cursor ≡ cursorAt (now rec) (cursor .index)) × (cursor .index < length (blockIn (now rec) .statements)))) ⌝ }
+    ensures { λ r. ⌜ (joinedAt (blockIn (now (rec .entry))) (cursor .index) ≡ votedBy (r .vote) ++ joinedAt (blockIn (now (rec .entry))) (r .next .index)) × OnwardIn (blockIn (now (rec .entry))) (now (rec .entry)) (cursor .index) (r .next) ⌝ }
 {
     let found = block_record::next_statement(rec, cursor);
     let statement = found.statement;

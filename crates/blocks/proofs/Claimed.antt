@@ -1,5 +1,6 @@
 -- The claims about records and their orders hold. Assumes nothing.
-use mathlib.Core.Path.{_≡_}
+use mathlib.Core.Path.{_≡_, refl, sym}
+use Prim.Native.Nat.{ℕ}
 use mathlib.Core.Bool.{true}
 use mathlib.Core.List.{[], _∷_}
 use mathlib.Core.Option.{Option, none, some}
@@ -8,15 +9,18 @@ use lib.ListN.{length}
 use borrow.Author.Tests.{ltb-true, leb-true, eqb-true}
 use Rattle.base.specs.Lists.{allOf}
 use Rattle.base.specs.Le.{Bytes}
-use Rattle.base.proofs.Tests.{and-left, and-right, fails}
+use Rattle.base.proofs.Tests.{and-left, and-right, fails, not-both}
 use Rattle.base.proofs.Lists.{every, all-every}
 use Rattle.base.proofs.Le.{AllBytes}
+use Rattle.base.proofs.Read.{complete-reads}
 use Rattle.blocks.specs.Reference.{BlockReference, TransactionLocator}
 use Rattle.blocks.specs.Block.{Statement, share, accept, reject, voteRange, Block}
-use Rattle.blocks.specs.Claims.{areBytes, fitsReference, fitsLocator, fitsOther, fitsStatement, fitsBlock, ReadsWhatIsWritten, WritesWhatIsRead, Claims}
+use Rattle.blocks.specs.Claims.{areBytes, fitsReference, fitsLocator, fitsOther, fitsStatement, fitsBlock, fitsTime, fitsIn, ReadsIn, WritesIn, ReadsWhatIsWritten, WritesWhatIsRead, PlacesMeant, Claims}
+use Rattle.blocks.specs.Record.{Edition, old, timed, Timed, readIn, bytesIn, editionFor}
 use Rattle.blocks.proofs.References.{reference-irrefl, reference-trans, reference-total, locator-irrefl, locator-trans, locator-total}
 use Rattle.blocks.proofs.Runs.{shared-cover}
-use Rattle.blocks.proofs.Records.{ReferenceFits, LocatorFits, OtherFits, StatementFits, BlockFits, blockOf-blockBytes, blockBytes-blockOf}
+use Rattle.blocks.proofs.Records.{ReferenceFits, LocatorFits, OtherFits, StatementFits, BlockFits, TimeFits, InFits, in-reads, read-back, timedOf-timedBytes, timed-back}
+use Rattle.blocks.proofs.Places.{stands-in}
 
 -- ---- the tests of the claims say what the laws ask
 
@@ -77,21 +81,47 @@ block-fits b h =
       statements = every statement-fits (b .statements) (all-every fitsStatement (b .statements) (and-right (leb (length (b .statements)) 1024) _ h₃));
     }
 
+pub time-fits : (e : Edition) (o : Option ℕ) → fitsTime e o ≡ true → TimeFits e o
+unfolding fitsTime
+time-fits old none h = tt
+time-fits old (some x) h = absurd (not-both h refl)
+time-fits timed none h = absurd (not-both h refl)
+time-fits timed (some x) h = ltb-true x 18446744073709551616 h
+
+in-fits : (e : Edition) (t : Timed) → fitsIn e t ≡ true → InFits e t
+unfolding fitsIn
+in-fits e t h = record { block = block-fits (t .block) (and-left _ _ h); time = time-fits e (t .time) (and-right (fitsBlock (t .block)) _ h) }
+
 -- ---- the claims
+
+reads-in : ReadsIn
+unfolding ReadsIn
+reads-in e t h = complete-reads (readIn e) (bytesIn e t) t (in-reads e t (in-fits e t h))
+
+writes-in : WritesIn
+unfolding WritesIn
+writes-in e r t b h = sym (read-back e r t (bytes-fit r b) h .are)
 
 reads-what-is-written : ReadsWhatIsWritten
 unfolding ReadsWhatIsWritten
-reads-what-is-written b h = blockOf-blockBytes b (block-fits b h)
+reads-what-is-written t h = timedOf-timedBytes t (in-fits (editionFor (t .time)) t h)
 
 writes-what-is-read : WritesWhatIsRead
 unfolding WritesWhatIsRead
-writes-what-is-read r b h k = blockBytes-blockOf r b (bytes-fit r h) k
+writes-what-is-read r t h k = sym (timed-back r t (bytes-fit r h) k .are)
+
+places-meant : PlacesMeant
+unfolding PlacesMeant
+places-meant r t b h = stands-in r t (bytes-fit r b) h
 
 pub claimed : Claims
 claimed =
     record {
+      readsIn = reads-in;
+      writesIn = writes-in;
       reads = reads-what-is-written;
       writes = writes-what-is-read;
+      places = places-meant;
       references = record { irreflexive = λ r. fails _ (reference-irrefl r); transitive = reference-trans; total = reference-total };
       locators = record { irreflexive = λ l. fails _ (locator-irrefl l); transitive = locator-trans; total = locator-total };
       runs = shared-cover;

@@ -2,10 +2,10 @@
 use Rattle.authority_set.proofs.Computing.{computing as computing-authority-set}
 use Rattle.blocks.specs.Reference.{referenceKey, sameReference, referenceBefore, locator, sameLocator, locatorBefore, newRange, oneRange, within, offsets, locators, covers}
 use Rattle.blocks.specs.Block.{isShare, isShareAt, votedRange, countedOffsets, eventRoom, spansFrom, spans, joined, runsFrom, sharedRanges}
-use Rattle.blocks.specs.Record.{readReference, readLocator, readShare, readAccept, readOther, readReject, readRange, readKind, readStatement, readBlock, blockOf, wellFormed, noReference, noStatement, noBlock, blockIn, referenceBytes, locatorBytes, otherBytes, statementBytes, statementStart, blockBytes}
+use Rattle.blocks.specs.Record.{readReference, readLocator, readShare, readAccept, readOther, readReject, readRange, readKind, readStatement, editionBytes, readTime, readIn, editionOf, timedOf, blockOf, timeOf, timeIn, wellFormed, noReference, noStatement, noBlock, blockIn, referenceBytes, locatorBytes, otherBytes, statementBytes, bodyFrom, bodyStart, statementStart, timeBytes, bytesIn, editionFor, timedBytes, blockBytes}
 use Rattle.blocks.specs.Verify.{headChecks, includeChecks, statementChecks, previousAuthors, clockValid, bodyChecks}
-use Rattle.blocks.specs.Claims.{areBytes, fitsReference, fitsLocator, fitsOther, fitsStatement, fitsBlock, ReadsWhatIsWritten, WritesWhatIsRead}
+use Rattle.blocks.specs.Claims.{areBytes, fitsReference, fitsLocator, fitsOther, fitsStatement, fitsBlock, fitsTime, fitsIn, ReadsIn, WritesIn, ReadsWhatIsWritten, WritesWhatIsRead, PlacesMeant}
 
 unfoldable pub computing : Unit {0}
-unfolding computing-authority-set referenceKey sameReference referenceBefore locator sameLocator locatorBefore newRange oneRange within offsets locators covers isShare isShareAt votedRange countedOffsets eventRoom spansFrom spans joined runsFrom sharedRanges readReference readLocator readShare readAccept readOther readReject readRange readKind readStatement readBlock blockOf wellFormed noReference noStatement noBlock blockIn referenceBytes locatorBytes otherBytes statementBytes statementStart blockBytes headChecks includeChecks statementChecks previousAuthors clockValid bodyChecks areBytes fitsReference fitsLocator fitsOther fitsStatement fitsBlock ReadsWhatIsWritten WritesWhatIsRead
+unfolding computing-authority-set referenceKey sameReference referenceBefore locator sameLocator locatorBefore newRange oneRange within offsets locators covers isShare isShareAt votedRange countedOffsets eventRoom spansFrom spans joined runsFrom sharedRanges readReference readLocator readShare readAccept readOther readReject readRange readKind readStatement editionBytes readTime readIn editionOf timedOf blockOf timeOf timeIn wellFormed noReference noStatement noBlock blockIn referenceBytes locatorBytes otherBytes statementBytes bodyFrom bodyStart statementStart timeBytes bytesIn editionFor timedBytes blockBytes headChecks includeChecks statementChecks previousAuthors clockValid bodyChecks areBytes fitsReference fitsLocator fitsOther fitsStatement fitsBlock fitsTime fitsIn ReadsIn WritesIn ReadsWhatIsWritten WritesWhatIsRead PlacesMeant
 computing = tt

@@ -5,4 +5,5 @@ pub mod Ranges
 pub mod Runs
 pub mod Spans
 pub mod Records
+pub mod Places
 pub mod Claimed

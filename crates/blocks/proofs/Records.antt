@@ -1,24 +1,27 @@
--- Block records there and back: what is written is read, and what is read had been written so. Assumes nothing.
-use mathlib.Core.Path.{_≡_, refl, sym}
+-- Block records there and back, with the edition as a parameter: what is written is read, and what is read had been written so. Assumes nothing.
+use mathlib.Core.Path.{_≡_, refl, sym, ap, _∙_, subst}
 use mathlib.Core.List.{List, [], _∷_, _++_, map, append-assoc, flatten}
-use mathlib.Core.Option.{Option, none, some, Option·getD}
+use mathlib.Core.Option.{Option, none, some, Option·map, Option·getD, Option·some-injective, Option·none-ne-some}
 use mathlib.Core.Bool.{Bool, true, false, not, _&&_}
-use Prim.Native.Nat.{ℕ, zero, suc, _*_, _%_, _^_, _≤_, _<_}
+use Prim.Native.Nat.{ℕ, zero, suc, _+_, _*_, _%_, _^_, _≤_, _<_}
+use native.Mathlib.Nat.{lt-trans}
 use native.Mathlib.Omega.{arith}
-use lib.Dec.{leb, eqb, lit<}
-use lib.ListN.{length, replicate, length-append}
-use borrow.Author.Tests.{le-leb, leb-true, eqb-true, eqb-false}
-use Rattle.base.specs.Lists.{pick, allOf, isNone}
+use lib.Dec.{ltb, leb, eqb, lit<}
+use lib.ListN.{length, getD, take, drop, length-append}
+use lib.Seq.{take-at, drop-append-add, getD-take, getD-drop}
+use borrow.Author.Tests.{lt-ltb, ltb-true, le-leb, leb-true, eqb-true, eqb-false}
+use Rattle.base.specs.Lists.{pick, same, isNone}
 use Rattle.base.specs.Le.{leBytes}
-use Rattle.base.specs.Read.{Read, give, fail, onward, _>>=_, number, given}
+use Rattle.base.specs.Read.{Read, give, fail, onward, _>>=_, number, given, complete}
 use Rattle.base.proofs.Tests.{and-left, and-right, not-both}
 use Rattle.base.proofs.Lists.{append-nil, Every, none-of, and, every}
+use Rattle.base.proofs.Orders.{same-refl, same-true}
 use Rattle.base.proofs.Le.{AllBytes, length-leBytes}
 use Rattle.base.proofs.Read.{part, items-reads, number-reads, ReadsBack, repeated-reads, complete-reads, Back, give-back, fail-back, given-back, bind-back, map-back, Items, items-back, Number, number-back, One, Many, repeated-back, complete-back}
 use Rattle.blocks.specs.Reference.{BlockReference, TransactionLocator, TransactionLocatorRange, newRange}
 use Rattle.blocks.specs.Block.{Statement, share, accept, reject, voteRange, Block}
-use Rattle.blocks.specs.Record.{readReference, readLocator, readShare, readAccept, readOther, readReject, readRange, readKind, readStatement, readBlock, blockOf, wellFormed, noBlock, blockIn}
-use Rattle.blocks.specs.Record.{referenceBytes, locatorBytes, otherBytes, statementBytes, blockBytes}
+use Rattle.blocks.specs.Record.{readReference, readLocator, readShare, readAccept, readOther, readReject, readRange, readKind, readStatement, Edition, old, timed, Timed, editionBytes, readTime, readIn, editionOf, timedOf, blockOf, timeOf, timeIn, wellFormed, noBlock, blockIn}
+use Rattle.blocks.specs.Record.{referenceBytes, locatorBytes, otherBytes, statementBytes, timeBytes, bytesIn, editionFor, timedBytes, blockBytes}
 
 -- ---- the limits: what fits a record
 
@@ -53,6 +56,16 @@ pub record BlockFits (b : Block) : Type 0 where
   pub fewStatements : length (b .statements) ≤ 1024
   pub includes : Every ReferenceFits (b .includes)
   pub statements : Every StatementFits (b .statements)
+
+abbrev pub TimeFits : Edition → Option ℕ → Type 0
+TimeFits old none = Unit {0}
+TimeFits old (some x) = ⊥
+TimeFits timed none = ⊥
+TimeFits timed (some x) = x < 18446744073709551616
+
+pub record InFits (e : Edition) (t : Timed) : Type 0 where
+  pub block : BlockFits (t .block)
+  pub time : TimeFits e (t .time)
 
 -- ---- forward
 
@@ -132,30 +145,46 @@ pub mark-back : (m : Bool) → eqb (pick m 1 0) 1 ≡ m
 mark-back true = refl
 mark-back false = refl
 
--- every block within the limits is read back from its bytes
-pub block-reads : (b : Block) → BlockFits b → readBlock (blockBytes b) ≡ some (part b [])
-unfolding readBlock blockBytes flatten given allOf _>>=_ onward give
-block-reads b h =
+-- a time of 64 bits fits 16 bytes
+wide-enough : (x : ℕ) → x < 18446744073709551616 → x < 256 ^ 16
+wide-enough x h = lt-trans h (lit< tt)
+
+time-reads : (e : Edition) (o : Option ℕ) → TimeFits e o → ReadsBack (readTime e) timeBytes o
+unfolding readTime timeBytes given _>>=_ onward give
+time-reads old none h t = refl
+time-reads old (some x) h t = absurd h
+time-reads timed none h t = absurd h
+time-reads timed (some x) h t = rw (number-reads 16 x t (wide-enough x h), lt-ltb x 18446744073709551616 h)
+
+pub three-bytes : (e : Edition) → length (editionBytes e) ≡ 3
+unfolding editionBytes
+three-bytes old = refl
+three-bytes timed = refl
+
+-- every block within the limits is read back from its bytes, in either edition
+pub in-reads : (e : Edition) (t : Timed) → InFits e t → readIn e (bytesIn e t) ≡ some (part t [])
+unfolding readIn bytesIn flatten given _>>=_ onward give
+in-reads e t h =
+    let b : Block = t .block in
     let is : List ℕ = flatten (map referenceBytes (b .includes)) in
     let ss : List ℕ = flatten (map statementBytes (b .statements)) in
-    let counts : List ℕ = leBytes 2 (length (b .statements)) ++ (0 ∷ 0 ∷ 0 ∷ (is ++ (ss ++ []))) in
+    let rest : List ℕ = timeBytes (t .time) ++ (is ++ (ss ++ [])) in
+    let counts : List ℕ = leBytes 2 (length (b .statements)) ++ (editionBytes e ++ rest) in
     rw (
-      reference-reads (b .reference) (h .reference) (pick (b .marked) 1 0 ∷ (leBytes 2 (length (b .includes)) ++ counts)),
+      reference-reads (b .reference) (h .block .reference) (pick (b .marked) 1 0 ∷ (leBytes 2 (length (b .includes)) ++ counts)),
       byte-reads (pick (b .marked) 1 0) (leBytes 2 (length (b .includes)) ++ counts) (mark-fits (b .marked)),
-      number-reads 2 (length (b .includes)) counts (omega (arith, h .fewIncludes)),
-      number-reads 2 (length (b .statements)) (0 ∷ 0 ∷ 0 ∷ (is ++ (ss ++ []))) (omega (arith, h .fewStatements)),
-      items-reads 3 (0 ∷ 0 ∷ 0 ∷ []) (is ++ (ss ++ [])) refl,
+      number-reads 2 (length (b .includes)) counts (omega (arith, h .block .fewIncludes)),
+      number-reads 2 (length (b .statements)) (editionBytes e ++ rest) (omega (arith, h .block .fewStatements)),
+      items-reads 3 (editionBytes e) rest (three-bytes e),
       mark-low (b .marked),
-      le-leb (length (b .includes)) 256 (h .fewIncludes),
-      le-leb (length (b .statements)) 1024 (h .fewStatements),
+      le-leb (length (b .includes)) 256 (h .block .fewIncludes),
+      le-leb (length (b .statements)) 1024 (h .block .fewStatements),
+      same-refl (editionBytes e),
       mark-back (b .marked),
-      repeated-reads readReference referenceBytes (b .includes) (every reference-reads (b .includes) (h .includes)) (ss ++ []),
-      repeated-reads readStatement statementBytes (b .statements) (every statement-reads (b .statements) (h .statements)) [],
+      time-reads e (t .time) (h .time) (is ++ (ss ++ [])),
+      repeated-reads readReference referenceBytes (b .includes) (every reference-reads (b .includes) (h .block .includes)) (ss ++ []),
+      repeated-reads readStatement statementBytes (b .statements) (every statement-reads (b .statements) (h .block .statements)) [],
     )
-
-pub blockOf-blockBytes : (b : Block) → BlockFits b → blockOf (blockBytes b) ≡ some b
-unfolding blockOf
-blockOf-blockBytes b h = complete-reads readBlock (blockBytes b) b (block-reads b h)
 
 -- ---- back
 
@@ -239,22 +268,30 @@ statement-back =
     bind-back _ readKind (Number 1) (One statementBytes StatementFits) (number-back 1) λ k x p.
     rw (p .are, one-byte k (p .fits)) (kind-back k)
 
--- what the tests of a block's head say
-record Head (mark ins sts : ℕ) (zeros : List ℕ) : Type 0 where
+time-back : (e : Edition) → Back (readTime e) (One timeBytes (TimeFits e))
+unfolding readTime timeBytes
+time-back old = give-back _ none (record { are = refl; right = tt })
+time-back timed =
+    bind-back _ _ (Number 16) (One timeBytes (TimeFits timed)) (number-back 16) λ x y p.
+    given-back (ltb x 18446744073709551616) _ _ λ h.
+    give-back _ (some x) (record { are = rw (append-nil y) (p .are); right = ltb-true x 18446744073709551616 h })
+
+-- what the tests of a record's head say
+record Head (e : Edition) (mark ins sts : ℕ) (zeros : List ℕ) : Type 0 where
   low : mark ≤ 1
   few-includes : ins ≤ 256
   few-statements : sts ≤ 1024
-  zero-bytes : allOf (λ z. eqb z 0) zeros ≡ true
+  edition : zeros ≡ editionBytes e
 
-head-tests : (m i s : ℕ) (zs : List ℕ) → leb m 1 && leb i 256 && leb s 1024 && allOf (λ z. eqb z 0) zs ≡ true → Head m i s zs
-head-tests m i s zs h =
+head-tests : (e : Edition) (m i s : ℕ) (zs : List ℕ) → leb m 1 && leb i 256 && leb s 1024 && same zs (editionBytes e) ≡ true → Head e m i s zs
+head-tests e m i s zs h =
     let three : leb m 1 && leb i 256 && leb s 1024 ≡ true = and-left (leb m 1 && leb i 256 && leb s 1024) _ h in
     let two : leb m 1 && leb i 256 ≡ true = and-left (leb m 1 && leb i 256) _ three in
     record {
       low = leb-true m 1 (and-left (leb m 1) _ two);
       few-includes = leb-true i 256 (and-right (leb m 1) _ two);
       few-statements = leb-true s 1024 (and-right (leb m 1 && leb i 256) _ three);
-      zero-bytes = and-right (leb m 1 && leb i 256 && leb s 1024) _ h;
+      edition = same-true zs (editionBytes e) (and-right (leb m 1 && leb i 256 && leb s 1024) _ h);
     }
 
 -- a mark of at most 1 is the byte of its test
@@ -265,24 +302,19 @@ mark-byte m h = go (eqb m 1) refl
     go true e = eqb-true m 1 e
     go false e = let ne : m ≡ 1 → ⊥ = eqb-false m 1 e in omega (arith, ne)
 
-zeros-are : (n : ℕ) (zs : List ℕ) → length zs ≡ n → allOf (λ z. eqb z 0) zs ≡ true → zs ≡ replicate n 0
-unfolding allOf
-zeros-are n [] e h = rw (← e)
-zeros-are n (z ∷ zs) e h =
-    rw (← e) (rw (eqb-true z 0 (and-left (eqb z 0) _ h), ← zeros-are (length zs) zs refl (and-right (eqb z 0) _ h)))
-
-pub block-back : Back readBlock (One blockBytes BlockFits)
-unfolding readBlock blockBytes flatten
-block-back =
-    bind-back _ _ (One referenceBytes ReferenceFits) (One blockBytes BlockFits) reference-back λ r x₁ p₁.
+in-back : (e : Edition) → Back (readIn e) (One (bytesIn e) (InFits e))
+unfolding readIn bytesIn flatten
+in-back e =
+    bind-back _ _ (One referenceBytes ReferenceFits) (One (bytesIn e) (InFits e)) reference-back λ r x₁ p₁.
     bind-back _ _ (Number 1) _ (number-back 1) λ m x₂ p₂.
     bind-back _ _ (Number 2) _ (number-back 2) λ i x₃ p₃.
     bind-back _ _ (Number 2) _ (number-back 2) λ s x₄ p₄.
     bind-back _ _ (Items 3) _ (items-back 3) λ zs x₅ p₅.
     given-back _ _ _ λ h.
-    bind-back _ _ (Many referenceBytes ReferenceFits i) _ (repeated-back referenceBytes ReferenceFits readReference i reference-back) λ is x₆ p₆.
-    map-back _ (λ ss. record { reference = r; marked = eqb m 1; includes = is; statements = ss }) (Many statementBytes StatementFits s) _ (repeated-back statementBytes StatementFits readStatement s statement-back) λ ss x₇ p₇.
-    let t : Head m i s zs = head-tests m i s zs h in
+    bind-back _ _ (One timeBytes (TimeFits e)) _ (time-back e) λ o x₆ p₆.
+    bind-back _ _ (Many referenceBytes ReferenceFits i) _ (repeated-back referenceBytes ReferenceFits readReference i reference-back) λ is x₇ p₇.
+    map-back _ (λ ss. record { block = record { reference = r; marked = eqb m 1; includes = is; statements = ss }; time = o }) (Many statementBytes StatementFits s) _ (repeated-back statementBytes StatementFits readStatement s statement-back) λ ss x₈ p₈.
+    let t : Head e m i s zs = head-tests e m i s zs h in
     record {
       are =
           rw (
@@ -293,24 +325,24 @@ block-back =
             p₃ .are,
             p₄ .are,
             p₅ .are,
-            zeros-are 3 zs (p₅ .many) (t .zero-bytes),
+            t .edition,
             p₆ .are,
             p₇ .are,
-            p₆ .many,
+            p₈ .are,
             p₇ .many,
+            p₈ .many,
             append-nil (flatten (map statementBytes ss)),
           );
-      right = record { reference = p₁ .right; fewIncludes = rw (p₆ .many) (t .few-includes); fewStatements = rw (p₇ .many) (t .few-statements); includes = p₆ .right; statements = p₇ .right };
+      right =
+          record {
+            block = record { reference = p₁ .right; fewIncludes = rw (p₇ .many) (t .few-includes); fewStatements = rw (p₈ .many) (t .few-statements); includes = p₇ .right; statements = p₈ .right };
+            time = p₆ .right;
+          };
     }
 
 -- what a record is read as is what was written, and it is within the limits
-pub blockBytes-blockOf : (r : List ℕ) (b : Block) → AllBytes r → blockOf r ≡ some b → blockBytes b ≡ r
-unfolding blockOf
-blockBytes-blockOf r b h k = sym (complete-back readBlock (One blockBytes BlockFits) block-back r b h k .are)
-
-pub blockOf-fits : (r : List ℕ) (b : Block) → AllBytes r → blockOf r ≡ some b → BlockFits b
-unfolding blockOf
-blockOf-fits r b h k = complete-back readBlock (One blockBytes BlockFits) block-back r b h k .right
+pub read-back : (e : Edition) (r : List ℕ) (t : Timed) → AllBytes r → complete (readIn e r) ≡ some t → One (bytesIn e) (InFits e) r t
+read-back e r t h k = complete-back (readIn e) (One (bytesIn e) (InFits e)) (in-back e) r t h k
 
 -- ---- lengths
 
@@ -323,6 +355,107 @@ unfolding flatten
 length-includes [] none-of = refl
 length-includes (i ∷ is) (and h hs) = omega (arith, length-append (referenceBytes i) (flatten (map referenceBytes is)), length-reference i h, length-includes is hs)
 
+-- ---- where the parts stand
+
+drop-past : (a t : List ℕ) (n k : ℕ) → length a ≡ n → drop (n + k) (a ++ t) ≡ drop k t
+drop-past a t n k e = rw (← e) (drop-append-add a t k)
+
+module _ (e : Edition) (t : Timed) (f : BlockFits (t .block)) where
+  abbrev is : List ℕ
+  is = flatten (map referenceBytes (t .block .includes))
+
+  abbrev ss : List ℕ
+  ss = flatten (map statementBytes (t .block .statements)) ++ []
+
+  -- past the first 53 bytes
+  past-head : (k : ℕ) → drop (53 + k) (bytesIn e t) ≡ drop k (editionBytes e ++ (timeBytes (t .time) ++ (is ++ ss)))
+  unfolding bytesIn flatten
+  past-head k =
+      let b : Block = t .block in
+      let i = length (b .includes) in
+      let n = length (b .statements) in
+      let rest : List ℕ = editionBytes e ++ (timeBytes (t .time) ++ (is ++ ss)) in
+      let g : 53 + k ≡ 48 + (1 + (2 + (2 + k))) = omega arith in
+      rw g
+      (drop-past (referenceBytes (b .reference)) (pick (b .marked) 1 0 ∷ (leBytes 2 i ++ (leBytes 2 n ++ rest))) 48 (1 + (2 + (2 + k))) (length-reference (b .reference) (f .reference))
+      ∙ drop-past (pick (b .marked) 1 0 ∷ []) (leBytes 2 i ++ (leBytes 2 n ++ rest)) 1 (2 + (2 + k)) refl
+      ∙ drop-past (leBytes 2 i) (leBytes 2 n ++ rest) 2 (2 + k) (length-leBytes 2 i)
+      ∙ drop-past (leBytes 2 n) rest 2 k (length-leBytes 2 n))
+
+  pub past-edition : (k : ℕ) → drop (56 + k) (bytesIn e t) ≡ drop k (timeBytes (t .time) ++ (is ++ ss))
+  past-edition k =
+      let g : 56 + k ≡ 53 + (3 + k) = omega arith in
+      rw g (past-head (3 + k) ∙ drop-past (editionBytes e) (timeBytes (t .time) ++ (is ++ ss)) 3 k (three-bytes e))
+
+  pub past-includes : (k : ℕ) → drop (56 + length (timeBytes (t .time)) + 48 * length (t .block .includes) + k) (bytesIn e t) ≡ drop k (flatten (map statementBytes (t .block .statements)))
+  past-includes k =
+      let n = length (t .block .includes) in
+      let g : 56 + length (timeBytes (t .time)) + 48 * n + k ≡ 56 + (length (timeBytes (t .time)) + (48 * n + k)) = omega arith in
+      rw g
+      (past-edition (length (timeBytes (t .time)) + (48 * n + k))
+      ∙ drop-past (timeBytes (t .time)) (is ++ ss) (length (timeBytes (t .time))) (48 * n + k) refl
+      ∙ drop-past is ss (48 * n) k (length-includes (t .block .includes) (f .includes))
+      ∙ ap (λ (l : List ℕ). drop k l) (append-nil (flatten (map statementBytes (t .block .statements)))))
+
+  pub edition-place : take 3 (drop 53 (bytesIn e t)) ≡ editionBytes e
+  edition-place = ap (λ (l : List ℕ). take 3 l) (past-head 0) ∙ take-at (editionBytes e) (timeBytes (t .time) ++ (is ++ ss)) 3 (three-bytes e)
+
+-- the bytes of an edition say which it is
+edition-told : (e : Edition) → pick (eqb (getD (editionBytes e) 0 0) 2) timed old ≡ e
+unfolding editionBytes
+edition-told old = refl
+edition-told timed = refl
+
+pub edition-said : (e : Edition) (t : Timed) → BlockFits (t .block) → editionOf (bytesIn e t) ≡ e
+unfolding editionOf
+edition-said e t f =
+    let first : getD (bytesIn e t) 53 0 ≡ getD (editionBytes e) 0 0 =
+    sym (getD-drop 53 (bytesIn e t) 0 0) ∙ sym (getD-take 3 (drop 53 (bytesIn e t)) 0 0 (lit< tt)) ∙ ap (λ (l : List ℕ). getD l 0 0) (edition-place e t f) in
+    rw first (edition-told e)
+
+-- ---- either edition
+
+pub timedOf-timedBytes : (t : Timed) → InFits (editionFor (t .time)) t → timedOf (timedBytes t) ≡ some t
+unfolding timedOf timedBytes
+timedOf-timedBytes t h =
+    let e : Edition = editionFor (t .time) in
+    rw (edition-said e t (h .block)) (complete-reads (readIn e) (bytesIn e t) t (in-reads e t h))
+
+-- a time that fits an edition is of that edition
+edition-of : (e : Edition) (o : Option ℕ) → TimeFits e o → editionFor o ≡ e
+unfolding editionFor
+edition-of old none h = refl
+edition-of old (some x) h = absurd h
+edition-of timed none h = absurd h
+edition-of timed (some x) h = refl
+
+pub timed-back : (r : List ℕ) (t : Timed) → AllBytes r → timedOf r ≡ some t → One timedBytes (λ u. InFits (editionFor (u .time)) u) r t
+unfolding timedOf timedBytes
+timed-back r t b h =
+    let e : Edition = editionOf r in
+    let o : One (bytesIn e) (InFits e) r t = read-back e r t b h in
+    let f : editionFor (t .time) ≡ e = edition-of e (t .time) (o .right .time) in
+    record { are = rw f (o .are); right = rw f (o .right) }
+
+-- ---- blocks
+
+timed-block : (r : List ℕ) (b : Block) → blockOf r ≡ some b → (t : Timed) × ((timedOf r ≡ some t) × (t .block ≡ b))
+unfolding blockOf
+timed-block r b h = go (timedOf r) refl h
+  where
+    go : (o : Option Timed) → timedOf r ≡ o → Option·map (λ t. t .block) o ≡ some b → (t : Timed) × ((timedOf r ≡ some t) × (t .block ≡ b))
+    go none e k = absurd (Option·none-ne-some b k)
+    go (some t) e k = (t, (e, Option·some-injective _ _ k))
+
+pub blockOf-blockBytes : (b : Block) → BlockFits b → blockOf (blockBytes b) ≡ some b
+unfolding blockOf blockBytes editionFor
+blockOf-blockBytes b h = rw (timedOf-timedBytes (record { block = b; time = none }) (record { block = h; time = tt }))
+
+pub blockOf-fits : (r : List ℕ) (b : Block) → AllBytes r → blockOf r ≡ some b → BlockFits b
+blockOf-fits r b h k =
+    let t = timed-block r b k in
+    subst BlockFits (t .1 .1) (timed-back r (t .0) h (t .1 .0) .right .block)
+
 -- a record that is well formed is read as the block in it
 pub block-of : (s : List ℕ) → wellFormed s ≡ true → blockOf s ≡ some (blockIn s)
 unfolding wellFormed blockIn isNone
@@ -331,3 +464,16 @@ block-of s h = go (blockOf s) refl h
     go : (o : Option Block) → blockOf s ≡ o → not (isNone o) ≡ true → blockOf s ≡ some (Option·getD (blockOf s) noBlock)
     go none e k = absurd (not-both k refl)
     go (some b) e k = rw e
+
+-- a block that is read is the one in the record
+pub block-in : (s : List ℕ) (b : Block) → blockOf s ≡ some b → blockIn s ≡ b
+unfolding blockIn
+block-in s b h = rw h
+
+-- and its time is the one in the record
+pub timed-of : (s : List ℕ) (b : Block) → blockOf s ≡ some b → timedOf s ≡ some (record { block = b; time = timeIn s })
+unfolding timeIn timeOf
+timed-of s b h = go (timed-block s b h)
+  where
+    go : (t : Timed) × ((timedOf s ≡ some t) × (t .block ≡ b)) → timedOf s ≡ some (record { block = b; time = timeOf (timedOf s) })
+    go (t, (e, f)) = rw (e, ← f)

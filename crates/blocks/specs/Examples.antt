@@ -8,7 +8,7 @@ use lib.ListN.{length, replicate, set, take}
 use Rattle.base.specs.Checks.{refusal}
 use Rattle.blocks.specs.Reference.{BlockReference, TransactionLocator, newRange, referenceBefore, locatorBefore}
 use Rattle.blocks.specs.Block.{Statement, share, accept, reject, voteRange, Block}
-use Rattle.blocks.specs.Record.{blockOf, blockBytes}
+use Rattle.blocks.specs.Record.{Timed, timedOf, blockOf, timedBytes, blockBytes}
 use Rattle.blocks.specs.Verify.{bodyChecks, statementChecks, clockValid}
 
 abbrev pub ref : ℕ → ℕ → ℕ → BlockReference
@@ -30,6 +30,9 @@ full =
       statements = share (1 ∷ 2 ∷ 3 ∷ []) ∷ accept (at 4) ∷ reject (at 1) none ∷ reject (at 1) (some (at 2)) ∷ voteRange (newRange (ref 2 1 3) 4 300) ∷ [];
     }
 
+abbrev pub at-time : ℕ → Timed
+at-time x = record { block = full; time = some x }
+
 pub record Examples : Type 0 where
   -- an empty range is checked too
   pub empty-far : refusal (statementChecks (voteRange (newRange (ref 0 1 5) 1048576 1048576))) ≡ 27
@@ -50,6 +53,15 @@ pub record Examples : Type 0 where
   pub one-less : blockOf (take 451 (blockBytes full)) ≡ none
   pub mark-two : blockOf (set (blockBytes full) 48 2) ≡ none
   pub not-zero : blockOf (set (blockBytes full) 55 1) ≡ none
+  -- the same with the latest time, and one nanosecond later
+  pub timed-back : timedOf (timedBytes (at-time 18446744073709551615)) ≡ some (at-time 18446744073709551615)
+  pub timed-length : length (timedBytes (at-time 0)) ≡ 468
+  pub too-late : timedOf (timedBytes (at-time 18446744073709551616)) ≡ none
+  -- there is no edition 1; the second of the three bytes is zero; a 2 without a time; a time after a 0
+  pub edition-one : blockOf (set (blockBytes full) 53 1) ≡ none
+  pub second-byte : blockOf (set (timedBytes (at-time 5)) 54 2) ≡ none
+  pub no-time : blockOf (set (blockBytes full) 53 2) ≡ none
+  pub not-announced : blockOf (set (timedBytes (at-time 5)) 53 0) ≡ none
   -- the clock counts an author once, and only round - 1
   pub clock-once : clockValid (1 ∷ 1 ∷ 1 ∷ 1 ∷ []) (block (ref 0 0 1 ∷ ref 0 0 2 ∷ ref 1 0 3 ∷ []) []) ≡ false
   pub clock-three : clockValid (1 ∷ 1 ∷ 1 ∷ 1 ∷ []) (block (ref 0 0 1 ∷ ref 2 0 2 ∷ ref 1 0 3 ∷ []) []) ≡ true

@@ -1,11 +1,11 @@
--- Block records: their bytes, read and written. Assumes nothing: these are definitions.
+-- Block records of both editions: their bytes, read and written. Assumes nothing: these are definitions.
 use Prim.Native.Nat.{ℕ, zero, suc, _+_, _*_}
 use mathlib.Core.Bool.{Bool, false, not, _&&_}
 use mathlib.Core.List.{[], _∷_, _++_, map, flatten}
-use mathlib.Core.Option.{Option, none, some, Option·getD}
-use lib.Dec.{leb, eqb}
-use lib.ListN.{length, replicate, take}
-use Rattle.base.specs.Lists.{pick, allOf, isNone, sumOf}
+use mathlib.Core.Option.{Option, none, some, Option·map, Option·getD}
+use lib.Dec.{ltb, leb, eqb}
+use lib.ListN.{length, getD, take}
+use Rattle.base.specs.Lists.{pick, same, isNone, sumOf}
 use Rattle.base.specs.Le.{Bytes, leBytes}
 use Rattle.base.specs.Read.{Read, give, fail, _>>=_, items, number, given, repeated, complete}
 use Rattle.blocks.specs.Reference.{BlockReference, TransactionLocator, newRange}
@@ -77,23 +77,61 @@ readStatement = do
   kind ← number 1
   readKind kind
 
+-- 02: "Edition 2 of the record", and the one before it
+pub data Edition : Type 0 where
+  old : Edition
+  timed : Edition
+
+-- a block, with the time of its creation where its record has one
+pub record Timed : Type 0 where
+  pub block : Block
+  pub time : Option ℕ
+
+-- 02: "has 2 in the first of its three zero bytes"
+unfoldable pub editionBytes : Edition → Bytes
+editionBytes old = 0 ∷ 0 ∷ 0 ∷ []
+editionBytes timed = 2 ∷ 0 ∷ 0 ∷ []
+
+-- 02: "and the time, 16 bytes little-endian, after the header. Nanoseconds above 2^64 - 1 are malformed"
+unfoldable pub readTime : Edition → Read (Option ℕ)
+readTime old = give none
+readTime timed = do
+  time ← number 16
+  given (ltb time 18446744073709551616) (give (some time))
+
 -- 01: "Block record: author 8 bytes, round 8, digest 32, epoch mark 1 (0 or 1), include count 2 (at most 256), statement count 2 (at most
--- 1,024), 3 zero bytes; includes ..; statements"
-unfoldable pub readBlock : Read Block
-readBlock = do
+-- 1,024), 3 zero bytes; includes ..; statements"; 02: "Reading and accepting are shown with the edition as a parameter"
+unfoldable pub readIn : Edition → Read Timed
+readIn e = do
   reference ← readReference
   mark ← number 1
   includeCount ← number 2
   statementCount ← number 2
   zeros ← items 3
-  given (leb mark 1 && leb includeCount 256 && leb statementCount 1024 && allOf (λ z. eqb z 0) zeros) do
+  given (leb mark 1 && leb includeCount 256 && leb statementCount 1024 && same zeros (editionBytes e)) do
+    time ← readTime e
     includes ← repeated includeCount readReference
     statements ← repeated statementCount readStatement
-    give (record { reference = reference; marked = eqb mark 1; includes = includes; statements = statements })
+    give (record { block = record { reference = reference; marked = eqb mark 1; includes = includes; statements = statements }; time = time })
+
+-- the edition of which a record says that it is
+unfoldable pub editionOf : Bytes → Edition
+editionOf r = pick (eqb (getD r 53 0) 2) timed old
 
 -- 01: "nothing after"; none is "20 record malformed"
+unfoldable pub timedOf : Bytes → Option Timed
+timedOf r = complete (readIn (editionOf r) r)
+
 unfoldable pub blockOf : Bytes → Option Block
-blockOf r = complete (readBlock r)
+blockOf r = Option·map (λ t. t .block) (timedOf r)
+
+unfoldable pub timeOf : Option Timed → Option ℕ
+timeOf none = none
+timeOf (some t) = t .time
+
+-- the time of a record; none where it has none, or is malformed
+unfoldable pub timeIn : Bytes → Option ℕ
+timeIn r = timeOf (timedOf r)
 
 -- a record that is not malformed
 unfoldable pub wellFormed : Bytes → Bool
@@ -131,18 +169,44 @@ statementBytes (accept l) = 1 ∷ locatorBytes l
 statementBytes (reject l other) = 2 ∷ locatorBytes l ++ otherBytes other
 statementBytes (voteRange r) = 3 ∷ referenceBytes (r .block) ++ (leBytes 8 (r .start) ++ leBytes 8 (r .end))
 
--- where a record has the statement of that index, counted from its first byte
-unfoldable pub statementStart : Block → ℕ → ℕ
-statementStart b i = 56 + 48 * length (b .includes) + sumOf (map (λ s. length (statementBytes s)) (take i (b .statements)))
+-- where the includes of an edition begin: after the header, and after the time where it has one
+unfoldable pub bodyFrom : Edition → ℕ
+bodyFrom old = 56
+bodyFrom timed = 72
 
-unfoldable pub blockBytes : Block → Bytes
-blockBytes b =
+-- where a record has its first include
+unfoldable pub bodyStart : Bytes → ℕ
+bodyStart r = bodyFrom (editionOf r)
+
+-- where a record has the statement of that index, counted from its first byte
+unfoldable pub statementStart : Bytes → ℕ → ℕ
+statementStart r i = bodyStart r + 48 * length (blockIn r .includes) + sumOf (map (λ s. length (statementBytes s)) (take i (blockIn r .statements)))
+
+unfoldable pub timeBytes : Option ℕ → Bytes
+timeBytes none = []
+timeBytes (some x) = leBytes 16 x
+
+unfoldable pub bytesIn : Edition → Timed → Bytes
+bytesIn e t =
     flatten
-    (referenceBytes (b .reference)
-    ∷ (pick (b .marked) 1 0 ∷ [])
-    ∷ leBytes 2 (length (b .includes))
-    ∷ leBytes 2 (length (b .statements))
-    ∷ replicate 3 0
-    ∷ flatten (map referenceBytes (b .includes))
-    ∷ flatten (map statementBytes (b .statements))
+    (referenceBytes (t .block .reference)
+    ∷ (pick (t .block .marked) 1 0 ∷ [])
+    ∷ leBytes 2 (length (t .block .includes))
+    ∷ leBytes 2 (length (t .block .statements))
+    ∷ editionBytes e
+    ∷ timeBytes (t .time)
+    ∷ flatten (map referenceBytes (t .block .includes))
+    ∷ flatten (map statementBytes (t .block .statements))
     ∷ [])
+
+-- 02: "the writer writes 2 where a time is given"
+unfoldable pub editionFor : Option ℕ → Edition
+editionFor none = old
+editionFor (some x) = timed
+
+unfoldable pub timedBytes : Timed → Bytes
+timedBytes t = bytesIn (editionFor (t .time)) t
+
+-- a block's record without a time
+unfoldable pub blockBytes : Block → Bytes
+blockBytes b = timedBytes (record { block = b; time = none })

@@ -19,14 +19,14 @@ use Rattle.base.proofs.Checks.{passes-first, passes-others, passes-left, passes
 use Rattle.base.proofs.UpTo.{ReadAll}
 use Rattle.blocks.specs.Reference.{BlockReference, TransactionLocatorRange, locator}
 use Rattle.blocks.specs.Block.{Statement, share, accept, reject, voteRange, Block}
-use Rattle.blocks.specs.Record.{wellFormed, referenceBytes, blockBytes}
+use Rattle.blocks.specs.Record.{Timed, blockOf, wellFormed, referenceBytes, editionFor, timedBytes}
 use Rattle.blocks.specs.Claims.{areBytes}
-use Rattle.blocks.proofs.Claimed.{bytes-fit}
-use Rattle.blocks.proofs.Records.{ReferenceFits, StatementFits, BlockFits, mark-back, mark-byte, blockOf-blockBytes, blockBytes-blockOf, blockOf-fits}
+use Rattle.blocks.proofs.Claimed.{bytes-fit, time-fits}
+use Rattle.blocks.proofs.Records.{ReferenceFits, StatementFits, BlockFits, mark-back, mark-byte, timedOf-timedBytes, timed-back}
 use Rattle.drafts.specs.Draft.{Draft, Request, includesIn, statementsIn, withParts, draftIn, givenBytes, takenApart}
 use Rattle.drafts.specs.Joining.{joined, noNeighbours}
-use Rattle.drafts.specs.Writing.{writtenBlock, recordBytes, isLong, formChecks, writeChecks, writeDraft, writeRecord}
-use Rattle.drafts.specs.Claims.{fitsRequest, LentMeant, Shows, WrittenWell, WrittenShows, RefusedStays, WrittenAnew}
+use Rattle.drafts.specs.Writing.{writtenBlock, recordBytes, isLong, formChecks, writeChecks, writeDraft, writeTimed}
+use Rattle.drafts.specs.Claims.{fitsRequest, LentMeant, Shows, WrittenWell, isTime, WrittenShows, RefusedStays, WrittenAnew}
 use Rattle.drafts.proofs.Joining.{joins}
 use Rattle.drafts.proofs.Joined.{joins-spread, joins-every, joined-alone}
 use Rattle.drafts.proofs.Given.{GivenFits, statements-read, includes-read, statements-back, includes-back}
@@ -144,67 +144,68 @@ written-fits q d f e p =
 
 -- ---- the slice afterwards
 
-shows-given : (q : Request) (d : Draft) → RequestFits q → draftIn q ≡ some d → passes (formChecks d) ≡ true → Shows q (recordBytes d)
-unfolding recordBytes writtenBlock
-shows-given q d f e p =
-    let g : Drafted q d = drafted q d f e in
-    let w : Writable d = writable d p in
-    record {
-      draft = d;
-      given = e;
-      block = writtenBlock d;
-      reads = blockOf-blockBytes (writtenBlock d) (block-fits q d f g w);
-      author = g .author;
-      round = g .round;
-      digest = g .digest;
-      mark = sym (mark-byte (d .mark) (w .mark)) ∙ g .mark;
-      includes = refl;
-      statements = joins (d .statements);
-      places = refl;
-      spread = joins-spread (joins (d .statements));
-    }
+module _ (o : Option ℕ) where
+  shows-given : isTime o ≡ true → (q : Request) (d : Draft) → RequestFits q → draftIn q ≡ some d → passes (formChecks d) ≡ true → Shows o q (recordBytes o d)
+  unfolding isTime recordBytes writtenBlock
+  shows-given t q d f e p =
+      let g : Drafted q d = drafted q d f e in
+      let w : Writable d = writable d p in
+      record {
+        draft = d;
+        given = e;
+        block = writtenBlock d;
+        reads = timedOf-timedBytes (record { block = writtenBlock d; time = o }) (record { block = block-fits q d f g w; time = time-fits (editionFor o) o t });
+        author = g .author;
+        round = g .round;
+        digest = g .digest;
+        mark = sym (mark-byte (d .mark) (w .mark)) ∙ g .mark;
+        includes = refl;
+        statements = joins (d .statements);
+        places = refl;
+        spread = joins-spread (joins (d .statements));
+      }
 
-shows-well : (q : Request) (r : Bytes) → Shows q r → wellFormed r ≡ true
-unfolding wellFormed isNone
-shows-well q r s = rw (s .reads)
+  shows-well : (q : Request) (r : Bytes) → Shows o q r → wellFormed r ≡ true
+  unfolding wellFormed blockOf isNone
+  shows-well q r s = rw (s .reads)
 
--- the first n bytes, and those past them
-front-well : (q : Request) (out r : Bytes) (n : ℕ) → length r ≡ n → length r ≤ length out → Shows q r → WrittenWell q out n (r ++ drop (length r) out)
-front-well q out r n e k s =
-    record {
-      fits = omega arith;
-      wellFormed = rw (take-at r (drop (length r) out) n e) (shows-well q r s);
-      shows = rw (take-at r (drop (length r) out) n e) s;
-      past = drop-at r (drop (length r) out) n e ∙ rw e;
-      size = omega (arith, length-append r (drop (length r) out), length-drop (length r) out);
-    }
+  -- the first n bytes, and those past them
+  front-well : (q : Request) (out r : Bytes) (n : ℕ) → length r ≡ n → length r ≤ length out → Shows o q r → WrittenWell o q out n (r ++ drop (length r) out)
+  front-well q out r n e k s =
+      record {
+        fits = omega arith;
+        wellFormed = rw (take-at r (drop (length r) out) n e) (shows-well q r s);
+        shows = rw (take-at r (drop (length r) out) n e) s;
+        past = drop-at r (drop (length r) out) n e ∙ rw e;
+        size = omega (arith, length-append r (drop (length r) out), length-drop (length r) out);
+      }
 
-drafted-well : (q : Request) (d : Draft) (out : Bytes) (n : ℕ) → RequestFits q → draftIn q ≡ some d → writeDraft (some d) out .answer ≡ answered n
-    → WrittenWell q out n (writeDraft (some d) out .out)
-unfolding writeDraft writeChecks
-drafted-well q d out n f e h =
-    let c = checked-answered (writeChecks d out) (length (recordBytes d)) n h in
-    let fits : ltb (length out) (length (recordBytes d)) ≡ false = passes-first _ _ (passes-right (formChecks d) _ (c .0)) in
-    rw (c .0)
-    (front-well q out (recordBytes d) n (c .1) (ltb-false (length out) (length (recordBytes d)) fits) (shows-given q d f e (passes-left (formChecks d) _ (c .0))))
+  drafted-well : isTime o ≡ true → (q : Request) (d : Draft) (out : Bytes) (n : ℕ) → RequestFits q → draftIn q ≡ some d → writeDraft o (some d) out .answer ≡ answered n
+      → WrittenWell o q out n (writeDraft o (some d) out .out)
+  unfolding writeDraft writeChecks
+  drafted-well t q d out n f e h =
+      let c = checked-answered (writeChecks o d out) (length (recordBytes o d)) n h in
+      let fits : ltb (length out) (length (recordBytes o d)) ≡ false = passes-first _ _ (passes-right (formChecks d) _ (c .0)) in
+      rw (c .0)
+      (front-well q out (recordBytes o d) n (c .1) (ltb-false (length out) (length (recordBytes o d)) fits) (shows-given t q d f e (passes-left (formChecks d) _ (c .0))))
 
 pub written-shows : WrittenShows
-unfolding WrittenShows writeRecord writeDraft
-written-shows q out n f h = go (draftIn q) refl h
+unfolding WrittenShows writeTimed writeDraft
+written-shows o q out n t f h = go (draftIn q) refl h
   where
-    go : (o : Option Draft) → draftIn q ≡ o → writeDraft o out .answer ≡ answered n → WrittenWell q out n (writeDraft o out .out)
+    go : (p : Option Draft) → draftIn q ≡ p → writeDraft o p out .answer ≡ answered n → WrittenWell o q out n (writeDraft o p out .out)
     go none e k = let z : _≡_ {A = ℕ} 0 1 = cc in absurd (omega arith)
-    go (some d) e k = drafted-well q d out n (request-fits q f) e k
+    go (some d) e k = drafted-well o t q d out n (request-fits q f) e k
 
 -- ---- a refusal writes nothing
 
 pub refused-stays : RefusedStays
-unfolding RefusedStays writeRecord writeDraft
-refused-stays q out n h = go (draftIn q) h
+unfolding RefusedStays writeTimed writeDraft
+refused-stays o q out n h = go (draftIn q) h
   where
-    go : (o : Option Draft) → writeDraft o out .answer ≡ refused n → writeDraft o out .out ≡ out
+    go : (p : Option Draft) → writeDraft o p out .answer ≡ refused n → writeDraft o p out .out ≡ out
     go none k = refl
-    go (some d) k = rw (checked-refused (writeChecks d out) (length (recordBytes d)) n k)
+    go (some d) k = rw (checked-refused (writeChecks o d out) (length (recordBytes o d)) n k)
 
 -- ---- written anew
 
@@ -245,31 +246,36 @@ mark-low : (m : Bool) → ltb 1 (pick m 1 0) ≡ false
 mark-low true = refl
 mark-low false = refl
 
-anew-bytes : (b : Block) → noNeighbours (b .statements) ≡ true → recordBytes (draftOf b) ≡ blockBytes b
-unfolding recordBytes writtenBlock draftOf
-anew-bytes b k = rw (mark-back (b .marked), joined-alone (b .statements) k)
+module _ (t : Timed) (f : BlockFits (t .block)) (k : noNeighbours (t .block .statements) ≡ true) where
+  abbrev b : Block
+  b = t .block
 
-anew-passes : (b : Block) (out : Bytes) → BlockFits b → noNeighbours (b .statements) ≡ true → length (blockBytes b) ≤ length out → passes (writeChecks (draftOf b) out) ≡ true
-unfolding writeChecks formChecks passes allOf draftOf
-anew-passes b out f k l =
-    rw (
-      eq-eqb (length (b .reference .digest)) 32 (f .reference .size),
-      mark-low (b .marked),
-      le-ltb 256 (length (b .includes)) (f .fewIncludes),
-      none-long (b .statements) (f .statements),
-      joined-alone (b .statements) k,
-      le-ltb 1024 (length (b .statements)) (f .fewStatements),
-      anew-bytes b k,
-      le-ltb (length out) (length (blockBytes b)) l,
-    )
+  anew-bytes : recordBytes (t .time) (draftOf b) ≡ timedBytes t
+  unfolding recordBytes writtenBlock draftOf
+  anew-bytes = rw (mark-back (b .marked), joined-alone (b .statements) k)
 
-anew-written : (b : Block) (out : Bytes) → BlockFits b → noNeighbours (b .statements) ≡ true → length (blockBytes b) ≤ length out
-    → writeRecord (takenApart b) out ≡ record { answer = answered (length (blockBytes b)); out = blockBytes b ++ drop (length (blockBytes b)) out }
-unfolding writeRecord writeDraft checked
-anew-written b out f k l = rw (apart-reads b f, anew-passes b out f k l, anew-bytes b k)
+  anew-passes : (out : Bytes) → length (timedBytes t) ≤ length out → passes (writeChecks (t .time) (draftOf b) out) ≡ true
+  unfolding writeChecks formChecks passes allOf draftOf
+  anew-passes out l =
+      rw (
+        eq-eqb (length (b .reference .digest)) 32 (f .reference .size),
+        mark-low (b .marked),
+        le-ltb 256 (length (b .includes)) (f .fewIncludes),
+        none-long (b .statements) (f .statements),
+        joined-alone (b .statements) k,
+        le-ltb 1024 (length (b .statements)) (f .fewStatements),
+        anew-bytes,
+        le-ltb (length out) (length (timedBytes t)) l,
+      )
+
+  anew-written : (out : Bytes) → length (timedBytes t) ≤ length out
+      → writeTimed (t .time) (takenApart b) out ≡ record { answer = answered (length (timedBytes t)); out = timedBytes t ++ drop (length (timedBytes t)) out }
+  unfolding writeTimed writeDraft checked
+  anew-written out l = rw (apart-reads b f, anew-passes out l, anew-bytes)
 
 pub written-anew : WrittenAnew
 unfolding WrittenAnew
-written-anew r out b a e k l =
-    let same : blockBytes b ≡ r = blockBytes-blockOf r b (bytes-fit r a) e in
-    rw same at (anew-written b out (blockOf-fits r b (bytes-fit r a) e) k (rw same l))
+written-anew r out t a e k l =
+    let o = timed-back r t (bytes-fit r a) e in
+    let same : timedBytes t ≡ r = sym (o .are) in
+    rw same at (anew-written t (o .right .block) k out (rw same l))

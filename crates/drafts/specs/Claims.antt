@@ -3,7 +3,7 @@ use Prim.Native.Nat.{ℕ, _+_, _≤_, _<_}
 use mathlib.Core.Path.{_≡_}
 use mathlib.Core.Bool.{Bool, true, not, _&&_}
 use mathlib.Core.List.{List, [], _∷_, _++_, map, flatten}
-use mathlib.Core.Option.{some}
+use mathlib.Core.Option.{Option, some}
 use lib.Dec.{ltb}
 use lib.ListN.{length, take, drop}
 use Rattle.base.specs.Lists.{pick, allOf, adjacent}
@@ -12,11 +12,11 @@ use Rattle.base.specs.Checks.{refusal, refused, answered}
 use Rattle.blocks.specs.Reference.{TransactionLocatorRange, maxLen, locators}
 use Rattle.blocks.specs.Block.{Statement, accept, voteRange, Block}
 use Rattle.blocks.specs.Verify.{statementChecks}
-use Rattle.blocks.specs.Record.{blockOf, wellFormed, referenceBytes}
-use Rattle.blocks.specs.Claims.{areBytes}
+use Rattle.blocks.specs.Record.{Timed, timedOf, wellFormed, referenceBytes, editionFor}
+use Rattle.blocks.specs.Claims.{areBytes, fitsTime}
 use Rattle.drafts.specs.Draft.{Draft, Request, draftIn, givenBytes, takenApart}
 use Rattle.drafts.specs.Joining.{Piece, pieces, pieceGiven, rightPiece, joinable, joined, noNeighbours, spreadOut}
-use Rattle.drafts.specs.Writing.{writeRecord}
+use Rattle.drafts.specs.Writing.{writeTimed}
 
 -- ---- joining
 
@@ -63,11 +63,12 @@ unfoldable pub LentMeant : Type 0
 LentMeant = (q : Request) (d : Draft) → fitsRequest q ≡ true → draftIn q ≡ some d → LentSays q d
 
 -- 02: "Reading a written record shows all that was given, shares and votes in the same order"
-pub record Shows (q : Request) (r : Bytes) : Type 0 where
+pub record Shows (o : Option ℕ) (q : Request) (r : Bytes) : Type 0 where
   pub draft : Draft
   pub given : draftIn q ≡ some draft
   pub block : Block
-  pub reads : blockOf r ≡ some block
+  -- 02: "the writer writes 2 where a time is given"
+  pub reads : timedOf r ≡ some (record { block = block; time = o })
   pub author : block .reference .authority ≡ q .author
   pub round : block .reference .round ≡ q .round
   pub digest : block .reference .digest ≡ q .digest
@@ -79,25 +80,29 @@ pub record Shows (q : Request) (r : Bytes) : Type 0 where
   pub spread : spreadOut (block .statements) ≡ spreadOut (draft .statements)
 
 -- the first n bytes are the record, and "bytes past it stay"
-pub record WrittenWell (q : Request) (out : Bytes) (n : ℕ) (after : Bytes) : Type 0 where
+pub record WrittenWell (o : Option ℕ) (q : Request) (out : Bytes) (n : ℕ) (after : Bytes) : Type 0 where
   pub fits : n ≤ length out
   pub wellFormed : wellFormed (take n after) ≡ true
-  pub shows : Shows q (take n after)
+  pub shows : Shows o q (take n after)
   pub past : drop n after ≡ drop n out
   pub size : length after ≡ length out
 
+-- none, or a time of 64 bits
+unfoldable pub isTime : Option ℕ → Bool
+isTime o = fitsTime (editionFor o) o
+
 unfoldable pub WrittenShows : Type 0
-WrittenShows = (q : Request) (out : Bytes) (n : ℕ) → fitsRequest q ≡ true → writeRecord q out .answer ≡ answered n
-    → WrittenWell q out n (writeRecord q out .out)
+WrittenShows = (o : Option ℕ) (q : Request) (out : Bytes) (n : ℕ) → isTime o ≡ true → fitsRequest q ≡ true → writeTimed o q out .answer ≡ answered n
+    → WrittenWell o q out n (writeTimed o q out .out)
 
 -- a refusal writes nothing
 unfoldable pub RefusedStays : Type 0
-RefusedStays = (q : Request) (out : Bytes) (n : ℕ) → writeRecord q out .answer ≡ refused n → writeRecord q out .out ≡ out
+RefusedStays = (o : Option ℕ) (q : Request) (out : Bytes) (n : ℕ) → writeTimed o q out .answer ≡ refused n → writeTimed o q out .out ≡ out
 
--- 02: "a record without neighbouring accepts comes back byte for byte when written anew"
+-- 02: "a record without neighbouring accepts comes back byte for byte when written anew", in its edition
 unfoldable pub WrittenAnew : Type 0
-WrittenAnew = (r out : Bytes) (b : Block) → areBytes r ≡ true → blockOf r ≡ some b → noNeighbours (b .statements) ≡ true → length r ≤ length out
-    → writeRecord (takenApart b) out ≡ record { answer = answered (length r); out = r ++ drop (length r) out }
+WrittenAnew = (r out : Bytes) (t : Timed) → areBytes r ≡ true → timedOf r ≡ some t → noNeighbours (t .block .statements) ≡ true → length r ≤ length out
+    → writeTimed (t .time) (takenApart (t .block)) out ≡ record { answer = answered (length r); out = r ++ drop (length r) out }
 
 pub record Claims : Type 0 where
   pub joining : JoiningMeant

@@ -9,7 +9,7 @@ use Rattle.base.specs.Lists.{pick, anyOf}
 use Rattle.base.specs.Le.{Bytes}
 use Rattle.base.specs.Checks.{Check, _⇒_, passes, Answer, refused, checked}
 use Rattle.blocks.specs.Block.{Statement, share, accept, reject, voteRange, Block}
-use Rattle.blocks.specs.Record.{blockBytes}
+use Rattle.blocks.specs.Record.{timedBytes}
 use Rattle.drafts.specs.Draft.{Draft, Request, draftIn}
 use Rattle.drafts.specs.Joining.{joined}
 
@@ -23,9 +23,9 @@ writtenBlock d =
       statements = joined (d .statements);
     }
 
--- 02: "it writes one record"
-unfoldable pub recordBytes : Draft → Bytes
-recordBytes d = blockBytes (writtenBlock d)
+-- 02: "it writes one record"; "the writer writes 2 where a time is given"
+unfoldable pub recordBytes : Option ℕ → Draft → Bytes
+recordBytes o d = timedBytes (record { block = writtenBlock d; time = o })
 
 -- 02: "A payload over 65,535 bytes"
 unfoldable pub isLong : Statement → Bool
@@ -46,8 +46,8 @@ formChecks d =
     ∷ []
 
 -- 02: "then a slice too short answers 50"
-unfoldable pub writeChecks : Draft → Bytes → List Check
-writeChecks d out = formChecks d ++ ((ltb (length out) (length (recordBytes d)) ⇒ 50) ∷ [])
+unfoldable pub writeChecks : Option ℕ → Draft → Bytes → List Check
+writeChecks o d out = formChecks d ++ ((ltb (length out) (length (recordBytes o d)) ⇒ 50) ∷ [])
 
 -- what writing answers, and the slice that it was lent afterwards
 pub record Written : Type 0 where
@@ -55,13 +55,17 @@ pub record Written : Type 0 where
   pub out : Bytes
 
 -- 02: "writes one record into a lent slice and answers its length; as with every writer below, bytes past it stay"
-unfoldable pub writeDraft : Option Draft → Bytes → Written
-writeDraft none out = record { answer = refused 51; out = out }
-writeDraft (some d) out =
+unfoldable pub writeDraft : Option ℕ → Option Draft → Bytes → Written
+writeDraft o none out = record { answer = refused 51; out = out }
+writeDraft o (some d) out =
     record {
-      answer = checked (writeChecks d out) (length (recordBytes d));
-      out = pick (passes (writeChecks d out)) (recordBytes d ++ drop (length (recordBytes d)) out) out;
+      answer = checked (writeChecks o d out) (length (recordBytes o d));
+      out = pick (passes (writeChecks o d out)) (recordBytes o d ++ drop (length (recordBytes o d)) out) out;
     }
 
+-- with the time of its creation, where one is given
+unfoldable pub writeTimed : Option ℕ → Request → Bytes → Written
+writeTimed o q out = writeDraft o (draftIn q) out
+
 unfoldable pub writeRecord : Request → Bytes → Written
-writeRecord q out = writeDraft (draftIn q) out
+writeRecord q out = writeTimed none q out

@@ -12,8 +12,10 @@ ghost use Rattle.host_finals.specs.Finality.{finalityCall};
 ghost use Rattle.host_finals.specs.Stretches.{stretchesCall};
 ghost use Rattle.host_calendar.specs.Calendar.{isOpenCall, nextOpenCall};
 ghost use Rattle.host_stakes.specs.LoadStakes.{loadStakesCall};
-ghost use Rattle.drafts.specs.Writing.{writeRecord};
+ghost use mathlib.Core.Option.{some};
+ghost use Rattle.drafts.specs.Writing.{writeTimed, writeRecord};
 ghost use Rattle.write_record.specs.Answers.{requested};
+ghost use Rattle.host_times.specs.Times.{creationTimeCall};
 ghost use Rattle.host_ring.specs.Ring.{whomToRingCall};
 
 // Sets a committee: its total stake.
@@ -200,6 +202,47 @@ pub extern "C" fn lomkhvide_write_record(
     ensures { λ r. ⌜ now (out .exit) ≡ writeRecord (requested author round (now (digest .entry)) mark (now (includes .entry)) (now (statements .entry))) (now (out .entry)) .out ⌝ }
 {
     host_records::write_record_of(author, round, digest, mark, includes, statements, out)
+}
+
+// The same with the time of its creation, in nanoseconds.
+#[no_mangle]
+pub extern "C" fn lomkhvide_write_timed_record(
+    author: u64,
+    round: u64,
+    digest: &[u8],
+    mark: u64,
+    time: u64,
+    includes: &[u8],
+    statements: &[u8],
+    out: &mut [u8],
+) -> u64
+    ensures { λ r. ⌜ r ≡ encoded (writeTimed (some time) (requested author round (now (digest .entry)) mark (now (includes .entry)) (now (statements .entry))) (now (out .entry)) .answer) ⌝ }
+    ensures { λ r. ⌜ now (out .exit) ≡ writeTimed (some time) (requested author round (now (digest .entry)) mark (now (includes .entry)) (now (statements .entry))) (now (out .entry)) .out ⌝ }
+{
+    host_records::write_timed_record_of(
+        author,
+        round,
+        digest,
+        mark,
+        time,
+        includes,
+        statements,
+        out,
+    )
+}
+
+// The time of a stored block: 1 where it was written to `found`, 0 where there is none.
+#[no_mangle]
+pub extern "C" fn lomkhvide_creation_time(
+    stakes: &[u8],
+    store: &[u8],
+    reference: &[u8],
+    found: &mut [u8],
+) -> u64
+    ensures { λ r. ⌜ r ≡ encoded (creationTimeCall (now (stakes .entry)) (now (store .entry)) (now (reference .entry)) (now (found .entry)) .answer) ⌝ }
+    ensures { λ r. ⌜ now (found .exit) ≡ creationTimeCall (now (stakes .entry)) (now (store .entry)) (now (reference .entry)) (now (found .entry)) .found ⌝ }
+{
+    host_times::creation_time(stakes, store, reference, found)
 }
 
 // The number of owners to ring so that a pending locator gets its quorum; `found` takes their set and their stake.

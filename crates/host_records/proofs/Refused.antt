@@ -8,30 +8,30 @@ use lib.ListN.{length}
 use Rattle.base.specs.Lists.{allOf}
 use Rattle.base.specs.Checks.{refused}
 use Rattle.drafts.specs.Draft.{Draft, Request, draftIn}
-use Rattle.drafts.specs.Writing.{recordBytes, formChecks, writeChecks, writeDraft, writeRecord}
+use Rattle.drafts.specs.Writing.{recordBytes, formChecks, writeChecks, writeDraft, writeTimed}
 use Rattle.write_record.specs.Answers.{asWriteAnswer}
 use Rattle.write_record.specs.declared.WriteAnswer.{WriteAnswer}
 use Rattle.write_record.specs.declared.WriteAnswer.the-variants.{Written, Refused}
 use Rattle.host_calls.specs.Calls.{encoded}
 use Rattle.host_calls.proofs.Numbers.{checked-most}
 
-pub write-most : (q : Request) (out : List ℕ) (n : ℕ) → writeRecord q out .answer ≡ refused n → n ≤ 51
-unfolding writeRecord writeDraft writeChecks formChecks allOf
-write-most q out n h = go (draftIn q) h
+write-most : (o : Option ℕ) (q : Request) (out : List ℕ) (n : ℕ) → writeTimed o q out .answer ≡ refused n → n ≤ 51
+unfolding writeTimed writeDraft writeChecks formChecks allOf
+write-most o q out n h = go (draftIn q) h
   where
-    go : (o : Option Draft) → writeDraft o out .answer ≡ refused n → n ≤ 51
+    go : (p : Option Draft) → writeDraft o p out .answer ≡ refused n → n ≤ 51
     go none k = let z : 51 ≡ n = cc in omega arith
-    go (some d) k = checked-most 51 (writeChecks d out) (length (recordBytes d)) n refl k
+    go (some d) k = checked-most 51 (writeChecks o d out) (length (recordBytes o d)) n refl k
 
 -- ---- the word of an answer
 
-module _ (q : Request) (out : List ℕ) (r : WriteAnswer) (e : asWriteAnswer r ≡ writeRecord q out .answer) (n : ℕ) where
-  pub told-length : r ≡ Written n → n ≡ encoded (writeRecord q out .answer)
+module _ (o : Option ℕ) (q : Request) (out : List ℕ) (r : WriteAnswer) (e : asWriteAnswer r ≡ writeTimed o q out .answer) (n : ℕ) where
+  pub told-length : r ≡ Written n → n ≡ encoded (writeTimed o q out .answer)
   unfolding asWriteAnswer encoded
   told-length h = rw (← e, h)
 
-  pub told-refusal : r ≡ Refused n → (n ≤ 51) × (9223372036854775808 + n ≡ encoded (writeRecord q out .answer))
+  pub told-refusal : r ≡ Refused n → (n ≤ 51) × (9223372036854775808 + n ≡ encoded (writeTimed o q out .answer))
   unfolding asWriteAnswer encoded
   told-refusal h =
-      let k : writeRecord q out .answer ≡ refused n = sym e ∙ ap asWriteAnswer h in
-      (write-most q out n k, rw k)
+      let k : writeTimed o q out .answer ≡ refused n = sym e ∙ ap asWriteAnswer h in
+      (write-most o q out n k, rw k)

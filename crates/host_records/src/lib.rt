@@ -1,9 +1,10 @@
-// What the host's call that writes a record is made of.
+// What the host's calls that write a record are made of.
 use committee::AuthorityIndex;
 use committee::RoundNumber;
 use write_record::WriteAnswer;
 ghost use mathlib.Core.Path.{_≡_};
-ghost use Rattle.drafts.specs.Writing.{writeRecord};
+ghost use mathlib.Core.Option.{some};
+ghost use Rattle.drafts.specs.Writing.{writeTimed, writeRecord};
 ghost use Rattle.write_record.specs.Answers.{requested};
 ghost use Rattle.host_calls.specs.Calls.{encoded};
 
@@ -26,6 +27,34 @@ pub fn write_record_of(
         RoundNumber(round),
         digest,
         mark,
+        includes,
+        statements,
+        out,
+    ) {
+        WriteAnswer::Written(length) => length as u64,
+        WriteAnswer::Refused(number) => REFUSED + number,
+    }
+}
+
+pub fn write_timed_record_of(
+    author: u64,
+    round: u64,
+    digest: &[u8],
+    mark: u64,
+    time: u64,
+    includes: &[u8],
+    statements: &[u8],
+    out: &mut [u8],
+) -> u64
+    ensures { λ r. ⌜ r ≡ encoded (writeTimed (some time) (requested author round (now (digest .entry)) mark (now (includes .entry)) (now (statements .entry))) (now (out .entry)) .answer) ⌝ }
+    ensures { λ r. ⌜ now (out .exit) ≡ writeTimed (some time) (requested author round (now (digest .entry)) mark (now (includes .entry)) (now (statements .entry))) (now (out .entry)) .out ⌝ }
+{
+    match write_record::write_timed_record(
+        AuthorityIndex(author),
+        RoundNumber(round),
+        digest,
+        mark,
+        time,
         includes,
         statements,
         out,

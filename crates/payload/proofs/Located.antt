@@ -9,11 +9,10 @@ use lib.Dec.{eqb}
 use lib.ListN.{length, take, drop, getD, getElem?, length-drop}
 use lib.Seq.{length-take-le}
 use borrow.Author.Tests.{le-leb, eqb-true, not-false}
-use Rattle.base.specs.Lists.{pick, allOf, isNone, _∈_, here, there}
+use Rattle.base.specs.Lists.{pick, allOf, isNone, here, there}
 use Rattle.base.specs.Le.{Bytes}
 use Rattle.base.specs.Checks.{_⇒_, passes, refusal, refused, answered, checked}
 use Rattle.base.proofs.Tests.{and-left, and-right, not-both}
-use Rattle.base.proofs.Lists.{every-in}
 use Rattle.base.proofs.Checks.{passes-none}
 use Rattle.base.proofs.Le.{AllBytes}
 use Rattle.committee.specs.Committee.{Committee, broken}
@@ -30,16 +29,15 @@ use Rattle.block_record.proofs.Statements.{start-inside}
 use Rattle.store_layout.specs.Layout.{blocks, Entry, entries, positionOf, lookup}
 use Rattle.store_layout.specs.Shares.{isStoredShare}
 use Rattle.store_layout.specs.Store.{recordsOf, storeInOrder}
-use Rattle.store_layout.specs.Entry.{blockAt, laidOut, isEntry}
+use Rattle.store_layout.specs.Entry.{recordAt, blockAt, laidOut, isEntry}
 use Rattle.store_layout.specs.Payload.{Stretch, shareStretch, payloadOf, payloadAt, payloadChecks, stretchOf, payload, payloadLength}
 use Rattle.payload.specs.Answers.{asShare, shareWithin, payloadPlace}
 use Rattle.payload.specs.declared.SharePlace.{SharePlace}
 use Rattle.payload.specs.declared.SharePlace.the-variants.{Payload as PayloadOf, NoShare}
-use Rattle.store_layout.proofs.Store.{entries-within}
-use Rattle.store_layout.proofs.Loops.{is-entry, block-of-entry}
-use Rattle.store_layout.proofs.Lookups.{lookup-in}
+use Rattle.store_layout.proofs.Loops.{block-of-entry}
 use Rattle.store_layout.proofs.Shares.{share-has-payload}
 use Rattle.store_layout.proofs.Search.{laid-out}
+use Rattle.store_layout.proofs.Found.{FoundEntry, found-none, found-entry, found-stands, found-record}
 
 -- ---- as the code finds it
 
@@ -53,9 +51,9 @@ element-at [] i d h = absurd (omega arith)
 element-at (x ∷ xs) zero d h = refl
 element-at (x ∷ xs) (suc i) d h = element-at xs i d (omega arith)
 
-pub share-past : (b : Block) (o : ℕ) → length (b .statements) ≤ o → asShare NoShare ≡ shareStretch (statementStart b o) (getElem? (b .statements) o)
+pub share-past : (rec : Bytes) (o : ℕ) → length (blockIn rec .statements) ≤ o → asShare NoShare ≡ shareStretch (statementStart rec o) (getElem? (blockIn rec .statements) o)
 unfolding asShare shareStretch
-share-past b o h = rw (element-past (b .statements) o h)
+share-past rec o h = rw (element-past (blockIn rec .statements) o h)
 
 -- what is answered for a statement
 unfoldable pub shareTold : BaseStatement → SharePlace
@@ -66,18 +64,18 @@ shareTold (RejectFor l other) = NoShare
 shareTold (VoteRange r) = NoShare
 
 share-told : (rec : Bytes) → AllBytes rec → wellFormed rec ≡ true → (o next : ℕ) (st : BaseStatement) → o < length (blockIn rec .statements)
-    → asStatement rec st ≡ getD (blockIn rec .statements) o noStatement → payloadBetween (statementStart (blockIn rec) o) next st ≡ true → next ≡ statementStart (blockIn rec) (o + 1)
-    → (asShare (shareTold st) ≡ shareStretch (statementStart (blockIn rec) o) (getElem? (blockIn rec .statements) o)) × (shareWithin (length rec) (shareTold st) ≡ true)
+    → asStatement rec st ≡ getD (blockIn rec .statements) o noStatement → payloadBetween (statementStart rec o) next st ≡ true → next ≡ statementStart rec (o + 1)
+    → (asShare (shareTold st) ≡ shareStretch (statementStart rec o) (getElem? (blockIn rec .statements) o)) × (shareWithin (length rec) (shareTold st) ≡ true)
 unfolding asShare shareStretch shareWithin shareTold asStatement payloadBetween
 share-told rec bs w o next st h e p q = go st e p
   where
     at-is : getElem? (blockIn rec .statements) o ≡ some (getD (blockIn rec .statements) o noStatement)
     at-is = element-at (blockIn rec .statements) o noStatement h
 
-    go : (t : BaseStatement) → asStatement rec t ≡ getD (blockIn rec .statements) o noStatement → payloadBetween (statementStart (blockIn rec) o) next t ≡ true
-        → (asShare (shareTold t) ≡ shareStretch (statementStart (blockIn rec) o) (getElem? (blockIn rec .statements) o)) × (shareWithin (length rec) (shareTold t) ≡ true)
+    go : (t : BaseStatement) → asStatement rec t ≡ getD (blockIn rec .statements) o noStatement → payloadBetween (statementStart rec o) next t ≡ true
+        → (asShare (shareTold t) ≡ shareStretch (statementStart rec o) (getElem? (blockIn rec .statements) o)) × (shareWithin (length rec) (shareTold t) ≡ true)
     go (Share start len) e p =
-        let k : ℕ = statementStart (blockIn rec) o in
+        let k : ℕ = statementStart rec o in
         let begins : start ≡ k + 3 = eqb-true start (k + 3) (and-left (eqb start (k + 3)) _ p) in
         let ends : start + len ≡ next = eqb-true (start + len) next (and-right (eqb start (k + 3)) _ p) in
         let inside : start + len ≤ length rec = omega (arith, start-inside rec bs w (o + 1)) in
@@ -89,15 +87,15 @@ share-told rec bs w o next st h e p q = go st e p
     go (VoteRange r) e p = (rw (at-is, ← e), refl)
 
 -- the statement that stands at a place, as next_statement tells it
-pub share-found : (rec : Bytes) → AllBytes rec → wellFormed rec ≡ true → (o : ℕ) (k : StatementCursor) (r : NextStatement) → k ≡ cursorAt (blockIn rec) o → o < length (blockIn rec .statements)
-    → (asStatement rec (r .statement) ≡ getD (blockIn rec .statements) (k .index) noStatement) × ((r .next ≡ cursorAt (blockIn rec) (k .index + 1)) × (payloadBetween (k .at) (r .next .at) (r .statement) ≡ true))
+pub share-found : (rec : Bytes) → AllBytes rec → wellFormed rec ≡ true → (o : ℕ) (k : StatementCursor) (r : NextStatement) → k ≡ cursorAt rec o → o < length (blockIn rec .statements)
+    → (asStatement rec (r .statement) ≡ getD (blockIn rec .statements) (k .index) noStatement) × ((r .next ≡ cursorAt rec (k .index + 1)) × (payloadBetween (k .at) (r .next .at) (r .statement) ≡ true))
     → (st : BaseStatement) → r .statement ≡ st
-    → (asShare (shareTold st) ≡ shareStretch (statementStart (blockIn rec) o) (getElem? (blockIn rec .statements) o)) × (shareWithin (length rec) (shareTold st) ≡ true)
+    → (asShare (shareTold st) ≡ shareStretch (statementStart rec o) (getElem? (blockIn rec .statements) o)) × (shareWithin (length rec) (shareTold st) ≡ true)
 unfolding cursorAt
 share-found rec bs w o k r q h f st e =
     let i : k .index ≡ o = ap (λ (x : StatementCursor). x .index) q in
-    let p : k .at ≡ statementStart (blockIn rec) o = ap (λ (x : StatementCursor). x .at) q in
-    let n : r .next .at ≡ statementStart (blockIn rec) (o + 1) = ap (λ (x : StatementCursor). x .at) (f .1 .0) ∙ ap (λ (x : ℕ). statementStart (blockIn rec) (x + 1)) i in
+    let p : k .at ≡ statementStart rec o = ap (λ (x : StatementCursor). x .at) q in
+    let n : r .next .at ≡ statementStart rec (o + 1) = ap (λ (x : StatementCursor). x .at) (f .1 .0) ∙ ap (λ (x : ℕ). statementStart rec (x + 1)) i in
     share-told rec bs w o (r .next .at) st h
     (ap (asStatement rec) (sym e) ∙ f .0 ∙ ap (λ (x : ℕ). getD (blockIn rec .statements) x noStatement) i)
     (ap (λ (x : ℕ). payloadBetween x (r .next .at) st) (sym p) ∙ ap (λ (x : BaseStatement). payloadBetween (k .at) (r .next .at) x) (sym e) ∙ f .1 .1) n
@@ -162,36 +160,17 @@ shifted q p (some (voteRange r)) t h = rw h
 
 module _ (s : Bytes) (laid : laidOut s ≡ true) (l : TransactionLocator) (at : ℕ) (found : at ≡ positionOf (lookup (entries (recordsOf s)) (l .block))) where
   pub payload-unknown : at ≡ 0 → payloadAt s l ≡ none
-  unfolding payloadAt payloadOf positionOf
-  payload-unknown z = go (lookup (entries (recordsOf s)) (l .block)) refl (sym found ∙ z)
-    where
-      go : (o : Option Entry) → lookup (entries (recordsOf s)) (l .block) ≡ o → positionOf o ≡ 0 → payloadOf o (l .offset) ≡ none
-      go none q k = refl
-      go (some e) q k = absurd (omega (arith, every-in (entries (recordsOf s)) e (entries-within (recordsOf s)) (lookup-in (entries (recordsOf s)) (l .block) e q .0) .from))
-
-  -- the entry that was found
-  record FoundEntry : Type 0 where
-    entry : Entry
-    is : lookup (entries (recordsOf s)) (l .block) ≡ some entry
-    stored : entry ∈ entries (recordsOf s)
-    place : entry .position ≡ at
-
-  found-entry : (at ≡ 0 → ⊥) → FoundEntry
-  unfolding positionOf
-  found-entry f = go (lookup (entries (recordsOf s)) (l .block)) refl found
-    where
-      go : (o : Option Entry) → lookup (entries (recordsOf s)) (l .block) ≡ o → at ≡ positionOf o → FoundEntry
-      go none q k = absurd (f k)
-      go (some e) q k = record { entry = e; is = q; stored = lookup-in (entries (recordsOf s)) (l .block) e q .0; place = sym k }
+  unfolding payloadAt payloadOf
+  payload-unknown z = rw (found-none s laid (l .block) at found z)
 
   pub payload-entry : (at ≡ 0 → ⊥) → isEntry s at ≡ true
-  payload-entry f = let e : FoundEntry = found-entry f in rw (← e .place) (is-entry s (e .entry) (laid-out s laid .tested) (e .stored))
+  payload-entry f = found-stands s laid (l .block) at found f
 
   -- from what the record has
-  pub payload-found : (at ≡ 0 → ⊥) → (t : Option Stretch) → t ≡ shareStretch (statementStart (blockAt s at) (l .offset)) (getElem? (blockAt s at .statements) (l .offset))
+  pub payload-found : (at ≡ 0 → ⊥) → (t : Option Stretch) → t ≡ shareStretch (statementStart (recordAt s at) (l .offset)) (getElem? (blockAt s at .statements) (l .offset))
       → payloadAt s l ≡ Option·map (λ (x : Stretch). record { start = at + 8 + x .start; count = x .count }) t
   unfolding payloadAt payloadOf
   payload-found f t h =
-      let e : FoundEntry = found-entry f in
+      let e : FoundEntry s (l .block) at = found-entry s laid (l .block) at found f in
       let b : blockAt s at ≡ e .entry .block = ap (λ (n : ℕ). blockAt s n) (sym (e .place)) ∙ block-of-entry s (laid-out s laid .reads) (e .entry) (e .stored) in
-      rw (e .is, e .place, ← b) (shifted (at + 8) (statementStart (blockAt s at) (l .offset)) (getElem? (blockAt s at .statements) (l .offset)) t h)
+      rw (e .is, e .place, ← b, ← found-record s laid (l .block) at found f) (shifted (at + 8) (statementStart (recordAt s at) (l .offset)) (getElem? (blockAt s at .statements) (l .offset)) t h)

@@ -31,7 +31,7 @@ pub enum PayloadLength {
 // The payload of the share of that offset in a well-formed record.
 fn find_share(rec: &[u8], offset: u64) -> SharePlace
     requires { ⌜ wellFormed (now rec) ≡ true ⌝ }
-    ensures { λ r. ⌜ asShare r ≡ shareStretch (statementStart (blockIn (now (rec .entry))) offset) (getElem? (blockIn (now (rec .entry)) .statements) offset) ⌝ }
+    ensures { λ r. ⌜ asShare r ≡ shareStretch (statementStart (now (rec .entry)) offset) (getElem? (blockIn (now (rec .entry)) .statements) offset) ⌝ }
     ensures { λ r. ⌜ shareWithin (length (now (rec .entry))) r ≡ true ⌝ }
 {
     if block_record::statement_count(rec) as u64 <= offset {

@@ -15,7 +15,6 @@ use Rattle.base.specs.Le.{Bytes}
 use Rattle.base.proofs.Tests.{fails, not-both}
 use Rattle.base.proofs.Places.{every-place, places-every, pairs-places}
 use Rattle.base.proofs.Lists.{append-nil, find-passes, find-in, every-in, every-all, all-every}
-use Rattle.blocks.specs.Block.{Block}
 use Rattle.blocks.specs.Record.{blockIn}
 use Rattle.block_record.specs.Cursor.{cursorAt}
 use Rattle.block_record.specs.declared.StatementCursor.{StatementCursor}
@@ -86,18 +85,21 @@ module _ (s : Bytes) (x : Item) where
 
   -- the place of the walk, or the first of the item's block
   pub place-there : (w : Walk) (at : ℕ) (c : StatementCursor) → Ahead s w x → isEntry s (x .position) ≡ true → at ≡ x .position
-      → c ≡ pick (eqb at (w .last)) (w .cursor) (cursorAt (blockAt s (x .position)) 0) → NotPast (blockAt s (x .position)) (x .start) c
+      → c ≡ pick (eqb at (w .last)) (w .cursor) (cursorAt (recordAt s (x .position)) 0) → NotPast (recordAt s (x .position)) (x .start) c
   place-there w at c a h p e = go (eqb at (w .last)) refl e
     where
-      b : Block
-      b = blockAt s (x .position)
+      r : Bytes
+      r = recordAt s (x .position)
 
-      go : (t : Bool) → eqb at (w .last) ≡ t → c ≡ pick t (w .cursor) (cursorAt b 0) → NotPast b (x .start) c
+      go : (t : Bool) → eqb at (w .last) ≡ t → c ≡ pick t (w .cursor) (cursorAt r 0) → NotPast r (x .start) c
       go true q z = rw z (a .placed h (sym (eqb-true at (w .last) q) ∙ p))
-      go false q z = placed-first b (x .start) c z
+      go false q z = placed-first r (x .start) c z
 
   -- the same, of the record as it is lent
   module _ (at : ℕ) (v : Bytes) (h : isEntry s at ≡ true) (p : at ≡ x .position) (e : v ≡ recordAt s at) where
+    same-record : v ≡ recordAt s (x .position)
+    same-record = rw (e, p)
+
     same-block : blockIn v ≡ blockAt s (x .position)
     unfolding blockAt
     same-block = rw (e, p)
@@ -105,14 +107,14 @@ module _ (s : Bytes) (x : Item) where
     entry-here : isEntry s (x .position) ≡ true
     entry-here = rw p at h
 
-    pub part-place : (w : Walk) (c : StatementCursor) → Ahead s w x → c ≡ pick (eqb at (w .last)) (w .cursor) (cursorAt (blockIn v) 0) → NotPast (blockIn v) (x .start) c
-    part-place w c a q = rw same-block (place-there w at c a entry-here p (rw same-block at q))
+    pub part-place : (w : Walk) (c : StatementCursor) → Ahead s w x → c ≡ pick (eqb at (w .last)) (w .cursor) (cursorAt v 0) → NotPast v (x .start) c
+    part-place w c a q = rw same-record (place-there w at c a entry-here p (rw same-record at q))
 
     pub part-stored : itemStored (entries (recordsOf s)) x ≡ itemSuits x (blockIn v)
     part-stored = rw same-block (is-there entry-here)
 
-    pub part-walked : (c : StatementCursor) → NotPast (blockIn v) (x .end) c → WalkedTo s x (record { at = at; last = at; cursor = c })
-    part-walked c q = record { stands = h; at = p; last = p; placed = rw same-block at q }
+    pub part-walked : (c : StatementCursor) → NotPast v (x .end) c → WalkedTo s x (record { at = at; last = at; cursor = c })
+    part-walked c q = record { stands = h; at = p; last = p; placed = rw same-record at q }
 
   -- the items after this one are ahead of the walk
   pub walked-ahead : (w : Walk) → WalkedTo s x w → (y : Item) → itemBefore x y ≡ true → Ahead s w y

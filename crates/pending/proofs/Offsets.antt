@@ -10,7 +10,8 @@ use Rattle.base.specs.Lists.{allOf, holds, countFrom}
 use Rattle.base.proofs.Tests.{fails, not-both}
 use Rattle.base.proofs.Lists.{every-all, all-every, every-countFrom, countFrom-every}
 use Rattle.blocks.specs.Block.{Statement, Block, isShare, isShareAt}
-use Rattle.blocks.specs.Record.{noStatement}
+use Rattle.base.specs.Le.{Bytes}
+use Rattle.blocks.specs.Record.{noStatement, blockIn}
 use Rattle.block_record.specs.Cursor.{cursorAt}
 use Rattle.block_record.specs.declared.StatementCursor.{StatementCursor}
 use Rattle.shared_ranges.proofs.Walk.{placed-index, placed}
@@ -53,46 +54,46 @@ module _ (b : Block) (start end : ℕ) where
 
 -- ---- places
 
-module _ (b : Block) where
+module _ (r : Bytes) where
   -- a place that is not past an offset is not past a later one
-  pub placed-later : (o q : ℕ) (c : StatementCursor) → o ≤ q → NotPast b o c → NotPast b q c
+  pub placed-later : (o q : ℕ) (c : StatementCursor) → o ≤ q → NotPast r o c → NotPast r q c
   placed-later o q c h p = record { right = p .right; inside = p .inside; before = omega (arith, p .before) }
 
   -- the first place is past nothing
-  pub placed-first : (o : ℕ) (c : StatementCursor) → c ≡ cursorAt b 0 → NotPast b o c
-  placed-first o c e = let i = placed-index b c 0 e in record { right = placed b c 0 e; inside = omega (arith, i); before = omega (arith, i) }
+  pub placed-first : (o : ℕ) (c : StatementCursor) → c ≡ cursorAt r 0 → NotPast r o c
+  placed-first o c e = let i = placed-index r c 0 e in record { right = placed r c 0 e; inside = omega (arith, i); before = omega (arith, i) }
 
   -- the place after one before the offset
-  pub placed-next : (o : ℕ) (c d : StatementCursor) → NotPast b o c → c .index < o → c .index < length (b .statements) → d ≡ cursorAt b (c .index + 1) → NotPast b o d
+  pub placed-next : (o : ℕ) (c d : StatementCursor) → NotPast r o c → c .index < o → c .index < length (blockIn r .statements) → d ≡ cursorAt r (c .index + 1) → NotPast r o d
   placed-next o c d p h k e =
-      let i = placed-index b d (c .index + 1) e in
-      record { right = placed b d (c .index + 1) e; inside = omega (arith, i); before = omega (arith, i) }
+      let i = placed-index r d (c .index + 1) e in
+      record { right = placed r d (c .index + 1) e; inside = omega (arith, i); before = omega (arith, i) }
 
 -- ---- a walk over a range
 
 -- the offsets from `start` up to o are shares
-pub record Sharing (b : Block) (start end o : ℕ) (c : StatementCursor) : Type 0 where
+pub record Sharing (r : Bytes) (start end o : ℕ) (c : StatementCursor) : Type 0 where
   pub from : start ≤ o
   pub most : o ≤ end
-  pub shares : (q : ℕ) → start ≤ q → q < o → isShareAt b q ≡ true
-  pub place : NotPast b o c
+  pub shares : (q : ℕ) → start ≤ q → q < o → isShareAt (blockIn r) q ≡ true
+  pub place : NotPast r o c
 
-module _ (b : Block) (start end : ℕ) where
-  pub sharing-start : (c : StatementCursor) → start ≤ end → NotPast b start c → Sharing b start end start c
+module _ (r : Bytes) (start end : ℕ) where
+  pub sharing-start : (c : StatementCursor) → start ≤ end → NotPast r start c → Sharing r start end start c
   sharing-start c h p = record { from = omega arith; most = h; shares = λ q (l : start ≤ q) (u : q < start). absurd (omega arith); place = p }
 
-  pub sharing-on : (o : ℕ) (c d : StatementCursor) → Sharing b start end o c → o < end → isShareAt b o ≡ true → NotPast b o d → Sharing b start end (o + 1) d
+  pub sharing-on : (o : ℕ) (c d : StatementCursor) → Sharing r start end o c → o < end → isShareAt (blockIn r) o ≡ true → NotPast r o d → Sharing r start end (o + 1) d
   sharing-on o c d s h e p =
-      record { from = omega (arith, s .from); most = omega arith; shares = λ q l u. go q l u (decLt q o); place = placed-later b o (o + 1) d (omega arith) p }
+      record { from = omega (arith, s .from); most = omega arith; shares = λ q l u. go q l u (decLt q o); place = placed-later r o (o + 1) d (omega arith) p }
     where
-      go : (q : ℕ) → start ≤ q → q < o + 1 → Dec (q < o) → isShareAt b q ≡ true
+      go : (q : ℕ) → start ≤ q → q < o + 1 → Dec (q < o) → isShareAt (blockIn r) q ≡ true
       go q l u (yes k) = s .shares q l k
       go q l u (no k) = let z : q ≡ o = omega arith in rw z e
 
-  pub sharing-no : (o : ℕ) (c : StatementCursor) → Sharing b start end o c → o < end → isShareAt b o ≡ false → sharesIn b start end ≡ false
-  sharing-no o c s h e = one-missing b start end o (s .from) h e
+  pub sharing-no : (o : ℕ) (c : StatementCursor) → Sharing r start end o c → o < end → isShareAt (blockIn r) o ≡ false → sharesIn (blockIn r) start end ≡ false
+  sharing-no o c s h e = one-missing (blockIn r) start end o (s .from) h e
 
-  pub sharing-all : (o : ℕ) (c : StatementCursor) → Sharing b start end o c → end ≤ o → (true ≡ sharesIn b start end) × (true ≡ true → NotPast b end c)
+  pub sharing-all : (o : ℕ) (c : StatementCursor) → Sharing r start end o c → end ≤ o → (true ≡ sharesIn (blockIn r) start end) × (true ≡ true → NotPast r end c)
   sharing-all o c s h =
       let z : o ≡ end = omega (arith, s .most) in
-      (sym (all-shares b start end (λ q l (u : q < end). s .shares q l (omega arith))), λ _. rw (← z) (s .place))
+      (sym (all-shares (blockIn r) start end (λ q l (u : q < end). s .shares q l (omega arith))), λ _. rw (← z) (s .place))

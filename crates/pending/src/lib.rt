@@ -53,8 +53,8 @@ struct Stored {
 
 // Whether the share at an offset is there, walking on from a place that is not past it.
 pub fn share_at(rec: &[u8], from: StatementCursor, o: u64) -> ShareAt
-    requires { ⌜ (wellFormed (now rec) ≡ true) × NotPast (blockIn (now rec)) o from ⌝ }
-    ensures { λ r. ⌜ (r .share ≡ isShareAt (blockIn (now (rec .entry))) o) × NotPast (blockIn (now (rec .entry))) o (r .cursor) ⌝ }
+    requires { ⌜ (wellFormed (now rec) ≡ true) × NotPast (now rec) o from ⌝ }
+    ensures { λ r. ⌜ (r .share ≡ isShareAt (blockIn (now (rec .entry))) o) × NotPast (now (rec .entry)) o (r .cursor) ⌝ }
 {
     let count = block_record::statement_count(rec) as u64;
     if count <= o {
@@ -76,8 +76,8 @@ pub fn share_at(rec: &[u8], from: StatementCursor, o: u64) -> ShareAt
 
 // Whether each offset in start..end is a share's.
 fn shares_in(rec: &[u8], from: StatementCursor, start: u64, end: u64) -> Shares
-    requires { ⌜ (wellFormed (now rec) ≡ true) × NotPast (blockIn (now rec)) start from × (start ≤ end) ⌝ }
-    ensures { λ r. ⌜ (r .all ≡ sharesIn (blockIn (now (rec .entry))) start end) × (r .all ≡ true → NotPast (blockIn (now (rec .entry))) end (r .cursor)) ⌝ }
+    requires { ⌜ (wellFormed (now rec) ≡ true) × NotPast (now rec) start from × (start ≤ end) ⌝ }
+    ensures { λ r. ⌜ (r .all ≡ sharesIn (blockIn (now (rec .entry))) start end) × (r .all ≡ true → NotPast (now (rec .entry)) end (r .cursor)) ⌝ }
 {
     let mut cursor = from;
     let mut o = start;
@@ -110,8 +110,8 @@ fn entry_from(store: &[u8], from: usize, p: u64) -> usize
 
 // Whether the items of a block may hold this one: its offsets are shares and its votes hold the sharer.
 fn item_suits(rec: &[u8], x: Item, from: StatementCursor) -> Shares
-    requires { ⌜ (wellFormed (now rec) ≡ true) × NotPast (blockIn (now rec)) (x .start) from × (x .start ≤ x .end) ⌝ }
-    ensures { λ r. ⌜ (r .all ≡ itemSuits (asItem x) (blockIn (now (rec .entry)))) × (r .all ≡ true → NotPast (blockIn (now (rec .entry))) (x .end) (r .cursor)) ⌝ }
+    requires { ⌜ (wellFormed (now rec) ≡ true) × NotPast (now rec) (x .start) from × (x .start ≤ x .end) ⌝ }
+    ensures { λ r. ⌜ (r .all ≡ itemSuits (asItem x) (blockIn (now (rec .entry)))) × (r .all ≡ true → NotPast (now (rec .entry)) (x .end) (r .cursor)) ⌝ }
 {
     let found = shares_in(rec, from, x.start, x.end);
     let cursor = found.cursor;
@@ -129,7 +129,7 @@ fn item_suits(rec: &[u8], x: Item, from: StatementCursor) -> Shares
 // The place at which the statements of a record are read on: the one given where it is of this record, else the first.
 fn place_in(rec: &[u8], same: bool, cursor: StatementCursor) -> StatementCursor
     requires { ⌜ wellFormed (now rec) ≡ true ⌝ }
-    ensures { λ r. ⌜ r ≡ pick same cursor (cursorAt (blockIn (now (rec .entry))) 0) ⌝ }
+    ensures { λ r. ⌜ r ≡ pick same cursor (cursorAt (now (rec .entry)) 0) ⌝ }
 {
     if same {
         return cursor;

@@ -30,13 +30,13 @@ use Rattle.blocks.proofs.Runs.{Run, runs-from}
 
 -- ---- places
 
-module _ (b : Block) (c : StatementCursor) (i : ℕ) (e : c ≡ cursorAt b i) where
+module _ (r : Bytes) (c : StatementCursor) (i : ℕ) (e : c ≡ cursorAt r i) where
   pub placed-index : c .index ≡ i
   unfolding cursorAt
   placed-index = ap (λ (x : StatementCursor). x .index) e
 
-  pub placed : c ≡ cursorAt b (c .index)
-  placed = e ∙ ap (cursorAt b) (sym placed-index)
+  pub placed : c ≡ cursorAt r (c .index)
+  placed = e ∙ ap (cursorAt r) (sym placed-index)
 
 -- where a share has its payload
 pub payload-place : (at next start len : ℕ) → payloadBetween at next (Share start len) ≡ true → (start ≡ at + 3) × (start + len ≡ next)
@@ -191,15 +191,15 @@ module _ (b : Block) (i : ℕ) (low : i ≤ length (b .statements)) where
   run-to = omega (arith, run-from, leading-most true (drop From ss), length-drop From ss)
 
   -- as code finds it
-  pub run-told : (start end : StatementCursor) → start ≡ cursorAt b From → end ≡ cursorAt b (start .index + leading true (drop (start .index) (b .statements)))
+  pub run-told : (r : Bytes) (start end : StatementCursor) → start ≡ cursorAt r From → end ≡ cursorAt r (start .index + leading true (drop (start .index) (b .statements)))
       → (start .index ≡ length (b .statements) → ⊥)
       → (runsLeft b i ≡ newRange (b .reference) (start .index) (end .index) ∷ runsLeft b (end .index))
-      × ((i < end .index) × ((end .index ≤ length (b .statements)) × (end ≡ cursorAt b (end .index))))
-  run-told start end e f g =
-      let from : start .index ≡ From = placed-index b start From e in
-      let to : end .index ≡ To = rw from at (placed-index b end (start .index + leading true (drop (start .index) ss)) f) in
+      × ((i < end .index) × ((end .index ≤ length (b .statements)) × (end ≡ cursorAt r (end .index))))
+  run-told r start end e f g =
+      let from : start .index ≡ From = placed-index r start From e in
+      let to : end .index ≡ To = rw from at (placed-index r end (start .index + leading true (drop (start .index) ss)) f) in
       let inside : From < length ss = omega (arith, run-from, from, g) in
-      (rw (from, to) (run-some inside), (omega (arith, to, run-on inside), (omega (arith, to, run-to), placed b end (start .index + leading true (drop (start .index) ss)) f)))
+      (rw (from, to) (run-some inside), (omega (arith, to, run-on inside), (omega (arith, to, run-to), placed r end (start .index + leading true (drop (start .index) ss)) f)))
 
 -- ---- offsets that votes count
 

@@ -4,7 +4,9 @@ use mathlib.Core.Path.{_≡_}
 use mathlib.Core.List.{List, [], _∷_}
 use lib.ListN.{length, drop}
 use Rattle.blocks.specs.Reference.{TransactionLocatorRange, newRange}
+use Rattle.base.specs.Le.{Bytes}
 use Rattle.blocks.specs.Block.{Block, runsFrom}
+use Rattle.blocks.specs.Record.{blockIn}
 use Rattle.shared_ranges.specs.declared.SharedRange.{SharedRange}
 use Rattle.shared_ranges.specs.declared.SharedRange.the-variants.{Run, End}
 use Rattle.block_record.specs.Cursor.{cursorAt}
@@ -18,7 +20,7 @@ unfoldable pub runsTold : Block → SharedRange → List TransactionLocatorRange
 runsTold b (Run start end next) = newRange (b .reference) start end ∷ runsLeft b (next .index)
 runsTold b End = []
 
--- the place that an answer gives stands further on in the block
-unfoldable pub FurtherOn : Block → ℕ → SharedRange → Type 0
-FurtherOn b i (Run start end next) = (i < next .index) × ((next .index ≤ length (b .statements)) × (next ≡ cursorAt b (next .index)))
-FurtherOn b i End = Unit {0}
+-- the place that an answer gives stands further on in the record
+unfoldable pub FurtherOn : Bytes → ℕ → SharedRange → Type 0
+FurtherOn r i (Run start end next) = (i < next .index) × ((next .index ≤ length (blockIn r .statements)) × (next ≡ cursorAt r (next .index)))
+FurtherOn r i End = Unit {0}

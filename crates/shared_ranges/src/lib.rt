@@ -39,8 +39,8 @@ pub fn is_share(statement: BaseStatement) -> bool
 
 // The place after the statements that are shares, or that are none, from a place on.
 pub fn skip_statements(rec: &[u8], from: StatementCursor, shares: bool) -> StatementCursor
-    requires { ⌜ (wellFormed (now rec) ≡ true) × ((from ≡ cursorAt (blockIn (now rec)) (from .index)) × (from .index ≤ length (blockIn (now rec) .statements))) ⌝ }
-    ensures { λ r. ⌜ r ≡ cursorAt (blockIn (now (rec .entry))) (from .index + leading shares (drop (from .index) (blockIn (now (rec .entry)) .statements))) ⌝ }
+    requires { ⌜ (wellFormed (now rec) ≡ true) × ((from ≡ cursorAt (now rec) (from .index)) × (from .index ≤ length (blockIn (now rec) .statements))) ⌝ }
+    ensures { λ r. ⌜ r ≡ cursorAt (now (rec .entry)) (from .index + leading shares (drop (from .index) (blockIn (now (rec .entry)) .statements))) ⌝ }
 {
     let count = block_record::statement_count(rec);
     let mut cursor = from;
@@ -57,8 +57,8 @@ pub fn skip_statements(rec: &[u8], from: StatementCursor, shares: bool) -> State
 
 // The next run of neighbouring shares from a place on, as `shared_ranges` has it.
 pub fn next_shared_range(rec: &[u8], cursor: StatementCursor) -> SharedRange
-    requires { ⌜ (wellFormed (now rec) ≡ true) × ((cursor ≡ cursorAt (blockIn (now rec)) (cursor .index)) × (cursor .index ≤ length (blockIn (now rec) .statements))) ⌝ }
-    ensures { λ r. ⌜ (runsLeft (blockIn (now (rec .entry))) (cursor .index) ≡ runsTold (blockIn (now (rec .entry))) r) × FurtherOn (blockIn (now (rec .entry))) (cursor .index) r ⌝ }
+    requires { ⌜ (wellFormed (now rec) ≡ true) × ((cursor ≡ cursorAt (now rec) (cursor .index)) × (cursor .index ≤ length (blockIn (now rec) .statements))) ⌝ }
+    ensures { λ r. ⌜ (runsLeft (blockIn (now (rec .entry))) (cursor .index) ≡ runsTold (blockIn (now (rec .entry))) r) × FurtherOn (now (rec .entry)) (cursor .index) r ⌝ }
 {
     let count = block_record::statement_count(rec);
     let start = skip_statements(rec, cursor, false);

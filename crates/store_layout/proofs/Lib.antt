@@ -13,5 +13,6 @@ pub mod Visit
 pub mod Loops
 pub mod Lookups
 pub mod Search
+pub mod Found
 pub mod Sorted
 pub mod Shares

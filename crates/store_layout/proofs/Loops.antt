@@ -302,6 +302,9 @@ module _ (s : Bytes) (rs : List Record) where
 
 -- the code tests it by the blocks at the two positions
 module _ (s : Bytes) (r : Readable s) where
+  pub record-of-entry : (e : Entry) → e ∈ entries (recordsOf s) → recordAt s (e .position) ≡ e .bytes
+  record-of-entry e m = record-at s (e .position) _ (every-in (entries (recordsOf s)) e (entries-stand s (recordsOf s) (r .walked)) m)
+
   pub block-of-entry : (e : Entry) → e ∈ entries (recordsOf s) → blockAt s (e .position) ≡ e .block
   block-of-entry e m = block-at s (e .position) _ (every-in (entries (recordsOf s)) e (entries-stand s (recordsOf s) (r .walked)) m)
 

@@ -3,7 +3,7 @@ use mathlib.Core.Path.{_≡_, sym, ap, _∙_}
 use mathlib.Core.List.{List, [], _∷_, _++_, map, flatten}
 use mathlib.Core.Option.{some, Option·some-injective, Option·none-ne-some}
 use mathlib.Core.Bool.{Bool, true}
-use Prim.Native.Nat.{ℕ, zero, suc, _+_}
+use Prim.Native.Nat.{ℕ, zero, suc, _+_, _*_}
 use native.Mathlib.Omega.{arith}
 use lib.ListN.{length, take, drop, getElem?, take-append-drop}
 use Rattle.base.specs.Lists.{pick, sumOf, _∈_, here, there}
@@ -14,8 +14,9 @@ use Rattle.base.proofs.Parts.{PartOf, part-taken, part-complete, part-left, par
 use Rattle.committee.specs.Committee.{Committee}
 use Rattle.blocks.specs.Reference.{TransactionLocator, sameReference}
 use Rattle.blocks.specs.Block.{Statement, share, Block}
-use Rattle.blocks.specs.Record.{referenceBytes, statementBytes, blockBytes, statementStart}
-use Rattle.blocks.proofs.Records.{BlockFits, blockBytes-blockOf, blockOf-fits, length-reference, length-includes}
+use Rattle.blocks.specs.Record.{Edition, Timed, editionBytes, blockOf, timeIn, referenceBytes, statementBytes, statementStart, timeBytes, bytesIn, editionFor, timedBytes}
+use Rattle.blocks.proofs.Records.{BlockFits, three-bytes, length-reference, length-includes, timed-back, block-in, timed-of}
+use Rattle.blocks.proofs.Places.{starts}
 use Rattle.store_layout.specs.Layout.{Record, Entry, referenceOf, entries, nextPosition, entryBytes, bodyBytes, headerBytes, layout, lookup}
 use Rattle.store_layout.specs.Store.{usedLength, recordsOf, storeInOrder}
 use Rattle.store_layout.specs.Payload.{shareStretch, payloadOf, payloadAt, stretchOf}
@@ -37,24 +38,35 @@ share-part v =
     part-at (kind ++ v) v (length kind + 0) 3 (omega (arith, length-leBytes 2 (length v))) (part-right kind v v 0 (part-complete v))
 
 -- a statement stands where statementStart says
-block-part : (b : Block) (o : ℕ) (s : Statement) → BlockFits b → getElem? (b .statements) o ≡ some s → PartOf (blockBytes b) (statementBytes s) (statementStart b o)
-unfolding blockBytes flatten statementStart
-block-part b o s f h =
-    part-at (blockBytes b) (statementBytes s) _ (statementStart b o)
+timed-part : (e : Edition) (t : Timed) (o : ℕ) (s : Statement) → BlockFits (t .block) → getElem? (t .block .statements) o ≡ some s
+    → PartOf (bytesIn e t) (statementBytes s) (56 + length (timeBytes (t .time)) + 48 * length (t .block .includes) + sumOf (map (λ x. length (statementBytes x)) (take o (t .block .statements))))
+unfolding bytesIn flatten
+timed-part e t o s f h =
+    let b : Block = t .block in
+    part-at (bytesIn e t) (statementBytes s) _ _
     (omega (
       arith,
       length-reference (b .reference) (f .reference),
       length-leBytes 2 (length (b .includes)),
       length-leBytes 2 (length (b .statements)),
+      three-bytes e,
       length-includes (b .includes) (f .includes),
     ))
     (part-right (referenceBytes (b .reference)) _ _ _
     (part-right (pick (b .marked) 1 0 ∷ []) _ _ _
     (part-right (leBytes 2 (length (b .includes))) _ _ _
     (part-right (leBytes 2 (length (b .statements))) _ _ _
-    (part-right (0 ∷ 0 ∷ 0 ∷ []) _ _ _
+    (part-right (editionBytes e) _ _ _
+    (part-right (timeBytes (t .time)) _ _ _
     (part-right (flatten (map referenceBytes (b .includes))) _ _ _
-    (part-left (flatten (map statementBytes (b .statements))) _ [] (sumOf (map (λ x. length (statementBytes x)) (take o (b .statements)))) (statement-part (b .statements) o s h))))))))
+    (part-left (flatten (map statementBytes (b .statements))) _ [] (sumOf (map (λ x. length (statementBytes x)) (take o (b .statements)))) (statement-part (b .statements) o s h)))))))))
+
+record-part : (r : Bytes) (b : Block) (o : ℕ) (s : Statement) → AllBytes r → blockOf r ≡ some b → getElem? (b .statements) o ≡ some s → PartOf r (statementBytes s) (statementStart r o)
+unfolding statementStart timedBytes
+record-part r b o s bytes h k =
+    let t : Timed = record { block = b; time = timeIn r } in
+    let one = timed-back r t bytes (timed-of r b h) in
+    rw (block-in r b h, starts r t bytes (timed-of r b h)) (part-same r _ (statementBytes s) _ (one .are) (timed-part (editionFor (timeIn r)) t o s (one .right .block) k))
 
 -- ---- in the store
 
@@ -85,14 +97,13 @@ layout-part rs e m =
 
 -- what a stored entry's bytes are
 record Stored (e : Entry) : Type 0 where
-  are : blockBytes (e .block) ≡ e .bytes
-  fits : BlockFits (e .block)
+  says : blockOf (e .bytes) ≡ some (e .block)
+  bytes : AllBytes (e .bytes)
 
 stored : (rs : List Record) → Every Right rs → Every (λ r. AllBytes (r .bytes)) rs → Every Stored (entries rs)
 unfolding entries
 stored [] none-of none-of = none-of
-stored (r ∷ rs) (and h hs) (and b bs) =
-    and (record { are = blockBytes-blockOf (r .bytes) (r .block) b (right-block r h); fits = blockOf-fits (r .bytes) (r .block) b (right-block r h) }) (stored rs hs bs)
+stored (r ∷ rs) (and h hs) (and b bs) = and (record { says = right-block r h; bytes = b }) (stored rs hs bs)
 
 -- the stretch that is given back is the share's payload
 pub payload-is : (c : Committee) (s : Bytes) → AllBytes s → storeInOrder c s ≡ true → (l : TransactionLocator) (e : Entry) (v : Bytes)
@@ -106,6 +117,6 @@ payload-is c s b h l e v f g =
     let q : Stored e = find-every here-is (entries rs) e f (stored rs (recordsOf-right s) (recordsOf-bytes s b)) in
     let split : s ≡ layout rs ++ drop u s = sym (take-append-drop u s) ∙ ap (λ (k : Bytes). k ++ drop u s) (i .used) in
     let outer : PartOf s (e .bytes) (e .position + 8) = part-same s _ (e .bytes) _ split (part-left (layout rs) (e .bytes) (drop u s) _ (layout-part rs e (find-in here-is (entries rs) e f))) in
-    let inner : PartOf (e .bytes) v (statementStart (e .block) (l .offset) + 3) =
-    part-same (e .bytes) _ v _ (sym (q .are)) (part-part (blockBytes (e .block)) (statementBytes (share v)) v _ 3 (block-part (e .block) (l .offset) (share v) (q .fits) g) (share-part v)) in
-    rw (f, g) (part-taken s v _ (part-at s v _ (e .position + 8 + statementStart (e .block) (l .offset) + 3) (omega arith) (part-part s (e .bytes) v _ _ outer inner)))
+    let inner : PartOf (e .bytes) v (statementStart (e .bytes) (l .offset) + 3) =
+    part-part (e .bytes) (statementBytes (share v)) v _ 3 (record-part (e .bytes) (e .block) (l .offset) (share v) (q .bytes) (q .says) g) (share-part v) in
+    rw (f, g) (part-taken s v _ (part-at s v _ (e .position + 8 + statementStart (e .bytes) (l .offset) + 3) (omega arith) (part-part s (e .bytes) v _ _ outer inner)))

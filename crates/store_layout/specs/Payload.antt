@@ -31,7 +31,7 @@ shareStretch p (some (voteRange r)) = none
 -- the record stands after the entry's 8 bytes
 unfoldable pub payloadOf : Option Entry → ℕ → Option Stretch
 payloadOf none o = none
-payloadOf (some e) o = shareStretch (e .position + 8 + statementStart (e .block) o) (getElem? (e .block .statements) o)
+payloadOf (some e) o = shareStretch (e .position + 8 + statementStart (e .bytes) o) (getElem? (e .block .statements) o)
 
 -- where the store has a share's payload; none where the locator names no stored share
 unfoldable pub payloadAt : Bytes → TransactionLocator → Option Stretch

@@ -1,10 +1,10 @@
 -- The parts of a record written one after the other, and the writer's answers. Assumes nothing.
-use mathlib.Core.Path.{_≡_, refl, sym, _∙_}
+use mathlib.Core.Path.{_≡_, refl, sym, ap, _∙_}
 use mathlib.Core.List.{List, [], _∷_, _++_}
 use mathlib.Core.Option.{Option, none, some}
 use mathlib.Core.Bool.{Bool, true, false, not, _&&_}
-use Prim.Native.Nat.{ℕ, _+_, _≤_, _<_}
-use native.Mathlib.Nat.{zero-add}
+use Prim.Native.Nat.{ℕ, _+_, _/_, _^_, _≤_, _<_}
+use native.Mathlib.Nat.{zero-add, div-eq-of-lt}
 use native.Mathlib.Omega.{arith}
 use lib.Dec.{ltb}
 use lib.ListN.{length, drop, set, length-append}
@@ -17,11 +17,12 @@ use Rattle.base.proofs.Tests.{not-both}
 use Rattle.base.proofs.Lists.{Every, none-of, and}
 use Rattle.base.proofs.Checks.{refusal-append}
 use Rattle.base.proofs.Passing.{passes-append}
-use Rattle.base.proofs.Le.{length-leBytes, sets-append}
+use Rattle.base.proofs.Le.{length-leBytes, sets-append, written-add}
+use Rattle.blocks.specs.Record.{editionBytes, timeBytes, editionFor}
 use Rattle.drafts.specs.Draft.{Draft, Request, draftIn}
 use Rattle.drafts.specs.Joining.{joined}
-use Rattle.drafts.specs.Writing.{recordBytes, formChecks, writeChecks, writeDraft, writeRecord}
-use Rattle.write_record.specs.Step.{sizedUp, frontBytes, countBytes}
+use Rattle.drafts.specs.Writing.{recordBytes, formChecks, writeChecks, writeDraft, writeTimed}
+use Rattle.write_record.specs.Step.{sizedUp, frontBytes, countBytes, partBytes}
 use Rattle.write_record.specs.declared.Measured.the-variants.{Fits, Malformed}
 use Rattle.write_record.proofs.Sizing.{Plan}
 
@@ -30,26 +31,41 @@ unfolding frontBytes
 front-written l a r d =
     sym (rw (sets-append (leBytes 8 a) (leBytes 8 r ++ d) l 0, length-leBytes 8 a, sets-append (leBytes 8 r) d (sets l 0 (leBytes 8 a)) 8, length-leBytes 8 r))
 
-pub counts-written : (l : List ℕ) (m i n : ℕ)
-    → set (set (set (sets (sets (set l 48 m) 49 (leBytes 2 i)) 51 (leBytes 2 n)) 53 0) 54 0) 55 0 ≡ sets l 48 (countBytes m i n)
+pub counts-written : (l : List ℕ) (m i n : ℕ) → sets (sets (set l 48 m) 49 (leBytes 2 i)) 51 (leBytes 2 n) ≡ sets l 48 (countBytes m i n)
 unfolding countBytes
-counts-written l m i n =
-    sym (rw (
-      sets-append (leBytes 2 i) (leBytes 2 n ++ (0 ∷ 0 ∷ 0 ∷ [])) (set l 48 m) 49,
-      length-leBytes 2 i,
-      sets-append (leBytes 2 n) (0 ∷ 0 ∷ 0 ∷ []) (sets (set l 48 m) 49 (leBytes 2 i)) 51,
-      length-leBytes 2 n,
-    ))
+counts-written l m i n = sym (rw (sets-append (leBytes 2 i) (leBytes 2 n) (set l 48 m) 49, length-leBytes 2 i))
+
+pub old-written : (l : List ℕ) → set (set (set l 53 0) 54 0) 55 0 ≡ sets l 53 (partBytes none)
+unfolding partBytes editionBytes editionFor timeBytes
+old-written l = refl
+
+pub time-written : (l : List ℕ) (x : ℕ) → x < 18446744073709551616 → sets (sets (set (set (set l 53 2) 54 0) 55 0) 56 (leBytes 8 x)) 64 (leBytes 8 0) ≡ sets l 53 (partBytes (some x))
+unfolding partBytes editionBytes editionFor timeBytes
+time-written l x h =
+    let m : List ℕ = set (set (set l 53 2) 54 0) 55 0 in
+    let e : 0 ≡ x / 256 ^ 8 = sym (div-eq-of-lt h) in
+    ap (λ (y : ℕ). sets (sets m 56 (leBytes 8 x)) 64 (leBytes 8 y)) e ∙ written-add 8 8 x m 56
 
 -- ---- the record in the slice
 
 -- what is written from the front on
-pub record-written : (l a b c d : List ℕ) (n : ℕ) → length a ≡ 48 → length b ≡ 8 → length c ≡ n → 56 + n + length d ≤ length l
-    → sets (sets (sets (sets l 0 a) 48 b) 56 c) (56 + n) d ≡ (a ++ (b ++ (c ++ d))) ++ drop (length (a ++ (b ++ (c ++ d)))) l
-record-written l a b c d n p q r h =
-    let all = a ++ (b ++ (c ++ d)) in
-    let size : length all ≡ 56 + n + length d = omega (arith, length-append a (b ++ (c ++ d)), length-append b (c ++ d), length-append c d) in
-    sym (rw (sets-append a (b ++ (c ++ d)) l 0, p, sets-append b (c ++ d) (sets l 0 a) 48, q, sets-append c d (sets (sets l 0 a) 48 b) 56, r))
+pub record-written : (l a b t c d : List ℕ) (k n : ℕ) → length a ≡ 48 → length b ≡ 5 → length t ≡ 3 + k → length c ≡ n → 56 + k + n + length d ≤ length l
+    → sets (sets (sets (sets (sets l 0 a) 48 b) 53 t) (56 + k) c) (56 + k + n) d ≡ (a ++ (b ++ (t ++ (c ++ d)))) ++ drop (length (a ++ (b ++ (t ++ (c ++ d))))) l
+record-written l a b t c d k n p q u r h =
+    let all = a ++ (b ++ (t ++ (c ++ d))) in
+    let size : length all ≡ 56 + k + n + length d = omega (arith, length-append a (b ++ (t ++ (c ++ d))), length-append b (t ++ (c ++ d)), length-append t (c ++ d), length-append c d) in
+    let body : 53 + (3 + k) ≡ 56 + k = omega arith in
+    sym (rw (
+      sets-append a (b ++ (t ++ (c ++ d))) l 0,
+      p,
+      sets-append b (t ++ (c ++ d)) (sets l 0 a) 48,
+      q,
+      sets-append t (c ++ d) (sets (sets l 0 a) 48 b) 53,
+      u,
+      body,
+      sets-append c d (sets (sets (sets l 0 a) 48 b) 53 t) (56 + k),
+      r,
+    ))
     ∙ sets-eq all l 0 (omega arith)
     ∙ rw (zero-add (length all))
 
@@ -78,48 +94,48 @@ malformed : (d : Draft) → sizedUp (some d) ≡ Malformed → passes (formCheck
 unfolding sizedUp
 malformed d k = test (passes (formChecks d)) k
   where
-    test : (t : Bool) → pick t (Fits (length (joined (d .statements))) (length (recordBytes d))) Malformed ≡ Malformed → t ≡ false
+    test : (t : Bool) → pick t (Fits (length (joined (d .statements))) (length (recordBytes none d))) Malformed ≡ Malformed → t ≡ false
     test true k = let z : _≡_ {A = ℕ} 0 1 = cc in absurd (omega arith)
     test false k = refl
 
-refuses-draft : (d : Draft) (out : List ℕ) → passes (formChecks d) ≡ false → writeDraft (some d) out ≡ record { answer = refused 51; out = out }
+refuses-draft : (o : Option ℕ) (d : Draft) (out : List ℕ) → passes (formChecks d) ≡ false → writeDraft o (some d) out ≡ record { answer = refused 51; out = out }
 unfolding formChecks writeDraft checked writeChecks
-refuses-draft d out f =
-    let short = (ltb (length out) (length (recordBytes d)) ⇒ 50) ∷ [] in
+refuses-draft o d out f =
+    let short = (ltb (length out) (length (recordBytes o d)) ⇒ 50) ∷ [] in
     let none-passes : passes (formChecks d ++ short) ≡ false = rw (passes-append (formChecks d) short, f) in
     let first : refusal (formChecks d ++ short) ≡ 51 =
     rw (refusal-append (formChecks d) short, f) (refusal-same 51 (formChecks d) (and refl (and refl (and refl (and refl (and refl none-of))))) f) in
     rw (none-passes, first)
 
-module _ (q : Request) (out : List ℕ) where
+module _ (o : Option ℕ) (q : Request) (out : List ℕ) where
   -- 51
-  pub refuses-form : sizedUp (draftIn q) ≡ Malformed → writeRecord q out ≡ record { answer = refused 51; out = out }
-  unfolding writeRecord writeDraft
+  pub refuses-form : sizedUp (draftIn q) ≡ Malformed → writeTimed o q out ≡ record { answer = refused 51; out = out }
+  unfolding writeTimed writeDraft
   refuses-form h = go (draftIn q) h
     where
-      go : (o : Option Draft) → sizedUp o ≡ Malformed → writeDraft o out ≡ record { answer = refused 51; out = out }
+      go : (x : Option Draft) → sizedUp x ≡ Malformed → writeDraft o x out ≡ record { answer = refused 51; out = out }
       go none k = refl
-      go (some d) k = refuses-draft d out (malformed d k)
+      go (some d) k = refuses-draft o d out (malformed d k)
 
   module _ (count bytes : ℕ) (p : Plan q count bytes) where
     -- 50
-    pub refuses-short : length out < bytes → writeRecord q out ≡ record { answer = refused 50; out = out }
-    unfolding writeRecord writeDraft checked writeChecks refusal
+    pub refuses-short : length out < bytes + length (timeBytes o) → writeTimed o q out ≡ record { answer = refused 50; out = out }
+    unfolding writeTimed writeDraft checked writeChecks refusal
     refuses-short h =
         let d = p .draft in
-        let short = (ltb (length out) (length (recordBytes d)) ⇒ 50) ∷ [] in
-        let applies : ltb (length out) (length (recordBytes d)) ≡ true = lt-ltb (length out) (length (recordBytes d)) (omega (arith, p .whole)) in
+        let short = (ltb (length out) (length (recordBytes o d)) ⇒ 50) ∷ [] in
+        let applies : ltb (length out) (length (recordBytes o d)) ≡ true = lt-ltb (length out) (length (recordBytes o d)) (omega (arith, p .whole o)) in
         let stops : passes short ≡ false = one-fails 50 _ applies in
         let none-passes : passes (formChecks d ++ short) ≡ false = rw (passes-append (formChecks d) short, p .passed, stops) in
         let then : refusal (formChecks d ++ short) ≡ 50 = rw (refusal-append (formChecks d) short, p .passed, applies) in
         rw (p .given, none-passes, then)
 
-    pub writes-record : bytes ≤ length out → writeRecord q out ≡ record { answer = answered bytes; out = recordBytes (p .draft) ++ drop (length (recordBytes (p .draft))) out }
-    unfolding writeRecord writeDraft checked writeChecks
+    pub writes-record : bytes + length (timeBytes o) ≤ length out → writeTimed o q out ≡ record { answer = answered (bytes + length (timeBytes o)); out = recordBytes o (p .draft) ++ drop (length (recordBytes o (p .draft))) out }
+    unfolding writeTimed writeDraft checked writeChecks
     writes-record h =
         let d = p .draft in
-        let short = (ltb (length out) (length (recordBytes d)) ⇒ 50) ∷ [] in
-        let room : ltb (length out) (length (recordBytes d)) ≡ false = le-ltb (length out) (length (recordBytes d)) (omega (arith, p .whole)) in
+        let short = (ltb (length out) (length (recordBytes o d)) ⇒ 50) ∷ [] in
+        let room : ltb (length out) (length (recordBytes o d)) ≡ false = le-ltb (length out) (length (recordBytes o d)) (omega (arith, p .whole o)) in
         let goes : passes short ≡ true = one-passes 50 _ room in
         let all-pass : passes (formChecks d ++ short) ≡ true = rw (passes-append (formChecks d) short, p .passed, goes) in
-        rw (p .given, all-pass, ← p .whole)
+        rw (p .given, all-pass, ← p .whole o)

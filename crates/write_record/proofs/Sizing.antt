@@ -8,7 +8,7 @@ use Prim.Native.Nat.{ℕ, _+_, _*_, _/_, _%_, _≤_, _<_}
 use native.Mathlib.Nat.{zero-add}
 use native.Mathlib.Omega.{arith}
 use lib.Dec.{ltb, eqb}
-use lib.ListN.{length, drop, replicate, length-append}
+use lib.ListN.{length, drop, length-append}
 use lib.Seq.{drop-length}
 use borrow.Author.Tests.{ltb-true, ltb-false, le-ltb, eq-eqb}
 use Rattle.base.specs.Lists.{pick, anyOf, allOf, isEmpty}
@@ -21,8 +21,8 @@ use Rattle.base.proofs.Le.{AllBytes, length-leBytes}
 use Rattle.base.proofs.Fixed.{fixed-repeated}
 use Rattle.blocks.specs.Reference.{BlockReference, TransactionLocator, locators}
 use Rattle.blocks.specs.Block.{Statement, accept}
-use Rattle.blocks.specs.Record.{readReference, referenceBytes, statementBytes, blockBytes}
-use Rattle.blocks.proofs.Records.{mark-byte, length-includes}
+use Rattle.blocks.specs.Record.{readReference, referenceBytes, statementBytes, editionBytes, timeBytes, bytesIn as recordIn, editionFor, timedBytes}
+use Rattle.blocks.proofs.Records.{mark-byte, three-bytes, length-includes}
 use Rattle.block_record.proofs.Steps.{fixed-reference}
 use Rattle.drafts.specs.Draft.{Draft, Request, includesIn, statementsIn, withParts, draftIn}
 use Rattle.drafts.specs.Joining.{joined}
@@ -32,7 +32,7 @@ use Rattle.drafts.proofs.Joining.{joins}
 use Rattle.drafts.proofs.Given.{includes-back}
 use Rattle.drafts.proofs.Written.{Writable, writable}
 use Rattle.joined_statements.specs.Step.{joinedFrom}
-use Rattle.write_record.specs.Step.{measuredOn, sizedUp, bytesIn, writable as canWrite, frontBytes, countBytes}
+use Rattle.write_record.specs.Step.{measuredOn, sizedUp, bytesIn, writable as canWrite, frontBytes, countBytes, partBytes}
 use Rattle.write_record.specs.declared.Measured.the-variants.{Fits, Malformed}
 
 -- ---- what is given, in parts
@@ -175,12 +175,12 @@ module _ (q : Request) (d : Draft) (bytes : AllBytes (q .includes)) (p : Parts q
   unfolding bytesIn
   statements-are = rw (joined-from (q .statements) (d .statements) (p .statements))
 
-  record-parts : d .mark ≤ 1
-      → recordBytes d
+  record-parts : (o : Option ℕ) → d .mark ≤ 1
+      → recordBytes o d
       ≡ frontBytes (q .author) (q .round) (q .digest)
-      ++ (countBytes (q .mark) (length (d .includes)) (length (joined (d .statements))) ++ (q .includes ++ bytesIn (joinedFrom (q .statements) 0)))
-  unfolding recordBytes blockBytes writtenBlock frontBytes countBytes referenceBytes flatten
-  record-parts m =
+      ++ (countBytes (q .mark) (length (d .includes)) (length (joined (d .statements))) ++ (partBytes o ++ (q .includes ++ bytesIn (joinedFrom (q .statements) 0))))
+  unfolding recordBytes timedBytes recordIn writtenBlock frontBytes countBytes partBytes referenceBytes flatten
+  record-parts o m =
       let n = leBytes 2 (length (joined (d .statements))) in
       let body = q .includes ++ flatten (map statementBytes (joined (d .statements))) in
       rw (
@@ -192,17 +192,21 @@ module _ (q : Request) (d : Draft) (bytes : AllBytes (q .includes)) (p : Parts q
         includes-are,
         statements-are,
         append-nil (flatten (map statementBytes (joined (d .statements)))),
-        append-assoc (leBytes 2 (length (d .includes))) (n ++ (0 ∷ 0 ∷ 0 ∷ [])) body,
-        append-assoc n (0 ∷ 0 ∷ 0 ∷ []) body,
+        append-assoc (leBytes 2 (length (d .includes))) n (partBytes o ++ body),
+        append-assoc (editionBytes (editionFor o)) (timeBytes o) body,
       )
 
 pub length-front : (a r : ℕ) (dg : List ℕ) → length dg ≡ 32 → length (frontBytes a r dg) ≡ 48
 unfolding frontBytes
 length-front a r dg h = simp (length-append, length-leBytes, h)
 
-pub length-counts : (m i n : ℕ) → length (countBytes m i n) ≡ 8
+pub length-counts : (m i n : ℕ) → length (countBytes m i n) ≡ 5
 unfolding countBytes
 length-counts m i n = simp (length-append, length-leBytes)
+
+pub length-part : (o : Option ℕ) → length (partBytes o) ≡ 3 + length (timeBytes o)
+unfolding partBytes
+length-part o = length-append (editionBytes (editionFor o)) (timeBytes o) ∙ omega (arith, three-bytes (editionFor o))
 
 -- ---- what the writer is to write
 
@@ -215,16 +219,16 @@ pub record Plan (q : Request) (count bytes : ℕ) : Type 0 where
   pub digest : length (q .digest) ≡ 32
   pub includes : length (q .includes) / 48 ≤ 256
   pub few : count ≤ 1024
-  pub whole : bytes ≡ length (recordBytes draft)
+  pub whole : (o : Option ℕ) → bytes + length (timeBytes o) ≡ length (recordBytes o draft)
   pub size : bytes ≡ 56 + length (q .includes) + length (bytesIn (joinedFrom (q .statements) 0))
   pub writes : canWrite (joinedFrom (q .statements) 0) ≡ true
-  pub are : recordBytes draft
+  pub are : (o : Option ℕ) → recordBytes o draft
       ≡ frontBytes (q .author) (q .round) (q .digest)
-      ++ (countBytes (q .mark) (length (q .includes) / 48) count ++ (q .includes ++ bytesIn (joinedFrom (q .statements) 0)))
+      ++ (countBytes (q .mark) (length (q .includes) / 48) count ++ (partBytes o ++ (q .includes ++ bytesIn (joinedFrom (q .statements) 0))))
 
 module _ (q : Request) (all : AllBytes (q .includes)) where
-  plan-of : (d : Draft) → draftIn q ≡ some d → passes (formChecks d) ≡ true → Plan q (length (joined (d .statements))) (length (recordBytes d))
-  unfolding canWrite
+  plan-of : (d : Draft) → draftIn q ≡ some d → passes (formChecks d) ≡ true → Plan q (length (joined (d .statements))) (length (recordBytes none d))
+  unfolding canWrite timeBytes
   plan-of d e h =
       let p : Parts q d = parts-of q d e in
       let w : Writable d = writable d h in
@@ -232,8 +236,20 @@ module _ (q : Request) (all : AllBytes (q .includes)) where
       let ss = bytesIn (joinedFrom (q .statements) 0) in
       let front = frontBytes (q .author) (q .round) (q .digest) in
       let counts = countBytes (q .mark) (length (q .includes) / 48) (length (joined (d .statements))) in
-      let are : recordBytes d ≡ front ++ (counts ++ (q .includes ++ ss)) = rw many (record-parts q d all p (w .mark)) in
+      let are : (o : Option ℕ) → recordBytes o d ≡ front ++ (counts ++ (partBytes o ++ (q .includes ++ ss))) = λ o. rw many (record-parts q d all p o (w .mark)) in
       let sized : length (q .digest) ≡ 32 = rw (p .digest) at (w .size) in
+      let size : (o : Option ℕ) → length (recordBytes o d) ≡ 56 + length (timeBytes o) + length (q .includes) + length ss =
+      λ o. ap length (are o)
+      ∙ omega (
+        arith,
+        length-append front (counts ++ (partBytes o ++ (q .includes ++ ss))),
+        length-append counts (partBytes o ++ (q .includes ++ ss)),
+        length-append (partBytes o) (q .includes ++ ss),
+        length-append (q .includes) ss,
+        length-front (q .author) (q .round) (q .digest) sized,
+        length-counts (q .mark) (length (q .includes) / 48) (length (joined (d .statements))),
+        length-part o,
+      ) in
       record {
         draft = d;
         given = e;
@@ -242,17 +258,8 @@ module _ (q : Request) (all : AllBytes (q .includes)) where
         digest = sized;
         includes = omega (arith, many, w .few-includes);
         few = w .few-statements;
-        whole = refl;
-        size =
-            ap length are
-            ∙ omega (
-              arith,
-              length-append front (counts ++ (q .includes ++ ss)),
-              length-append counts (q .includes ++ ss),
-              length-append (q .includes) ss,
-              length-front (q .author) (q .round) (q .digest) sized,
-              length-counts (q .mark) (length (q .includes) / 48) (length (joined (d .statements))),
-            );
+        whole = λ o. omega (arith, size none, size o);
+        size = omega (arith, size none);
         writes = rw (joined-from (q .statements) (d .statements) (p .statements), joined-long (d .statements) ∙ w .short);
         are = are;
       }
@@ -263,10 +270,10 @@ module _ (q : Request) (all : AllBytes (q .includes)) where
   planned count bytes h = go (draftIn q) refl h
     where
       test : (d : Draft) → draftIn q ≡ some d → (t : Bool) → passes (formChecks d) ≡ t
-          → pick t (Fits (length (joined (d .statements))) (length (recordBytes d))) Malformed ≡ Fits count bytes → Plan q count bytes
+          → pick t (Fits (length (joined (d .statements))) (length (recordBytes none d))) Malformed ≡ Fits count bytes → Plan q count bytes
       test d e true f k =
           let c : length (joined (d .statements)) ≡ count = cc in
-          let b : length (recordBytes d) ≡ bytes = cc in
+          let b : length (recordBytes none d) ≡ bytes = cc in
           rw (c, b) at (plan-of d e f)
       test d e false f k = let z : _≡_ {A = ℕ} 0 1 = cc in absurd (omega arith)
 
@@ -293,5 +300,5 @@ module _ (q : Request) (all : AllBytes (q .includes)) where
         le-ltb 1024 (length (joined (f .statements))) (f .few),
       ) in
       let plan = plan-of d given passed in
-      let size : length (recordBytes d) ≡ 56 + length (q .includes) + bytes = plan .size ∙ rw (statements-are q d all (parts-of q d given), ← f .sized) in
+      let size : length (recordBytes none d) ≡ 56 + length (q .includes) + bytes = plan .size ∙ rw (statements-are q d all (parts-of q d given), ← f .sized) in
       rw (given, passed, ← f .counted, size)

@@ -9,7 +9,7 @@ use Rattle.base.specs.Lists.{pick, anyOf}
 use Rattle.base.specs.Le.{Bytes, leBytes}
 use Rattle.base.specs.Checks.{passes}
 use Rattle.blocks.specs.Block.{Statement}
-use Rattle.blocks.specs.Record.{statementBytes}
+use Rattle.blocks.specs.Record.{statementBytes, editionBytes, timeBytes, editionFor}
 use Rattle.drafts.specs.Draft.{Draft}
 use Rattle.drafts.specs.Joining.{joined}
 use Rattle.drafts.specs.Writing.{recordBytes, isLong, formChecks}
@@ -27,10 +27,10 @@ unfoldable pub low : Measured → Bool
 low (Fits count bytes) = leb bytes 67110912
 low Malformed = true
 
--- the record of a draft, unless 51 applies
+-- the record of a draft without a time, unless 51 applies
 unfoldable pub sizedUp : Option Draft → Measured
 sizedUp none = Malformed
-sizedUp (some d) = pick (passes (formChecks d)) (Fits (length (joined (d .statements))) (length (recordBytes d))) Malformed
+sizedUp (some d) = pick (passes (formChecks d)) (Fits (length (joined (d .statements))) (length (recordBytes none d))) Malformed
 
 -- the bytes of the statements
 unfoldable pub bytesIn : Option (List Statement) → Bytes
@@ -42,9 +42,12 @@ unfoldable pub writable : Option (List Statement) → Bool
 writable none = false
 writable (some ws) = not (anyOf isLong ws)
 
--- the first 48 bytes of a record, and the 8 after them
+-- the first 48 bytes of a record, the 5 after them, and those up to the includes
 unfoldable pub frontBytes : ℕ → ℕ → Bytes → Bytes
 frontBytes author round digest = leBytes 8 author ++ (leBytes 8 round ++ digest)
 
 unfoldable pub countBytes : ℕ → ℕ → ℕ → Bytes
-countBytes mark includes statements = mark ∷ leBytes 2 includes ++ (leBytes 2 statements ++ (0 ∷ 0 ∷ 0 ∷ []))
+countBytes mark includes statements = mark ∷ leBytes 2 includes ++ leBytes 2 statements
+
+unfoldable pub partBytes : Option ℕ → Bytes
+partBytes o = editionBytes (editionFor o) ++ timeBytes o

@@ -1,18 +1,23 @@
-// Writes one record of our own from author, round, digest, mark, includes and statements. Follows types.rs.
+// Writes one record of our own from author, round, digest, mark, includes and statements, and the time of its creation where one is given.
+// Follows types.rs.
+use block_record::CreationTime;
 use block_record::Taken;
 use committee::AuthorityIndex;
 use committee::RoundNumber;
 use statement_writer::Size;
 ghost use mathlib.Core.Path.{_≡_};
 ghost use mathlib.Core.Bool.{true};
+ghost use mathlib.Core.Option.{some};
 ghost use Prim.Native.Nat.{ℕ, _+_, _≤_};
 ghost use lib.ListN.{length};
 ghost use lib.Seq.{sets};
 ghost use Rattle.drafts.specs.Draft.{draftIn};
-ghost use Rattle.drafts.specs.Writing.{writeRecord};
+ghost use Rattle.blocks.specs.Record.{timeBytes};
+ghost use Rattle.block_record.specs.Values.{asTime};
+ghost use Rattle.drafts.specs.Writing.{writeTimed, writeRecord};
 ghost use Rattle.joined_statements.specs.Step.{joinedFrom};
 ghost use Rattle.write_record.specs.Answers.{asWriteAnswer, requested};
-ghost use Rattle.write_record.specs.Step.{measuredOn, low, sizedUp, bytesIn, writable, frontBytes, countBytes};
+ghost use Rattle.write_record.specs.Step.{measuredOn, low, sizedUp, bytesIn, writable, frontBytes, countBytes, partBytes};
 
 // The length of the record that was written, or the refusal.
 pub enum WriteAnswer {
@@ -87,17 +92,42 @@ fn write_front(out: &mut [u8], author: AuthorityIndex, round: RoundNumber, diges
     base::copy_to(out, 16, digest);
 }
 
-// The mark, the counts and three zero bytes.
+// The mark and the counts.
 fn write_counts(out: &mut [u8], mark: u8, includes: u16, statements: u16)
-    requires { ⌜ 56 ≤ length (now out) ⌝ }
+    requires { ⌜ 53 ≤ length (now out) ⌝ }
     ensures { λ _. ⌜ now (out .exit) ≡ sets (now (out .entry)) 48 (countBytes mark includes statements) ⌝ }
 {
     out[48] = mark;
     base::write_u16(out, 49, includes);
     base::write_u16(out, 51, statements);
-    out[53] = 0;
+}
+
+// How many bytes the time takes.
+fn time_size(time: CreationTime) -> usize
+    ensures { λ r. ⌜ r ≡ length (timeBytes (asTime time)) ⌝ }
+{
+    match time {
+        CreationTime::Given(_) => 16,
+        CreationTime::NotGiven => 0,
+    }
+}
+
+// The three bytes of the edition, and the time where one is given.
+fn write_edition(out: &mut [u8], time: CreationTime)
+    requires { ⌜ 56 + length (timeBytes (asTime time)) ≤ length (now out) ⌝ }
+    ensures { λ _. ⌜ now (out .exit) ≡ sets (now (out .entry)) 53 (partBytes (asTime time)) ⌝ }
+{
+    let CreationTime::Given(nanoseconds) = time else {
+        out[53] = 0;
+        out[54] = 0;
+        out[55] = 0;
+        return;
+    };
+    out[53] = 2;
     out[54] = 0;
     out[55] = 0;
+    base::write_u64(out, 56, nanoseconds);
+    base::write_u64(out, 64, 0);
 }
 
 // The statements, from a position on.
@@ -122,7 +152,39 @@ fn write_statements(out: &mut [u8], from: usize, s: &[u8])
     }
 }
 
-// Writes a record into `out` and answers its length; bytes past it stay. 51, then 50.
+// Writes a record of the edition that the time says into `out` and answers its length; bytes past it stay. 51, then 50.
+fn write_in(
+    author: AuthorityIndex,
+    round: RoundNumber,
+    digest: &[u8],
+    mark: u64,
+    time: CreationTime,
+    includes: &[u8],
+    statements: &[u8],
+    out: &mut [u8],
+) -> WriteAnswer
+    ensures { λ r. ⌜ asWriteAnswer r ≡ writeTimed (asTime time) (requested (author .0) (round .0) (now (digest .entry)) mark (now (includes .entry)) (now (statements .entry))) (now (out .entry)) .answer ⌝ }
+    ensures { λ r. ⌜ now (out .exit) ≡ writeTimed (asTime time) (requested (author .0) (round .0) (now (digest .entry)) mark (now (includes .entry)) (now (statements .entry))) (now (out .entry)) .out ⌝ }
+{
+    let Measured::Fits(count, bytes) = measure_record(digest, mark, includes, statements) else {
+        return WriteAnswer::Refused(51);
+    };
+    let extra = time_size(time);
+    if out.len() < bytes {
+        return WriteAnswer::Refused(50);
+    }
+    if out.len() - bytes < extra {
+        return WriteAnswer::Refused(50);
+    }
+    write_front(out, author, round, digest);
+    write_counts(out, mark as u8, (includes.len() / 48) as u16, count as u16);
+    write_edition(out, time);
+    base::copy_to(out, 56 + extra, includes);
+    write_statements(out, 56 + extra + includes.len(), statements);
+    WriteAnswer::Written(bytes + extra)
+}
+
+// Writes a record without a time: 51, then 50.
 pub fn write_record(
     author: AuthorityIndex,
     round: RoundNumber,
@@ -135,15 +197,40 @@ pub fn write_record(
     ensures { λ r. ⌜ asWriteAnswer r ≡ writeRecord (requested (author .0) (round .0) (now (digest .entry)) mark (now (includes .entry)) (now (statements .entry))) (now (out .entry)) .answer ⌝ }
     ensures { λ r. ⌜ now (out .exit) ≡ writeRecord (requested (author .0) (round .0) (now (digest .entry)) mark (now (includes .entry)) (now (statements .entry))) (now (out .entry)) .out ⌝ }
 {
-    let Measured::Fits(count, bytes) = measure_record(digest, mark, includes, statements) else {
-        return WriteAnswer::Refused(51);
-    };
-    if out.len() < bytes {
-        return WriteAnswer::Refused(50);
-    }
-    write_front(out, author, round, digest);
-    write_counts(out, mark as u8, (includes.len() / 48) as u16, count as u16);
-    base::copy_to(out, 56, includes);
-    write_statements(out, 56 + includes.len(), statements);
-    WriteAnswer::Written(bytes)
+    write_in(
+        author,
+        round,
+        digest,
+        mark,
+        CreationTime::NotGiven,
+        includes,
+        statements,
+        out,
+    )
+}
+
+// Writes a record with the time of its creation, in nanoseconds: 51, then 50.
+pub fn write_timed_record(
+    author: AuthorityIndex,
+    round: RoundNumber,
+    digest: &[u8],
+    mark: u64,
+    time: u64,
+    includes: &[u8],
+    statements: &[u8],
+    out: &mut [u8],
+) -> WriteAnswer
+    ensures { λ r. ⌜ asWriteAnswer r ≡ writeTimed (some time) (requested (author .0) (round .0) (now (digest .entry)) mark (now (includes .entry)) (now (statements .entry))) (now (out .entry)) .answer ⌝ }
+    ensures { λ r. ⌜ now (out .exit) ≡ writeTimed (some time) (requested (author .0) (round .0) (now (digest .entry)) mark (now (includes .entry)) (now (statements .entry))) (now (out .entry)) .out ⌝ }
+{
+    write_in(
+        author,
+        round,
+        digest,
+        mark,
+        CreationTime::Given(time),
+        includes,
+        statements,
+        out,
+    )
 }

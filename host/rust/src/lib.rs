@@ -121,6 +121,30 @@ mod calls {
             out: *mut u8,
             out_len: usize,
         ) -> u64;
+        pub fn lomkhvide_write_timed_record(
+            author: u64,
+            round: u64,
+            digest: *const u8,
+            digest_len: usize,
+            mark: u64,
+            time: u64,
+            includes: *const u8,
+            includes_len: usize,
+            statements: *const u8,
+            statements_len: usize,
+            out: *mut u8,
+            out_len: usize,
+        ) -> u64;
+        pub fn lomkhvide_creation_time(
+            stakes: *const u8,
+            stakes_len: usize,
+            store: *const u8,
+            store_len: usize,
+            reference: *const u8,
+            reference_len: usize,
+            found: *mut u8,
+            found_len: usize,
+        ) -> u64;
     }
 }
 
@@ -489,6 +513,27 @@ impl Committee {
         Ok(vote)
     }
 
+    /// The time of a stored block's creation in nanoseconds, by its reference; none where its record has none, or no such block is stored.
+    /// Or 5, 10.
+    pub fn creation_time(&self, store: &[u8], reference: &[u8; 48]) -> Result<Option<u64>, Refused> {
+        let mut found = [0; 8];
+        let stakes = &self.stakes;
+        // The slices are lent for the call alone, and the one that it writes is this function's own.
+        let word = unsafe {
+            calls::lomkhvide_creation_time(
+                stakes.as_ptr(),
+                stakes.len(),
+                store.as_ptr(),
+                store.len(),
+                reference.as_ptr(),
+                reference.len(),
+                found.as_mut_ptr(),
+                found.len(),
+            )
+        };
+        Ok(if answer(word)? == 1 { Some(u64::from_le_bytes(found)) } else { None })
+    }
+
     /// A stored share's payload, as the part of the store that holds it; or 5, 10, 41.
     pub fn payload<'a>(&self, store: &'a [u8], locator: &Locator) -> Result<&'a [u8], Refused> {
         let (stakes, locator) = (&self.stakes, &locator.0);
@@ -584,6 +629,8 @@ pub struct Draft {
     pub digest: [u8; 32],
     /// The epoch mark.
     pub marked: bool,
+    /// The time of its creation in nanoseconds, where the record is to have one.
+    pub time: Option<u64>,
     /// References of 48 bytes: author 8, round 8, digest 32.
     pub includes: Vec<[u8; 48]>,
     pub statements: Vec<Given>,
@@ -635,20 +682,38 @@ impl Draft {
         let mut statements = Vec::new();
         self.statements.iter().for_each(|statement| statement.put(&mut statements));
         // The slices are lent for the call alone, and only `out` is written.
-        let word = unsafe {
-            calls::lomkhvide_write_record(
-                self.author,
-                self.round,
-                self.digest.as_ptr(),
-                self.digest.len(),
-                self.marked as u64,
-                includes.as_ptr(),
-                includes.len(),
-                statements.as_ptr(),
-                statements.len(),
-                out.as_mut_ptr(),
-                out.len(),
-            )
+        let word = match self.time {
+            None => unsafe {
+                calls::lomkhvide_write_record(
+                    self.author,
+                    self.round,
+                    self.digest.as_ptr(),
+                    self.digest.len(),
+                    self.marked as u64,
+                    includes.as_ptr(),
+                    includes.len(),
+                    statements.as_ptr(),
+                    statements.len(),
+                    out.as_mut_ptr(),
+                    out.len(),
+                )
+            },
+            Some(time) => unsafe {
+                calls::lomkhvide_write_timed_record(
+                    self.author,
+                    self.round,
+                    self.digest.as_ptr(),
+                    self.digest.len(),
+                    self.marked as u64,
+                    time,
+                    includes.as_ptr(),
+                    includes.len(),
+                    statements.as_ptr(),
+                    statements.len(),
+                    out.as_mut_ptr(),
+                    out.len(),
+                )
+            },
         };
         answer(word).map(|length| length as usize)
     }
@@ -965,7 +1030,7 @@ mod tests {
             Given::Reject(at(8), Some(at(9))),
             Given::Range(at(8), 9),
         ];
-        let mut draft = Draft { author: 5, round: 6, digest: [7; 32], marked: true, includes: vec![[8; 48]], statements };
+        let mut draft = Draft { author: 5, round: 6, digest: [7; 32], marked: true, time: None, includes: vec![[8; 48]], statements };
         let need = 56 + 48 + 5 + 65 + 57 + 114 + 65;
         for length in 0..need + 40 {
             let mut out = vec![9; length];
@@ -994,14 +1059,41 @@ mod tests {
         let committee = Committee::new(&[1]).unwrap();
         let (mut store, mut table) = (fresh_store(4096), fresh_table());
         let mut record = [0; 4096];
-        let first = Draft { author: 0, round: 0, digest: [1; 32], marked: false, includes: vec![], statements: vec![] };
+        let first = Draft { author: 0, round: 0, digest: [1; 32], marked: false, time: None, includes: vec![], statements: vec![] };
         let length = first.write(&mut record).unwrap();
         assert_eq!(committee.feed(&mut store, &mut table, &record[..length]), Ok(vec![]));
         let include: [u8; 48] = record[..48].try_into().unwrap();
         let shares = vec![Given::Share(vec![4, 5]), Given::Share(vec![6])];
-        let second = Draft { author: 0, round: 1, digest: [2; 32], marked: false, includes: vec![include], statements: shares };
+        let second = Draft { author: 0, round: 1, digest: [2; 32], marked: false, time: None, includes: vec![include], statements: shares };
         let length = second.write(&mut record).unwrap();
         assert_eq!(committee.feed(&mut store, &mut table, &record[..length]), Ok(vec![]));
         assert_eq!(committee.payload(&store, &Locator::new(0, 1, [2; 32], 1)), Ok(&[6][..]));
+    }
+
+    /// Written with a time, fed, and asked for it.
+    #[test]
+    fn timed() {
+        let committee = Committee::new(&[1]).unwrap();
+        let draft = |time| Draft { author: 0, round: 0, digest: [1; 32], marked: false, time, includes: vec![], statements: vec![] };
+        for time in [None, Some(0), Some(1_700_000_000_000_000_000), Some(u64::MAX)] {
+            let (mut store, mut table) = (fresh_store(4096), fresh_table());
+            let mut record = [9; 100];
+            let length = draft(time).write(&mut record).unwrap();
+            assert_eq!(length, if time.is_some() { 72 } else { 56 });
+            assert_eq!(record[53..56], [if time.is_some() { 2 } else { 0 }, 0, 0]);
+            assert!(record[length..].iter().all(|byte| *byte == 9));
+            assert_eq!(draft(time).write(&mut vec![0; length - 1]), Err(Refused(50)));
+            assert_eq!(committee.feed(&mut store, &mut table, &record[..length]), Ok(vec![]));
+            let mut reference: [u8; 48] = record[..48].try_into().unwrap();
+            assert_eq!(committee.creation_time(&store, &reference), Ok(time));
+            assert_eq!(committee.creation_time(&store[..10], &reference), Err(Refused(10)));
+            reference[47] ^= 1;
+            assert_eq!(committee.creation_time(&store, &reference), Ok(None));
+        }
+        let (mut store, mut table) = (fresh_store(4096), fresh_table());
+        let mut record = [0; 72];
+        draft(Some(5)).write(&mut record).unwrap();
+        record[64] = 1;
+        assert_eq!(committee.feed(&mut store, &mut table, &record), Err(Refused(20)), "above 2^64 - 1");
     }
 }

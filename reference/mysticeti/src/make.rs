@@ -23,7 +23,9 @@ pub fn block(
     marked: bool,
     includes: Vec<BlockReference>,
     statements: Vec<BaseStatement>,
+    meta_creation_time_ns: u128,
 ) -> Data<StatementBlock> {
     let signature = SignatureBytes(reference.digest.0);
-    Data::new(StatementBlock::new(reference.authority, reference.round, includes, statements, 0, marked, signature))
+    let (authority, round) = (reference.authority, reference.round);
+    Data::new(StatementBlock::new(authority, round, includes, statements, meta_creation_time_ns, marked, signature))
 }

@@ -65,7 +65,7 @@ fn graph(rng: &mut Rng, stakes: &[u64], shape: &Shape) -> Vec<Block> {
         for author in authors {
             let reference = Reference { author, round, digest: digest(rng, blocks.len() as u64) };
             let includes = if round == 0 { vec![] } else { includes(rng, stakes, &before, &blocks) };
-            blocks.push(Block { reference, marked: rng.once_in(5), includes, statements: vec![] });
+            blocks.push(Block { reference, marked: rng.once_in(5), includes, statements: vec![], time: None });
             these.push(reference);
         }
         before = these;

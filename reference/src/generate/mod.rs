@@ -7,6 +7,7 @@ pub mod stakes_file;
 
 use crate::damage::damaged;
 use crate::list::List;
+use crate::model::record::Block;
 use crate::rng::Rng;
 use graph::{finish, Shape};
 use special::{blocks, counts, events, items};
@@ -34,6 +35,29 @@ pub fn list(seed: u64, n: u64) -> List {
             6..=8 => broken(&mut rng),
             _ => small(&mut rng),
         },
+    }
+}
+
+/// The same with the time of its creation in half of its records, and as much more room for them.
+pub fn timed_list(seed: u64, n: u64) -> List {
+    let mut list = list(seed, n);
+    let mut rng = Rng::new(seed ^ n.wrapping_mul(0xd1342543de82ef95));
+    for record in &mut list.records {
+        let Some(block) = Block::decode(record) else { continue };
+        if block.time.is_none() && rng.once_in(2) {
+            *record = Block { time: Some(time(&mut rng)), ..block }.encode();
+            list.store += if list.store < 16 { 0 } else { 16 };
+        }
+    }
+    list
+}
+
+/// Times near both ends, and any.
+fn time(rng: &mut Rng) -> u64 {
+    match rng.below(4) {
+        0 => rng.below(3),
+        1 => u64::MAX - rng.below(3),
+        _ => rng.word() >> rng.below(64),
     }
 }
 
@@ -72,13 +96,14 @@ fn broken(rng: &mut Rng) -> List {
     list
 }
 
-/// A record with each of its bytes changed in turn, and cut and extended to each length, before the record itself. Some of these
-/// copies keep the rules (another digest or payload) and are stored.
+/// A record with a time, with each of its bytes changed in turn, and cut and extended to each length, before the record itself. Some of
+/// these copies keep the rules (another digest, time or payload) and are stored.
 fn every_byte(rng: &mut Rng) -> List {
     let stakes = stakes(rng, 3);
     let shape = Shape { rounds: 2, statements: 3, run: 2, wrong: 1000 };
     let mut list = finish(rng, stakes, shape);
-    let Some(record) = list.records.pop() else { return list };
+    let Some(block) = list.records.pop().and_then(|record| Block::decode(&record)) else { return list };
+    let record = Block { time: Some(time(rng)), ..block }.encode();
     for at in 0..record.len() {
         let byte = record[at];
         let others = [byte ^ 1, byte ^ 0x80, byte.wrapping_add(3), 0, 0xff];

@@ -13,13 +13,13 @@ struct Chain {
 impl Chain {
     fn new() -> Chain {
         let reference = Reference { author: 0, round: 0, digest: [1; 32] };
-        Chain { blocks: vec![Block { reference, marked: false, includes: vec![], statements: vec![] }] }
+        Chain { blocks: vec![Block { reference, marked: false, includes: vec![], statements: vec![], time: None }] }
     }
 
     fn next(&mut self, statements: Vec<Statement>) -> Reference {
         let before = self.blocks.last().unwrap().reference;
         let reference = Reference { round: before.round + 1, ..before };
-        self.blocks.push(Block { reference, marked: false, includes: vec![before], statements });
+        self.blocks.push(Block { reference, marked: false, includes: vec![before], statements, time: None });
         reference
     }
 
@@ -56,7 +56,7 @@ pub fn items(rng: &mut Rng) -> List {
             _ => Statement::Range(long, a.min(b), a.max(b)),
         };
         let reference = Reference { author: 0, round: last.round + 1, digest: digest(rng, n) };
-        chain.blocks.push(Block { reference, marked: false, includes: vec![last], statements: vec![statement] });
+        chain.blocks.push(Block { reference, marked: false, includes: vec![last], statements: vec![statement], time: None });
     }
     chain.list(if rng.once_in(2) { vec![1] } else { vec![9, 1, 1] })
 }

@@ -94,5 +94,5 @@ impl Input {
 }
 
 pub fn block(reference: Reference, includes: &[Reference], statements: &[Statement], marked: bool) -> Block {
-    Block { reference, marked, includes: includes.to_vec(), statements: statements.to_vec() }
+    Block { reference, marked, includes: includes.to_vec(), statements: statements.to_vec(), time: None }
 }

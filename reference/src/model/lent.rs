@@ -3,7 +3,7 @@
 use super::committee::{Committee, Votes};
 use super::feed::{Event, State};
 use super::finality::{Finality, Graph};
-use super::record::{locator_of, number, Locator};
+use super::record::{locator_of, number, reference_of, Locator};
 use super::ring;
 use super::stakes_file;
 use super::store::Stores;
@@ -97,6 +97,19 @@ pub fn payload(stakes: &[u8], store: &[u8], locator: &[u8]) -> Result<(u64, u64)
     let committee = Committee::lent(stakes)?;
     let stores = Stores::read(&committee, store)?;
     stores.payload(&locator_of(locator).ok_or(20u64)?).ok_or(41)
+}
+
+/// The time of a stored block, or none: 5, 10, 20 for a reference not of 48 bytes, 40 for an answer not of 8.
+pub fn creation_time(stakes: &[u8], store: &[u8], reference: &[u8], found: &mut [u8]) -> Answer {
+    let committee = Committee::lent(stakes)?;
+    let stores = Stores::read(&committee, store)?;
+    let reference = reference_of(reference).ok_or(20u64)?;
+    if found.len() != 8 {
+        return Err(40);
+    }
+    let time = stores.get(&reference).and_then(|stored| stored.block.time);
+    time.iter().for_each(|time| put_words(found, &[*time]));
+    Ok(time.is_some() as u64)
 }
 
 /// 5, 10, 20, 40.

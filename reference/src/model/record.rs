@@ -1,4 +1,4 @@
-//! 01, "Blocks": references, locators, statements and the block record, read and written.
+//! 01, "Blocks": references, locators, statements and the block record, read and written; 02, "Nine": its second edition, with a time.
 
 use std::fmt;
 
@@ -31,6 +31,8 @@ pub struct Block {
     pub marked: bool,
     pub includes: Vec<Reference>,
     pub statements: Vec<Statement>,
+    /// The time of its creation in nanoseconds, in a record of edition 2.
+    pub time: Option<u64>,
 }
 
 pub const MAX_INCLUDES: usize = 256;
@@ -54,6 +56,15 @@ impl fmt::Debug for Reference {
         let length = 32 - self.digest.iter().rev().take_while(|byte| **byte == 0).count();
         write!(f, "round {} author {} digest ", self.round, self.author)?;
         self.digest[..length].iter().try_for_each(|byte| write!(f, "{byte:02x}"))
+    }
+}
+
+impl Reference {
+    /// As it stands in a record.
+    pub fn bytes(&self) -> [u8; 48] {
+        let mut out = Vec::new();
+        put_reference(&mut out, self);
+        out.try_into().unwrap()
     }
 }
 
@@ -95,7 +106,8 @@ impl Block {
         out.push(self.marked as u8);
         out.extend((self.includes.len() as u16).to_le_bytes());
         out.extend((self.statements.len() as u16).to_le_bytes());
-        out.extend([0; 3]);
+        out.extend([if self.time.is_some() { 2 } else { 0 }, 0, 0]);
+        self.time.iter().for_each(|time| out.extend((*time as u128).to_le_bytes()));
         self.includes.iter().for_each(|include| put_reference(&mut out, include));
         self.statements.iter().for_each(|statement| put_statement(&mut out, statement, 2));
         out
@@ -107,12 +119,17 @@ impl Block {
         let reference = reader.reference()?;
         let marked = reader.bit()?;
         let (includes, statements) = (reader.number(2)? as usize, reader.number(2)? as usize);
-        if reader.take(3)? != [0; 3] || includes > MAX_INCLUDES || statements > MAX_STATEMENTS {
+        let time = match reader.take(3)? {
+            [0, 0, 0] => None,
+            [2, 0, 0] => Some(u128::from_le_bytes(reader.take(16)?.try_into().unwrap()).try_into().ok()?),
+            _ => return None,
+        };
+        if includes > MAX_INCLUDES || statements > MAX_STATEMENTS {
             return None;
         }
         let includes = (0..includes).map(|_| reader.reference()).collect::<Option<_>>()?;
         let statements = (0..statements).map(|_| reader.statement(2)).collect::<Option<_>>()?;
-        reader.0.is_empty().then_some(Block { reference, marked, includes, statements })
+        reader.0.is_empty().then_some(Block { reference, marked, includes, statements, time })
     }
 }
 
@@ -241,6 +258,13 @@ pub fn locator_of(bytes: &[u8]) -> Option<Locator> {
     let mut reader = Reader(bytes);
     let locator = reader.locator()?;
     reader.0.is_empty().then_some(locator)
+}
+
+/// A reference of 48 bytes; none of any other number of bytes.
+pub fn reference_of(bytes: &[u8]) -> Option<Reference> {
+    let mut reader = Reader(bytes);
+    let reference = reader.reference()?;
+    reader.0.is_empty().then_some(reference)
 }
 
 /// A number of up to 8 bytes, lowest first.

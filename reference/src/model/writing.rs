@@ -1,4 +1,4 @@
-//! 02, "One. Blocks of our own": a record written from author, round, digest, mark, includes and statements.
+//! 02, "One. Blocks of our own": a record written from author, round, digest, mark, includes and statements; with a time, as "Nine" has it.
 
 use super::lent::Answer;
 use super::record::{given_of, includes_of, Block, Locator, Reference, Statement, MAX_INCLUDES, MAX_STATEMENTS};
@@ -13,6 +13,7 @@ pub struct Given {
     pub round: u64,
     pub digest: Vec<u8>,
     pub mark: u64,
+    pub time: Option<u64>,
     pub includes: Vec<u8>,
     pub statements: Vec<u8>,
 }
@@ -63,7 +64,7 @@ pub fn record(given: &Given) -> Result<Vec<u8>, u64> {
         return Err(51);
     }
     let reference = Reference { author: given.author, round: given.round, digest };
-    Ok(Block { reference, marked: given.mark == 1, includes, statements }.encode())
+    Ok(Block { reference, marked: given.mark == 1, includes, statements, time: given.time }.encode())
 }
 
 /// Writes it: 51, then 50 for a slice that is too short. Bytes past the record stay.

@@ -18,7 +18,7 @@ use Rattle.aggregator.proofs.count_votes.Tie as tie
 abbrev Inv-loop : tie.InvT-loop
 Inv-loop stakes total store rec table₀ events₀ telling count cursor₀ n₀ table events cursor n =
     Counting stakes (withNew store rec) (blockIn rec .reference .authority) (blockIn rec .statements) telling table₀ events₀ (cursor .index) table events n
-    × (cursor ≡ cursorAt (blockIn rec) (cursor .index))
+    × (cursor ≡ cursorAt rec (cursor .index))
     × (cursor .index ≤ length (blockIn rec .statements))
 
 abbrev μ-loop : tie.MeasureT-loop
@@ -35,10 +35,10 @@ unfolding eventRoom offsetsCounted
 loop-holds c =
     let o = c .before .before .before .before .before .before .before in
     let h = o .pre .0 in
-    let b = blockIn (o .args .rec .now) in
+    let r = o .args .rec .now in
     let e = c .first-statement .ensures in
-    let z = placed-index b (c .first-statement .result) 0 e in
-    (rw z (counting-start _ _ _ _ _ _ _ (h .author-known) (h .table) (o .pre .1 .1)), placed b (c .first-statement .result) 0 e, omega (arith, z))
+    let z = placed-index r (c .first-statement .result) 0 e in
+    (rw z (counting-start _ _ _ _ _ _ _ (h .author-known) (h .table) (o .pre .1 .1)), placed r (c .first-statement .result) 0 e, omega (arith, z))
 
 next-statement-requires : tie.Need-next-statement-requires Inv-loop μ-loop
 next-statement-requires c κs = let l = c .before .before in (c .before .before .before .before .before .before .before .before .before .before .pre .0 .formed, (l .loop .inv .1, omega (arith, c .before .before .before .before .statement-count .ensures, c .if1 .taken)))
@@ -77,20 +77,20 @@ returns c =
 
 loop-less : tie.Need-loop-less Inv-loop μ-loop
 loop-less c =
-    let b = blockIn (c .before .before .before .before .before .before .before .before .before .before .before .before .before .before .before .before .before .before .before .before .before .args .rec .now) in
-    omega (arith, placed-index b (c .before .before .before .before .before .before .before .before .before .before .next-statement .result .next) (c .before .before .before .before .before .before .before .before .before .before .before .before .before .loop .cursor .index + 1) (c .before .before .before .before .before .before .before .before .before .before .next-statement .ensures .1 .0), c .before .before .before .before .before .before .before .before .before .before .before .before .before .before .before .statement-count .ensures, c .before .before .before .before .before .before .before .before .before .before .before .if1 .taken)
+    let r = c .before .before .before .before .before .before .before .before .before .before .before .before .before .before .before .before .before .before .before .before .before .args .rec .now in
+    omega (arith, placed-index r (c .before .before .before .before .before .before .before .before .before .before .next-statement .result .next) (c .before .before .before .before .before .before .before .before .before .before .before .before .before .loop .cursor .index + 1) (c .before .before .before .before .before .before .before .before .before .before .next-statement .ensures .1 .0), c .before .before .before .before .before .before .before .before .before .before .before .before .before .before .before .statement-count .ensures, c .before .before .before .before .before .before .before .before .before .before .before .if1 .taken)
 
 loop-again : tie.Need-loop-again Inv-loop μ-loop
 loop-again c =
     let o = c .before .before .before .before .before .before .before .before .before .before .before .before .before .before .before .before .before .before .before .before .before in
     let h = o .pre .0 in
     let l = c .before .before .before .before .before .before .before .before .before .before .before .before .before in
-    let b = blockIn (o .args .rec .now) in
+    let r = o .args .rec .now in
     let n = c .before .before .before .before .before .before .before .before .before .before .next-statement in
-    let inside : l .loop .cursor .index < length (b .statements) = omega (arith, c .before .before .before .before .before .before .before .before .before .before .before .before .before .before .before .statement-count .ensures, c .before .before .before .before .before .before .before .before .before .before .before .if1 .taken) in
+    let inside : l .loop .cursor .index < length (blockIn r .statements) = omega (arith, c .before .before .before .before .before .before .before .before .before .before .before .before .before .before .before .statement-count .ensures, c .before .before .before .before .before .before .before .before .before .before .before .if1 .taken) in
     let e = n .ensures .1 .0 in
-    let index = placed-index b (n .result .next) (l .loop .cursor .index + 1) e in
-    (rw index (counting-on _ _ _ _ _ _ _ (h .author-known) (h .table) _ _ _ _ (l .loop .inv .0) _ inside (n .ensures .0) _ _ _ (c .before .before .before .before .before .before .before .vote-statement .ensures) (not-false _ (c .before .if2 .left))), placed b (n .result .next) (l .loop .cursor .index + 1) e, omega (arith, index, inside))
+    let index = placed-index r (n .result .next) (l .loop .cursor .index + 1) e in
+    (rw index (counting-on _ _ _ _ _ _ _ (h .author-known) (h .table) _ _ _ _ (l .loop .inv .0) _ inside (n .ensures .0) _ _ _ (c .before .before .before .before .before .before .before .vote-statement .ensures) (not-false _ (c .before .if2 .left))), placed r (n .result .next) (l .loop .cursor .index + 1) e, omega (arith, index, inside))
 
 same-length-3 : tie.Need-same-length-3 Inv-loop μ-loop
 same-length-3 c = let h = c .before .before .before .before .before .before .before .before .before .before .pre .0 in counting-long _ _ _ _ _ _ _ (h .author-known) (h .table) _ _ _ _ (c .before .before .loop .inv .0)

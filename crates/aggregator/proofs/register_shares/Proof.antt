@@ -19,7 +19,7 @@ use Rattle.aggregator.proofs.register_shares.Tie as tie
 abbrev Inv-loop : tie.InvT-loop
 Inv-loop stakes rec table₀ p who cursor₀ table cursor =
     Adding stakes (blockIn rec .reference .authority) p (blockIn rec) table₀ (cursor .index) table
-    × (cursor ≡ cursorAt (blockIn rec) (cursor .index))
+    × (cursor ≡ cursorAt rec (cursor .index))
     × (cursor .index ≤ length (blockIn rec .statements))
 
 abbrev μ-loop : tie.MeasureT-loop
@@ -34,10 +34,10 @@ first-statement-requires c κs = c .before .before .before .before .before .pre 
 loop-holds : tie.Need-loop-holds Inv-loop μ-loop
 loop-holds c =
     let o = c .before .before .before .before .before .before in
-    let b = blockIn (o .args .rec .now) in
+    let r = o .args .rec .now in
     let e = c .first-statement .ensures in
-    let z = placed-index b (c .first-statement .result) 0 e in
-    (rw z (adding-start _ _ _ _ _ (o .pre .1 .1 .0) (o .pre .1 .1 .1)), placed b (c .first-statement .result) 0 e, omega (arith, z))
+    let z = placed-index r (c .first-statement .result) 0 e in
+    (rw z (adding-start _ _ _ _ _ (o .pre .1 .1 .0) (o .pre .1 .1 .1)), placed r (c .first-statement .result) 0 e, omega (arith, z))
 
 next-shared-range-requires : tie.Need-next-shared-range-requires Inv-loop μ-loop
 next-shared-range-requires c κs = (c .before .before .before .before .before .before .before .pre .1 .0, (c .loop .inv .1, c .loop .inv .2))

@@ -30,7 +30,7 @@ returns c = let a = c .before .before .before .before .before .args in
     let b = blockIn (a .rec .now) in
     let p = c .before .before .before .before .before .pre in
     let e : isShare (getD (b .statements) (a .cursor .index) noStatement) ≡ true = rw (← c .before .before .before .next-statement .ensures .0) (sym (c .before .before .is-share .ensures (a .rec .now)) ∙ c .before .if1 .taken) in
-    rw (p .1 .0) (run-told b (a .cursor .index) (p .1 .1 .1) e (c .skip-statements .result) (c .skip-statements .ensures))
+    rw (p .1 .0) (run-told b (a .cursor .index) (p .1 .1 .1) e (a .rec .now) (c .skip-statements .result) (c .skip-statements .ensures))
 
 voted-requires : tie.Need-voted-requires
 voted-requires c κs = let a = c .before .before .before .before .args in
@@ -44,7 +44,7 @@ returns-2 c = let a = c .before .before .before .before .before .before .args in
     let p = c .before .before .before .before .before .before .pre in
     let s = c .before .before .before .before .next-statement .ensures in
     let e : isShare (getD (b .statements) (a .cursor .index) noStatement) ≡ false = rw (← s .0) (sym (c .before .before .before .is-share .ensures (a .rec .now)) ∙ c .before .before .if1 .left) in
-    vote-told b (a .cursor .index) (p .1 .1 .1) e (c .before .voted .result) (c .before .voted .ensures (a .rec .now) ∙ ap (λ (x : Statement). Option·toList (votedRange x)) (s .0)) (c .before .before .before .before .next-statement .result .next) (s .1 .0)
+    vote-told b (a .cursor .index) (p .1 .1 .1) e (c .before .voted .result) (c .before .voted .ensures (a .rec .now) ∙ ap (λ (x : Statement). Option·toList (votedRange x)) (s .0)) (a .rec .now) (c .before .before .before .before .next-statement .result .next) (s .1 .0)
 
 pub next-span-spec : {M : Type 1} → statement M
 next-span-spec =

@@ -18,7 +18,7 @@ use Rattle.block_votes.proofs.votes_for.Statement.{statement}
 use Rattle.block_votes.proofs.votes_for.Tie as tie
 
 abbrev Inv-loop : tie.InvT-loop
-Inv-loop rec locator count block cursor₀ cursor = (cursor ≡ cursorAt (blockIn rec) (cursor .index)) × ((cursor .index ≤ length (blockIn rec .statements)) × (votesFor (blockIn rec) (asLocator locator) ≡ votesFrom (blockIn rec) (asLocator locator) (cursor .index)))
+Inv-loop rec locator count block cursor₀ cursor = (cursor ≡ cursorAt rec (cursor .index)) × ((cursor .index ≤ length (blockIn rec .statements)) × (votesFor (blockIn rec) (asLocator locator) ≡ votesFrom (blockIn rec) (asLocator locator) (cursor .index)))
 
 abbrev μ-loop : tie.MeasureT-loop
 μ-loop rec locator count block cursor₀ cursor = length (blockIn rec .statements) - cursor .index

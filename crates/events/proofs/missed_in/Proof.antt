@@ -13,7 +13,7 @@ use Rattle.events.proofs.missed_in.Statement.{statement}
 use Rattle.events.proofs.missed_in.Tie as tie
 
 abbrev Inv-loop : tie.InvT-loop
-Inv-loop rec events₀ n statement start end cursor₀ k₀ o₀ events cursor k o = Telling (λ q. pick (isShareAt (blockIn rec) q) 2 3) statement start end n events₀ o k events × NotPast (blockIn rec) o cursor
+Inv-loop rec events₀ n statement start end cursor₀ k₀ o₀ events cursor k o = Telling (λ q. pick (isShareAt (blockIn rec) q) 2 3) statement start end n events₀ o k events × NotPast rec o cursor
 
 abbrev μ-loop : tie.MeasureT-loop
 μ-loop rec events₀ n statement start end cursor₀ k₀ o₀ events cursor k o = end - o

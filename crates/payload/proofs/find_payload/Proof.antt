@@ -78,7 +78,7 @@ enum-told-3 c = search needs
 returns-4 : tie.Need-returns-4
 unfolding asPlace placeWithin asLocator locator asShare blockAt
 returns-4 c =
-    let told = c .before .before .find-share .ensures .0 ∙ ap (λ (x : Bytes). shareStretch (statementStart (blockIn x) (c .before .before .before .before .before .before .before .before .before .before .before .before .before .before .args .locator .offset)) (getElem? (blockIn x .statements) (c .before .before .before .before .before .before .before .before .before .before .before .before .before .before .args .locator .offset))) (record-part (c .before .before .before .before .before .before .before .before .before .before .before .before .before .before .args .store .now) (c .before .before .before .before .before .before .lookup .result) (c .before .before .before .before .record-end .result) (c .before .before .before .before .record-end .ensures)) in
+    let told = c .before .before .find-share .ensures .0 ∙ ap (λ (x : Bytes). shareStretch (statementStart x (c .before .before .before .before .before .before .before .before .before .before .before .before .before .before .args .locator .offset)) (getElem? (blockIn x .statements) (c .before .before .before .before .before .before .before .before .before .before .before .before .before .before .args .locator .offset))) (record-part (c .before .before .before .before .before .before .before .before .before .before .before .before .before .before .args .store .now) (c .before .before .before .before .before .before .lookup .result) (c .before .before .before .before .record-end .result) (c .before .before .before .before .record-end .ensures)) in
     (place-none (c .before .before .before .before .before .before .before .before .before .before .before .before .before .before .args .stakes .now) (c .before .before .before .before .before .before .before .before .before .before .before .before .before .before .args .store .now) (asLocator (c .before .before .before .before .before .before .before .before .before .before .before .before .before .before .args .locator)) (taken-sound (c .before .before .before .before .before .before .before .before .before .before .before .before .before .before .args .stakes .now) (c .before .before .before .before .before .before .before .before .before .enum-told .given .0 .0) (ap asNewCommittee (sym (c .before .before .before .before .before .before .before .before .before .enum-told .given .1)) ∙ c .before .before .before .before .before .before .before .before .before .before .before .new-committee .ensures) .0) (sym (c .before .before .before .before .before .before .before .before .in-order .ensures) ∙ not-false (c .before .before .before .before .before .before .before .before .in-order .result) (c .before .before .before .before .before .before .before .if1 .left)) (payload-found (c .before .before .before .before .before .before .before .before .before .before .before .before .before .before .args .store .now) (order-laid (c .before .before .before .before .before .before .before .before .before .before .before .before .before .before .args .stakes .now) (c .before .before .before .before .before .before .before .before .before .before .before .before .before .before .args .store .now) (sym (c .before .before .before .before .before .before .before .before .in-order .ensures) ∙ not-false (c .before .before .before .before .before .before .before .before .in-order .result) (c .before .before .before .before .before .before .before .if1 .left))) (asLocator (c .before .before .before .before .before .before .before .before .before .before .before .before .before .before .args .locator)) (c .before .before .before .before .before .before .lookup .result) (c .before .before .before .before .before .before .lookup .ensures) (c .before .before .before .before .before .if2 .left) none (sym (ap asShare (c .enum-told3 .given .1)) ∙ told)), refl)
 
 add-t14 : tie.Need-add-t14
@@ -90,7 +90,7 @@ add-t14 c =
 returns-5 : tie.Need-returns-5
 unfolding asPlace placeWithin asLocator locator asShare blockAt shareWithin
 returns-5 c =
-    let told = c .before .before .before .find-share .ensures .0 ∙ ap (λ (x : Bytes). shareStretch (statementStart (blockIn x) (c .before .before .before .before .before .before .before .before .before .before .before .before .before .before .before .args .locator .offset)) (getElem? (blockIn x .statements) (c .before .before .before .before .before .before .before .before .before .before .before .before .before .before .before .args .locator .offset))) (record-part (c .before .before .before .before .before .before .before .before .before .before .before .before .before .before .before .args .store .now) (c .before .before .before .before .before .before .before .lookup .result) (c .before .before .before .before .before .record-end .result) (c .before .before .before .before .before .record-end .ensures)) in
+    let told = c .before .before .before .find-share .ensures .0 ∙ ap (λ (x : Bytes). shareStretch (statementStart x (c .before .before .before .before .before .before .before .before .before .before .before .before .before .before .before .args .locator .offset)) (getElem? (blockIn x .statements) (c .before .before .before .before .before .before .before .before .before .before .before .before .before .before .before .args .locator .offset))) (record-part (c .before .before .before .before .before .before .before .before .before .before .before .before .before .before .before .args .store .now) (c .before .before .before .before .before .before .before .lookup .result) (c .before .before .before .before .before .record-end .result) (c .before .before .before .before .before .record-end .ensures)) in
     let inside = rw (c .before .start .given .1) at (c .before .before .before .find-share .ensures .1) in (
       place-some (c .before .before .before .before .before .before .before .before .before .before .before .before .before .before .before .args .stakes .now) (c .before .before .before .before .before .before .before .before .before .before .before .before .before .before .before .args .store .now) (asLocator (c .before .before .before .before .before .before .before .before .before .before .before .before .before .before .before .args .locator)) (taken-sound (c .before .before .before .before .before .before .before .before .before .before .before .before .before .before .before .args .stakes .now) (c .before .before .before .before .before .before .before .before .before .before .enum-told .given .0 .0) (ap asNewCommittee (sym (c .before .before .before .before .before .before .before .before .before .before .enum-told .given .1)) ∙ c .before .before .before .before .before .before .before .before .before .before .before .before .new-committee .ensures) .0) (sym (c .before .before .before .before .before .before .before .before .before .in-order .ensures) ∙ not-false (c .before .before .before .before .before .before .before .before .before .in-order .result) (c .before .before .before .before .before .before .before .before .if1 .left)) _ (payload-found (c .before .before .before .before .before .before .before .before .before .before .before .before .before .before .before .args .store .now) (order-laid (c .before .before .before .before .before .before .before .before .before .before .before .before .before .before .before .args .stakes .now) (c .before .before .before .before .before .before .before .before .before .before .before .before .before .before .before .args .store .now) (sym (c .before .before .before .before .before .before .before .before .before .in-order .ensures) ∙ not-false (c .before .before .before .before .before .before .before .before .before .in-order .result) (c .before .before .before .before .before .before .before .before .if1 .left))) (asLocator (c .before .before .before .before .before .before .before .before .before .before .before .before .before .before .before .args .locator)) (c .before .before .before .before .before .before .before .lookup .result) (c .before .before .before .before .before .before .before .lookup .ensures) (c .before .before .before .before .before .before .if2 .left) (some (record { start = c .before .start .given .0 .0; count = c .before .start .given .0 .1 .0 })) (sym (ap asShare (c .before .start .given .1)) ∙ told)),
       le-leb ((c .before .before .before .before .before .before .before .lookup .result) + 8 + c .before .start .given .0 .0 + c .before .start .given .0 .1 .0) (length (c .before .before .before .before .before .before .before .before .before .before .before .before .before .before .before .args .store .now))

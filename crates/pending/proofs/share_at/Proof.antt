@@ -12,7 +12,7 @@ use Rattle.pending.proofs.share_at.Statement.{statement}
 use Rattle.pending.proofs.share_at.Tie as tie
 
 abbrev Inv-loop : tie.InvT-loop
-Inv-loop rec o count cursor₀ cursor = NotPast (blockIn rec) o cursor
+Inv-loop rec o count cursor₀ cursor = NotPast rec o cursor
 
 abbrev μ-loop : tie.MeasureT-loop
 μ-loop rec o count cursor₀ cursor = o - cursor .index

@@ -9,7 +9,7 @@ use Rattle.pending.proofs.shares_in.Statement.{statement}
 use Rattle.pending.proofs.shares_in.Tie as tie
 
 abbrev Inv-loop : tie.InvT-loop
-Inv-loop rec start end cursor₀ o₀ cursor o = Sharing (blockIn rec) start end o cursor
+Inv-loop rec start end cursor₀ o₀ cursor o = Sharing rec start end o cursor
 
 abbrev μ-loop : tie.MeasureT-loop
 μ-loop rec start end cursor₀ o₀ cursor o = end - o

@@ -13,7 +13,7 @@ use Rattle.shared_ranges.proofs.event_words.Tie as tie
 
 abbrev Inv-loop : tie.InvT-loop
 Inv-loop rec count cursor₀ offsets₀ cursor offsets =
-    (cursor ≡ cursorAt (blockIn rec) (cursor .index))
+    (cursor ≡ cursorAt rec (cursor .index))
     × ((cursor .index ≤ length (blockIn rec .statements))
     × ((offsets ≤ 1048575 * cursor .index) × (offsets + offsetsCounted (drop (cursor .index) (blockIn rec .statements)) ≡ offsetsCounted (blockIn rec .statements))))
 
@@ -29,10 +29,10 @@ first-statement-requires c κs = search needs
 loop-holds : tie.Need-loop-holds Inv-loop μ-loop
 loop-holds c =
     let o = c .before .before .before in
-    let b = blockIn (o .args .rec .now) in
+    let r = o .args .rec .now in
     let e = c .first-statement .ensures in
-    let z = placed-index b (c .first-statement .result) 0 e in
-    (placed b (c .first-statement .result) 0 e, (omega (arith, z), (omega arith, rw z (omega arith))))
+    let z = placed-index r (c .first-statement .result) 0 e in
+    (placed r (c .first-statement .result) 0 e, (omega (arith, z), (omega arith, rw z (omega arith))))
 
 next-statement-requires : tie.Need-next-statement-requires Inv-loop μ-loop
 next-statement-requires c κs =
@@ -67,8 +67,8 @@ loop-less : tie.Need-loop-less Inv-loop μ-loop
 loop-less c =
     let n = c .before .before in
     let l = n .before .before .before in
-    let b = blockIn (l .before .before .before .before .args .rec .now) in
-    omega (arith, placed-index b (n .next-statement .result .next) (l .loop .cursor .index + 1) (n .next-statement .ensures .1 .0), l .before .before .statement-count .ensures, n .before .if1 .taken)
+    let r = l .before .before .before .before .args .rec .now in
+    omega (arith, placed-index r (n .next-statement .result .next) (l .loop .cursor .index + 1) (n .next-statement .ensures .1 .0), l .before .before .statement-count .ensures, n .before .if1 .taken)
 
 loop-again : tie.Need-loop-again Inv-loop μ-loop
 loop-again c =
@@ -80,10 +80,10 @@ loop-again c =
     let i = l .loop .cursor .index in
     let inside : i < length ss = omega (arith, l .before .before .statement-count .ensures, n .before .if1 .taken) in
     let next = n .next-statement .result .next in
-    let index = placed-index (blockIn s) next (i + 1) (n .next-statement .ensures .1 .0) in
+    let index = placed-index s next (i + 1) (n .next-statement .ensures .1 .0) in
     let here = c .before .counted-offsets .ensures s ∙ ap (λ (x : Statement). countedOffsets (votedRange x)) (n .next-statement .ensures .0) in
     let on : offsetsCounted (drop i ss) ≡ countedOffsets (votedRange (getD ss i noStatement)) + offsetsCounted (drop (next .index) ss) = rw index (counted-on ss i inside) in (
-      placed (blockIn s) next (i + 1) (n .next-statement .ensures .1 .0),
+      placed s next (i + 1) (n .next-statement .ensures .1 .0),
       (
         omega (arith, index, inside),
         (omega (arith, index, here, l .loop .inv .1 .1 .0, counted-most (getD ss i noStatement) (passes-at ss i (o .pre .1) inside)), omega (arith, here, on, l .loop .inv .1 .1 .1)),

@@ -13,7 +13,7 @@ use Rattle.shared_ranges.proofs.skip_statements.Tie as tie
 
 abbrev Inv-loop : tie.InvT-loop
 Inv-loop rec shares count cursor₀ cursor =
-    (cursor ≡ cursorAt (blockIn rec) (cursor .index))
+    (cursor ≡ cursorAt rec (cursor .index))
     × ((cursor .index ≤ length (blockIn rec .statements))
     × (cursor₀ .index + leading shares (drop (cursor₀ .index) (blockIn rec .statements)) ≡ cursor .index + leading shares (drop (cursor .index) (blockIn rec .statements))))
 
@@ -44,14 +44,14 @@ returns c =
     let i = l .loop .cursor .index in
     let other = kind-other (o .args .shares) (c .before .is-share .result) (getD ss i noStatement) (c .before .is-share .ensures s ∙ ap isShare (n .next-statement .ensures .0)) (c .if2 .taken) in
     let stop = leading-stop (o .args .shares) ss i (omega (arith, l .before .statement-count .ensures, n .before .if1 .taken)) other in
-    l .loop .inv .0 ∙ ap (cursorAt (blockIn s)) (omega (arith, l .loop .inv .1 .1, stop))
+    l .loop .inv .0 ∙ ap (cursorAt s) (omega (arith, l .loop .inv .1 .1, stop))
 
 loop-less : tie.Need-loop-less Inv-loop μ-loop
 loop-less c =
     let n = c .before .before .before in
     let l = n .before .before .before in
-    let b = blockIn (l .before .before .before .args .rec .now) in
-    omega (arith, placed-index b (n .next-statement .result .next) (l .loop .cursor .index + 1) (n .next-statement .ensures .1 .0), l .before .statement-count .ensures, n .before .if1 .taken)
+    let r = l .before .before .before .args .rec .now in
+    omega (arith, placed-index r (n .next-statement .result .next) (l .loop .cursor .index + 1) (n .next-statement .ensures .1 .0), l .before .statement-count .ensures, n .before .if1 .taken)
 
 loop-again : tie.Need-loop-again Inv-loop μ-loop
 loop-again c =
@@ -62,11 +62,11 @@ loop-again c =
     let ss = blockIn s .statements in
     let i = l .loop .cursor .index in
     let next = n .next-statement .result .next in
-    let index = placed-index (blockIn s) next (i + 1) (n .next-statement .ensures .1 .0) in
+    let index = placed-index s next (i + 1) (n .next-statement .ensures .1 .0) in
     let inside : i < length ss = omega (arith, l .before .statement-count .ensures, n .before .if1 .taken) in
     let same = kind-same (o .args .shares) (c .before .before .is-share .result) (getD ss i noStatement) (c .before .before .is-share .ensures s ∙ ap isShare (n .next-statement .ensures .0)) (c .before .if2 .left) in
     let on : leading (o .args .shares) (drop i ss) ≡ suc (leading (o .args .shares) (drop (next .index) ss)) = rw index (leading-on (o .args .shares) ss i inside same) in
-    (placed (blockIn s) next (i + 1) (n .next-statement .ensures .1 .0), (omega (arith, index, inside), omega (arith, l .loop .inv .1 .1, on, index)))
+    (placed s next (i + 1) (n .next-statement .ensures .1 .0), (omega (arith, index, inside), omega (arith, l .loop .inv .1 .1, on, index)))
 
 returns-2 : tie.Need-returns-2 Inv-loop μ-loop
 returns-2 c =
@@ -76,7 +76,7 @@ returns-2 c =
     let ss = blockIn s .statements in
     let i = l .loop .cursor .index in
     let end = leading-end (o .args .shares) ss i (omega (arith, l .before .statement-count .ensures, c .if1 .left)) in
-    l .loop .inv .0 ∙ ap (cursorAt (blockIn s)) (omega (arith, l .loop .inv .1 .1, end))
+    l .loop .inv .0 ∙ ap (cursorAt s) (omega (arith, l .loop .inv .1 .1, end))
 
 pub skip-statements-spec : {M : Type 1} → statement M
 skip-statements-spec =

@@ -15,7 +15,7 @@ use Rattle.threshold_clock.proofs.statements_refusal.Tie as tie
 
 abbrev Inv-loop : tie.InvT-loop
 Inv-loop rec count cursor₀ cursor =
-    (cursor ≡ cursorAt (blockIn rec) (cursor .index))
+    (cursor ≡ cursorAt rec (cursor .index))
     × ((cursor .index ≤ length (blockIn rec .statements)) × (ofStatements (blockIn rec .statements) ≡ ofStatements (drop (cursor .index) (blockIn rec .statements))))
 
 abbrev μ-loop : tie.MeasureT-loop
@@ -30,10 +30,10 @@ first-statement-requires c κs = search needs
 loop-holds : tie.Need-loop-holds Inv-loop μ-loop
 loop-holds c =
     let o = c .before .before .before in
-    let b = blockIn (o .args .rec .now) in
+    let r = o .args .rec .now in
     let e = c .first-statement .ensures in
-    let z = placed-index b (c .first-statement .result) 0 e in
-    (placed b (c .first-statement .result) 0 e, (omega (arith, z), rw z refl))
+    let z = placed-index r (c .first-statement .result) 0 e in
+    (placed r (c .first-statement .result) 0 e, (omega (arith, z), rw z refl))
 
 next-statement-requires : tie.Need-next-statement-requires Inv-loop μ-loop
 next-statement-requires c κs =
@@ -61,8 +61,8 @@ loop-less : tie.Need-loop-less Inv-loop μ-loop
 loop-less c =
     let n = c .before .before .before in
     let l = n .before .before .before in
-    let b = blockIn (l .before .before .before .before .args .rec .now) in
-    omega (arith, placed-index b (n .next-statement .result .next) (l .loop .cursor .index + 1) (n .next-statement .ensures .1 .0), l .before .before .statement-count .ensures, n .before .if1 .taken)
+    let r = l .before .before .before .before .args .rec .now in
+    omega (arith, placed-index r (n .next-statement .result .next) (l .loop .cursor .index + 1) (n .next-statement .ensures .1 .0), l .before .before .statement-count .ensures, n .before .if1 .taken)
 
 loop-again : tie.Need-loop-again Inv-loop μ-loop
 loop-again c =
@@ -75,9 +75,9 @@ loop-again c =
     let inside : i < length ss = omega (arith, l .before .before .statement-count .ensures, n .before .if1 .taken) in
     let here = ap (λ (x : Statement). refusal (statementChecks x)) (n .next-statement .ensures .0) in
     let next = n .next-statement .result .next in
-    let index = placed-index (blockIn s) next (i + 1) (n .next-statement .ensures .1 .0) in
+    let index = placed-index s next (i + 1) (n .next-statement .ensures .1 .0) in
     let none = sym (c .before .before .statement-refusal .ensures s ∙ here) ∙ c .before .if2 .left in
-    (placed (blockIn s) next (i + 1) (n .next-statement .ensures .1 .0), (omega (arith, index, inside), l .loop .inv .1 .1 ∙ rw index (statement-on ss i inside none)))
+    (placed s next (i + 1) (n .next-statement .ensures .1 .0), (omega (arith, index, inside), l .loop .inv .1 .1 ∙ rw index (statement-on ss i inside none)))
 
 returns-2 : tie.Need-returns-2 Inv-loop μ-loop
 unfolding ofStatements

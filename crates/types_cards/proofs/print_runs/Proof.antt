@@ -12,7 +12,7 @@ use Rattle.types_cards.proofs.print_runs.Statement.{statement}
 use Rattle.types_cards.proofs.print_runs.Tie as tie
 
 abbrev Inv-loop : tie.InvT-loop
-Inv-loop rec cursor₀ cursor = (cursor ≡ cursorAt (blockIn rec) (cursor .index)) × (cursor .index ≤ length (blockIn rec .statements))
+Inv-loop rec cursor₀ cursor = (cursor ≡ cursorAt rec (cursor .index)) × (cursor .index ≤ length (blockIn rec .statements))
 
 abbrev μ-loop : tie.MeasureT-loop
 μ-loop rec cursor₀ cursor = length (blockIn rec .statements) - cursor .index
@@ -22,9 +22,9 @@ first-statement-requires c κs = search needs
 
 loop-holds : tie.Need-loop-holds Inv-loop μ-loop
 loop-holds c =
-    let b = blockIn (c .before .before .args .rec .now) in
+    let r = c .before .before .args .rec .now in
     let e = c .first-statement .ensures in
-    (placed b (c .first-statement .result) 0 e, omega (arith, placed-index b (c .first-statement .result) 0 e))
+    (placed r (c .first-statement .result) 0 e, omega (arith, placed-index r (c .first-statement .result) 0 e))
 
 next-shared-range-requires : tie.Need-next-shared-range-requires Inv-loop μ-loop
 next-shared-range-requires c κs = (c .before .before .before .pre, c .loop .inv)
@@ -47,8 +47,8 @@ loop-less c =
     let t = c .before .before in
     let k = t .before .before in
     let l = k .before in
-    let b = blockIn (l .before .before .before .args .rec .now) in
-    let on : FurtherOn b (l .loop .cursor .index) (Run (t .start .given .0 .0) (t .start .given .0 .1 .0) (t .start .given .0 .1 .1 .0)) = rw (t .start .given .1) at (k .next-shared-range .ensures .1) in
+    let r = l .before .before .before .args .rec .now in
+    let on : FurtherOn r (l .loop .cursor .index) (Run (t .start .given .0 .0) (t .start .given .0 .1 .0) (t .start .given .0 .1 .1 .0)) = rw (t .start .given .1) at (k .next-shared-range .ensures .1) in
     omega (arith, on .0, on .1 .0)
 
 loop-again : tie.Need-loop-again Inv-loop μ-loop
@@ -57,8 +57,8 @@ loop-again c =
     let t = c .before .before in
     let k = t .before .before in
     let l = k .before in
-    let b = blockIn (l .before .before .before .args .rec .now) in
-    let on : FurtherOn b (l .loop .cursor .index) (Run (t .start .given .0 .0) (t .start .given .0 .1 .0) (t .start .given .0 .1 .1 .0)) = rw (t .start .given .1) at (k .next-shared-range .ensures .1) in
+    let r = l .before .before .before .args .rec .now in
+    let on : FurtherOn r (l .loop .cursor .index) (Run (t .start .given .0 .0) (t .start .given .0 .1 .0) (t .start .given .0 .1 .1 .0)) = rw (t .start .given .1) at (k .next-shared-range .ensures .1) in
     (on .1 .1, on .1 .0)
 
 pub print-runs-spec : {M : Type 1} → statement M

@@ -17,7 +17,7 @@ use Rattle.vote_edges.proofs.record_edges.Statement.{statement}
 use Rattle.vote_edges.proofs.record_edges.Tie as tie
 
 abbrev Inv-loop : tie.InvT-loop
-Inv-loop rec block offset best count of cursor₀ near₀ cursor near = (cursor ≡ cursorAt (blockIn rec) (cursor .index)) × ((cursor .index ≤ length (blockIn rec .statements)) × (nearest offset best (edgesIn (asReference block) (joinedSpans (blockIn rec))) ≡ nearest offset near (edgesIn (asReference block) (joinedAt (blockIn rec) (cursor .index)))))
+Inv-loop rec block offset best count of cursor₀ near₀ cursor near = (cursor ≡ cursorAt rec (cursor .index)) × ((cursor .index ≤ length (blockIn rec .statements)) × (nearest offset best (edgesIn (asReference block) (joinedSpans (blockIn rec))) ≡ nearest offset near (edgesIn (asReference block) (joinedAt (blockIn rec) (cursor .index)))))
 
 abbrev μ-loop : tie.MeasureT-loop
 μ-loop rec block offset best count of cursor₀ near₀ cursor near = length (blockIn rec .statements) - cursor .index

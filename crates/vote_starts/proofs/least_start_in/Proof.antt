@@ -20,7 +20,7 @@ use Rattle.vote_starts.proofs.least_start_in.Statement.{statement}
 use Rattle.vote_starts.proofs.least_start_in.Tie as tie
 
 abbrev Inv-loop : tie.InvT-loop
-Inv-loop rec last count block cursor₀ least₀ cursor least = (cursor ≡ cursorAt (blockIn rec) (cursor .index)) × ((cursor .index ≤ length (blockIn rec .statements)) × (lesserOf (asMaybe least₀) (leastLocator (keep (isAfter (asMaybe last)) (map startOf (joinedSpans (blockIn rec))))) ≡ lesserOf (asMaybe least) (leastFrom (blockIn rec) (isAfter (asMaybe last)) (cursor .index))))
+Inv-loop rec last count block cursor₀ least₀ cursor least = (cursor ≡ cursorAt rec (cursor .index)) × ((cursor .index ≤ length (blockIn rec .statements)) × (lesserOf (asMaybe least₀) (leastLocator (keep (isAfter (asMaybe last)) (map startOf (joinedSpans (blockIn rec))))) ≡ lesserOf (asMaybe least) (leastFrom (blockIn rec) (isAfter (asMaybe last)) (cursor .index))))
 
 abbrev μ-loop : tie.MeasureT-loop
 μ-loop rec last count block cursor₀ least₀ cursor least = length (blockIn rec .statements) - cursor .index

@@ -16,7 +16,7 @@ use Rattle.vote_table.proofs.table_record.Statement.{statement}
 use Rattle.vote_table.proofs.table_record.Tie as tie
 
 abbrev Inv-loop : tie.InvT-loop
-Inv-loop rec k votes₀ m count block cursor₀ n₀ votes cursor n = (cursor ≡ cursorAt (blockIn rec) (cursor .index)) × ((cursor .index ≤ length (blockIn rec .statements)) × Recorded (blockIn rec) k votes₀ votes m n (cursor .index))
+Inv-loop rec k votes₀ m count block cursor₀ n₀ votes cursor n = (cursor ≡ cursorAt rec (cursor .index)) × ((cursor .index ≤ length (blockIn rec .statements)) × Recorded (blockIn rec) k votes₀ votes m n (cursor .index))
 
 abbrev μ-loop : tie.MeasureT-loop
 μ-loop rec k votes₀ m count block cursor₀ n₀ votes cursor n = length (blockIn rec .statements) - cursor .index

@@ -1,0 +1,4 @@
+mod Accepting
+mod Events
+mod Engine
+mod Claimed
