@@ -16,9 +16,9 @@ use Rattle.blocks.specs.Record.{Edition, old, timed, Timed, timedOf, blockOf, t
 use Rattle.blocks.specs.Claims.{areBytes, fitsBlock, fitsTime, fitsIn, ReadsWhatIsWritten, WritesWhatIsRead}
 use Rattle.blocks.proofs.Records.{block-of, timed-of}
 use Rattle.blocks.proofs.Claimed as records
-use Rattle.store_layout.specs.Layout.{Record, readRecord}
+use Rattle.store_layout.specs.Layout.{blocks, Record, readRecord}
 use Rattle.store_layout.specs.Accept.{isStored, blockChecks, allAccepted}
-use Rattle.editions.specs.Claims.{blocksHeld, SameAccepted, Accepting, Apart}
+use Rattle.editions.specs.Claims.{SameAccepted, Accepting, Apart}
 
 -- ---- reading
 
@@ -68,8 +68,8 @@ acceptedAmong : Committee → List Block → Bool
 acceptedAmong c [] = true
 acceptedAmong c (b ∷ older) = passes (checksAmong c older b) && acceptedAmong c older
 
-stored-among : (rs : List Record) (i : BlockReference) → isStored rs i ≡ storedAmong (blocksHeld rs) i
-unfolding isStored storedAmong blocksHeld
+stored-among : (rs : List Record) (i : BlockReference) → isStored rs i ≡ storedAmong (blocks rs) i
+unfolding isStored storedAmong
 stored-among rs i = any-map (λ r. r .block) (λ b. sameReference (b .reference) i) rs
 
 any-same : {A : Type 0} (p q : A → Bool) (xs : List A) → ((x : A) → p x ≡ q x) → anyOf p xs ≡ anyOf q xs
@@ -77,20 +77,20 @@ unfolding anyOf
 any-same p q [] h = refl
 any-same p q (x ∷ xs) h = rw (h x, any-same p q xs h)
 
-checks-among : (c : Committee) (rs : List Record) (b : Block) → blockChecks c rs b ≡ checksAmong c (blocksHeld rs) b
+checks-among : (c : Committee) (rs : List Record) (b : Block) → blockChecks c rs b ≡ checksAmong c (blocks rs) b
 unfolding blockChecks checksAmong
 checks-among c rs b =
     rw (
       stored-among rs (b .reference),
-      any-same (λ i. not (isStored rs i)) (λ i. not (storedAmong (blocksHeld rs) i)) (b .includes) (λ i. rw (stored-among rs i)),
+      any-same (λ i. not (isStored rs i)) (λ i. not (storedAmong (blocks rs) i)) (b .includes) (λ i. rw (stored-among rs i)),
     )
 
-accepted-among : (c : Committee) (rs : List Record) → allAccepted c rs ≡ acceptedAmong c (blocksHeld rs)
-unfolding allAccepted acceptedAmong blocksHeld
+accepted-among : (c : Committee) (rs : List Record) → allAccepted c rs ≡ acceptedAmong c (blocks rs)
+unfolding allAccepted acceptedAmong
 accepted-among c [] = refl
 accepted-among c (r ∷ older) = rw (checks-among c older (r .block), accepted-among c older)
 
-same-accepted : (c : Committee) (rs qs : List Record) → blocksHeld rs ≡ blocksHeld qs → SameAccepted c rs qs
+same-accepted : (c : Committee) (rs qs : List Record) → blocks rs ≡ blocks qs → SameAccepted c rs qs
 same-accepted c rs qs h =
     record {
       checks = λ b. checks-among c rs b ∙ rw h (sym (checks-among c qs b));

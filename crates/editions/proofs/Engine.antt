@@ -13,7 +13,7 @@ use Rattle.committee.specs.Committee.{Committee}
 use Rattle.blocks.specs.Block.{Block}
 use Rattle.blocks.specs.Record.{blockOf, blockIn}
 use Rattle.blocks.proofs.Records.{block-in}
-use Rattle.store_layout.specs.Layout.{Record, readRecord}
+use Rattle.store_layout.specs.Layout.{blocks, Record, readRecord}
 use Rattle.store_layout.specs.Store.{recordsOf}
 use Rattle.store_layout.proofs.Store.{readRecord-some, readRecord-bytes, right-block}
 use Rattle.pending_items.specs.Table.{itemsRead, itemsOf}
@@ -29,7 +29,7 @@ use Rattle.promises.specs.ThirdStatement.{Start, engineOf, acceptedOf}
 use Rattle.promises.proofs.Feeds.{taken, feed-cases}
 use Rattle.promises.proofs.Storing.{asRecord, StoreOf, fresh-holds, run-holds}
 use Rattle.promises.proofs.Finals.{blocks-are, store-of}
-use Rattle.editions.specs.Claims.{blocksHeld, blocksSaid, TimesApart, eventsTold, SameCounts}
+use Rattle.editions.specs.Claims.{blocksSaid, TimesApart, eventsTold, SameCounts}
 use Rattle.editions.proofs.Events.{counting, eventsOfEach, events-ignore}
 
 -- the table has the items that were counted, and the events told are those
@@ -76,8 +76,8 @@ unfolding acceptedOf fresh
 events-counted c t =
     counts-run c (fresh (t .past) (t .words)) (t .feeds) (fresh-holds c (t .past) (t .allowed)) (counts-fresh c (t .words)) .events
 
-blocks-in : (as′ : List Accepted) → blocksHeld (map asRecord as′) ≡ storedBlocks as′
-unfolding blocksHeld storedBlocks
+blocks-in : (as′ : List Accepted) → blocks (map asRecord as′) ≡ storedBlocks as′
+unfolding storedBlocks
 blocks-in [] = refl
 blocks-in (a ∷ as′) = ap {B = List Block} (λ bs. a .block ∷ bs) (blocks-in as′)
 

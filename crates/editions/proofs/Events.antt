@@ -12,11 +12,10 @@ use Rattle.base.specs.Lists.{pick, find, keep}
 use Rattle.committee.specs.Committee.{AuthorityIndex, Committee, totalStake}
 use Rattle.blocks.specs.Reference.{BlockReference, TransactionLocatorRange, locator, sameReference, offsets}
 use Rattle.blocks.specs.Block.{Statement, Block, author, votedRange, sharedRanges}
-use Rattle.store_layout.specs.Layout.{Record, usedBy, Entry, blocksAt, referenceOf, entries, positionOf, lookup}
+use Rattle.store_layout.specs.Layout.{blocks, Record, usedBy, Entry, blocksAt, referenceOf, entries, positionOf, lookup}
 use Rattle.store_layout.specs.Shares.{isStoredShare}
 use Rattle.pending_items.specs.Items.{Item, itemHolds, itemAt, fallsInside, frontOf, backOf, cutItem, cutAt, bothCuts, itemWithin, votedItem, voteOver, stays, afterLeaving, firstVote, registered, register}
 use Rattle.feeds.specs.ProcessBlock.{Event, missed, eventAt, eventOf, Processing, vote, votes, registering, processBlock}
-use Rattle.editions.specs.Claims.{blocksHeld}
 
 -- ---- what feeding counts, over records; records are listed THE LAST FIRST
 
@@ -189,8 +188,7 @@ data Same : List Record → List Record → Type 0 where
   no-records : Same [] []
   record-more : {r q : Record} {rs qs : List Record} → r .block ≡ q .block → Same rs qs → Same (r ∷ rs) (q ∷ qs)
 
-same-blocks : (rs qs : List Record) → blocksHeld rs ≡ blocksHeld qs → Same rs qs
-unfolding blocksHeld
+same-blocks : (rs qs : List Record) → blocks rs ≡ blocks qs → Same rs qs
 same-blocks [] [] h = no-records
 same-blocks [] (q ∷ qs) h = let z : _≡_ {A = ℕ} 0 1 = cc in absurd (omega arith)
 same-blocks (r ∷ rs) [] h = let z : _≡_ {A = ℕ} 0 1 = cc in absurd (omega arith)
@@ -267,5 +265,5 @@ unfolding eventsOfEach
 events-same c no-records = refl
 events-same c (record-more {r = r} {q = q} e s) = rw (counting-same c (record-more {r = r} {q = q} e s) .events, events-same c s)
 
-pub events-ignore : (c : Committee) (rs qs : List Record) → blocksHeld rs ≡ blocksHeld qs → eventsOfEach c rs ≡ eventsOfEach c qs
+pub events-ignore : (c : Committee) (rs qs : List Record) → blocks rs ≡ blocks qs → eventsOfEach c rs ≡ eventsOfEach c qs
 events-ignore c rs qs h = events-same c (same-blocks rs qs h)

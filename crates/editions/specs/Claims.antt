@@ -11,7 +11,7 @@ use Rattle.blocks.specs.Reference.{TransactionLocator}
 use Rattle.blocks.specs.Block.{Block}
 use Rattle.blocks.specs.Record.{Edition, Timed, wellFormed, blockIn, bytesIn, timedBytes}
 use Rattle.blocks.specs.Claims.{areBytes, fitsIn}
-use Rattle.store_layout.specs.Layout.{Record, readRecord}
+use Rattle.store_layout.specs.Layout.{blocks, Record, readRecord}
 use Rattle.store_layout.specs.Accept.{blockChecks, allAccepted}
 use Rattle.feeds.specs.ProcessBlock.{Event}
 use Rattle.finality.specs.Voters.{isFinal}
@@ -22,9 +22,6 @@ use Rattle.promises.specs.ThirdStatement.{Start, engineOf, acceptedOf}
 
 -- ---- 02: "Reading and accepting are shown with the edition as a parameter"
 
-unfoldable pub blocksHeld : List Record → List Block
-blocksHeld rs = map (λ r. r .block) rs
-
 -- accepting looks at blocks alone: records of the same blocks, whatever their bytes
 pub record SameAccepted (c : Committee) (rs qs : List Record) : Type 0 where
   pub checks : (b : Block) → blockChecks c rs b ≡ blockChecks c qs b
@@ -33,7 +30,7 @@ pub record SameAccepted (c : Committee) (rs qs : List Record) : Type 0 where
 pub record Accepting : Type 0 where
   -- a record of either edition is fed as its block
   pub read : (e : Edition) (t : Timed) → fitsIn e t ≡ true → readRecord (bytesIn e t) ≡ some (record { bytes = bytesIn e t; block = t .block })
-  pub same : (c : Committee) (rs qs : List Record) → blocksHeld rs ≡ blocksHeld qs → SameAccepted c rs qs
+  pub same : (c : Committee) (rs qs : List Record) → blocks rs ≡ blocks qs → SameAccepted c rs qs
 
 -- ---- 02: "everything voted or final ignores the time"
 
