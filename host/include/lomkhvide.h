@@ -161,5 +161,21 @@ uint64_t lomkhvide_write_timed_record(uint64_t author, uint64_t round, const uin
 #define LOMKHVIDE_REFERENCE_LEN ((size_t)48)
 uint64_t lomkhvide_creation_time(const uint8_t *stakes, size_t stakes_len, const uint8_t *store, size_t store_len,
                                  const uint8_t *reference, size_t reference_len, uint8_t *found, size_t found_len);
+/* ---- Finality slips
+ *
+ * A slip says of one locator which blocks certify it, and where their voters' votes stand: a byte 0, the locator 56, the number of
+ * certifying blocks 2, each its reference 48 and the number of its voters 1, each its author 8, path length 2 and the path, one byte for
+ * the place of an include in its block, from the certifying block to the vote. References and authors strictly ascend, and nothing stands
+ * after them. */
+
+/* Reads a slip with the records that come with it, each after its length of 4 bytes: the number of its certifying blocks. More records
+ * than it names are welcome. It is accepted exactly if every path ends at a block of its author that votes for the locator, each listed
+ * block is unmarked and lists voters that hold quorum, and the listed blocks' authors hold quorum. In every store under the committee that
+ * holds the records it names, these blocks then certify, and the locator is final. Digests are taken as given.
+ * Refused, in this order: 5 stakes that are no committee or not whole words; 52 a slip or records of another form, over 1,024 records, two
+ * of one reference, or one that 20 to 22 or 24 to 29 refuse; 53 a record that it names, also by path, is missing; 52 it does not hold.
+ * It needs at most 16 KB of stack. */
+uint64_t lomkhvide_read_slip(const uint8_t *stakes, size_t stakes_len, const uint8_t *slip, size_t slip_len, const uint8_t *records,
+                             size_t records_len);
 
 #endif

@@ -791,6 +791,75 @@ static void times(void) {
     same("nothing is written", memcmp(found, kept, sizeof found), 0);
 }
 
+/* ---- finality slips */
+
+/* Puts a record after its length. */
+static size_t put_framed(uint8_t *to, const uint8_t *record, size_t n) {
+    to[0] = (uint8_t)n;
+    to[1] = (uint8_t)(n >> 8);
+    to[2] = to[3] = 0;
+    memcpy(to + 4, record, n);
+    return 4 + n;
+}
+
+/* Reads a slip; it and the records are lent from their own allocations. */
+static uint64_t read_slip(const uint8_t *stakes, size_t m, const uint8_t *slip, size_t n, const uint8_t *records, size_t k) {
+    uint8_t *lent_slip = malloc(n + 1), *lent_records = malloc(k + 1);
+    memcpy(lent_slip + 1, slip, n);
+    memcpy(lent_records + 1, records, k);
+    uint64_t word = lomkhvide_read_slip(stakes, m, lent_slip + 1, n, lent_records + 1, k);
+    same("the slip is only read", memcmp(lent_slip + 1, slip, n), 0);
+    same("the records are only read", memcmp(lent_records + 1, records, k), 0);
+    free(lent_slip);
+    free(lent_records);
+    return word;
+}
+
+/* One owner: its second block shares, and its third one includes that and is the certifying block of the slip. */
+static void slips(void) {
+    uint8_t one[8], first[64], second[160], third[160], records[512], slip[160];
+    put_word(one, 1);
+    put_record(first, 0, 1, NULL, "");
+    size_t n = put_record(second, 1, 2, first, "gain");
+    size_t only = put_framed(records, second, n);
+    n = put_record(third, 2, 3, second, "");
+    size_t both = only + put_framed(records + only, third, n);
+    memset(slip, 0, sizeof slip);
+    memcpy(slip + 1, second, 48);
+    slip[57] = 1;
+    memcpy(slip + 59, third, 48);
+    slip[107] = 1;
+    slip[116] = 1;
+    for (size_t length = 0; length <= sizeof slip; length++) {
+        same("a slip of any length", read_slip(one, 8, slip, length, records, both), length == 119 ? 1 : refused(52));
+    }
+    for (size_t length = 0; length <= both + 8; length++) {
+        memset(records + both, 0, 8);
+        uint64_t want = length == both ? 1 : length == 0 || length == only ? refused(53) : refused(52);
+        same("records of any length", read_slip(one, 8, slip, 119, records, length), want);
+    }
+    same("the vote's record left out", read_slip(one, 8, slip, 119, records + only, both - only), refused(53));
+    same("no committee", read_slip(one, 0, slip, 7, records, 7), refused(5));
+    for (size_t cut = 1; cut < 8; cut++) {
+        same("stakes cut short", read_slip(one, 8 - cut, slip, 119, records, both), refused(5));
+    }
+    records[only + 4 + 48] = 1;
+    same("a marked block", read_slip(one, 8, slip, 119, records, both), refused(52));
+    same("53 before that", read_slip(one, 8, slip, 119, records + only, both - only), refused(53));
+    records[only + 4 + 48] = 0;
+    slip[118] = 1;
+    same("a place past the includes", read_slip(one, 8, slip, 119, records, both), refused(52));
+    slip[118] = 0;
+    slip[49] = 1;
+    same("another locator", read_slip(one, 8, slip, 119, records, both), refused(52));
+    slip[49] = 0;
+    slip[108] = 1;
+    same("another author", read_slip(one, 8, slip, 119, records, both), refused(52));
+    slip[108] = 0;
+    slip[0] = 1;
+    same("another first byte", read_slip(one, 8, slip, 119, records, both), refused(52));
+}
+
 int main(void) {
     loading();
     committees();
@@ -802,6 +871,7 @@ int main(void) {
     calendars();
     writing();
     times();
+    slips();
     printf("%d passed, %d failed\n", passed, failed);
     return failed != 0;
 }

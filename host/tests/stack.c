@@ -97,6 +97,28 @@ static void creation_time(void) {
     answer = lomkhvide_creation_time(owners, sizeof owners, store, sizeof store, locator, 48, found, sizeof found);
 }
 
+/* The stack of the slip's reader does not depend on what it reads, but on how deep it goes: into a vote's record. */
+static const uint8_t owner[8] = {1};
+static uint8_t slip[118], supplied[4 + 56 + 48 + 4];
+
+static void read_slip(void) {
+    answer = lomkhvide_read_slip(owner, sizeof owner, slip, sizeof slip, supplied, sizeof supplied);
+}
+
+/* A block of round 1 that shares, and the slip in which it certifies its own share. */
+static void certify(void) {
+    uint8_t *record = supplied + 4;
+    supplied[0] = sizeof supplied - 4;
+    record[8] = 1;
+    record[49] = 1;
+    record[51] = 1;
+    memcpy(record + 56 + 48, "\0\1\0g", 4);
+    slip[9] = 1;
+    slip[57] = 1;
+    slip[59 + 8] = 1;
+    slip[59 + 48] = 1;
+}
+
 static int failed;
 
 static void at_most(const char *what, void (*call)(void), uint64_t want, size_t most) {
@@ -124,5 +146,8 @@ int main(void) {
     at_most("write_timed_record", write_timed_record, 72, 2048);
     at_most("creation_time", creation_time, 0, 24576);
     printf("%d passed, %d failed\n", 6 - failed, failed);
+    certify();
+    at_most("read_slip", read_slip, 1, 16384);
+    printf("%d passed, %d failed\n", 5 - failed, failed);
     return failed != 0;
 }

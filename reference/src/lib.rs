@@ -23,6 +23,7 @@ pub mod rust;
 #[cfg(has_rust)]
 pub mod sample;
 pub mod shrink;
+pub mod slips;
 pub mod tables;
 pub mod tally;
 pub mod writing;

@@ -6,6 +6,7 @@ use std::time::{Duration, Instant};
 
 use reference::compare::compare;
 use reference::list::List;
+use reference::slips::Told;
 use reference::tally::Tally;
 use reference::writing::Written;
 use reference::{calendars, exhaustive, generate, members, program, rings, shrink, tables};
@@ -24,6 +25,7 @@ fn main() {
         Some("list") => one(number(word(1), 0), number(word(2), 1)),
         Some("boundary") => boundary(word(1) == Some("exact")),
         Some("listing") => listing(number(word(1), 1000), number(word(2), 1)),
+        Some("slips") => slips(number(word(1), 1000), number(word(2), 1)),
         Some("writing") => writing(number(word(1), 2000), number(word(2), 1)),
         Some("stakes") => tables(number(word(1), 100_000), number(word(2), 1)),
         Some("model") => model(word(1).expect("a file"), word(2)),
@@ -193,6 +195,25 @@ fn writing(count: u64, seed: u64) {
     }
     let Written { records, ranges, malformed, short, fed } = written;
     println!("records written {records}, with {ranges} joined ranges; refused 51: {malformed}, 50: {short}; written and fed {fed}");
+    end(count, failed);
+}
+
+/// Slips for the station, whole, damaged, made up and carried.
+fn slips(count: u64, seed: u64) {
+    println!("seed {seed}");
+    let mut told = Default::default();
+    let mut failed = 0;
+    for n in 0..count {
+        if let Err(text) = reference::slips::run(seed, n, &mut told) {
+            failed += 1;
+            println!("run {n} of seed {seed}: {text}");
+        }
+    }
+    let Told { slips, accepted, refused, left_out, carried } = told;
+    println!(
+        "slips {slips}; questions accepted {accepted}, refused 52: {}, 53: {}; records left out {left_out}; slips carried {carried}",
+        refused[0], refused[1]
+    );
     end(count, failed);
 }
 

@@ -76,7 +76,7 @@ fn statement_votes(
 }
 
 // Whether the block of a record votes for the locator.
-fn votes_for(rec: &[u8], locator: TransactionLocator) -> bool
+pub fn votes_for(rec: &[u8], locator: TransactionLocator) -> bool
     requires { ⌜ wellFormed (now rec) ≡ true ⌝ }
     ensures { λ r. ⌜ r ≡ votesFor (blockIn (now (rec .entry))) (asLocator locator) ⌝ }
 {

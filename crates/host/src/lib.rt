@@ -2,7 +2,7 @@
 // A call answers one word: below 2^63 it is the answer, and 2^63 + n is refusal n (`encoded` in host_calls, specs/Calls).
 ghost use mathlib.Core.Path.{_≡_};
 ghost use Rattle.committee.specs.Committee.{quorumOf, validOf};
-ghost use Rattle.host_calls.specs.Calls.{encoded, flag, newCommitteeCall};
+ghost use Rattle.host_calls.specs.Calls.{encoded, flag, committeeOf, newCommitteeCall};
 ghost use Rattle.host_add.specs.Add.{addCall};
 ghost use Rattle.host_lib.specs.Pending.{pendingStakeCall, pendingVotersCall};
 ghost use Rattle.host_lib.specs.Feed.{feedCall};
@@ -17,6 +17,7 @@ ghost use Rattle.drafts.specs.Writing.{writeTimed, writeRecord};
 ghost use Rattle.write_record.specs.Answers.{requested};
 ghost use Rattle.host_times.specs.Times.{creationTimeCall};
 ghost use Rattle.host_ring.specs.Ring.{whomToRingCall};
+ghost use Rattle.slips.specs.Reading.{readAnswer};
 
 // Sets a committee: its total stake.
 #[no_mangle]
@@ -260,4 +261,14 @@ pub extern "C" fn lomkhvide_whom_to_ring(
     ensures { λ r. ⌜ now (found .exit) ≡ whomToRingCall (now (stakes .entry)) (now (store .entry)) (now (table .entry)) low high (now (locator .entry)) (now (found .entry)) .found ⌝ }
 {
     host_ring::whom_to_ring(stakes, store, table, low, high, locator, found)
+}
+
+// ---- finality slips
+
+// Reads a finality slip with the records that come with it: the number of its certifying blocks.
+#[no_mangle]
+pub extern "C" fn lomkhvide_read_slip(stakes: &[u8], slip: &[u8], records: &[u8]) -> u64
+    ensures { λ r. ⌜ r ≡ encoded (readAnswer (committeeOf (now (stakes .entry))) (now (slip .entry)) (now (records .entry))) ⌝ }
+{
+    host_slips::read_slip(stakes, slip, records)
 }

@@ -145,6 +145,14 @@ mod calls {
             found: *mut u8,
             found_len: usize,
         ) -> u64;
+        pub fn lomkhvide_read_slip(
+            stakes: *const u8,
+            stakes_len: usize,
+            slip: *const u8,
+            slip_len: usize,
+            records: *const u8,
+            records_len: usize,
+        ) -> u64;
     }
 }
 
@@ -497,6 +505,28 @@ impl Committee {
         answer(word)?;
         let words = words_of(&found);
         Ok(ToRing { owners: words[0] as u128 | (words[1] as u128) << 64, stake: words[2] })
+    }
+
+    /// Reads a finality slip with the records that come with it: the number of its certifying blocks; or 5, 52, 53.
+    pub fn read_slip(&self, slip: &[u8], records: &[&[u8]]) -> Result<u64, Refused> {
+        let stakes = &self.stakes;
+        let mut framed = Vec::new();
+        for record in records {
+            // A length that 4 bytes do not hold is that of no record: the reader answers 52.
+            framed.extend(u32::try_from(record.len()).unwrap_or(u32::MAX).to_le_bytes());
+            framed.extend(*record);
+        }
+        // The slices are lent for the call alone, and the call only reads them.
+        answer(unsafe {
+            calls::lomkhvide_read_slip(
+                stakes.as_ptr(),
+                stakes.len(),
+                slip.as_ptr(),
+                slip.len(),
+                framed.as_ptr(),
+                framed.len(),
+            )
+        })
     }
 
     /// Puts a voter into the aggregator: what the vote did; or 6, 21, and the aggregator is as it was.
@@ -892,6 +922,32 @@ mod tests {
         }
         let told = committee.whom_to_ring(&store[..15], &table, 6, &Locator::new(0, 1, digest, 0));
         assert_eq!(told, Err(Refused(10)));
+    }
+
+    #[test]
+    fn slips() {
+        // one owner: its second block shares, and its third one includes that
+        let committee = Committee::new(&[1]).unwrap();
+        let first = record(0, 1, &[], &[]);
+        let second = record(1, 2, &first[..48], &[b"gain"]);
+        let mut third = record(2, 3, &second[..48], &[]);
+        let own = [&second[..48], &[1, 0, 0, 0, 0, 0, 0, 0, 0, 0, 0]].concat();
+        let above = [&third[..48], &[1, 0, 0, 0, 0, 0, 0, 0, 0, 1, 0, 0]].concat();
+        let head = |count| [&[0][..], &second[..48], &[0; 8], &[count, 0]].concat();
+        let slip = [head(2), own.clone(), above.clone()].concat();
+        let all = [&first[..], &second, &third];
+        assert_eq!(committee.read_slip(&slip, &all), Ok(2));
+        assert_eq!(committee.read_slip(&[head(1), above.clone()].concat(), &[&third, &second]), Ok(1));
+        assert_eq!(committee.read_slip(&[head(1), own.clone()].concat(), &[&second]), Ok(1));
+        assert_eq!(committee.read_slip(&[head(1), above.clone()].concat(), &[&third]), Err(Refused(53)));
+        assert_eq!(committee.read_slip(&[head(2), above, own].concat(), &all), Err(Refused(52)), "not ascending");
+        assert_eq!(committee.read_slip(&head(0), &all), Err(Refused(52)), "no certifying block");
+        assert_eq!(committee.read_slip(&slip, &[&second, &third, &third]), Err(Refused(52)), "two of one reference");
+        for length in 0..slip.len() {
+            assert_eq!(committee.read_slip(&slip[..length], &all), Err(Refused(52)), "{length} bytes of the slip");
+        }
+        third[48] = 1;
+        assert_eq!(committee.read_slip(&slip, &[&second, &third]), Err(Refused(52)), "a marked block");
     }
 
     #[test]

@@ -85,7 +85,7 @@ impl<'a> Graph<'a> {
 }
 
 /// Whether the block has the share, an accept or a range covering the locator.
-fn votes_for(block: &Block, locator: &Locator) -> bool {
+pub(super) fn votes_for(block: &Block, locator: &Locator) -> bool {
     let covers = |statement: &Statement| match statement {
         Statement::Accept(accepted) => accepted == locator,
         Statement::Range(reference, start, end) => {

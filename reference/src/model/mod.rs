@@ -11,6 +11,7 @@ pub mod listing;
 pub mod mistake;
 pub mod record;
 pub mod ring;
+pub mod slip;
 pub mod stakes_file;
 pub mod store;
 pub mod table;

@@ -133,13 +133,13 @@ impl Block {
     }
 }
 
-fn put_reference(out: &mut Vec<u8>, reference: &Reference) {
+pub(super) fn put_reference(out: &mut Vec<u8>, reference: &Reference) {
     out.extend(reference.author.to_le_bytes());
     out.extend(reference.round.to_le_bytes());
     out.extend(reference.digest);
 }
 
-fn put_locator(out: &mut Vec<u8>, locator: &Locator) {
+pub(super) fn put_locator(out: &mut Vec<u8>, locator: &Locator) {
     put_reference(out, &locator.block);
     out.extend(locator.offset.to_le_bytes());
 }
@@ -172,16 +172,16 @@ fn put_statement(out: &mut Vec<u8>, statement: &Statement, width: usize) {
 }
 
 /// The bytes that are still to be read.
-struct Reader<'a>(&'a [u8]);
+pub(super) struct Reader<'a>(pub(super) &'a [u8]);
 
 impl<'a> Reader<'a> {
-    fn take(&mut self, length: usize) -> Option<&'a [u8]> {
+    pub(super) fn take(&mut self, length: usize) -> Option<&'a [u8]> {
         let (taken, rest) = self.0.split_at_checked(length)?;
         self.0 = rest;
         Some(taken)
     }
 
-    fn number(&mut self, length: usize) -> Option<u64> {
+    pub(super) fn number(&mut self, length: usize) -> Option<u64> {
         Some(number(self.take(length)?))
     }
 
@@ -193,12 +193,12 @@ impl<'a> Reader<'a> {
         }
     }
 
-    fn reference(&mut self) -> Option<Reference> {
+    pub(super) fn reference(&mut self) -> Option<Reference> {
         let (author, round) = (self.number(8)?, self.number(8)?);
         Some(Reference { author, round, digest: self.take(32)?.try_into().unwrap() })
     }
 
-    fn locator(&mut self) -> Option<Locator> {
+    pub(super) fn locator(&mut self) -> Option<Locator> {
         Some(Locator { block: self.reference()?, offset: self.number(8)? })
     }
 

@@ -108,34 +108,11 @@ impl Stores {
     /// The block of a record that keeps the rules, or the first of 20 to 30 that applies.
     pub fn check(&self, committee: &Committee, record: &[u8]) -> Result<Block, u64> {
         let block = Block::decode(record).ok_or(20u64)?;
-        if !committee.knows(block.reference.author) {
-            return Err(21);
-        }
-        if block.reference.round == 0 && !(block.includes.is_empty() && block.statements.is_empty()) {
-            return Err(22);
-        }
+        check_head(committee, &block)?;
         if self.get(&block.reference).is_some() {
             return Err(23);
         }
-        for include in &block.includes {
-            if !committee.knows(include.author) {
-                return Err(24);
-            }
-            if include.round >= block.reference.round {
-                return Err(25);
-            }
-        }
-        for statement in &block.statements {
-            match statement {
-                Statement::Range(_, start, end) if end < start => return Err(26),
-                Statement::Range(_, _, end) if *end >= MAX_LEN => return Err(27),
-                Statement::Accept(locator) if locator.offset == u64::MAX => return Err(28),
-                _ => {}
-            }
-        }
-        if block.reference.round != 0 && !clock(committee, &block) {
-            return Err(29);
-        }
+        check_body(committee, &block)?;
         if block.includes.iter().any(|include| self.get(include).is_none()) {
             return Err(30);
         }
@@ -154,6 +131,41 @@ impl Stores {
         let Statement::Share(payload) = &stored.block.statements[locator.offset as usize] else { return None };
         Some((stored.position + 8 + before.encode().len() as u64 + 3, payload.len() as u64))
     }
+}
+
+/// 21 and 22.
+pub fn check_head(committee: &Committee, block: &Block) -> Result<(), u64> {
+    if !committee.knows(block.reference.author) {
+        return Err(21);
+    }
+    if block.reference.round == 0 && !(block.includes.is_empty() && block.statements.is_empty()) {
+        return Err(22);
+    }
+    Ok(())
+}
+
+/// 24 to 29.
+pub fn check_body(committee: &Committee, block: &Block) -> Result<(), u64> {
+    for include in &block.includes {
+        if !committee.knows(include.author) {
+            return Err(24);
+        }
+        if include.round >= block.reference.round {
+            return Err(25);
+        }
+    }
+    for statement in &block.statements {
+        match statement {
+            Statement::Range(_, start, end) if end < start => return Err(26),
+            Statement::Range(_, _, end) if *end >= MAX_LEN => return Err(27),
+            Statement::Accept(locator) if locator.offset == u64::MAX => return Err(28),
+            _ => {}
+        }
+    }
+    if block.reference.round != 0 && !clock(committee, block) {
+        return Err(29);
+    }
+    Ok(())
 }
 
 /// Authors of includes at round - 1 hold quorum.

@@ -1,0 +1,93 @@
+-- What a certifier shows, with the quorum of its voters. Assumes nothing.
+use mathlib.Core.Path.{_≡_, refl, sym, ap, _∙_}
+use mathlib.Core.Bool.{Bool, true, false, not, _&&_}
+use mathlib.Core.List.{List, map}
+use mathlib.Core.Option.{Option, none, some}
+use Prim.Native.Nat.{ℕ, _<_}
+use native.Mathlib.Omega.{arith}
+use lib.ListN.{length}
+use Rattle.base.specs.Lists.{pick, anyOf, allOf, isNone, holds}
+use Rattle.committee.specs.Committee.{AuthorityIndex, Committee, broken, isQuorum}
+use Rattle.committee.proofs.Bounds.{few-members}
+use Rattle.authority_set.specs.AuthoritySet.{AuthoritySet, setOf, stakeOf}
+use Rattle.authority_set.proofs.Votes.{member-setOf}
+use Rattle.authority_set.proofs.Quorums.{stake-same}
+use Rattle.blocks.specs.Reference.{TransactionLocator}
+use Rattle.blocks.specs.Block.{Block}
+use Rattle.finality.specs.Voters.{votesFor}
+use Rattle.slips.specs.Slip.{SlipVoter}
+use Rattle.slips.specs.Paths.{onFrom, leads}
+use Rattle.slips.specs.Reading.{isNotGiven, missingFrom, endsAtVote, certifierHolds}
+use Rattle.slip_paths.specs.Verdict.{verdict, worse, certifierVerdict}
+use Rattle.slip_paths.proofs.Verdicts.{worse-both}
+use Rattle.slip_voters.specs.Step.{Speak, votersVerdict}
+use Rattle.slip_certifier.specs.Step.{ownVerdict}
+
+-- ---- the quorum of authors
+
+pub quorum-same : (c : Committee) (v : AuthoritySet) (as′ : List AuthorityIndex) → broken c ≡ false → Speak v as′ → isQuorum c (stakeOf c v) ≡ isQuorum c (stakeOf c (setOf as′))
+unfolding Speak
+quorum-same c v as′ b h = ap (isQuorum c) (stake-same c v (setOf as′) (λ a (k : a < length c). h a (omega (arith, few-members c b)) ∙ sym (member-setOf as′ a)))
+
+-- ---- one test more
+
+one-not-zero : _≡_ {A = ℕ} 1 0 → ⊥
+one-not-zero h = omega arith
+
+two-not-zero : _≡_ {A = ℕ} 2 0 → ⊥
+two-not-zero h = omega arith
+
+-- where something is found already, it decides
+pub join-found : (m h q : Bool) → (verdict m h ≡ 0 → ⊥) → verdict m h ≡ verdict m (h && q)
+unfolding verdict
+join-found true h q f = refl
+join-found false true q f = absurd (f refl)
+join-found false false q f = refl
+
+-- else the quorum does
+pub join-quorum : (m h q : Bool) → verdict m h ≡ 0 → pick q 0 1 ≡ verdict m (h && q)
+unfolding verdict
+join-quorum true h q e = absurd (two-not-zero e)
+join-quorum false true q e = refl
+join-quorum false false q e = absurd (one-not-zero e)
+
+-- ---- a certifier
+
+and-both-sides : (a b c : Bool) → (a && b) && c ≡ a && (b && c)
+and-both-sides true b c = refl
+and-both-sides false b c = refl
+
+module _ (c : Committee) (bs : List Block) (l : TransactionLocator) (vs : List SlipVoter) where
+  abbrev lost : Option Block → SlipVoter → Bool
+  lost o v = isNotGiven (onFrom (leads bs (v .path)) o)
+
+  abbrev right : Option Block → SlipVoter → Bool
+  right o v = endsAtVote votesFor l (v .author) (onFrom (leads bs (v .path)) o)
+
+  abbrev quorum : Bool
+  quorum = isQuorum c (stakeOf c (setOf (map (λ v. v .author) vs)))
+
+  shown-some : (b : Block) → worse (ownVerdict (some b)) (votersVerdict bs l (some b) vs) ≡ verdict (anyOf (lost (some b)) vs) (not (b .marked) && allOf (right (some b)) vs)
+  unfolding ownVerdict votersVerdict isNone holds
+  shown-some b = worse-both false (anyOf (lost (some b)) vs) (not (b .marked)) (allOf (right (some b)) vs)
+
+  shown-none : worse (ownVerdict none) (votersVerdict bs l none vs) ≡ verdict true false
+  unfolding ownVerdict votersVerdict isNone holds
+  shown-none = worse-both true (anyOf (lost none) vs) false (allOf (right none) vs)
+
+  whole-some : (b : Block) → certifierVerdict c bs l vs (some b) ≡ verdict (anyOf (lost (some b)) vs) ((not (b .marked) && allOf (right (some b)) vs) && quorum)
+  unfolding certifierVerdict missingFrom certifierHolds holds onFrom
+  whole-some b = ap (verdict (anyOf (lost (some b)) vs)) (sym (and-both-sides (not (b .marked)) (allOf (right (some b)) vs) quorum))
+
+  pub certifier-found : (o : Option Block) (v : ℕ) → v ≡ worse (ownVerdict o) (votersVerdict bs l o vs) → (v ≡ 0 → ⊥) → v ≡ certifierVerdict c bs l vs o
+  unfolding certifierVerdict missingFrom holds
+  certifier-found none v e f = e ∙ shown-none
+  certifier-found (some b) v e f =
+      let shown = e ∙ shown-some b in
+      shown ∙ join-found (anyOf (lost (some b)) vs) (not (b .marked) && allOf (right (some b)) vs) quorum (λ z. f (shown ∙ z)) ∙ sym (whole-some b)
+
+  pub certifier-quorum : (o : Option Block) (v : ℕ) (t : Bool) → v ≡ worse (ownVerdict o) (votersVerdict bs l o vs) → v ≡ 0 → t ≡ quorum → pick t 0 1 ≡ certifierVerdict c bs l vs o
+  unfolding verdict
+  certifier-quorum none v t e z q = absurd (two-not-zero (sym (e ∙ shown-none) ∙ z))
+  certifier-quorum (some b) v t e z q =
+      rw q (join-quorum (anyOf (lost (some b)) vs) (not (b .marked) && allOf (right (some b)) vs) quorum (sym (e ∙ shown-some b) ∙ z) ∙ sym (whole-some b))

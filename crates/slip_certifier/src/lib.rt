@@ -1,0 +1,89 @@
+// A certifying block of a slip with its voters: its form, and what it shows.
+use authority_set::AuthoritySet;
+use committee::Stake;
+use slip_paths::Led;
+use slip_voters::TakenVoters;
+ghost use Prim.Native.Nat.{_≤_};
+ghost use mathlib.Core.Path.{_≡_};
+ghost use mathlib.Core.Bool.{false};
+ghost use mathlib.Core.Option.{Option};
+ghost use lib.ListN.{length};
+ghost use Rattle.committee.specs.Committee.{totalStake, broken, isQuorum};
+ghost use Rattle.authority_set.specs.AuthoritySet.{stakeOf};
+ghost use Rattle.blocks.specs.Block.{Block};
+ghost use Rattle.slips.specs.Paths.{toBlock, onFrom};
+ghost use Rattle.slips.specs.Supplied.{suppliedBlocks};
+ghost use Rattle.slip_records.specs.Places.{Places};
+ghost use Rattle.slip_paths.specs.Walk.{InPlace, LedTo};
+ghost use Rattle.slip_certifier.specs.Step.{ownVerdict, Ready, TookCertifier};
+
+// A certifying block that was read: where it ends, and what it shows (0 that it holds, 1 that it does not, 2 that a record is missing).
+pub enum TakenCertifier {
+    Certifier(usize, u64),
+    Malformed,
+}
+
+// Whether authors hold quorum, each once.
+pub fn hold_quorum(stakes: &[u64], total: Stake, authors: AuthoritySet) -> bool
+    requires { ⌜ (broken (now stakes) ≡ false) × (total .0 ≡ totalStake (now stakes)) ⌝ }
+    ensures { λ r. ⌜ r ≡ isQuorum (now (stakes .entry)) (stakeOf (now (stakes .entry)) authors) ⌝ }
+{
+    let stake = authority_set::stake_of(stakes, authors);
+    committee::is_quorum(total, stake)
+}
+
+// What a certifying block shows by itself: that it is among the records, and not marked.
+fn own_verdict(records: &[u8], order: &[u64], certifier: Led) -> u64
+    requires { ⌜ Places (now records) (suppliedBlocks (now records)) (now order) × InPlace (now order) certifier ⌝ }
+    ensures { λ r. ⌜ ((o : Option Block) → LedTo (now (records .entry)) (now (order .entry)) certifier (onFrom toBlock o) → r ≡ ownVerdict o) ⌝ }
+{
+    match certifier {
+        Led::To(place) => {
+            if slip_paths::epoch_changed_at(records, order, place) {
+                return 1;
+            }
+            0
+        }
+        Led::Nowhere => 2,
+        Led::NotGiven => 2,
+    }
+}
+
+// The certifying block at a position, with its voters.
+pub fn take_certifier(
+    stakes: &[u64],
+    total: Stake,
+    slip: &[u8],
+    at: usize,
+    records: &[u8],
+    order: &[u64],
+    votes: &[u8],
+) -> TakenCertifier
+    requires { ⌜ (at ≤ length (now slip)) × Ready (now stakes) (total .0) (now records) (now order) (now votes) ⌝ }
+    ensures { λ r. ⌜ TookCertifier (now (stakes .entry)) (now (slip .entry)) at (now (records .entry)) (now (order .entry)) (now (votes .entry)) r ⌝ }
+{
+    if slip.len() - at < 49 {
+        return TakenCertifier::Malformed;
+    }
+    let certifier = slip_paths::find(records, order, types::read_reference(slip, at));
+    let count = slip[at + 48] as usize;
+    let TakenVoters::Voters(end, voters, shown) = slip_voters::take_voters(
+        slip,
+        at + 49,
+        count,
+        records,
+        order,
+        votes,
+        certifier,
+    ) else {
+        return TakenCertifier::Malformed;
+    };
+    let shows = slip_paths::worse(own_verdict(records, order, certifier), shown);
+    if shows != 0 {
+        return TakenCertifier::Certifier(end, shows);
+    }
+    if hold_quorum(stakes, total, voters) {
+        return TakenCertifier::Certifier(end, 0);
+    }
+    TakenCertifier::Certifier(end, 1)
+}

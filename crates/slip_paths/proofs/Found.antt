@@ -1,0 +1,70 @@
+-- A block by its reference, among the records that come with a slip. Assumes nothing.
+use mathlib.Core.Path.{_≡_, refl, sym, ap, _∙_}
+use mathlib.Core.Logic.{_⊎_, inl, inr}
+use mathlib.Core.Bool.{Bool, true, false}
+use mathlib.Core.List.{List, _∷_}
+use mathlib.Core.Option.{Option, none, some}
+use Prim.Native.Nat.{ℕ, _<_}
+use native.Mathlib.Omega.{arith}
+use native.Mathlib.Decide.{decLt}
+use lib.ListN.{length}
+use Rattle.base.specs.Lists.{pick, find, _∈_}
+use Rattle.base.specs.Le.{Bytes}
+use Rattle.base.proofs.Tests.{not-both}
+use Rattle.base.proofs.Members.{in-cases}
+use Rattle.base.proofs.Lists.{find-passes, find-in}
+use Rattle.blocks.specs.Reference.{BlockReference, sameReference, referenceBefore}
+use Rattle.blocks.specs.Block.{Block}
+use Rattle.blocks.proofs.References.{reference-same, same-reference, reference-irrefl}
+use Rattle.slips.specs.Paths.{named}
+use Rattle.slip_records.specs.Places.{blockAtPlace, referenceIn, Sorted, Places}
+use Rattle.slip_records.specs.Step.{Between}
+
+-- where the test holds of an element, one is found
+find-some : {A : Type 0} (p : A → Bool) {x : A} (xs : List A) → x ∈ xs → p x ≡ true → (y : A) × (find p xs ≡ some y)
+unfolding find
+find-some {A} p {x} (y ∷ xs) m h = go (p y) refl (in-cases m) (λ k. find-some p xs k h)
+  where
+    go : (t : Bool) → p y ≡ t → (x ≡ y) ⊎ (x ∈ xs) → (x ∈ xs → (w : A) × (find p xs ≡ some w)) → (w : A) × (pick t (some y) (find p xs) ≡ some w)
+    go true e k ih = (y, refl)
+    go false e (inl k) ih = absurd (not-both h (ap p k ∙ e))
+    go false e (inr k) ih = ih k
+
+module _ (q : Bytes) (order : List ℕ) (s : Sorted q order) where
+  -- no two places have one reference
+  pub one-place : (i j : ℕ) → i < length order → j < length order → referenceIn q order i ≡ referenceIn q order j → i ≡ j
+  one-place i j h k e = go (decLt i j) (decLt j i)
+    where
+      go : Dec (i < j) → Dec (j < i) → i ≡ j
+      go (yes a) b = absurd (reference-irrefl (referenceIn q order j) (ap (λ (r : BlockReference). referenceBefore r (referenceIn q order j)) (sym e) ∙ s .rises i j a k))
+      go (no a) (yes b) = absurd (reference-irrefl (referenceIn q order j) (ap (λ (r : BlockReference). referenceBefore (referenceIn q order j) r) (sym e) ∙ s .rises j i b h))
+      go (no a) (no b) = omega arith
+
+module _ (q : Bytes) (bs : List Block) (order : List ℕ) (p : Places q bs order) (r : BlockReference) where
+  abbrev asked : Block → Bool
+  asked b = sameReference (b .reference) r
+
+  -- the block that is named is the one at the place of the reference
+  pub named-there : (j : ℕ) → j < length order → referenceIn q order j ≡ r → named bs r ≡ some (blockAtPlace q order j)
+  unfolding named
+  named-there j h e =
+      let y = find-some asked bs (p .only j h) (same-reference e) in
+      let x = p .given (y .0) (find-in asked bs (y .0) (y .1)) in
+      let own : y .0 .reference ≡ r = reference-same (y .0 .reference) r (find-passes asked bs (y .0) (y .1)) in
+      let same : x .0 ≡ j = one-place q order (p .sorted) (x .0) j (x .1) h (ap (λ (b : Block). b .reference) (x .2) ∙ own ∙ sym e) in
+      y .1 ∙ ap some (sym (x .2) ∙ ap (blockAtPlace q order) same)
+
+  -- none is, where the reference stands between the places
+  pub named-nowhere : (i : ℕ) → Between q order r i → named bs r ≡ none
+  unfolding named
+  named-nowhere i b = go (find asked bs) refl
+    where
+      at : (j : ℕ) → j < length order → referenceIn q order j ≡ r → Dec (j < i) → ⊥
+      at j h e (yes k) = reference-irrefl r (ap (λ (x : BlockReference). referenceBefore x r) (sym e) ∙ b .below j k)
+      at j h e (no k) = reference-irrefl r (ap (λ (x : BlockReference). referenceBefore r x) (sym e) ∙ b .above j (omega arith) h)
+
+      go : (o : Option Block) → find asked bs ≡ o → o ≡ none
+      go none e = refl
+      go (some y) e =
+          let x = p .given y (find-in asked bs y e) in
+          absurd (at (x .0) (x .1) (ap (λ (d : Block). d .reference) (x .2) ∙ reference-same (y .reference) r (find-passes asked bs y e)) (decLt (x .0) i))

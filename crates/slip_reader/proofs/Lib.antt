@@ -1,0 +1,4 @@
+pub mod Joining
+pub mod Certifying
+pub mod Gathering
+pub mod Answering

@@ -1,0 +1,4 @@
+pub mod Checked
+pub mod Frames
+pub mod Moves
+pub mod Sorting

@@ -1,0 +1,110 @@
+-- An accepted slip's blocks certify wherever the records that it names are stored. Assumes nothing.
+use mathlib.Core.Path.{_≡_, refl, sym, ap, subst}
+use mathlib.Core.Bool.{true}
+use mathlib.Core.List.{List}
+use Prim.Native.Nat.{ℕ}
+use lib.Dec.{eqb}
+use borrow.Author.Tests.{eqb-true}
+use Rattle.base.specs.Lists.{_∈_}
+use Rattle.base.specs.Le.{Bytes}
+use Rattle.base.specs.Checks.{answered}
+use Rattle.base.proofs.Tests.{and-left, and-right}
+use Rattle.base.proofs.Members.{map-in, in-map}
+use Rattle.committee.specs.Committee.{AuthorityIndex, Committee}
+use Rattle.committee.specs.Quorum.{HoldQuorum}
+use Rattle.authority_set.proofs.Quorums.{quorum-mono}
+use Rattle.blocks.specs.Reference.{TransactionLocator}
+use Rattle.blocks.specs.Block.{Block, author}
+use Rattle.store_layout.specs.Layout.{Record}
+use Rattle.store_layout.specs.Store.{recordsOf, storeInOrder}
+use Rattle.store_layout.proofs.Stored.{WellStored}
+use Rattle.store_layout.proofs.Store.{in-order}
+use Rattle.finality.specs.Voters.{votesFor}
+use Rattle.finality.specs.Ancestry.{Voter, Certificate}
+use Rattle.finality.specs.Finality.{blocksOf}
+use Rattle.finality.specs.Claims.{Stored}
+use Rattle.finality.proofs.Votes.{votes-for}
+use Rattle.finality.proofs.Finals.{true-certifies, is-final}
+use Rattle.finality.proofs.Claimed.{well-stored}
+use Rattle.slips.specs.Slip.{SlipCertifier, Slip, slipIn}
+use Rattle.slips.specs.Supplied.{suppliedIn, suppliedBlocks}
+use Rattle.slips.specs.Reading.{votesAs, readAnswer}
+use Rattle.slips.specs.Meaning.{OnPath, LeadsToVote, RightCertifier, RightSlip, NamedBy, asCertifier, byPath, Certifies, ReallyFinal}
+use Rattle.slips.proofs.Paths.{named-reference, named-in, path-ancestor, on-path-in}
+use Rattle.slips.proofs.Reading.{accepted-sound, accepted-right}
+
+-- a path over bs to an author's vote makes it a voter among blocks that contain those on the path
+pub path-voter : (bs cs : List Block) (l : TransactionLocator) (a : AuthorityIndex) (b : Block) (ps : List ℕ) → LeadsToVote (votesAs votesFor l a) bs ps b
+    → ((x : Block) → OnPath bs x ps b → x ∈ cs) → Voter cs b l a
+unfolding votesAs
+path-voter bs cs l a b ps h f =
+    record {
+      voting = h .vote;
+      ancestor = path-ancestor bs cs ps b (h .vote) (h .leading) f;
+      votes = votes-for (h .vote) l (and-right (eqb (author (h .vote)) a) _ (h .voting));
+      authored = eqb-true (author (h .vote)) a (and-left _ _ (h .voting));
+    }
+
+-- ---- a slip that holds over bs, among stored blocks cs that contain what it names
+
+module _ (c : Committee) (bs cs : List Block) (w : WellStored cs) (s : Slip) (right : RightSlip votesFor c bs s) (f : (d : Block) → NamedBy bs s d → d ∈ cs) where
+  module _ (k : SlipCertifier) (m : k ∈ s .certifiers) where
+    own : RightCertifier votesFor c bs (s .locator) k
+    own = right .certifiers k m
+
+    own-stored : own .block ∈ cs
+    own-stored = f (own .block) (asCertifier k m (own .given))
+
+    voters-quorum : HoldQuorum c (Voter cs (own .block) (s .locator))
+    voters-quorum =
+        quorum-mono c _ (Voter cs (own .block) (s .locator))
+        (λ a x. subst (Voter cs (own .block) (s .locator)) (x .2)
+        (path-voter bs cs (s .locator) (x .0 .author) (own .block) (x .0 .path) (own .ends (x .0) (x .1)) (λ d y. f d (byPath k (x .0) (own .block) m (x .1) (own .given) y))))
+        (own .quorum)
+
+    own-certifies : Certifies c cs s k
+    own-certifies =
+        record {
+          block = own .block;
+          stored = own-stored;
+          listed = named-reference bs (k .reference) (own .block) (own .given);
+          certifying = true-certifies c w (s .locator) (own .block) own-stored (own .unmarked) voters-quorum;
+        }
+
+    certificate : Certificate c cs (s .locator) (k .reference .authority)
+    certificate =
+        record {
+          block = own .block;
+          stored = own-stored;
+          unmarked = own .unmarked;
+          quorum = voters-quorum;
+          authored = ap (λ r. r .authority) (named-reference bs (k .reference) (own .block) (own .given));
+        }
+
+  pub really-final : ReallyFinal c cs s
+  really-final =
+      record {
+        certifying = own-certifies;
+        final = is-final c w (s .locator) (quorum-mono c _ (Certificate c cs (s .locator)) (λ a x. subst (Certificate c cs (s .locator)) (x .2) (certificate (x .0) (x .1))) (right .quorum));
+      }
+
+-- ---- the claims
+
+pub accepted-certifies : (c : Committee) (r q : Bytes) (n : ℕ) → readAnswer c r q ≡ answered n → (bs : List Block) → Stored c bs
+    → ((d : Block) → NamedBy (suppliedBlocks q) (slipIn r) d → d ∈ bs) → ReallyFinal c bs (slipIn r)
+accepted-certifies c r q n h bs k f = really-final c (suppliedBlocks q) bs (well-stored c bs k) (slipIn r) (accepted-right c r q n h) f
+
+-- what is named is one of the blocks given
+named-by-in : (bs : List Block) (s : Slip) (d : Block) → NamedBy bs s d → d ∈ bs
+named-by-in bs s d (asCertifier k m e) = named-in bs (k .reference) d e
+named-by-in bs s d (byPath k v b m n e y) = on-path-in bs (v .path) b d (named-in bs (k .reference) b e) y
+
+pub accepted-in-store : (c : Committee) (r q : Bytes) (n : ℕ) → readAnswer c r q ≡ answered n → (t : Bytes) → storeInOrder c t ≡ true
+    → ((x : Record) → x ∈ suppliedIn q → NamedBy (suppliedBlocks q) (slipIn r) (x .block) → x ∈ recordsOf t) → ReallyFinal c (blocksOf t) (slipIn r)
+unfolding blocksOf suppliedBlocks
+accepted-in-store c r q n h t o g =
+    accepted-certifies c r q n h (blocksOf t)
+    (record { sound = accepted-sound c r q n h; records = recordsOf t; accepted = in-order c t o .accepted; blocks = refl })
+    (λ d y.
+    let x = map-in (λ z. z .block) (suppliedIn q) (named-by-in (suppliedBlocks q) (slipIn r) d y) in
+    subst (λ (z : Block). z ∈ blocksOf t) (x .2) (in-map (λ z. z .block) (g (x .0) (x .1) (subst (λ (z : Block). NamedBy (suppliedBlocks q) (slipIn r) z) (sym (x .2)) y))))

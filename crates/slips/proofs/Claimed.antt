@@ -1,0 +1,66 @@
+-- The claims about slips hold. Assumes nothing.
+use Rattle.blocks.proofs.Claimed.{bytes-fit}
+use Rattle.finality.proofs.Claimed.{well-stored}
+use Rattle.slips.specs.Claims.{SlipReadsBack, SlipWritesBack, ReadingMeant, MissingMeant, AcceptedCertifies, AcceptedInStore, PathsMeant, WrittenNamesAll, WrittenAccepted, WrittenReads, Claims}
+use Rattle.slips.proofs.Slips.{readSlip-slipBytes, slipBytes-readSlip, slip-fits}
+use Rattle.slips.proofs.Reading.{answer-iff}
+use Rattle.slips.proofs.Missing.{missing-iff}
+use Rattle.slips.proofs.Accepted.{accepted-certifies, accepted-in-store}
+use Rattle.slips.proofs.Distances.{shortest-first}
+use Rattle.slips.proofs.Naming.{names-all}
+use Rattle.slips.proofs.Written.{slip-accepted, slice-accepted}
+
+slip-reads-back : SlipReadsBack
+unfolding SlipReadsBack
+slip-reads-back s h = readSlip-slipBytes s (slip-fits s h)
+
+slip-writes-back : SlipWritesBack
+unfolding SlipWritesBack
+slip-writes-back r s h k = slipBytes-readSlip r s (bytes-fit r h) k
+
+reading-meant : ReadingMeant
+unfolding ReadingMeant
+reading-meant = answer-iff
+
+missing-meant : MissingMeant
+unfolding MissingMeant
+missing-meant = missing-iff
+
+certifies-meant : AcceptedCertifies
+unfolding AcceptedCertifies
+certifies-meant = accepted-certifies
+
+in-store-meant : AcceptedInStore
+unfolding AcceptedInStore
+in-store-meant = accepted-in-store
+
+paths-meant : PathsMeant
+unfolding PathsMeant
+paths-meant c bs h votes = shortest-first votes bs (well-stored c bs h)
+
+written-names-all : WrittenNamesAll
+unfolding WrittenNamesAll
+written-names-all = names-all
+
+written-accepted : WrittenAccepted
+unfolding WrittenAccepted
+written-accepted c t b h o l f = slip-accepted c t b (bytes-fit t h) o l f
+
+written-reads : WrittenReads
+unfolding WrittenReads
+written-reads c t out l n h = slice-accepted c t out l n (bytes-fit t h)
+
+pub claimed : Claims
+claimed =
+    record {
+      reads = slip-reads-back;
+      writes = slip-writes-back;
+      reading = reading-meant;
+      missing = missing-meant;
+      certifies = certifies-meant;
+      inStore = in-store-meant;
+      paths = paths-meant;
+      names = written-names-all;
+      accepted = written-accepted;
+      written = written-reads;
+    }

@@ -1,0 +1,60 @@
+-- What is missing, computed and as a relation. Assumes nothing.
+use mathlib.Core.Path.{_≡_, refl, sym, ap, _∙_}
+use mathlib.Core.Logic.{_↔_}
+use mathlib.Core.Bool.{true}
+use mathlib.Core.List.{List, [], _∷_}
+use mathlib.Core.Option.{Option, none, some}
+use Prim.Native.Nat.{ℕ}
+use lib.ListN.{getElem?}
+use Rattle.base.specs.Lists.{_∈_}
+use Rattle.base.proofs.Tests.{not-both}
+use Rattle.base.proofs.Members.{any-in, in-any}
+use Rattle.blocks.specs.Reference.{BlockReference}
+use Rattle.blocks.specs.Block.{Block}
+use Rattle.slips.specs.Slip.{SlipVoter, SlipCertifier, Slip}
+use Rattle.slips.specs.Paths.{named, leads}
+use Rattle.slips.specs.Reading.{isNotGiven, missingFrom, missing}
+use Rattle.slips.specs.Meaning.{PathMissing, next, further, NotSupplied, noCertifier, notOnPath}
+use Rattle.slips.proofs.Paths.{leads-on, leads-nowhere, leads-not-given}
+
+module _ (bs : List Block) where
+  path-missing : (ps : List ℕ) (b : Block) → isNotGiven (leads bs ps b) ≡ true → PathMissing bs ps b
+  path-missing [] b h = absurd (not-both h (unfold leads isNotGiven in refl))
+  path-missing (p ∷ ps) b h = by (getElem? (b .includes) p) refl (λ i k. path-missing ps i k)
+    where
+      from : (r : BlockReference) (o : Option Block) → getElem? (b .includes) p ≡ some r → named bs r ≡ o
+          → ((i : Block) → isNotGiven (leads bs ps i) ≡ true → PathMissing bs ps i) → PathMissing bs (p ∷ ps) b
+      from r none e f ih = next e f
+      from r (some i) e f ih = further e f (ih i (ap isNotGiven (sym (leads-on bs p ps b i r e f)) ∙ h))
+
+      by : (o : Option BlockReference) → getElem? (b .includes) p ≡ o
+          → ((i : Block) → isNotGiven (leads bs ps i) ≡ true → PathMissing bs ps i) → PathMissing bs (p ∷ ps) b
+      by none e ih = absurd (not-both h (ap isNotGiven (leads-nowhere bs p ps b e) ∙ unfold isNotGiven in refl))
+      by (some r) e ih = from r (named bs r) e refl ih
+
+  missing-path : (ps : List ℕ) (b : Block) → PathMissing bs ps b → isNotGiven (leads bs ps b) ≡ true
+  missing-path ps b (next {p = p} {ps = qs} {r = r} e f) = ap isNotGiven (leads-not-given bs p qs b r e f) ∙ unfold isNotGiven in refl
+  missing-path ps b (further {p = p} {ps = qs} {i = i} {r = r} e f m) = ap isNotGiven (leads-on bs p qs b i r e f) ∙ missing-path qs i m
+
+  module _ (s : Slip) where
+    named-missing : missing bs s ≡ true → NotSupplied bs s
+    unfolding missing
+    named-missing h =
+        let k = any-in (λ (x : SlipCertifier). missingFrom bs (x .voters) (named bs (x .reference))) (s .certifiers) h in
+        from (k .0) (k .1) (named bs (k .0 .reference)) refl (k .2)
+      where
+        from : (k : SlipCertifier) → k ∈ s .certifiers → (o : Option Block) → named bs (k .reference) ≡ o → missingFrom bs (k .voters) o ≡ true → NotSupplied bs s
+        from k m none e t = noCertifier k m e
+        from k m (some b) e t =
+            let v = any-in (λ (x : SlipVoter). isNotGiven (leads bs (x .path) b)) (k .voters) (unfold missingFrom in t) in
+            notOnPath k (v .0) b m (v .1) e (path-missing (v .0 .path) b (v .2))
+
+    missing-named : NotSupplied bs s → missing bs s ≡ true
+    unfolding missing missingFrom
+    missing-named (noCertifier k m e) = in-any (λ (x : SlipCertifier). missingFrom bs (x .voters) (named bs (x .reference))) m (rw e)
+    missing-named (notOnPath k v b m n e p) =
+        in-any (λ (x : SlipCertifier). missingFrom bs (x .voters) (named bs (x .reference))) m
+        (rw e (in-any (λ (x : SlipVoter). isNotGiven (leads bs (x .path) b)) n (missing-path (v .path) b p)))
+
+    pub missing-iff : (missing bs s ≡ true) ↔ NotSupplied bs s
+    missing-iff = (named-missing, missing-named)

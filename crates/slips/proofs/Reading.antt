@@ -1,0 +1,218 @@
+-- A slip is accepted exactly where it says what the relations ask. Assumes nothing.
+use mathlib.Core.Path.{_≡_, refl, sym, ap, _∙_, subst}
+use mathlib.Core.Logic.{_↔_}
+use mathlib.Core.Bool.{Bool, true, false, not}
+use mathlib.Core.List.{List, map}
+use mathlib.Core.Option.{Option, none, some}
+use Prim.Native.Nat.{ℕ}
+use native.Mathlib.Omega.{arith}
+use lib.Dec.{eqb}
+use lib.ListN.{length}
+use borrow.Author.Tests.{eqb-true, eq-eqb, not-true, not-false}
+use Rattle.base.specs.Lists.{pick, allOf, isNone, holds, _∈_, here, there}
+use Rattle.base.specs.Le.{Bytes}
+use Rattle.base.specs.Checks.{Check, _⇒_, refusal, passes, Answer, refused, answered, checked}
+use Rattle.base.proofs.Tests.{and-both, and-left, and-right, fails, not-both}
+use Rattle.base.proofs.Members.{any-in, in-any, all-in, in-all, map-in, in-map}
+use Rattle.base.proofs.Lists.{holds-some}
+use Rattle.base.proofs.Checks.{passes-none}
+use Rattle.committee.specs.Committee.{AuthorityIndex, Committee, broken, isQuorum}
+use Rattle.authority_set.specs.AuthoritySet.{member, setOf, stakeOf}
+use Rattle.committee.specs.Quorum.{HoldQuorum}
+use Rattle.authority_set.proofs.Votes.{member-setOf}
+use Rattle.authority_set.proofs.Quorums.{quorum-counted, counted-quorum}
+use Rattle.blocks.specs.Reference.{TransactionLocator}
+use Rattle.blocks.specs.Block.{Block}
+use Rattle.store_layout.specs.Layout.{Record}
+use Rattle.store_layout.specs.Layout.{blocks}
+use Rattle.finality.specs.Voters.{votesFor}
+use Rattle.slips.specs.Slip.{SlipVoter, SlipCertifier, Slip, readSlip, slipIn}
+use Rattle.slips.specs.Supplied.{suppliedRecords, suppliedIn, suppliedBlocks, rightBlocks}
+use Rattle.slips.specs.Paths.{named, Led, toBlock, nowhere, notGiven, leads}
+use Rattle.slips.specs.Reading.{isNotGiven, missingFrom, missing, votesAs, endsAtVote, certifierHolds, slipHolds, readChecks, readAnswer}
+use Rattle.slips.specs.Meaning.{LeadsToVote, RightCertifier, RightSlip, AcceptedSlip}
+
+-- ---- answers
+
+module _ {A : Type 0} (ks : List Check) (a b : A) where
+  pub answered-passes : checked ks a ≡ answered b → passes ks ≡ true
+  unfolding checked
+  answered-passes h = go (passes ks) refl h
+    where
+      go : (t : Bool) → passes ks ≡ t → pick t (answered a) (refused (refusal ks)) ≡ answered b → passes ks ≡ true
+      go true e k = e
+      go false e k = let z : _≡_ {A = ℕ} 0 1 = cc in absurd (omega arith)
+
+  pub answered-same : checked ks a ≡ answered b → a ≡ b
+  unfolding checked
+  answered-same h = go (passes ks) h
+    where
+      go : (t : Bool) → pick t (answered a) (refused (refusal ks)) ≡ answered b → a ≡ b
+      go true k = cc
+      go false k = let z : _≡_ {A = ℕ} 0 1 = cc in absurd (omega arith)
+
+-- ---- authors that a list names, as a vote set and as a relation
+
+module _ {A : Type 0} (f : A → AuthorityIndex) (xs : List A) where
+  abbrev pub NamedAs : AuthorityIndex → Type 0
+  NamedAs a = (x : A) × (x ∈ xs) × (f x ≡ a)
+
+  pub listed-author : (a : AuthorityIndex) → member (setOf (map f xs)) a ≡ true → NamedAs a
+  listed-author a h =
+      let x = any-in (eqb a) (map f xs) (sym (member-setOf (map f xs) a) ∙ h) in
+      let y = map-in f xs (x .1) in
+      (y .0, y .1, y .2 ∙ sym (eqb-true a (x .0) (x .2)))
+
+  pub author-listed : (a : AuthorityIndex) → NamedAs a → member (setOf (map f xs)) a ≡ true
+  author-listed a x = member-setOf (map f xs) a ∙ in-any (eqb a) (in-map f (x .1)) (eq-eqb a (f (x .0)) (sym (x .2)))
+
+  pub quorum-listed : (c : Committee) → isQuorum c (stakeOf c (setOf (map f xs))) ≡ true → HoldQuorum c NamedAs
+  quorum-listed c h = counted-quorum c (setOf (map f xs)) NamedAs (λ a k e. listed-author a e) h
+
+  pub listed-quorum : (c : Committee) → HoldQuorum c NamedAs → isQuorum c (stakeOf c (setOf (map f xs))) ≡ true
+  listed-quorum c q = quorum-counted c (setOf (map f xs)) NamedAs (λ a k e. author-listed a e) q
+
+-- ---- a slip that holds
+
+module _ (votes : Block → TransactionLocator → Bool) (c : Committee) (bs : List Block) (l : TransactionLocator) where
+  at-vote : (a : AuthorityIndex) (ps : List ℕ) (b : Block) → endsAtVote votes l a (leads bs ps b) ≡ true → LeadsToVote (votesAs votes l a) bs ps b
+  unfolding endsAtVote
+  at-vote a ps b h = go (leads bs ps b) refl h
+    where
+      go : (o : Led) → leads bs ps b ≡ o → endsAtVote votes l a o ≡ true → LeadsToVote (votesAs votes l a) bs ps b
+      go (toBlock d) e k = record { vote = d; leading = e; voting = k }
+      go nowhere e k = absurd (not-both k refl)
+      go notGiven e k = absurd (not-both k refl)
+
+  vote-at : (a : AuthorityIndex) (ps : List ℕ) (b : Block) → LeadsToVote (votesAs votes l a) bs ps b → endsAtVote votes l a (leads bs ps b) ≡ true
+  unfolding endsAtVote
+  vote-at a ps b h = ap (endsAtVote votes l a) (h .leading) ∙ h .voting
+
+  module _ (k : SlipCertifier) where
+    abbrev ends-right : Block → SlipVoter → Bool
+    ends-right b v = endsAtVote votes l (v .author) (leads bs (v .path) b)
+
+    certifier-right : holds (certifierHolds votes c bs l (k .voters)) (named bs (k .reference)) ≡ true → RightCertifier votes c bs l k
+    unfolding certifierHolds
+    certifier-right h =
+        let x = holds-some (certifierHolds votes c bs l (k .voters)) (named bs (k .reference)) h in
+        let b : Block = x .0 in
+        let t = and-right (not (b .marked)) _ (x .2) in
+        record {
+          block = b;
+          given = x .1;
+          unmarked = not-true (b .marked) (and-left (not (b .marked)) _ (x .2));
+          ends = λ v m. at-vote (v .author) (v .path) b (all-in (ends-right b) (k .voters) (and-left (allOf (ends-right b) (k .voters)) _ t) m);
+          quorum = quorum-listed (λ (v : SlipVoter). v .author) (k .voters) c (and-right (allOf (ends-right b) (k .voters)) _ t);
+        }
+
+    right-certifier : RightCertifier votes c bs l k → holds (certifierHolds votes c bs l (k .voters)) (named bs (k .reference)) ≡ true
+    unfolding holds certifierHolds
+    right-certifier r =
+        rw (r .given)
+        (and-both _ _ (ap not (r .unmarked))
+        (and-both _ _ (in-all (ends-right (r .block)) (k .voters) (λ v m. vote-at (v .author) (v .path) (r .block) (r .ends v m)))
+        (listed-quorum (λ (v : SlipVoter). v .author) (k .voters) c (r .quorum))))
+
+    right-given : RightCertifier votes c bs l k → missingFrom bs (k .voters) (named bs (k .reference)) ≡ false
+    unfolding missingFrom isNotGiven
+    right-given r =
+        rw (r .given)
+        (fails _ λ t.
+        let v = any-in (λ (x : SlipVoter). isNotGiven (leads bs (x .path) (r .block))) (k .voters) t in
+        not-both (v .2) (ap isNotGiven (r .ends (v .0) (v .1) .leading)))
+
+module _ (votes : Block → TransactionLocator → Bool) (c : Committee) (bs : List Block) (s : Slip) where
+  abbrev all-hold : SlipCertifier → Bool
+  all-hold k = holds (certifierHolds votes c bs (s .locator) (k .voters)) (named bs (k .reference))
+
+  pub slip-right : slipHolds votes c bs s ≡ true → RightSlip votes c bs s
+  unfolding slipHolds
+  slip-right h =
+      record {
+        certifiers = λ k m. certifier-right votes c bs (s .locator) k (all-in all-hold (s .certifiers) (and-left (allOf all-hold (s .certifiers)) _ h) m);
+        quorum = quorum-listed (λ (k : SlipCertifier). k .reference .authority) (s .certifiers) c (and-right (allOf all-hold (s .certifiers)) _ h);
+      }
+
+  pub right-slip : RightSlip votes c bs s → slipHolds votes c bs s ≡ true
+  unfolding slipHolds
+  right-slip r =
+      and-both _ _ (in-all all-hold (s .certifiers) (λ k m. right-certifier votes c bs (s .locator) k (r .certifiers k m)))
+      (listed-quorum (λ (k : SlipCertifier). k .reference .authority) (s .certifiers) c (r .quorum))
+
+  -- nothing that it names is missing
+  pub right-supplied : RightSlip votes c bs s → missing bs s ≡ false
+  unfolding missing
+  right-supplied r =
+      fails _ λ t.
+      let k = any-in (λ (x : SlipCertifier). missingFrom bs (x .voters) (named bs (x .reference))) (s .certifiers) t in
+      not-both (k .2) (right-given votes c bs (s .locator) (k .0) (r .certifiers (k .0) (k .1)))
+
+-- ---- the answer
+
+slip-in : (s : Slip) (r : Bytes) → readSlip r ≡ some s → slipIn r ≡ s
+unfolding slipIn
+slip-in s r e = rw e
+
+supplied-in : (rs : List Record) (q : Bytes) → suppliedRecords q ≡ some rs → suppliedBlocks q ≡ blocks rs
+unfolding suppliedBlocks suppliedIn
+supplied-in rs q e = rw e
+
+some-of : {A : Type 0} (o : Option A) → isNone o ≡ false → (a : A) × (o ≡ some a)
+unfolding isNone
+some-of none h = absurd (not-both refl h)
+some-of (some a) h = (a, refl)
+
+module _ (c : Committee) (r q : Bytes) (n : ℕ) where
+  module _ (h : readAnswer c r q ≡ answered n) where
+    pass : passes (readChecks c r q) ≡ true
+    unfolding readAnswer
+    pass = answered-passes (readChecks c r q) _ n h
+
+    pub accepted-sound : broken c ≡ false
+    unfolding readChecks
+    accepted-sound = passes-none (readChecks c r q) pass (broken c ⇒ 5) here
+
+    pub accepted-right : RightSlip votesFor c (suppliedBlocks q) (slipIn r)
+    accepted-right = slip-right votesFor c (suppliedBlocks q) (slipIn r) held
+      where
+        held : slipHolds votesFor c (suppliedBlocks q) (slipIn r) ≡ true
+        held = unfold readChecks in not-false _ (passes-none (readChecks c r q) pass (not (slipHolds votesFor c (suppliedBlocks q) (slipIn r)) ⇒ 52) (there (there (there (there (there here))))))
+
+    answer-accepted : AcceptedSlip c r q n
+    unfolding readChecks readAnswer
+    answer-accepted =
+        let s = some-of (readSlip r) (passes-none (readChecks c r q) pass (isNone (readSlip r) ⇒ 52) (there here)) in
+        let rs = some-of (suppliedRecords q) (passes-none (readChecks c r q) pass (isNone (suppliedRecords q) ⇒ 52) (there (there here))) in
+        let e : slipIn r ≡ s .0 = slip-in (s .0) r (s .1) in
+        let f : suppliedBlocks q ≡ blocks (rs .0) = supplied-in (rs .0) q (rs .1) in
+        record {
+          sound = accepted-sound;
+          slip = s .0;
+          records = rs .0;
+          reads = s .1;
+          supplied = rs .1;
+          right =
+              ap (rightBlocks c) (sym f)
+              ∙ not-false _ (passes-none (readChecks c r q) pass (not (rightBlocks c (suppliedBlocks q)) ⇒ 52) (there (there (there here))));
+          holding = subst (λ (x : Slip). RightSlip votesFor c (blocks (rs .0)) x) e (subst (λ (bs : List Block). RightSlip votesFor c bs (slipIn r)) f accepted-right);
+          many = ap (λ (x : Slip). length (x .certifiers)) (sym e) ∙ answered-same (readChecks c r q) _ n h;
+        }
+
+  pub accepted-answer : AcceptedSlip c r q n → readAnswer c r q ≡ answered n
+  unfolding readAnswer readChecks checked passes allOf isNone
+  accepted-answer a =
+      rw (
+        a .sound,
+        slip-in (a .slip) r (a .reads),
+        supplied-in (a .records) q (a .supplied),
+        a .reads,
+        a .supplied,
+        a .right,
+        right-supplied votesFor c (blocks (a .records)) (a .slip) (a .holding),
+        right-slip votesFor c (blocks (a .records)) (a .slip) (a .holding),
+      )
+      (ap {B = Answer ℕ} (λ (m : ℕ). answered m) (a .many))
+
+  pub answer-iff : (readAnswer c r q ≡ answered n) ↔ AcceptedSlip c r q n
+  answer-iff = (answer-accepted, accepted-answer)

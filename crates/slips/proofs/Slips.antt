@@ -1,0 +1,200 @@
+-- Slips there and back: what is written is read, and what is read had been written so. Assumes nothing.
+use mathlib.Core.Path.{_≡_, refl, sym}
+use mathlib.Core.List.{List, [], _∷_, _++_, map, append-assoc, flatten}
+use mathlib.Core.Bool.{true}
+use mathlib.Core.Option.{some}
+use Prim.Native.Nat.{ℕ, _%_, _^_, _<_}
+use native.Mathlib.Omega.{arith}
+use lib.Dec.{ltb, eqb, lit<}
+use lib.ListN.{length}
+use borrow.Author.Tests.{ltb-true, eqb-true}
+use Rattle.base.specs.Lists.{allOf}
+use Rattle.base.specs.Le.{leBytes}
+use Rattle.base.specs.Read.{give, onward, _>>=_, number, given}
+use Rattle.base.proofs.Tests.{and-left, and-right}
+use Rattle.base.proofs.Lists.{append-nil, Every, every, all-every}
+use Rattle.base.proofs.Le.{AllBytes}
+use Rattle.base.proofs.Read.{part, items-reads, number-reads, ReadsBack, repeated-reads, complete-reads, Back, give-back, given-back, bind-back, map-back, Items, items-back, Number, number-back, One, Many, repeated-back, complete-back}
+use Rattle.blocks.specs.Reference.{BlockReference, TransactionLocator}
+use Rattle.blocks.specs.Record.{referenceBytes, locatorBytes}
+use Rattle.blocks.specs.Claims.{fitsReference, fitsLocator}
+use Rattle.blocks.proofs.Records.{ReferenceFits, LocatorFits, reference-reads, locator-reads, reference-back, locator-back}
+use Rattle.blocks.proofs.Claimed.{bytes-fit}
+use Rattle.slips.specs.Slip.{SlipVoter, SlipCertifier, Slip, votersAscend, certifiersAscend, readVoter, readCertifier, readBody, readFirst, readSlip, voterBytes, certifierBytes, slipBytes, fitsVoter, fitsCertifier, fitsSlip}
+
+-- ---- the limits: what fits a slip
+
+pub record VoterFits (v : SlipVoter) : Type 0 where
+  pub author : v .author < 256 ^ 8
+  pub short : length (v .path) < 256 ^ 2
+  pub bytes : AllBytes (v .path)
+
+pub record CertifierFits (k : SlipCertifier) : Type 0 where
+  pub reference : ReferenceFits (k .reference)
+  pub few : length (k .voters) < 256 ^ 1
+  pub voters : Every VoterFits (k .voters)
+  pub ascend : votersAscend (k .voters) ≡ true
+
+pub record SlipFits (s : Slip) : Type 0 where
+  pub locator : LocatorFits (s .locator)
+  pub few : length (s .certifiers) < 256 ^ 2
+  pub certifiers : Every CertifierFits (s .certifiers)
+  pub ascend : certifiersAscend (s .certifiers) ≡ true
+
+-- ---- forward
+
+pub voter-reads : (v : SlipVoter) → VoterFits v → ReadsBack readVoter voterBytes v
+unfolding readVoter voterBytes _>>=_ onward give
+voter-reads v h t =
+    rw (
+      append-assoc (leBytes 8 (v .author)) (leBytes 2 (length (v .path)) ++ v .path) t,
+      number-reads 8 (v .author) (leBytes 2 (length (v .path)) ++ v .path ++ t) (h .author),
+      append-assoc (leBytes 2 (length (v .path))) (v .path) t,
+      number-reads 2 (length (v .path)) (v .path ++ t) (h .short),
+      items-reads (length (v .path)) (v .path) t refl,
+    )
+
+pub certifier-reads : (k : SlipCertifier) → CertifierFits k → ReadsBack readCertifier certifierBytes k
+unfolding readCertifier certifierBytes given _>>=_ onward give
+certifier-reads k h t =
+    let vs : List ℕ = flatten (map voterBytes (k .voters)) in
+    rw (
+      append-assoc (referenceBytes (k .reference)) (leBytes 1 (length (k .voters)) ++ vs) t,
+      reference-reads (k .reference) (h .reference) (leBytes 1 (length (k .voters)) ++ vs ++ t),
+      append-assoc (leBytes 1 (length (k .voters))) vs t,
+      number-reads 1 (length (k .voters)) (vs ++ t) (h .few),
+      repeated-reads readVoter voterBytes (k .voters) (every voter-reads (k .voters) (h .voters)) t,
+      h .ascend,
+    )
+
+-- a byte, as a number of one byte
+one-byte : (k : ℕ) → k < 256 → leBytes 1 k ≡ k ∷ []
+unfolding leBytes
+one-byte k h = let e : k % 256 ≡ k = omega arith in rw e
+
+byte-reads : (k : ℕ) (t : List ℕ) → k < 256 → number 1 (k ∷ t) ≡ some (part k t)
+byte-reads k t h = rw (one-byte k h) at (number-reads 1 k t h)
+
+-- every slip within the limits is read back from its bytes
+pub first-reads : (s : Slip) → SlipFits s → readFirst (slipBytes s) ≡ some (part s [])
+unfolding readFirst readBody slipBytes given _>>=_ onward give
+first-reads s h =
+    let ks : List ℕ = flatten (map certifierBytes (s .certifiers)) in
+    rw (
+      ← append-nil ks,
+      byte-reads 0 (locatorBytes (s .locator) ++ (leBytes 2 (length (s .certifiers)) ++ (ks ++ []))) (lit< tt),
+      locator-reads (s .locator) (h .locator) (leBytes 2 (length (s .certifiers)) ++ (ks ++ [])),
+      number-reads 2 (length (s .certifiers)) (ks ++ []) (h .few),
+      repeated-reads readCertifier certifierBytes (s .certifiers) (every certifier-reads (s .certifiers) (h .certifiers)) [],
+      h .ascend,
+    )
+
+pub readSlip-slipBytes : (s : Slip) → SlipFits s → readSlip (slipBytes s) ≡ some s
+unfolding readSlip
+readSlip-slipBytes s h = complete-reads readFirst (slipBytes s) s (first-reads s h)
+
+-- ---- back
+
+pub voter-back : Back readVoter (One voterBytes VoterFits)
+unfolding readVoter voterBytes
+voter-back =
+    bind-back _ _ (Number 8) (One voterBytes VoterFits) (number-back 8) λ a x p.
+    bind-back _ _ (Number 2) _ (number-back 2) λ n y q.
+    map-back _ (λ d. record { author = a; path = d }) (Items n) _ (items-back n) λ d z r.
+    record {
+      are = rw (p .are, q .are, r .are, r .many);
+      right = record { author = p .fits; short = rw (r .many) (q .fits); bytes = r .bytes };
+    }
+
+pub certifier-back : Back readCertifier (One certifierBytes CertifierFits)
+unfolding readCertifier certifierBytes
+certifier-back =
+    bind-back _ _ (One referenceBytes ReferenceFits) (One certifierBytes CertifierFits) reference-back λ b x p.
+    bind-back _ _ (Number 1) _ (number-back 1) λ n y q.
+    bind-back _ _ (Many voterBytes VoterFits n) _ (repeated-back voterBytes VoterFits readVoter n voter-back) λ vs z r.
+    given-back (votersAscend vs) _ _ λ h.
+    give-back _ (record { reference = b; voters = vs })
+    (record {
+      are = rw (p .are, q .are, r .are, r .many, append-nil (flatten (map voterBytes vs)));
+      right = record { reference = p .right; few = rw (r .many) (q .fits); voters = r .right; ascend = h };
+    })
+
+pub first-back : Back readFirst (One slipBytes SlipFits)
+unfolding readFirst readBody slipBytes
+first-back =
+    bind-back _ _ (Number 1) (One slipBytes SlipFits) (number-back 1) λ m w o.
+    given-back (eqb m 0) _ _ λ e.
+    bind-back _ _ (One locatorBytes LocatorFits) _ locator-back λ l x p.
+    bind-back _ _ (Number 2) _ (number-back 2) λ n y q.
+    bind-back _ _ (Many certifierBytes CertifierFits n) _ (repeated-back certifierBytes CertifierFits readCertifier n certifier-back) λ ks z r.
+    given-back (certifiersAscend ks) _ _ λ h.
+    give-back _ (record { locator = l; certifiers = ks })
+    (record {
+      are = rw (o .are, one-byte m (o .fits), eqb-true m 0 e, p .are, q .are, r .are, r .many, append-nil (flatten (map certifierBytes ks)));
+      right = record { locator = p .right; few = rw (r .many) (q .fits); certifiers = r .right; ascend = h };
+    })
+
+-- what the bytes are read as is what was written, and it is within the limits
+pub slipBytes-readSlip : (r : List ℕ) (s : Slip) → AllBytes r → readSlip r ≡ some s → slipBytes s ≡ r
+unfolding readSlip
+slipBytes-readSlip r s h k = sym (complete-back readFirst (One slipBytes SlipFits) first-back r s h k .are)
+
+pub readSlip-fits : (r : List ℕ) (s : Slip) → AllBytes r → readSlip r ≡ some s → SlipFits s
+unfolding readSlip
+readSlip-fits r s h k = complete-back readFirst (One slipBytes SlipFits) first-back r s h k .right
+
+-- ---- the tests of the claims say what the laws ask
+
+pub reference-fits : (r : BlockReference) → fitsReference r ≡ true → ReferenceFits r
+unfolding fitsReference
+reference-fits r h =
+    let h₁ = and-right (ltb (r .authority) 18446744073709551616) _ h in
+    let h₂ = and-right (ltb (r .round) 18446744073709551616) _ h₁ in
+    record {
+      author = ltb-true (r .authority) 18446744073709551616 (and-left _ _ h);
+      round = ltb-true (r .round) 18446744073709551616 (and-left _ _ h₁);
+      size = eqb-true (length (r .digest)) 32 (and-left _ _ h₂);
+      bytes = bytes-fit (r .digest) (and-right (eqb (length (r .digest)) 32) _ h₂);
+    }
+
+pub locator-fits : (l : TransactionLocator) → fitsLocator l ≡ true → LocatorFits l
+unfolding fitsLocator
+locator-fits l h =
+    record {
+      block = reference-fits (l .block) (and-left _ _ h);
+      offset = ltb-true (l .offset) 18446744073709551616 (and-right (fitsReference (l .block)) _ h);
+    }
+
+voter-fits : (v : SlipVoter) → fitsVoter v ≡ true → VoterFits v
+unfolding fitsVoter
+voter-fits v h =
+    let k = and-right (ltb (v .author) 18446744073709551616) _ h in
+    record {
+      author = ltb-true (v .author) 18446744073709551616 (and-left _ _ h);
+      short = ltb-true (length (v .path)) 65536 (and-left _ _ k);
+      bytes = bytes-fit (v .path) (and-right (ltb (length (v .path)) 65536) _ k);
+    }
+
+certifier-fits : (k : SlipCertifier) → fitsCertifier k ≡ true → CertifierFits k
+unfolding fitsCertifier
+certifier-fits k h =
+    let h₁ = and-right (fitsReference (k .reference)) _ h in
+    let h₂ = and-right (ltb (length (k .voters)) 256) _ h₁ in
+    record {
+      reference = reference-fits (k .reference) (and-left _ _ h);
+      few = ltb-true (length (k .voters)) 256 (and-left _ _ h₁);
+      voters = every voter-fits (k .voters) (all-every fitsVoter (k .voters) (and-left _ _ h₂));
+      ascend = and-right (allOf fitsVoter (k .voters)) _ h₂;
+    }
+
+pub slip-fits : (s : Slip) → fitsSlip s ≡ true → SlipFits s
+unfolding fitsSlip
+slip-fits s h =
+    let h₁ = and-right (fitsLocator (s .locator)) _ h in
+    let h₂ = and-right (ltb (length (s .certifiers)) 65536) _ h₁ in
+    record {
+      locator = locator-fits (s .locator) (and-left _ _ h);
+      few = ltb-true (length (s .certifiers)) 65536 (and-left _ _ h₁);
+      certifiers = every certifier-fits (s .certifiers) (all-every fitsCertifier (s .certifiers) (and-left _ _ h₂));
+      ascend = and-right (allOf fitsCertifier (s .certifiers)) _ h₂;
+    }
