@@ -161,6 +161,7 @@ uint64_t lomkhvide_write_timed_record(uint64_t author, uint64_t round, const uin
 #define LOMKHVIDE_REFERENCE_LEN ((size_t)48)
 uint64_t lomkhvide_creation_time(const uint8_t *stakes, size_t stakes_len, const uint8_t *store, size_t store_len,
                                  const uint8_t *reference, size_t reference_len, uint8_t *found, size_t found_len);
+
 /* ---- Finality slips
  *
  * A slip says of one locator which blocks certify it, and where their voters' votes stand: a byte 0, the locator 56, the number of
@@ -177,5 +178,13 @@ uint64_t lomkhvide_creation_time(const uint8_t *stakes, size_t stakes_len, const
  * It needs at most 16 KB of stack. */
 uint64_t lomkhvide_read_slip(const uint8_t *stakes, size_t stakes_len, const uint8_t *slip, size_t slip_len, const uint8_t *records,
                              size_t records_len);
+
+/* Writes the finality slip of a final locator to the front of `out`: its length; the bytes after it keep their content. It names all
+ * certifying blocks in ascending order of reference, and of each all voters in ascending order, each by the shortest path and among these
+ * the first.
+ * Refused, in this order: 5; 10; 20 a locator not of 56 bytes; 52 a locator that is not final; 50 a slice shorter than the slip.
+ * It needs at most 480 KB of stack. */
+uint64_t lomkhvide_write_slip(const uint8_t *stakes, size_t stakes_len, const uint8_t *store, size_t store_len, const uint8_t *locator,
+                              size_t locator_len, uint8_t *out, size_t out_len);
 
 #endif

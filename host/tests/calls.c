@@ -860,6 +860,75 @@ static void slips(void) {
     same("another first byte", read_slip(one, 8, slip, 119, records, both), refused(52));
 }
 
+/* ---- slips */
+
+/* A sole owner. Round 0: a block; round 1: one that shares and one that accepts the share; round 2: one that includes all three. */
+static void written_slips(void) {
+    const size_t t = LOMKHVIDE_TABLE_LEN, v = LOMKHVIDE_EVENTS_LEN, size = 237;
+    uint8_t one[8], first[256], shares[256], accepts[256], last[320], locator[60], want[300], right[300];
+    put_word(one, 1);
+    memset(&lent, 0, sizeof lent);
+    lent.store[4] = 16;
+    same("the first block", feed(one, 8, 1024, t, v, first, put_record(first, 0, 1, NULL, "")), 0);
+    same("a share", feed(one, 8, 1024, t, v, shares, put_record(shares, 1, 2, first, "gain")), 0);
+    size_t n = put_record(accepts, 1, 3, first, "");
+    accepts[51] = 1;
+    accepts[n] = 1;
+    memcpy(accepts + n + 1, shares, 48);
+    memset(accepts + n + 49, 0, 8);
+    same("an accept", feed(one, 8, 1024, t, v, accepts, n + 57), 1);
+    n = put_record(last, 2, 4, first, "");
+    memcpy(last + n, accepts, 48);
+    memcpy(last + n + 48, shares, 48);
+    last[49] = 3;
+    same("all three included", feed(one, 8, 1024, t, v, last, n + 96), 0);
+    kept = lent;
+    memset(locator, 0, sizeof locator);
+    memcpy(locator, shares, 48);
+    /* three certifying blocks, ascending; from the last one the accept is the first vote that is one include away */
+    memset(want, 0, sizeof want);
+    memcpy(want + 1, locator, 56);
+    want[57] = 3;
+    memcpy(want + 59, shares, 48);
+    want[107] = 1;
+    memcpy(want + 118, accepts, 48);
+    want[166] = 1;
+    memcpy(want + 177, last, 48);
+    want[225] = 1;
+    want[234] = 1;
+    want[236] = 1;
+    for (size_t room = 0; room < sizeof want; room++) {
+        uint8_t *out = malloc(room);
+        memset(right, 9, sizeof right);
+        if (room > 0) {
+            memset(out, 9, room);
+        }
+        same("room of any length", lomkhvide_write_slip(one, 8, lent.store, 1024, locator, 56, out, room), room < size ? refused(50) : size);
+        if (room >= size) {
+            memcpy(right, want, size);
+        }
+        same("the slip, or nothing written", room > 0 && memcmp(out, right, room) != 0, 0);
+        free(out);
+    }
+    uint8_t out[300];
+    memset(out, 9, sizeof out);
+    memset(right, 9, sizeof right);
+    for (size_t m = 0; m < sizeof locator; m++) {
+        if (m != 56) {
+            same("a locator of any length", lomkhvide_write_slip(one, 8, lent.store, 1024, locator, m, out, 7), refused(20));
+        }
+    }
+    locator[48] = 1;
+    same("not final", lomkhvide_write_slip(one, 8, lent.store, 1024, locator, 56, out, sizeof out), refused(52));
+    same("52 before 50", lomkhvide_write_slip(one, 8, lent.store, 1024, locator, 56, out, 0), refused(52));
+    same("no committee", lomkhvide_write_slip(one, 7, lent.store, 15, locator, 7, out, 0), refused(5));
+    for (size_t m = 0; m < 16; m++) {
+        same("no store", lomkhvide_write_slip(one, 8, lent.store, m, locator, 7, out, 0), refused(10));
+    }
+    same("nothing written", memcmp(out, right, sizeof out), 0);
+    same("only read", memcmp(&lent, &kept, sizeof lent), 0);
+}
+
 int main(void) {
     loading();
     committees();
@@ -868,6 +937,7 @@ int main(void) {
     payloads();
     feeding();
     ringing();
+    written_slips();
     calendars();
     writing();
     times();

@@ -58,6 +58,7 @@ call!(finality = lomkhvide_finality(stakes: &[u8], store: &[u8], positions: &mut
 call!(next_final = lomkhvide_next_final(stakes: &[u8], store: &[u8], after: &[u8], found: &mut [u8]));
 call!(read_slip = lomkhvide_read_slip(stakes: &[u8], slip: &[u8], records: &[u8]));
 call!(final_stretches = lomkhvide_final_stretches(stakes: &[u8], store: &[u8], after: &[u8], stretches: &mut [u8]));
+call!(write_slip = lomkhvide_write_slip(stakes: &[u8], store: &[u8], locator: &[u8], out: &mut [u8]));
 
 pub fn add(stakes: &[u8], aggregator: &mut [u8], voter: u64) -> Answer {
     extern "C" {

@@ -18,6 +18,7 @@ ghost use Rattle.write_record.specs.Answers.{requested};
 ghost use Rattle.host_times.specs.Times.{creationTimeCall};
 ghost use Rattle.host_ring.specs.Ring.{whomToRingCall};
 ghost use Rattle.slips.specs.Reading.{readAnswer};
+ghost use Rattle.host_slip_writer.specs.WriteSlip.{writeSlipCall};
 
 // Sets a committee: its total stake.
 #[no_mangle]
@@ -271,4 +272,18 @@ pub extern "C" fn lomkhvide_read_slip(stakes: &[u8], slip: &[u8], records: &[u8]
     ensures { λ r. ⌜ r ≡ encoded (readAnswer (committeeOf (now (stakes .entry))) (now (slip .entry)) (now (records .entry))) ⌝ }
 {
     host_slips::read_slip(stakes, slip, records)
+}
+
+// Writes the finality slip of a final locator into `out`: its length.
+#[no_mangle]
+pub extern "C" fn lomkhvide_write_slip(
+    stakes: &[u8],
+    store: &[u8],
+    locator: &[u8],
+    out: &mut [u8],
+) -> u64
+    ensures { λ r. ⌜ r ≡ encoded (writeSlipCall (now (stakes .entry)) (now (store .entry)) (now (locator .entry)) (now (out .entry)) .answer) ⌝ }
+    ensures { λ r. ⌜ now (out .exit) ≡ writeSlipCall (now (stakes .entry)) (now (store .entry)) (now (locator .entry)) (now (out .entry)) .out ⌝ }
+{
+    host_slip_writer::write_slip(stakes, store, locator, out)
 }

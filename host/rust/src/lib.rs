@@ -105,6 +105,16 @@ mod calls {
             locator: *const u8,
             locator_len: usize,
         ) -> u64;
+        pub fn lomkhvide_write_slip(
+            stakes: *const u8,
+            stakes_len: usize,
+            store: *const u8,
+            store_len: usize,
+            locator: *const u8,
+            locator_len: usize,
+            out: *mut u8,
+            out_len: usize,
+        ) -> u64;
         pub fn lomkhvide_load_stakes(file: *const u8, file_len: usize, stakes: *mut u8, stakes_len: usize) -> u64;
         pub fn lomkhvide_is_open(calendar: *const u8, calendar_len: usize, time: u64) -> u64;
         pub fn lomkhvide_next_open(calendar: *const u8, calendar_len: usize, time: u64, found: *mut u8, found_len: usize) -> u64;
@@ -529,6 +539,25 @@ impl Committee {
         })
     }
 
+    /// Writes the finality slip of a final locator to the front of `out`: its length; or 5, 10, 52, 50, and nothing is written.
+    pub fn write_slip(&self, store: &[u8], locator: &Locator, out: &mut [u8]) -> Result<usize, Refused> {
+        let (stakes, locator) = (&self.stakes, &locator.0);
+        // The slices are lent for the call alone, and the call writes `out` only.
+        let word = unsafe {
+            calls::lomkhvide_write_slip(
+                stakes.as_ptr(),
+                stakes.len(),
+                store.as_ptr(),
+                store.len(),
+                locator.as_ptr(),
+                locator.len(),
+                out.as_mut_ptr(),
+                out.len(),
+            )
+        };
+        Ok(answer(word)? as usize)
+    }
+
     /// Puts a voter into the aggregator: what the vote did; or 6, 21, and the aggregator is as it was.
     pub fn add(&self, aggregator: &mut Aggregator, voter: u64) -> Result<Vote, Refused> {
         let stakes = &self.stakes;
@@ -948,6 +977,47 @@ mod tests {
         }
         third[48] = 1;
         assert_eq!(committee.read_slip(&slip, &[&second, &third]), Err(Refused(52)), "a marked block");
+    }
+
+    #[test]
+    fn written_slips() {
+        // a sole owner's share, an accept of it, and a block that includes both
+        let committee = Committee::new(&[1]).unwrap();
+        let first = record(0, 1, &[], &[]);
+        let shares = record(1, 2, &first[..48], &[b"gain"]);
+        let mut accepts = record(1, 3, &first[..48], &[]);
+        accepts[51] = 1;
+        accepts.push(1);
+        accepts.extend(&shares[..48]);
+        accepts.extend([0; 8]);
+        let last = record(2, 4, &[&first[..48], &accepts[..48], &shares[..48]].concat(), &[]);
+        let store = store(&[first, shares.clone(), accepts.clone(), last.clone()]);
+        let mut digest = [0; 32];
+        digest[3] = 2;
+        let locator = Locator::new(0, 1, digest, 0);
+        let mut slip = vec![0];
+        slip.extend(locator.0);
+        slip.extend([3, 0]);
+        for (block, path) in [(&shares, &[][..]), (&accepts, &[]), (&last, &[1])] {
+            slip.extend(&block[..48]);
+            slip.extend([1, 0, 0, 0, 0, 0, 0, 0, 0, path.len() as u8, 0]);
+            slip.extend(path);
+        }
+        for room in 0..slip.len() + 20 {
+            let mut out = vec![9; room];
+            let told = committee.write_slip(&store, &locator, &mut out);
+            if room < slip.len() {
+                assert_eq!(told, Err(Refused(50)), "{room} bytes");
+                assert_eq!(out, vec![9; room]);
+            } else {
+                assert_eq!(told, Ok(slip.len()), "{room} bytes");
+                assert_eq!(out[..slip.len()], slip);
+                assert_eq!(out[slip.len()..], vec![9; room - slip.len()]);
+            }
+        }
+        let other = Locator::new(0, 1, digest, 1);
+        assert_eq!(committee.write_slip(&store, &other, &mut []), Err(Refused(52)));
+        assert_eq!(committee.write_slip(&store[..15], &other, &mut []), Err(Refused(10)));
     }
 
     #[test]

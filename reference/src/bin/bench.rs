@@ -40,6 +40,12 @@ fn table() {
         let engine = least(|| fed(&blocks));
         row(&format!("feeding, {name}"), engine, rust_feed(&blocks));
         row(&format!("the same, the Rust with `verify` and its store, {name}"), engine, rust_feed_checked(&blocks));
+        let mut out = vec![0; 16 << 20];
+        let mut first = [0; 56];
+        assert_eq!(engine::next_final(&memory.stakes, &memory.store, &[], &mut first), Ok(1));
+        let mut slip = || engine::write_slip(&memory.stakes, &memory.store, &first, &mut out).expect("room for the slip");
+        let size = slip();
+        row(&format!("slip of the first final locator, {name} ({size} bytes)"), least(slip), None);
     }
     println!();
     check(100);
