@@ -1,0 +1,9 @@
+pub mod Orders
+pub mod Shares
+pub mod Least
+pub mod Asked
+pub mod Lists
+pub mod Ranges
+pub mod Through
+pub mod Ordinary
+pub mod Claimed

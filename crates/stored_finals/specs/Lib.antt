@@ -1,0 +1,4 @@
+pub mod Shares
+pub mod FinalShares
+pub mod Ordinary
+pub mod Claims
