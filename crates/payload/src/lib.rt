@@ -7,11 +7,12 @@ ghost use mathlib.Core.Bool.{true};
 ghost use lib.ListN.{length, getElem?};
 ghost use Rattle.blocks.specs.Record.{wellFormed, blockIn, statementStart};
 ghost use Rattle.types.specs.Values.{asLocator};
-ghost use Rattle.store_layout.specs.Payload.{shareStretch, payload, payloadLength};
+ghost use Rattle.store_layout.specs.Entry.{laidOut};
+ghost use Rattle.store_layout.specs.Payload.{shareStretch, payloadAt, payload, payloadLength};
 ghost use Rattle.payload.specs.Answers.{asShare, shareWithin, asPlace, placeWithin, payloadPlace, asPayloadLength};
 
-// Where a record has a share's payload, its start and its length; or the statement is no share.
-enum SharePlace {
+// Where a record or the store has a share's payload, its start and its length; or there is no such share.
+pub enum SharePlace {
     Payload(usize, usize),
     NoShare,
 }
@@ -55,6 +56,24 @@ fn find_share(rec: &[u8], offset: u64) -> SharePlace
     }
 }
 
+// The payload that a locator names, in a store that is laid out as one.
+pub fn stored_payload(store: &[u8], locator: TransactionLocator) -> SharePlace
+    requires { ⌜ laidOut (now store) ≡ true ⌝ }
+    ensures { λ r. ⌜ asShare r ≡ payloadAt (now (store .entry)) (asLocator locator) ⌝ }
+    ensures { λ r. ⌜ shareWithin (length (now (store .entry))) r ≡ true ⌝ }
+{
+    let at = block_store::lookup(store, locator.block);
+    if at == 0 {
+        return SharePlace::NoShare;
+    }
+    let from = at + 8;
+    let end = store_order::record_end(store, at);
+    let SharePlace::Payload(start, len) = find_share(&store[from..end], locator.offset) else {
+        return SharePlace::NoShare;
+    };
+    SharePlace::Payload(from + start, len)
+}
+
 // The payload that a locator names (5, 10, 41).
 pub fn find_payload(stakes: &[u64], store: &[u8], locator: TransactionLocator) -> PayloadPlace
     ensures { λ r. ⌜ asPlace r ≡ payloadPlace (now (stakes .entry)) (now (store .entry)) (asLocator locator) ⌝ }
@@ -66,16 +85,10 @@ pub fn find_payload(stakes: &[u64], store: &[u8], locator: TransactionLocator) -
     if !store_order::in_order(stakes, store) {
         return PayloadPlace::Refused(10);
     }
-    let at = block_store::lookup(store, locator.block);
-    if at == 0 {
-        return PayloadPlace::Refused(41);
-    }
-    let from = at + 8;
-    let end = store_order::record_end(store, at);
-    let SharePlace::Payload(start, len) = find_share(&store[from..end], locator.offset) else {
+    let SharePlace::Payload(start, len) = stored_payload(store, locator) else {
         return PayloadPlace::Refused(41);
     };
-    PayloadPlace::Stands(from + start, len)
+    PayloadPlace::Stands(start, len)
 }
 
 // A share's payload, as the part of the store that holds it; empty where there is none or the call is refused.

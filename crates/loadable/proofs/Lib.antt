@@ -1,0 +1,11 @@
+pub mod Needed
+pub mod Blocks
+pub mod Payloads
+pub mod Meaning
+pub mod Looks
+pub mod Lists
+pub mod Walking
+pub mod Unseen
+pub mod Places
+pub mod Asking
+pub mod Claimed

@@ -1,0 +1,149 @@
+// Whether a stored share is loadable, walking down the changes that are needed.
+use committee::NewCommittee;
+use committee::Stake;
+use payload::SharePlace;
+use types::TransactionLocator;
+ghost use mathlib.Core.Path.{_≡_};
+ghost use mathlib.Core.Bool.{true};
+ghost use Prim.Native.Nat.{_≤_};
+ghost use lib.ListN.{length};
+ghost use Rattle.committee.specs.Committee.{totalStake};
+ghost use Rattle.types.specs.Values.{asLocator};
+ghost use Rattle.finality.specs.Voters.{isFinal};
+ghost use Rattle.finality.specs.Finality.{blocksOf};
+ghost use Rattle.block_votes.specs.Walk.{Sorted};
+ghost use Rattle.loadable.specs.Needs.{neededBy};
+ghost use Rattle.loadable.specs.Loadable.{isLoadable};
+ghost use Rattle.loadable.specs.Question.{loadableQuestion};
+ghost use Rattle.loadable_share.specs.Answers.{asNeeded, seenBy, falls, asLoadable};
+
+// What a payload needs.
+pub enum Needed {
+    Nothing,
+    Change(TransactionLocator),
+}
+
+// What one look at a share says: whether it is loadable, or the change of a lower round of which that depends.
+enum Sight {
+    No,
+    Yes,
+    Needs(TransactionLocator),
+}
+
+// Whether a stored share is loadable, or the refusal number.
+pub enum LoadableAnswer {
+    Loadable,
+    NotLoadable,
+    Refused(u64),
+}
+
+// What a payload needs: the locator after a first byte of 1; nothing by fewer than 57 bytes or another first byte.
+pub fn needed_by(bytes: &[u8]) -> Needed
+    ensures { λ r. ⌜ asNeeded r ≡ neededBy (now (bytes .entry)) ⌝ }
+{
+    if bytes.len() < 57 {
+        return Needed::Nothing;
+    }
+    if bytes[0] != 1 {
+        return Needed::Nothing;
+    }
+    Needed::Change(types::read_locator(bytes, 1))
+}
+
+// Whether a locator is final.
+pub fn is_final(
+    stakes: &[u64],
+    total: Stake,
+    store: &[u8],
+    order: &[u64],
+    locator: TransactionLocator,
+) -> bool
+    requires { ⌜ (Sorted (now stakes) (now store) (now order) × (total .0 ≡ totalStake (now stakes))) × (length (now order) ≤ 1024) ⌝ }
+    ensures { λ r. ⌜ r ≡ isFinal (now (stakes .entry)) (blocksOf (now (store .entry))) (asLocator locator) ⌝ }
+{
+    let mut positions = [0u64; 1024];
+    let found = finalization_interpreter::certifying_blocks(
+        stakes,
+        total,
+        store,
+        order,
+        locator,
+        &mut positions,
+    );
+    committee::is_quorum(total, authority_set::stake_of(stakes, found.authors))
+}
+
+// One look at a share.
+fn look(
+    stakes: &[u64],
+    total: Stake,
+    store: &[u8],
+    order: &[u64],
+    locator: TransactionLocator,
+) -> Sight
+    requires { ⌜ (Sorted (now stakes) (now store) (now order) × (total .0 ≡ totalStake (now stakes))) × (length (now order) ≤ 1024) ⌝ }
+    ensures { λ r. ⌜ isLoadable (now (stakes .entry)) (blocksOf (now (store .entry))) (asLocator locator) ≡ seenBy (now (stakes .entry)) (blocksOf (now (store .entry))) r ⌝ }
+    ensures { λ r. ⌜ falls (asLocator locator) r ≡ true ⌝ }
+{
+    let SharePlace::Payload(start, len) = payload::stored_payload(store, locator) else {
+        return Sight::No;
+    };
+    if !is_final(stakes, total, store, order, locator) {
+        return Sight::No;
+    }
+    let end = start + len;
+    let needed = needed_by(&store[start..end]);
+    let Needed::Change(change) = needed else {
+        return Sight::Yes;
+    };
+    if locator.block.round.0 <= change.block.round.0 {
+        return Sight::No;
+    }
+    Sight::Needs(change)
+}
+
+// Walks down the needed changes. Rounds fall, so that it ends.
+fn walk_down(
+    stakes: &[u64],
+    total: Stake,
+    store: &[u8],
+    order: &[u64],
+    locator: TransactionLocator,
+) -> bool
+    requires { ⌜ (Sorted (now stakes) (now store) (now order) × (total .0 ≡ totalStake (now stakes))) × (length (now order) ≤ 1024) ⌝ }
+    ensures { λ r. ⌜ r ≡ isLoadable (now (stakes .entry)) (blocksOf (now (store .entry))) (asLocator locator) ⌝ }
+{
+    let mut change = locator;
+    loop {
+        let seen = look(stakes, total, store, order, change);
+        match seen {
+            Sight::No => {
+                return false;
+            }
+            Sight::Yes => {
+                return true;
+            }
+            Sight::Needs(earlier) => {
+                change = earlier;
+            }
+        }
+    }
+}
+
+// Whether the locator names a loadable stored share (5, 10).
+pub fn is_loadable(stakes: &[u64], store: &[u8], locator: TransactionLocator) -> LoadableAnswer
+    ensures { λ r. ⌜ asLoadable r ≡ loadableQuestion (now (stakes .entry)) (now (store .entry)) (asLocator locator) ⌝ }
+{
+    let NewCommittee::Taken(total) = committee::new_committee(stakes) else {
+        return LoadableAnswer::Refused(5);
+    };
+    if !store_order::in_order(stakes, store) {
+        return LoadableAnswer::Refused(10);
+    }
+    let mut order = [0u64; 1024];
+    let count = block_votes::sorted_positions(store, &mut order);
+    if walk_down(stakes, total, store, &order[..count], locator) {
+        return LoadableAnswer::Loadable;
+    }
+    LoadableAnswer::NotLoadable
+}

@@ -1,0 +1,189 @@
+-- The places while the stored shares are gone through. Assumes nothing.
+use mathlib.Core.Path.{_≡_, refl, sym, ap, ap₂, subst, _∙_}
+use mathlib.Core.Bool.{Bool, true, false}
+use mathlib.Core.List.{List, [], _∷_, _++_, map, map-append, append-assoc, flatten}
+use mathlib.Core.Option.{some}
+use Prim.Native.Nat.{ℕ, _+_, _-_, _*_, _≤_, _<_}
+use native.Mathlib.Omega.{arith}
+use lib.ListN.{length, take, drop, length-append, take-append-drop}
+use lib.Seq.{sets, sets-eq, length-sets, length-take-le, take-at, drop-at, drop-drop}
+use Rattle.base.specs.Lists.{pick, anyOf, keep, holds, _∈_}
+use Rattle.base.specs.Le.{Bytes}
+use Rattle.base.proofs.Lists.{append-nil, keep-append, length-keep}
+use Rattle.base.proofs.Members.{in-left, keep-in}
+use Rattle.committee.specs.Committee.{Committee}
+use Rattle.blocks.specs.Reference.{TransactionLocator, sameLocator}
+use Rattle.blocks.specs.Block.{Block}
+use Rattle.store_layout.specs.Layout.{Entry, entries, positionOf, lookup}
+use Rattle.store_layout.specs.Store.{recordsOf, storeInOrder}
+use Rattle.finality.specs.Voters.{isFinal}
+use Rattle.finality.specs.Finality.{blocksOf}
+use Rattle.finality.proofs.Asked.{in-order-stored}
+use Rattle.finality.proofs.FinalList.{Ascending, none-left, and-then, keep-ascending}
+use Rattle.stored_finals.specs.Shares.{storedShares}
+use Rattle.stored_finals.proofs.Shares.{all-ascending}
+use Rattle.loadable.specs.Needs.{neededBy, payloadIn}
+use Rattle.loadable.specs.Loadable.{met, loadableBy, isLoadable, loadableList, loadableAfter}
+use Rattle.loadable.specs.Question.{placeWords, namedBy}
+use Rattle.loadable.proofs.Places.{read-back}
+use Rattle.loadable.proofs.Walking.{walked-shares}
+use Rattle.loadable_places.specs.Listed.{Listed, metBy}
+use Rattle.loadable_places.proofs.Listing.{listed-from}
+use Rattle.loadable_shares.specs.Holding.{Holding, Past}
+use Rattle.loadable_shares.proofs.Through.{flatten-append}
+
+ascending-left : (xs ys : List TransactionLocator) → Ascending (xs ++ ys) → Ascending xs
+ascending-left [] ys a = none-left
+ascending-left (x ∷ xs) ys (and-then h a) = and-then (λ m k. h m (in-left ys k)) (ascending-left xs ys a)
+
+-- ---- words past the places
+
+pub past-none : (ps : List ℕ) (n : ℕ) → Past ps ps n
+past-none ps n = record { long = refl; same = refl }
+
+-- fewer of them are as they were before too
+pub past-on : (ps qs rs : List ℕ) (n m : ℕ) → n ≤ m → Past ps qs n → Past qs rs m → Past ps rs m
+past-on ps qs rs n m h p q =
+    let far : 2 * m ≡ 2 * n + (2 * m - 2 * n) = omega arith in
+    record {
+      long = q .long ∙ p .long;
+      same =
+          q .same
+          ∙ ap (λ (k : ℕ). drop k qs) far
+          ∙ sym (drop-drop (2 * m - 2 * n) (2 * n) qs)
+          ∙ ap (λ (l : List ℕ). drop (2 * m - 2 * n) l) (p .same)
+          ∙ drop-drop (2 * m - 2 * n) (2 * n) ps
+          ∙ ap (λ (k : ℕ). drop k ps) (sym far);
+    }
+
+-- ---- a place more
+
+module _ (ps : List ℕ) (n at o : ℕ) (fits : 2 * n + 2 ≤ length ps) where
+  abbrev after : List ℕ
+  after = sets ps (2 * n) (at ∷ o ∷ [])
+
+  one-more : 2 * (n + 1) ≡ 2 * n + 2
+  one-more = omega arith
+
+  after-is : after ≡ (take (2 * n) ps ++ at ∷ o ∷ []) ++ drop (2 * n + 2) ps
+  after-is = sets-eq (at ∷ o ∷ []) ps (2 * n) fits
+
+  long-enough : length (take (2 * n) ps ++ at ∷ o ∷ []) ≡ 2 * (n + 1)
+  long-enough = omega (arith, length-append (take (2 * n) ps) (at ∷ o ∷ []), length-take-le (2 * n) ps (omega arith))
+
+  after-words : take (2 * (n + 1)) after ≡ take (2 * n) ps ++ at ∷ o ∷ []
+  after-words = ap (λ (l : List ℕ). take (2 * (n + 1)) l) after-is ∙ take-at (take (2 * n) ps ++ at ∷ o ∷ []) (drop (2 * n + 2) ps) (2 * (n + 1)) long-enough
+
+  pub after-past : Past ps after (n + 1)
+  after-past =
+      record {
+        long = length-sets ps (2 * n) (at ∷ o ∷ []);
+        same =
+            ap (λ (l : List ℕ). drop (2 * (n + 1)) l) after-is
+            ∙ drop-at (take (2 * n) ps ++ at ∷ o ∷ []) (drop (2 * n + 2) ps) (2 * (n + 1)) long-enough
+            ∙ ap (λ (k : ℕ). drop k ps) (sym one-more);
+      }
+
+-- ---- what the places hold
+
+-- before any share
+pub holding-start : (c : Committee) (s : Bytes) (ps : List ℕ) → 2 * length (storedShares (blocksOf s)) ≤ length ps → Holding c s [] ps 0
+unfolding keep flatten
+holding-start c s ps h = record { rest = storedShares (blocksOf s); splits = refl; many = refl; words = refl; room = h }
+
+-- after the last one
+pub holding-all : (c : Committee) (s : Bytes) (ps qs : List ℕ) (n : ℕ) → Holding c s (storedShares (blocksOf s)) qs n → Past ps qs n
+    → (n ≡ length (loadableList c (blocksOf s))) × (qs ≡ flatten (map (placeWords (entries (recordsOf s))) (loadableList c (blocksOf s))) ++ drop (2 * length (loadableList c (blocksOf s))) ps)
+unfolding loadableList
+holding-all c s ps qs n g p =
+    let found : List TransactionLocator = loadableList c (blocksOf s) in (
+      g .many,
+      sym (take-append-drop (2 * n) qs)
+          ∙ ap₂ (λ (ws rest : List ℕ). ws ++ rest) (g .words) (p .same)
+          ∙ ap (λ (m : ℕ). flatten (map (placeWords (entries (recordsOf s))) found) ++ drop (2 * m) ps) (g .many),
+    )
+
+module _ (c : Committee) (s : Bytes) (order : storeInOrder c s ≡ true) (xs : List TransactionLocator) (ps : List ℕ) (n : ℕ) (g : Holding c s xs ps n) where
+  abbrev found : List TransactionLocator
+  found = keep (isLoadable c (blocksOf s)) xs
+
+  found-stored : (l : TransactionLocator) → l ∈ found → l ∈ storedShares (blocksOf s)
+  found-stored l m = subst (λ (ls : List TransactionLocator). l ∈ ls) (sym (g .splits)) (in-left (g .rest) (keep-in (isLoadable c (blocksOf s)) xs m .0))
+
+  found-ascends : Ascending found
+  found-ascends = keep-ascending (isLoadable c (blocksOf s)) (ascending-left xs (g .rest) (subst Ascending (g .splits) (all-ascending (blocksOf s))))
+
+  pub whole : ps ≡ flatten (map (placeWords (entries (recordsOf s))) found) ++ drop (2 * n) ps
+  whole = sym (take-append-drop (2 * n) ps) ∙ ap (λ (ws : List ℕ). ws ++ drop (2 * n) ps) (g .words)
+
+  pub holding-listed : Listed s ps n
+  holding-listed =
+      subst (λ (k : ℕ). Listed s ps k) (sym (g .many))
+      (subst (λ (qs : List ℕ). Listed s qs (length found)) (sym whole) (listed-from c s order found found-ascends found-stored (drop (2 * n) ps)))
+
+  named : namedBy s n ps ≡ found
+  named = ap₂ (λ (k : ℕ) (qs : List ℕ). namedBy s k qs) (g .many) whole ∙ read-back c s order found found-stored (drop (2 * n) ps)
+
+  -- ---- the next share
+
+  module _ (l : TransactionLocator) (ys : List TransactionLocator) (e : storedShares (blocksOf s) ≡ xs ++ l ∷ ys) where
+    pub holding-room : 2 * n + 2 ≤ length ps
+    holding-room =
+        omega (arith, g .room, g .many, length-keep (isLoadable c (blocksOf s)) xs, ap length e, length-append xs (l ∷ ys))
+
+    -- a final one is loadable exactly if what it needs is at one of the places
+    pub by-places : (p : Bytes) → isFinal c (blocksOf s) l ≡ true → payloadIn (blocksOf s) l ≡ some p → isLoadable c (blocksOf s) l ≡ metBy s n ps l p
+    unfolding loadableAfter loadableBy holds metBy
+    by-places p f q =
+        walked-shares c (in-order-stored c s order) .step xs l ys e
+        ∙ rw (f, q) (ap (λ (ls : List TransactionLocator). met (λ m. anyOf (sameLocator m) ls) l (neededBy p)) (sym named))
+
+    later : storedShares (blocksOf s) ≡ (xs ++ l ∷ []) ++ ys
+    later = e ∙ sym (append-assoc xs (l ∷ []) ys)
+
+    kept : (t : Bool) → isLoadable c (blocksOf s) l ≡ t → keep (isLoadable c (blocksOf s)) (xs ++ l ∷ []) ≡ pick t (found ++ l ∷ []) found
+    unfolding keep
+    kept true k = keep-append (isLoadable c (blocksOf s)) xs (l ∷ []) ∙ rw k
+    kept false k = keep-append (isLoadable c (blocksOf s)) xs (l ∷ []) ∙ rw k (append-nil found)
+
+    pub holding-skip : isLoadable c (blocksOf s) l ≡ false → Holding c s (xs ++ l ∷ []) ps n
+    holding-skip k =
+        record {
+          rest = ys;
+          splits = later;
+          many = g .many ∙ ap length (sym (kept false k));
+          words = g .words ∙ ap (λ (ls : List TransactionLocator). flatten (map (placeWords (entries (recordsOf s))) ls)) (sym (kept false k));
+          room = g .room;
+        }
+
+    module _ (at : ℕ) (place : at ≡ positionOf (lookup (entries (recordsOf s)) (l .block))) where
+      words-on : flatten (map (placeWords (entries (recordsOf s))) (found ++ l ∷ [])) ≡ flatten (map (placeWords (entries (recordsOf s))) found) ++ at ∷ l .offset ∷ []
+      unfolding flatten placeWords
+      words-on =
+          ap flatten (map-append (placeWords (entries (recordsOf s))) found (l ∷ []))
+          ∙ flatten-append (map (placeWords (entries (recordsOf s))) found) (placeWords (entries (recordsOf s)) l ∷ [])
+          ∙ ap (λ (q : ℕ). flatten (map (placeWords (entries (recordsOf s))) found) ++ q ∷ l .offset ∷ []) (sym place)
+
+      pub holding-more : isLoadable c (blocksOf s) l ≡ true → Holding c s (xs ++ l ∷ []) (sets ps (2 * n) (at ∷ l .offset ∷ [])) (n + 1)
+      holding-more k =
+          record {
+            rest = ys;
+            splits = later;
+            many = omega (arith, g .many, ap length (kept true k), length-append found (l ∷ []));
+            words =
+                after-words ps n at (l .offset) holding-room
+                ∙ ap (λ (ws : List ℕ). ws ++ at ∷ l .offset ∷ []) (g .words)
+                ∙ sym words-on
+                ∙ ap (λ (ls : List TransactionLocator). flatten (map (placeWords (entries (recordsOf s))) ls)) (sym (kept true k));
+            room = omega (arith, g .room, length-sets ps (2 * n) (at ∷ l .offset ∷ []));
+          }
+
+      -- after a final share, as it is listed
+      pub record Listing (t : Bool) : Type 0 where
+        pub holds-on : Holding c s (xs ++ l ∷ []) (pick t (sets ps (2 * n) (at ∷ l .offset ∷ [])) ps) (pick t (n + 1) n)
+        pub past : Past ps (pick t (sets ps (2 * n) (at ∷ l .offset ∷ [])) ps) (pick t (n + 1) n)
+        pub onward : n ≤ pick t (n + 1) n
+
+      pub listing : (t : Bool) → isLoadable c (blocksOf s) l ≡ t → Listing t
+      listing true k = record { holds-on = holding-more k; past = after-past ps n at (l .offset) holding-room; onward = omega arith }
+      listing false k = record { holds-on = holding-skip k; past = past-none ps n; onward = omega arith }

@@ -1,0 +1,4 @@
+pub mod Through
+pub mod Holding
+pub mod Statements
+pub mod Going
