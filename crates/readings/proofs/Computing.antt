@@ -1,0 +1,10 @@
+-- Every definition of the crate and of those below it at once, for evaluated examples: `unfolding computing`. Assumes nothing.
+use Rattle.finality.proofs.Computing.{computing as computing-finality}
+use Rattle.readings.specs.Rejecting.{rejectedIn, rejections, rejects, ownReject, without}
+use Rattle.readings.specs.Readings.{votersIn, certifiesIn, certifiersIn, isFinalIn}
+use Rattle.readings.specs.Finality.{certifyingPositionsIn, finalityIn}
+use Rattle.readings.specs.NextFinal.{afterRejections, candidatesIn, leastFinalIn, nextFinalIn, finalListIn, rejectEdges}
+
+unfoldable pub computing : Unit {0}
+unfolding computing-finality rejectedIn rejections rejects ownReject without votersIn certifiesIn certifiersIn isFinalIn certifyingPositionsIn finalityIn afterRejections candidatesIn leastFinalIn nextFinalIn finalListIn rejectEdges
+computing = tt
