@@ -25,7 +25,7 @@ differ-two a b (inl p) (inr q) = rw (p, q) (omega arith)
 differ-two a b (inr p) (inl q) = rw (p, q) (omega arith)
 differ-two a b (inr p) (inr q) = rw (p, q) (omega arith)
 
-and-low : (a b : ℕ) → bitAnd a b % 2 ≡ min (a % 2) (b % 2)
+pub and-low : (a b : ℕ) → bitAnd a b % 2 ≡ min (a % 2) (b % 2)
 and-low a b = rw and-step (digits-mod _ (min-two _ _ (mod-lt a two-pos) (mod-lt b two-pos)))
 
 xor-low : (a b : ℕ) → bitXor a b % 2 ≡ differ (a % 2) (b % 2)

@@ -1,0 +1,14 @@
+// Why finality can be trusted while blocks still arrive: two certificates always meet, and what is final stays final, in both readings.
+// The functions do nothing: a contract is the theorem, so that no check passes without the proof.
+ghost use Rattle.trust.specs.Meeting.{CertificatesMeet};
+ghost use Rattle.trust.specs.Staying.{StaysFinal};
+
+// Any two certificates have owners of valid stake in common.
+pub fn certificates_meet()
+    ensures { λ _. ⌜ CertificatesMeet ⌝ }
+{}
+
+// What is final stays final after every further list of feeds, and what was named or listed stays named and listed.
+pub fn stays_final()
+    ensures { λ _. ⌜ StaysFinal ⌝ }
+{}
