@@ -107,7 +107,7 @@ differ : (bs : List Block) → Distinct bs → Pairs (λ b d. not (sameReference
 differ [] no-pairs = no-pairs
 differ (b ∷ bs) (with-later h hs) = with-later {x = b} (every (λ d (e : sameReference (b .reference) (d .reference) ≡ false). rw e) bs h) (differ bs hs)
 
-records-right : (c : Committee) (rs : List Record) → allAccepted c rs ≡ true → WellStored (blocks rs) → rightBlocks c (blocks rs) ≡ true
+pub records-right : (c : Committee) (rs : List Record) → allAccepted c rs ≡ true → WellStored (blocks rs) → rightBlocks c (blocks rs) ≡ true
 unfolding rightBlocks
 records-right c rs h w =
     and-both _ _ (in-all _ (blocks rs) (accepted-alone c rs h)) (pairs-pairwise _ (blocks rs) (differ (blocks rs) (distinct-stored w)))

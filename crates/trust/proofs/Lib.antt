@@ -2,3 +2,4 @@ pub mod Meeting
 pub mod Naming
 pub mod Growing
 pub mod Staying
+pub mod Slips

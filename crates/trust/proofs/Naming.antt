@@ -37,7 +37,7 @@ module _ (c : Committee) (s t : Bytes) (b : broken c ≡ false) (h : storeInOrde
   small : (x : Bytes) → storeInOrder c x ≡ true → (d : Block) → d ∈ blocksOf x → author d < 128
   small x k = small-authors c (blocksOf x) (accepted x k)
 
-  more-blocks : (x : Block) → x ∈ blocksOf s → x ∈ blocksOf t
+  pub more-blocks : (x : Block) → x ∈ blocksOf s → x ∈ blocksOf t
   unfolding blocksOf
   more-blocks x m = rw (g .records, map-append) (in-right (map (λ (r : Record). r .block) (g .later)) m)
 

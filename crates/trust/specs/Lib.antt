@@ -1,2 +1,3 @@
 pub mod Meeting
 pub mod Staying
+pub mod Slips

@@ -2,6 +2,7 @@
 // The functions do nothing: a contract is the theorem, so that no check passes without the proof.
 ghost use Rattle.trust.specs.Meeting.{CertificatesMeet};
 ghost use Rattle.trust.specs.Staying.{StaysFinal};
+ghost use Rattle.trust.specs.Slips.{SlipsStay};
 
 // Any two certificates have owners of valid stake in common.
 pub fn certificates_meet()
@@ -11,4 +12,9 @@ pub fn certificates_meet()
 // What is final stays final after every further list of feeds, and what was named or listed stays named and listed.
 pub fn stays_final()
     ensures { λ _. ⌜ StaysFinal ⌝ }
+{}
+
+// The slip that was accepted before is accepted after.
+pub fn slips_stay()
+    ensures { λ _. ⌜ SlipsStay ⌝ }
 {}
