@@ -3,3 +3,4 @@ pub mod Naming
 pub mod Growing
 pub mod Staying
 pub mod Slips
+pub mod Loads

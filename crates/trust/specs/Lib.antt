@@ -1,3 +1,4 @@
 pub mod Meeting
 pub mod Staying
 pub mod Slips
+pub mod Loads

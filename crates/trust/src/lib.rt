@@ -3,6 +3,7 @@
 ghost use Rattle.trust.specs.Meeting.{CertificatesMeet};
 ghost use Rattle.trust.specs.Staying.{StaysFinal};
 ghost use Rattle.trust.specs.Slips.{SlipsStay};
+ghost use Rattle.trust.specs.Loads.{LoadablesStay};
 
 // Any two certificates have owners of valid stake in common.
 pub fn certificates_meet()
@@ -17,4 +18,9 @@ pub fn stays_final()
 // The slip that was accepted before is accepted after.
 pub fn slips_stay()
     ensures { λ _. ⌜ SlipsStay ⌝ }
+{}
+
+// What was loadable before is loadable after.
+pub fn loadables_stay()
+    ensures { λ _. ⌜ LoadablesStay ⌝ }
 {}

@@ -1,0 +1,15 @@
+-- What a station may load it may load still. Assumes nothing: these are definitions.
+use mathlib.Core.Path.{_≡_}
+use mathlib.Core.Bool.{true, false}
+use mathlib.Core.List.{List}
+use Rattle.committee.specs.Committee.{Committee, broken}
+use Rattle.blocks.specs.Reference.{TransactionLocator}
+use Rattle.store_layout.specs.Store.{storeInOrder}
+use Rattle.finality.specs.Finality.{blocksOf}
+use Rattle.loadable.specs.Loadable.{isLoadable}
+use Rattle.promises.specs.Feeds.{Feed, Engine, run}
+
+-- a share that is loadable, with the changes that it needs, is loadable after every further list of feeds
+pub record LoadablesStay : Type 0 where
+  pub loadable : (c : Committee) → broken c ≡ false → (g : Engine) → storeInOrder c (g .store) ≡ true → (fs : List Feed) (l : TransactionLocator)
+      → isLoadable c (blocksOf (g .store)) l ≡ true → isLoadable c (blocksOf (run c g fs .store)) l ≡ true
