@@ -1,0 +1,4 @@
+pub mod Opening
+pub mod Fits
+pub mod Arriving
+pub mod Agreeing

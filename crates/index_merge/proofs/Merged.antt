@@ -1,0 +1,161 @@
+-- A run from its first piece on, piece after piece. Assumes nothing.
+use mathlib.Core.Path.{_≡_, refl, sym, ap, subst, _∙_}
+use mathlib.Core.Bool.{Bool, true, false, _&&_}
+use mathlib.Core.List.{List}
+use mathlib.Core.Option.{Option, none, some}
+use Prim.Native.Nat.{ℕ, _+_, _≤_, _<_}
+use native.Mathlib.Omega.{arith}
+use native.Mathlib.Decide.{decLt}
+use lib.ListN.{length}
+use Rattle.base.proofs.Tests.{and-both, and-left, and-right, not-both}
+use Rattle.authority_set.specs.AuthoritySet.{AuthoritySet, nobody, united}
+use Rattle.blocks.specs.Reference.{BlockReference, TransactionLocator, locator}
+use Rattle.blocks.specs.Block.{Block}
+use Rattle.finality.specs.Voters.{ownVote}
+use Rattle.voters_index.specs.Runs.{Run, run, touches, sameVoters}
+use Rattle.voters_index.specs.Walk.{Past, byBlock, byOffset, Place, beyond, At, NextRun}
+use Rattle.voters_index.proofs.Sets.{same-voters, voters-same}
+use Rattle.voters_index.proofs.Chain.{past-itself, past-trans, touching, touched}
+use Rattle.voters_index.proofs.Unique.{Placed, earlier, later, alike, placed}
+use Rattle.index_runs.specs.Pieces.{Ahead, Piece, NobodyFrom, AheadOr, PieceOr}
+use Rattle.index_runs.proofs.Pieces.{past-not, pieces-same}
+use Rattle.index_merge.specs.Sources.{namedBy, Ready, Moved, Merging, ended, GrownFrom}
+
+-- what is ahead of a place is ahead of every later one
+pub ahead-later : (f : TransactionLocator → AuthoritySet) (p q : Place) → ((r : BlockReference) (o : ℕ) → At q r o → At p r o) → (o : Option Run) → AheadOr f p o → AheadOr f q o
+unfolding AheadOr NobodyFrom
+ahead-later f p q h none a = λ l i. a l (h (l .block) (l .offset) i)
+ahead-later f p q h (some x) a = record { stretch = a .stretch; first = λ l i j. a .first l (h (l .block) (l .offset) i) j }
+
+pub piece-ahead : (f : TransactionLocator → AuthoritySet) (p : Place) (o : Option Run) → PieceOr f p o → AheadOr f p o
+unfolding AheadOr PieceOr
+piece-ahead f p none a = a
+piece-ahead f p (some x) a = a .ahead
+
+module _ {f : TransactionLocator → AuthoritySet} where
+  -- a piece that touches and has the same voters
+  pub grown : (p : Place) (x y : Run) → Piece f p x → Piece f (beyond (x .reference) (x .end)) y → touches x y && sameVoters (x .votes) (y .votes) ≡ true → Piece f p (ended x (y .end))
+  unfolding ended run
+  grown p x y c d h =
+      record {
+        there = c .there;
+        ahead = record {
+          stretch = record { full = omega (arith, c .ahead .stretch .full, d .ahead .stretch .full, t .1); voted = c .ahead .stretch .voted; told = λ o i j. told o i j (decLt o (x .end)) };
+          first = c .ahead .first;
+        };
+      }
+    where
+      t : (x .reference ≡ y .reference) × (x .end ≡ y .start)
+      t = touched x y (and-left (touches x y) _ h)
+
+      told : (o : ℕ) → x .start ≤ o → o < y .end → Dec (o < x .end) → f (locator (x .reference) o) ≡ x .votes
+      told o i j (yes m) = c .ahead .stretch .told o i m
+      told o i j (no m) =
+          ap (λ (r : BlockReference). f (locator r o)) (t .0)
+          ∙ d .ahead .stretch .told o (omega (arith, t .1)) j
+          ∙ sym (same-voters (x .votes) (y .votes) (and-right (touches x y) _ h))
+
+  -- a piece after which nobody is named, or the next piece does not go on with it, is a run
+  pub run-none : (p : Place) (x : Run) → Piece f p x → NobodyFrom f (beyond (x .reference) (x .end)) → NextRun f p x
+  unfolding NobodyFrom locator
+  run-none p x c n =
+      record {
+        there = c .there;
+        stretch = c .ahead .stretch;
+        onward = λ e. c .ahead .stretch .voted (sym e ∙ n (locator (x .reference) (x .end)) (past-itself (x .reference) (x .end)));
+        first = c .ahead .first;
+      }
+
+  pub run-other : (p : Place) (x y : Run) → Piece f p x → Piece f (beyond (x .reference) (x .end)) y → touches x y && sameVoters (x .votes) (y .votes) ≡ false → NextRun f p x
+  unfolding locator
+  run-other p x y c d h =
+      record {
+        there = c .there;
+        stretch = c .ahead .stretch;
+        onward = λ e. split e (placed (x .reference) (x .end) (y .reference) (y .start));
+        first = c .ahead .first;
+      }
+    where
+      split : f (locator (x .reference) (x .end)) ≡ x .votes → Placed (x .reference) (x .end) (y .reference) (y .start) → ⊥
+      split e (earlier k) = c .ahead .stretch .voted (sym e ∙ d .ahead .first (locator (x .reference) (x .end)) (past-itself (x .reference) (x .end)) k)
+      split e (later k) = past-not (d .there) k
+      split e (alike r o) =
+          let v : x .votes ≡ y .votes = sym e ∙ ap f (λ i. locator (r i) (o i)) ∙ d .ahead .stretch .told (y .start) (omega arith) (d .ahead .stretch .full) in
+          not-both (and-both (touches x y) (sameVoters (x .votes) (y .votes)) (touching x y r o) (voters-same (x .votes) (y .votes) v)) h
+
+-- ---- the loop
+
+-- what is known before the next piece is asked for: the run so far ends at e
+pub record Growing (b : Block) (ix : List ℕ) (n : ℕ) (cs₀ cs : List ℕ) (first : Run) (e : ℕ) (own : Option Run) : Type 0 where
+  pub long : length cs ≡ length cs₀
+  pub ready : Ready ix cs n
+  pub ahead : AheadOr (ownVote b) (beyond (first .reference) e) own
+  pub onward : first .end ≤ e
+  pub merging : (f : TransactionLocator → AuthoritySet) → Merging f b ix cs₀ n first → Merging f b ix cs n (ended first e)
+  pub piece : (f : TransactionLocator → AuthoritySet) (p : Place) → Merging f b ix cs₀ n first → Piece f p first → Piece f p (ended first e)
+
+module _ (b : Block) (ix : List ℕ) (n : ℕ) (cs₀ : List ℕ) (first : Run) where
+  pub growing-start : (own : Option Run) → Ready ix cs₀ n → AheadOr (ownVote b) (beyond (first .reference) (first .end)) own → Growing b ix n cs₀ cs₀ first (first .end) own
+  unfolding ended run
+  growing-start own r a = record { long = refl; ready = r; ahead = a; onward = omega arith; merging = λ f m. m; piece = λ f p m c. c }
+
+  -- the next piece was found: own is the next of the block's own, next that of all
+  module _ (cs cs′ : List ℕ) (e : ℕ) (own₀ own next : Option Run) (g : Growing b ix n cs₀ cs first e own₀)
+      (o : PieceOr (ownVote b) (beyond (first .reference) e) own)
+      (d : PieceOr (λ l. united (ownVote b l) (namedBy ix cs n l)) (beyond (first .reference) e) next)
+      (m : Moved ix n (beyond (first .reference) e) cs cs′) where
+    told-on : (f : TransactionLocator → AuthoritySet) → Merging f b ix cs₀ n first → Merging f b ix cs′ n (ended first e)
+    unfolding ended run
+    told-on f k = record { told = λ l a. ap (united (ownVote b l)) (m .names l a) ∙ g .merging f k .told l a }
+
+    next-of : (f : TransactionLocator → AuthoritySet) → Merging f b ix cs₀ n first → PieceOr f (beyond (first .reference) e) next
+    unfolding ended run
+    next-of f k = pieces-same (λ l. united (ownVote b l) (namedBy ix cs n l)) f (beyond (first .reference) e) next (λ l a. g .merging f k .told l a) d
+
+    ends : ((f : TransactionLocator → AuthoritySet) (p : Place) → Merging f b ix cs₀ n first → Piece f p first → NextRun f p (ended first e))
+        → GrownFrom b ix n cs₀ cs′ first (ended first e) own next
+    unfolding ended run
+    ends h =
+        record {
+          long = m .long ∙ g .long;
+          ready = m .ready;
+          ahead = piece-ahead (ownVote b) (beyond (first .reference) e) own o;
+          merging = told-on;
+          piece = next-of;
+          run = h;
+        }
+
+    pub grown-none : next ≡ none → GrownFrom b ix n cs₀ cs′ first (ended first e) own next
+    unfolding PieceOr ended run
+    grown-none z = ends (λ f p k c. run-none p (ended first e) (g .piece f p k c) (subst (PieceOr f (beyond (first .reference) e)) z (next-of f k)))
+
+    pub grown-other : (y : Run) → next ≡ some y → touches (ended first e) y && sameVoters (first .votes) (y .votes) ≡ false → GrownFrom b ix n cs₀ cs′ first (ended first e) own next
+    unfolding PieceOr ended run
+    grown-other y z t = ends (λ f p k c. run-other p (ended first e) y (g .piece f p k c) (subst (PieceOr f (beyond (first .reference) e)) z (next-of f k)) t)
+
+    module _ (y : Run) (z : next ≡ some y) (t : touches (ended first e) y && sameVoters (first .votes) (y .votes) ≡ true) where
+      touch : (first .reference ≡ y .reference) × (e ≡ y .start)
+      unfolding ended run
+      touch = touched (ended first e) y (and-left (touches (ended first e) y) _ t)
+
+      full : y .start < y .end
+      unfolding PieceOr
+      full = let c = subst (PieceOr (λ l. united (ownVote b l) (namedBy ix cs n l)) (beyond (first .reference) e)) z d in c .ahead .stretch .full
+
+      pub grown-past : e < y .end
+      grown-past = omega (arith, touch .1, full)
+
+      later-too : (r : BlockReference) (k : ℕ) → Past (first .reference) (y .end) r k → Past (first .reference) e r k
+      later-too r k a = past-trans (past-itself (first .reference) e) (omega (arith, grown-past)) a
+
+      pub grown-on : Growing b ix n cs₀ cs′ first (y .end) own
+      unfolding PieceOr ended run
+      grown-on =
+          record {
+            long = m .long ∙ g .long;
+            ready = m .ready;
+            ahead = ahead-later (ownVote b) (beyond (first .reference) e) (beyond (first .reference) (y .end)) later-too own (piece-ahead (ownVote b) (beyond (first .reference) e) own o);
+            onward = omega (arith, g .onward, grown-past);
+            merging = λ f k. record { told = λ l a. told-on f k .told l (later-too (l .block) (l .offset) a) };
+            piece = λ f p k c. grown p (ended first e) y (g .piece f p k c) (subst (PieceOr f (beyond (first .reference) e)) z (next-of f k)) t;
+          }

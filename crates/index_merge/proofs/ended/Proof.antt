@@ -1,0 +1,13 @@
+use mathlib.Core.Path.{refl}
+use Rattle.voters_index.specs.Runs.{run}
+use Rattle.index_runs.specs.Values.{asRun}
+use Rattle.index_merge.specs.Sources.{ended}
+use Rattle.index_merge.proofs.ended.Statement.{statement}
+use Rattle.index_merge.proofs.ended.Tie as tie
+
+returns : tie.Need-returns
+unfolding asRun run ended
+returns c = refl
+
+pub ended-spec : {M : Type 1} → statement M
+ended-spec = tie.close (tie.spec returns)

@@ -1,0 +1,4 @@
+pub mod Unfolded
+pub mod Stepping
+pub mod Words
+pub mod Writing

@@ -1,0 +1,89 @@
+use mathlib.Core.Path.{_≡_, refl, sym, ap, subst, _∙_}
+use mathlib.Core.List.{List}
+use Prim.Native.Nat.{ℕ, _+_, _-_, _*_, _≤_, _<_}
+use lib.ListN.{length, getD, drop}
+use Rattle.blocks.specs.Record.{blockIn}
+use Rattle.voters_index.specs.Runs.{Run, run}
+use Rattle.voters_index.specs.Part.{RunsOf}
+use Rattle.finality.specs.Voters.{ownVote}
+use Rattle.voters_index.specs.Walk.{anywhere}
+use Rattle.index_runs.specs.Values.{asRun, asMaybe, asPlace}
+use Rattle.index_runs.specs.Pieces.{AheadOr, PieceOr}
+use Rattle.index_parts.specs.Parts.{merged, Compared, Counted}
+use Rattle.index_parts.proofs.Stepping.{Stepping, runs-moved, stepping-start, stepping-none, stepping-ahead, stepping-more, stepping-next, stepping-on}
+use Rattle.index_merge.proofs.Merged.{piece-ahead}
+use borrow.Author.Needs.{needs}
+use native.Mathlib.Omega.{arith}
+use Rattle.index_parts.proofs.run_count.Statement.{statement}
+use Rattle.index_parts.proofs.run_count.Tie as tie
+
+abbrev Inv-loop : tie.InvT-loop
+Inv-loop index cursors₀ n rec most own₀ next₀ k₀ cursors own next k = (k ≤ most) × Stepping (blockIn rec) index n cursors₀ cursors (asMaybe own) (asMaybe next) k
+
+abbrev μ-loop : tie.MeasureT-loop
+μ-loop index cursors₀ n rec most own₀ next₀ k₀ cursors own next k = most - k
+
+own-piece-requires : tie.Need-own-piece-requires Inv-loop μ-loop
+own-piece-requires c κs = search needs
+
+next-piece-requires : tie.Need-next-piece-requires Inv-loop μ-loop
+unfolding asPlace
+next-piece-requires c κs = (c .before .before .before .before .before .pre .0, (c .before .before .before .before .before .pre .1, piece-ahead (ownVote (blockIn (c .before .before .before .before .before .args .rec .now))) anywhere (asMaybe (c .before .own-piece .result)) (c .before .own-piece .ensures)))
+
+loop-holds : tie.Need-loop-holds Inv-loop μ-loop
+unfolding asPlace
+loop-holds c = (omega arith, stepping-start (blockIn (c .before .before .before .before .before .before .before .before .args .rec .now)) (c .before .before .before .before .before .before .before .before .args .index .now) (c .before .before .before .before .before .before .before .before .args .n) (c .before .before .before .before .before .before .before .before .args .cursors .now) (c .before .before .next-piece .last .1 .0) (asMaybe (c .before .before .next-piece .result .own)) (asMaybe (c .before .before .next-piece .result .next)) (c .before .before .next-piece .ensures .0) (c .before .before .next-piece .ensures .1 .0) (c .before .before .next-piece .ensures .1 .1))
+
+enum-known-next : tie.Need-enum-known-next Inv-loop μ-loop
+enum-known-next c = search needs
+
+enum-told : tie.Need-enum-told Inv-loop μ-loop
+enum-told c = search needs
+
+same-length : tie.Need-same-length Inv-loop μ-loop
+same-length c = c .before .before .loop .inv .1 .long ∙ (c .before .before .before .before .before .next-piece .ensures .1 .1) .long
+
+returns : tie.Need-returns Inv-loop μ-loop
+unfolding Counted asMaybe asPlace
+returns c = λ xs r. (c .before .before .loop .inv .0, stepping-none (blockIn (c .before .before .before .before .before .before .before .before .before .before .before .args .rec .now)) (c .before .before .before .before .before .before .before .before .before .before .before .args .index .now) (c .before .before .before .before .before .before .before .before .before .before .before .args .n) (c .before .before .before .before .before .next-piece .last .1 .0) (c .before .before .loop .cursors) (asMaybe (c .before .before .loop .own)) (asMaybe (c .before .before .loop .next)) (c .before .before .loop .k) (c .before .before .loop .inv .1) (ap asMaybe (c .enum-told .given .1)) xs (runs-moved (blockIn (c .before .before .before .before .before .before .before .before .before .before .before .args .rec .now)) (c .before .before .before .before .before .before .before .before .before .before .before .args .index .now) (c .before .before .before .before .before .before .before .before .before .before .before .args .n) (c .before .before .before .before .before .before .before .before .before .before .before .args .cursors .now) (c .before .before .before .before .before .next-piece .last .1 .0) (c .before .before .before .before .before .next-piece .ensures .1 .1) xs r))
+
+same-length-2 : tie.Need-same-length-2 Inv-loop μ-loop
+same-length-2 c = c .before .before .before .before .loop .inv .1 .long ∙ (c .before .before .before .before .before .before .before .next-piece .ensures .1 .1) .long
+
+returns-2 : tie.Need-returns-2 Inv-loop μ-loop
+unfolding Counted asMaybe asPlace
+returns-2 c = λ xs r. omega (arith, stepping-more (blockIn (c .before .before .before .before .before .before .before .before .before .before .before .before .before .args .rec .now)) (c .before .before .before .before .before .before .before .before .before .before .before .before .before .args .index .now) (c .before .before .before .before .before .before .before .before .before .before .before .before .before .args .n) (c .before .before .before .before .before .before .before .next-piece .last .1 .0) (c .before .before .before .before .loop .cursors) (asMaybe (c .before .before .before .before .loop .own)) (asMaybe (c .before .before .before .before .loop .next)) (c .before .before .before .before .loop .k) (c .before .before .before .before .loop .inv .1) (asRun (c .before .before .next .given .0 .0)) (ap asMaybe (c .before .before .next .given .1)) xs (runs-moved (blockIn (c .before .before .before .before .before .before .before .before .before .before .before .before .before .args .rec .now)) (c .before .before .before .before .before .before .before .before .before .before .before .before .before .args .index .now) (c .before .before .before .before .before .before .before .before .before .before .before .before .before .args .n) (c .before .before .before .before .before .before .before .before .before .before .before .before .before .args .cursors .now) (c .before .before .before .before .before .before .before .next-piece .last .1 .0) (c .before .before .before .before .before .before .before .next-piece .ensures .1 .1) xs r), c .if1 .taken)
+
+whole-run-requires : tie.Need-whole-run-requires Inv-loop μ-loop
+unfolding asRun run asMaybe
+whole-run-requires c κs = (c .before .before .before .before .before .loop .inv .1 .ready, (c .before .before .before .before .before .before .before .before .before .before .before .before .before .before .pre .1, stepping-ahead (blockIn (c .before .before .before .before .before .before .before .before .before .before .before .before .before .before .args .rec .now)) (c .before .before .before .before .before .before .before .before .before .before .before .before .before .before .args .index .now) (c .before .before .before .before .before .before .before .before .before .before .before .before .before .before .args .n) (c .before .before .before .before .before .before .before .before .next-piece .last .1 .0) (c .before .before .before .before .before .loop .cursors) (asMaybe (c .before .before .before .before .before .loop .own)) (asMaybe (c .before .before .before .before .before .loop .next)) (c .before .before .before .before .before .loop .k) (c .before .before .before .before .before .loop .inv .1) (asRun (c .before .before .before .next .given .0 .0)) (ap asMaybe (c .before .before .before .next .given .1))))
+
+add-k : tie.Need-add-k Inv-loop μ-loop
+add-k c = omega (arith, c .before .before .before .before .if1 .left, c .before .before .before .before .before .before .before .before .before .before .before .before .before .before .before .before .before .fits .most)
+
+loop-less : tie.Need-loop-less Inv-loop μ-loop
+loop-less c = omega (arith, c .before .before .before .before .if1 .left)
+
+loop-again : tie.Need-loop-again Inv-loop μ-loop
+unfolding asMaybe asPlace
+loop-again c = (omega (arith, c .before .before .before .before .if1 .left), stepping-on (blockIn (c .before .before .before .before .before .before .before .before .before .before .before .before .before .before .before .before .before .args .rec .now)) (c .before .before .before .before .before .before .before .before .before .before .before .before .before .before .before .before .before .args .index .now) (c .before .before .before .before .before .before .before .before .before .before .before .before .before .before .before .before .before .args .n) (c .before .before .before .before .before .before .before .before .before .before .before .next-piece .last .1 .0) (c .before .before .before .before .before .before .before .before .loop .cursors) (asMaybe (c .before .before .before .before .before .before .before .before .loop .own)) (asMaybe (c .before .before .before .before .before .before .before .before .loop .next)) (c .before .before .before .before .before .before .before .before .loop .k) (c .before .before .before .before .before .before .before .before .loop .inv .1) (asRun (c .before .before .before .before .before .before .next .given .0 .0)) (ap asMaybe (c .before .before .before .before .before .before .next .given .1)) (c .before .before .whole-run .last .1 .0) (asRun (c .before .before .whole-run .result .run)) (asMaybe (c .before .before .whole-run .result .own)) (asMaybe (c .before .before .whole-run .result .next)) (c .before .before .whole-run .ensures))
+
+pub run-count-spec : {M : Type 1} → statement M
+run-count-spec =
+    tie.close
+    (tie.spec
+    Inv-loop
+    μ-loop
+    own-piece-requires
+    next-piece-requires
+    loop-holds
+    enum-known-next
+    enum-told
+    same-length
+    returns
+    same-length-2
+    returns-2
+    whole-run-requires
+    add-k
+    loop-less
+    loop-again)

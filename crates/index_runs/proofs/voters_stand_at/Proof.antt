@@ -1,0 +1,78 @@
+use mathlib.Core.Path.{_≡_, refl, sym, _∙_}
+use Prim.Native.Nat.{_+_}
+use lib.ListN.{getD}
+use borrow.Author.Tests.{eq-eqb, ne-eqb}
+use Rattle.index_runs.proofs.Turning.{four-words}
+use borrow.Author.Needs.{needs}
+use native.Mathlib.Omega.{arith}
+use Rattle.index_runs.proofs.voters_stand_at.Statement.{statement}
+use Rattle.index_runs.proofs.voters_stand_at.Tie as tie
+
+mul-if1 : tie.Need-mul-if1
+mul-if1 c = search needs
+
+shared-slice-read-if1 : tie.Need-shared-slice-read-if1
+shared-slice-read-if1 c = search needs
+
+returns : tie.Need-returns
+returns c = let x = c .before .before .before .args .x in
+    sym (four-words (c .before .before .before .args .index .now) (c .before .before .before .args .at) (x .start) (x .end) (x .votes .low) (x .votes .high) (omega arith) ∙ rw (ne-eqb (getD (c .before .before .before .args .index .now) (c .before .before .before .args .at) 0) (x .start) (c .if1 .taken)))
+
+add-if2 : tie.Need-add-if2
+add-if2 c = search needs
+
+mul-if2 : tie.Need-mul-if2
+mul-if2 c = search needs
+
+shared-slice-read-if2 : tie.Need-shared-slice-read-if2
+shared-slice-read-if2 c = search needs
+
+returns-2 : tie.Need-returns-2
+returns-2 c = let x = c .before .before .before .before .before .before .args .x in
+    sym (four-words (c .before .before .before .before .before .before .args .index .now) (c .before .before .before .before .before .before .args .at) (x .start) (x .end) (x .votes .low) (x .votes .high) (omega arith) ∙ rw (eq-eqb (getD (c .before .before .before .before .before .before .args .index .now) (c .before .before .before .before .before .before .args .at) 0) (x .start) (c .before .before .before .if1 .left), ne-eqb (getD (c .before .before .before .before .before .before .args .index .now) ((c .before .before .before .before .before .before .args .at) + 1) 0) (x .end) (c .if2 .taken)))
+
+add-if3 : tie.Need-add-if3
+add-if3 c = search needs
+
+mul-if3 : tie.Need-mul-if3
+mul-if3 c = search needs
+
+shared-slice-read-if3 : tie.Need-shared-slice-read-if3
+shared-slice-read-if3 c = search needs
+
+returns-3 : tie.Need-returns-3
+returns-3 c = let x = c .before .before .before .before .before .before .before .before .before .args .x in
+    sym (four-words (c .before .before .before .before .before .before .before .before .before .args .index .now) (c .before .before .before .before .before .before .before .before .before .args .at) (x .start) (x .end) (x .votes .low) (x .votes .high) (omega arith) ∙ rw (eq-eqb (getD (c .before .before .before .before .before .before .before .before .before .args .index .now) (c .before .before .before .before .before .before .before .before .before .args .at) 0) (x .start) (c .before .before .before .before .before .before .if1 .left), eq-eqb (getD (c .before .before .before .before .before .before .before .before .before .args .index .now) ((c .before .before .before .before .before .before .before .before .before .args .at) + 1) 0) (x .end) (c .before .before .before .if2 .left), ne-eqb (getD (c .before .before .before .before .before .before .before .before .before .args .index .now) ((c .before .before .before .before .before .before .before .before .before .args .at) + 2) 0) (x .votes .low) (c .if3 .taken)))
+
+add-result : tie.Need-add-result
+add-result c = search needs
+
+mul-result : tie.Need-mul-result
+mul-result c = search needs
+
+shared-slice-read-result : tie.Need-shared-slice-read-result
+shared-slice-read-result c = search needs
+
+returns-4 : tie.Need-returns-4
+returns-4 c = let x = c .before .before .before .before .before .before .before .before .before .before .before .args .x in
+    sym (four-words (c .before .before .before .before .before .before .before .before .before .before .before .args .index .now) (c .before .before .before .before .before .before .before .before .before .before .before .args .at) (x .start) (x .end) (x .votes .low) (x .votes .high) (omega arith) ∙ rw (eq-eqb (getD (c .before .before .before .before .before .before .before .before .before .before .before .args .index .now) (c .before .before .before .before .before .before .before .before .before .before .before .args .at) 0) (x .start) (c .before .before .before .before .before .before .before .before .if1 .left), eq-eqb (getD (c .before .before .before .before .before .before .before .before .before .before .before .args .index .now) ((c .before .before .before .before .before .before .before .before .before .before .before .args .at) + 1) 0) (x .end) (c .before .before .before .before .before .if2 .left), eq-eqb (getD (c .before .before .before .before .before .before .before .before .before .before .before .args .index .now) ((c .before .before .before .before .before .before .before .before .before .before .before .args .at) + 2) 0) (x .votes .low) (c .before .before .if3 .left)))
+
+pub voters-stand-at-spec : {M : Type 1} → statement M
+voters-stand-at-spec =
+    tie.close
+    (tie.spec
+    mul-if1
+    shared-slice-read-if1
+    returns
+    add-if2
+    mul-if2
+    shared-slice-read-if2
+    returns-2
+    add-if3
+    mul-if3
+    shared-slice-read-if3
+    returns-3
+    add-result
+    mul-result
+    shared-slice-read-result
+    returns-4)

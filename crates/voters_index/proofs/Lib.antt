@@ -1,0 +1,16 @@
+pub mod Sets
+pub mod Chain
+pub mod Unique
+pub mod Relation
+pub mod Pointwise
+pub mod Ascending
+pub mod Parts
+pub mod Grown
+pub mod Unfolding
+pub mod Reading
+pub mod Fitting
+pub mod Checking
+pub mod Certifying
+pub mod Claimed
+pub mod Computing
+pub mod Cards

@@ -1,0 +1,6 @@
+pub mod Runs
+pub mod Part
+pub mod Index
+pub mod Certified
+pub mod Claims
+pub mod Walk
