@@ -1,0 +1,4 @@
+mod Looking
+mod Starting
+mod Marking
+mod Tallying

@@ -1,0 +1,1 @@
+// The stored blocks watched over the index.
