@@ -1,0 +1,3 @@
+mod Lists
+mod Arriving
+mod Answering

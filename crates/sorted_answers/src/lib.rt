@@ -1,0 +1,114 @@
+// A sorted list of locators answered with the index: the form of the list (62), and one step for each stored block in order of arrival.
+use committee::Stake;
+use types::Ordering;
+use types::TransactionLocator;
+ghost use mathlib.Core.Path.{_≡_};
+ghost use mathlib.Core.Bool.{true, false};
+ghost use Prim.Native.Nat.{_*_};
+ghost use lib.ListN.{length, replicate};
+ghost use Rattle.base.specs.Lists.{holds};
+ghost use Rattle.committee.specs.Committee.{broken, totalStake};
+ghost use Rattle.blocks.specs.Reference.{locatorBefore};
+ghost use Rattle.types.specs.Values.{asLocator};
+ghost use Rattle.store_layout.specs.Store.{storeInOrder};
+ghost use Rattle.finality.specs.Finality.{blocksOf};
+ghost use Rattle.voters_index.specs.Index.{indexed, indexAgrees};
+ghost use Rattle.sorted_replies.specs.Sorted.{repliesAfter, sortedLocators, locatorsOf, asked};
+ghost use Rattle.sorted_step.specs.Step.{repliesWords, Listed};
+
+// ---- the list
+
+// Whether a locator comes before another.
+fn is_before(a: TransactionLocator, b: TransactionLocator) -> bool
+    ensures { λ r. ⌜ r ≡ locatorBefore (asLocator a) (asLocator b) ⌝ }
+{
+    let order = types::compare_locators(a, b);
+    match order {
+        Ordering::Less => true,
+        Ordering::Equal => false,
+        Ordering::Greater => false,
+    }
+}
+
+// Whether bytes are whole locators that ascend; equal ones may follow each other.
+pub fn is_sorted_list(locators: &[u8]) -> bool
+    ensures { λ r. ⌜ r ≡ holds sortedLocators (locatorsOf (now (locators .entry))) ⌝ }
+{
+    if locators.len() % 56 != 0 {
+        return false;
+    }
+    let n = locators.len() / 56;
+    let mut i: usize = 1;
+    while i < n {
+        let last = types::read_locator(locators, 56 * (i - 1));
+        let next = types::read_locator(locators, 56 * i);
+        if is_before(next, last) {
+            return false;
+        }
+        i += 1;
+    }
+    true
+}
+
+// ---- the steps
+
+// No author certifies yet.
+fn clear(replies: &mut [u64])
+    ensures { λ _. ⌜ now (replies .exit) ≡ replicate (length (now (replies .entry))) 0 ⌝ }
+{
+    let mut i: usize = 0;
+    while i < replies.len() {
+        replies[i] = 0;
+        i += 1;
+    }
+}
+
+// One step for each stored block in order of arrival: its record and its part stand where those before it end.
+fn step_all(
+    stakes: &[u64],
+    total: Stake,
+    store: &[u8],
+    index: &[u64],
+    locators: &[u8],
+    replies: &mut [u64],
+)
+    requires { ⌜ (((broken (now stakes) ≡ false) × (total .0 ≡ totalStake (now stakes))) × ((storeInOrder (now stakes) (now store) ≡ true) × (indexAgrees (blocksOf (now store)) (now index) ≡ true))) × (Listed (now locators) (asked (now locators)) × (now replies ≡ replicate (3 * length (asked (now locators))) 0)) ⌝ }
+    ensures { λ _. ⌜ now (replies .exit) ≡ repliesWords (repliesAfter (now (stakes .entry)) (asked (now (locators .entry))) (indexed (blocksOf (now (store .entry))))) ⌝ }
+{
+    let count = base::read_u16(store, 8) as usize;
+    let mut at: usize = 16;
+    let mut p: usize = 1;
+    let mut k: usize = 0;
+    while k < count {
+        let from = at + 8;
+        let end = store_order::record_end(store, at);
+        let next = p + 1 + 10 * (index[p] as usize);
+        sorted_step::step(
+            stakes,
+            total,
+            &store[from..end],
+            &index[p..next],
+            locators,
+            replies,
+        );
+        at = end;
+        p = next;
+        k += 1;
+    }
+}
+
+// The replies to the locators of a sorted list, three words each.
+pub fn replies_of(
+    stakes: &[u64],
+    total: Stake,
+    store: &[u8],
+    index: &[u64],
+    locators: &[u8],
+    replies: &mut [u64],
+)
+    requires { ⌜ (((broken (now stakes) ≡ false) × (total .0 ≡ totalStake (now stakes))) × ((storeInOrder (now stakes) (now store) ≡ true) × (indexAgrees (blocksOf (now store)) (now index) ≡ true))) × ((holds sortedLocators (locatorsOf (now locators)) ≡ true) × (length (now replies) ≡ 3 * length (asked (now locators)))) ⌝ }
+    ensures { λ _. ⌜ now (replies .exit) ≡ repliesWords (repliesAfter (now (stakes .entry)) (asked (now (locators .entry))) (indexed (blocksOf (now (store .entry))))) ⌝ }
+{
+    clear(replies);
+    step_all(stakes, total, store, index, locators, replies);
+}

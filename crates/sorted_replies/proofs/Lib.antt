@@ -1,0 +1,4 @@
+pub mod Replies
+pub mod Claimed
+pub mod Computing
+pub mod Cards

@@ -1,0 +1,84 @@
+-- Whom a part names at the locators of a sorted list, by one cursor over the runs and one over the list. Assumes nothing.
+use mathlib.Core.Path.{_≡_, refl, ap, subst, _∙_}
+use mathlib.Core.Bool.{true}
+use mathlib.Core.List.{List, [], _∷_}
+use Prim.Native.Nat.{ℕ, zero, suc, _+_, _*_, _≤_, _<_}
+use native.Mathlib.Omega.{arith}
+use native.Mathlib.Decide.{ℕ-discrete}
+use lib.ListN.{length, drop, drop-of-length-le}
+use Rattle.base.specs.Le.{Bytes}
+use Rattle.authority_set.specs.AuthoritySet.{AuthoritySet, nobody}
+use Rattle.blocks.specs.Reference.{BlockReference, TransactionLocator, locator, referenceBefore}
+use Rattle.blocks.proofs.References.{reference-irrefl}
+use Rattle.types.specs.Step.{locatorAt}
+use Rattle.voters_index.specs.Runs.{Run, votersIn}
+use Rattle.voters_index.specs.Part.{RunsOf}
+use Rattle.voters_index.specs.Walk.{Past, byBlock, byOffset, Place, beyond}
+use Rattle.voters_index.proofs.Chain.{Covered, covered, Chain, end, link, Differs, past-head, nobody-before, at-head}
+use Rattle.voters_index.proofs.Relation.{runs-chain}
+use Rattle.voters_index.proofs.Fitting.{past-sorted}
+use Rattle.sorted_step.specs.Step.{Beside, Listed}
+use Rattle.sorted_step.specs.declared.Side.the-variants as side
+
+-- the locator of an index
+abbrev pub at : Bytes → ℕ → TransactionLocator
+at bytes k = locatorAt bytes (56 * k)
+
+-- from the locator i on the first j runs name nobody
+unfoldable pub Behind : List Run → Bytes → ℕ → ℕ → ℕ → Type 0
+Behind xs bytes n i j = (k : ℕ) → i ≤ k → k < n → votersIn xs (at bytes k) ≡ votersIn (drop j xs) (at bytes k)
+
+pub behind-start : (xs : List Run) (bytes : Bytes) (n : ℕ) → Behind xs bytes n 0 0
+unfolding Behind
+behind-start xs bytes n k h m = refl
+
+pub behind-on : (xs : List Run) (bytes : Bytes) (n i j : ℕ) → Behind xs bytes n i j → Behind xs bytes n (i + 1) j
+unfolding Behind
+behind-on xs bytes n i j b k h m = b k (omega arith) m
+
+-- a locator that a run has passed is not in it
+passed-out : (x : Run) (l : TransactionLocator) → Past (x .reference) (x .end) (l .block) (l .offset) → Covered x l → ⊥
+passed-out x l (byBlock h) c = reference-irrefl (l .block) (subst (λ (r : BlockReference). referenceBefore r (l .block) ≡ true) (c .of) h)
+passed-out x l (byOffset h k) c = omega (arith, c .below)
+
+-- the runs from an index on ascend too
+chain-drop : {D : Run → List Run → Type 0} {p : Place} (j : ℕ) (xs : List Run) → Chain D p xs → (q : Place) × Chain D q (drop j xs)
+chain-drop {p = p} zero xs h = (p, h)
+chain-drop {p = p} (suc j) [] h = (p, end)
+chain-drop (suc j) (x ∷ xs) (link a g d h) = chain-drop j xs h
+
+module _ (xs : List Run) (bytes : Bytes) (n i j : ℕ) (b : Behind xs bytes n i j) where
+  -- the next run is passed too
+  pub behind-pass : (x : Run) (ls : List TransactionLocator) → Listed bytes ls → length ls ≡ n → drop j xs ≡ x ∷ drop (j + 1) xs
+      → Beside x (at bytes i) side.Past → Behind xs bytes n i (j + 1)
+  unfolding Behind Beside
+  behind-pass x ls l e r p k h m = b k h m ∙ ap (λ (ys : List Run). votersIn ys (at bytes k)) r ∙ past-head x (drop (j + 1) xs) (at bytes k) (passed-out x (at bytes k) (later (ℕ-discrete i k)))
+    where
+      later : Dec (i ≡ k) → Past (x .reference) (x .end) (at bytes k .block) (at bytes k .offset)
+      later (yes q) = subst (λ (z : ℕ). Past (x .reference) (x .end) (at bytes z .block) (at bytes z .offset)) q p
+      later (no q) = past-sorted (at bytes i) (at bytes k) (l .sorted i k (omega arith) (omega arith)) p
+
+  module _ (f : TransactionLocator → AuthoritySet) (rs : RunsOf f xs) (x : Run) (r : drop j xs ≡ x ∷ drop (j + 1) xs) (h : i < n) where
+    rest : (q : Place) × Chain Differs q (x ∷ drop (j + 1) xs)
+    rest = subst (λ (ys : List Run). (q : Place) × Chain Differs q ys) r (chain-drop j xs (runs-chain xs rs))
+
+    -- in a run, its voters
+    pub named-inside : Beside x (at bytes i) side.Inside → votersIn xs (at bytes i) ≡ x .votes
+    unfolding Behind Beside
+    named-inside k = b i (omega arith) h ∙ ap (λ (ys : List Run). votersIn ys (at bytes i)) r ∙ go (rest .1)
+      where
+        go : {q : Place} → Chain Differs q (x ∷ drop (j + 1) xs) → votersIn (x ∷ drop (j + 1) xs) (at bytes i) ≡ x .votes
+        go (link a g d t) = at-head x (drop (j + 1) xs) t (at bytes i) (covered x (at bytes i) k)
+
+    -- before it, nobody
+    pub named-before : Beside x (at bytes i) side.Before → votersIn xs (at bytes i) ≡ nobody
+    unfolding Behind Beside locatorAt locator
+    named-before k = b i (omega arith) h ∙ ap (λ (ys : List Run). votersIn ys (at bytes i)) r ∙ go (rest .1)
+      where
+        go : {q : Place} → Chain Differs q (x ∷ drop (j + 1) xs) → votersIn (x ∷ drop (j + 1) xs) (at bytes i) ≡ nobody
+        go (link a g d t) = nobody-before (at bytes i .block) (at bytes i .offset) (x ∷ drop (j + 1) xs) (link {p = beyond (at bytes i .block) (at bytes i .offset + 1)} k g d t)
+
+  -- past all of them, nobody
+  pub named-end : length xs ≤ j → (k : ℕ) → i ≤ k → k < n → votersIn xs (at bytes k) ≡ nobody
+  unfolding Behind votersIn
+  named-end h k a m = b k a m ∙ ap (λ (ys : List Run). votersIn ys (at bytes k)) (drop-of-length-le xs h)
