@@ -1,9 +1,8 @@
--- What the finality question answers, refusal by refusal. Assumes nothing.
-use mathlib.Core.Path.{_≡_, refl, sym, ap, _∙_}
-use mathlib.Core.Bool.{Bool, true, false, not}
+-- What the finality question answers in either reading, refusal by refusal. Assumes nothing.
+use mathlib.Core.Path.{_≡_}
+use mathlib.Core.Bool.{Bool, true, false}
 use mathlib.Core.List.{List, _++_, map}
 use Prim.Native.Nat.{ℕ, _<_, _≤_}
-use lib.Dec.{ltb}
 use lib.ListN.{length, drop}
 use borrow.Author.Tests.{lt-ltb, le-ltb}
 use Rattle.base.specs.Lists.{allOf}
@@ -15,30 +14,37 @@ use Rattle.blocks.specs.Reference.{TransactionLocator}
 use Rattle.blocks.specs.Block.{author}
 use Rattle.store_layout.specs.Store.{recordsOf, storeInOrder}
 use Rattle.finality.specs.Voters.{certifiers, isFinal}
-use Rattle.finality.specs.Finality.{blocksOf, certifyingPositions, Asked, finalityChecks, finality}
+use Rattle.finality.specs.Finality.{blocksOf, finalityChecks}
+use Rattle.readings.specs.Readings.{Reading, certifiersIn, isFinalIn}
+use Rattle.readings.specs.Finality.{certifyingPositionsIn, finalityIn}
 
 -- quorum of the certifiers' authors is finality
 pub final-by : (c : Committee) (s : Bytes) (l : TransactionLocator) (t : Stake) (v : AuthoritySet) → t ≡ totalStake c → v ≡ setOf (map author (certifiers c (blocksOf s) l)) → quorumOf t (stakeOf c v) ≡ isFinal c (blocksOf s) l
 unfolding isFinal isQuorum
 final-by c s l t v e f = rw (e, f)
 
-module _ (c : Committee) (s : Bytes) (ps : List ℕ) (l : TransactionLocator) where
-  pub finality-broken : broken c ≡ true → record { answer = refused 5; positions = ps } ≡ finality c s ps l
-  unfolding finality finalityChecks checked passes refusal allOf
+pub final-in-by : (reading : Reading) (c : Committee) (s : Bytes) (l : TransactionLocator) (t : Stake) (v : AuthoritySet) → t ≡ totalStake c
+    → v ≡ setOf (map author (certifiersIn reading c (blocksOf s) l)) → quorumOf t (stakeOf c v) ≡ isFinalIn reading c (blocksOf s) l
+unfolding isFinalIn isQuorum
+final-in-by reading c s l t v e f = rw (e, f)
+
+module _ (reading : Reading) (c : Committee) (s : Bytes) (ps : List ℕ) (l : TransactionLocator) where
+  pub finality-broken : broken c ≡ true → record { answer = refused 5; positions = ps } ≡ finalityIn reading c s ps l
+  unfolding finalityIn finalityChecks checked passes refusal allOf
   finality-broken h = rw h
 
   module _ (b : broken c ≡ false) where
-    pub finality-disordered : storeInOrder c s ≡ false → record { answer = refused 10; positions = ps } ≡ finality c s ps l
-    unfolding finality finalityChecks checked passes refusal allOf
+    pub finality-disordered : storeInOrder c s ≡ false → record { answer = refused 10; positions = ps } ≡ finalityIn reading c s ps l
+    unfolding finalityIn finalityChecks checked passes refusal allOf
     finality-disordered h = rw (b, h)
 
     module _ (o : storeInOrder c s ≡ true) where
-      pub finality-short : length ps < length (recordsOf s) → record { answer = refused 40; positions = ps } ≡ finality c s ps l
-      unfolding finality finalityChecks checked passes refusal allOf
+      pub finality-short : length ps < length (recordsOf s) → record { answer = refused 40; positions = ps } ≡ finalityIn reading c s ps l
+      unfolding finalityIn finalityChecks checked passes refusal allOf
       finality-short h = rw (b, o, lt-ltb (length ps) (length (recordsOf s)) h)
 
-      pub finality-asked : length (recordsOf s) ≤ length ps → (t : Bool) (n : ℕ) (qs : List ℕ) → t ≡ isFinal c (blocksOf s) l → n ≡ length (certifyingPositions c s l)
-          → qs ≡ certifyingPositions c s l ++ drop (length (certifyingPositions c s l)) ps
-          → record { answer = answered (record { final = t; certifying = n }); positions = qs } ≡ finality c s ps l
-      unfolding finality finalityChecks checked passes refusal allOf
+      pub finality-asked : length (recordsOf s) ≤ length ps → (t : Bool) (n : ℕ) (qs : List ℕ) → t ≡ isFinalIn reading c (blocksOf s) l → n ≡ length (certifyingPositionsIn reading c s l)
+          → qs ≡ certifyingPositionsIn reading c s l ++ drop (length (certifyingPositionsIn reading c s l)) ps
+          → record { answer = answered (record { final = t; certifying = n }); positions = qs } ≡ finalityIn reading c s ps l
+      unfolding finalityIn finalityChecks checked passes refusal allOf
       finality-asked h t n qs e f g = rw (b, o, le-ltb (length ps) (length (recordsOf s)) h, e, f, g)

@@ -93,9 +93,12 @@ module _ (reading other : Reading) (c : Committee) (bs cs : List Block) (l m : T
           member-setOf (map author (certifiersIn other c cs m)) a
           ∙ in-any (eqb a) (in-map author (in-keep (certifiesIn other c cs m) cs (t .0) (t .1))) (ap (λ (n : AuthorityIndex). eqb a n) (b .2) ∙ x .2)
 
--- what is final in the new reading is final in the old one
+-- what certifies and is final in the new reading does so in the old one
+pub certifies-in-old : (reading : Reading) (c : Committee) (bs : List Block) (l : TransactionLocator) (b : Block) → certifiesIn reading c bs l b ≡ true → certifiesIn old c bs l b ≡ true
+certifies-in-old reading c bs l b = certifies-carried reading old c bs bs l l b (voters-in-old reading bs l (b .reference))
+
 pub final-in-old : (reading : Reading) (c : Committee) (bs : List Block) (l : TransactionLocator) → isFinalIn reading c bs l ≡ true → isFinalIn old c bs l ≡ true
-final-in-old reading c bs l = final-carried reading old c bs bs l l (λ b m h. (m, certifies-carried reading old c bs bs l l b (voters-in-old reading bs l (b .reference)) h))
+final-in-old reading c bs l = final-carried reading old c bs bs l l (λ b m h. (m, certifies-in-old reading c bs l b h))
 
 -- where every block that votes for l votes for m, and every one that rejects m rejects l, what is final for l is final for m
 pub final-in-mono : (reading : Reading) (c : Committee) (bs : List Block) (l m : TransactionLocator)

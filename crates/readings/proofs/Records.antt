@@ -1,24 +1,25 @@
 -- What some blocks say of the voters of one of them is so in every store with them. Assumes nothing.
-use mathlib.Core.Path.{_≡_, subst}
+use mathlib.Core.Path.{_≡_, sym, subst}
 use mathlib.Core.Logic.{_↔_}
 use mathlib.Core.List.{List}
 use Rattle.base.specs.Lists.{_∈_}
 use Rattle.committee.specs.Committee.{AuthorityIndex}
-use Rattle.blocks.specs.Reference.{TransactionLocator}
+use Rattle.blocks.specs.Reference.{BlockReference, TransactionLocator}
 use Rattle.blocks.specs.Block.{Block}
 use Rattle.store_layout.proofs.Stored.{WellStored, one-reference}
 use Rattle.finality.specs.Ancestry.{Ancestor, itself, included, Voter}
-use Rattle.finality.proofs.Ancestors.{ancestor-grows, descendant-stored}
+use Rattle.finality.proofs.Ancestors.{ancestor-grows, ancestor-stored, descendant-stored}
 use Rattle.readings.specs.Readings.{Reading, old, withdrawing}
 use Rattle.readings.specs.Withdrawing.{Rejecter, VoterIn, WholeAncestry}
 
 -- a whole ancestry is the ancestry in every store with those blocks
-pub whole-ancestor : {bs cs : List Block} → WellStored cs → ((x : Block) → x ∈ bs → x ∈ cs) → {d b : Block} → b ∈ bs → WholeAncestry bs b → Ancestor cs d b → Ancestor bs d b
-whole-ancestor w more m f (itself k) = itself m
-whole-ancestor {bs} w more {b = b} m f (included {i = i} k j a) =
+pub whole-ancestor : {bs cs : List Block} → WellStored cs → {d b : Block} → b ∈ bs → WholeAncestry bs b → ((x : Block) → Ancestor bs x b → x ∈ cs) → Ancestor cs d b → Ancestor bs d b
+whole-ancestor w m f more (itself k) = itself m
+whole-ancestor {bs} w {b = b} m f more (included {i = i} k j a) =
     let r = f b (itself m) (i .reference) j in
-    let same-one : r .0 ≡ i = one-reference w (more (r .0) (r .1)) (descendant-stored a) (r .2) in
-    included m j (whole-ancestor w more (subst (λ (x : Block). x ∈ bs) same-one (r .1)) (λ x y. f x (included m j y)) a)
+    let below : Ancestor bs (r .0) b = included m (subst (λ (x : BlockReference). x ∈ b .includes) (sym (r .2)) j) (itself (r .1)) in
+    let same-one : r .0 ≡ i = one-reference w (more (r .0) below) (descendant-stored a) (r .2) in
+    included m j (whole-ancestor w (subst (λ (x : Block). x ∈ bs) same-one (r .1)) (λ x y. f x (included m j y)) (λ x y. more x (included m j y)) a)
 
 module _ {bs cs : List Block} (w : WellStored cs) (more : (x : Block) → x ∈ bs → x ∈ cs) (b : Block) (m : b ∈ bs) (l : TransactionLocator) (a : AuthorityIndex) where
   pub voter-more : Voter bs b l a → Voter cs b l a
@@ -29,10 +30,10 @@ module _ {bs cs : List Block} (w : WellStored cs) (more : (x : Block) → x ∈ 
 
   module _ (f : WholeAncestry bs b) where
     voter-back : Voter cs b l a → Voter bs b l a
-    voter-back v = record { voting = v .voting; ancestor = whole-ancestor w more m f (v .ancestor); votes = v .votes; authored = v .authored }
+    voter-back v = record { voting = v .voting; ancestor = whole-ancestor w m f (λ x y. more x (ancestor-stored y)) (v .ancestor); votes = v .votes; authored = v .authored }
 
     rejecter-back : Rejecter cs b l a → Rejecter bs b l a
-    rejecter-back v = record { rejecting = v .rejecting; ancestor = whole-ancestor w more m f (v .ancestor); rejects = v .rejects; authored = v .authored }
+    rejecter-back v = record { rejecting = v .rejecting; ancestor = whole-ancestor w m f (λ x y. more x (ancestor-stored y)) (v .ancestor); rejects = v .rejects; authored = v .authored }
 
     pub voter-in-whole : (reading : Reading) → VoterIn reading bs b l a ↔ VoterIn reading cs b l a
     voter-in-whole old = (voter-more, voter-back)

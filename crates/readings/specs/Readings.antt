@@ -1,5 +1,5 @@
 -- The two readings of a reject: voters, certificates and finality in each. Assumes nothing: these are definitions.
-use mathlib.Core.Bool.{Bool, not, _&&_}
+use mathlib.Core.Bool.{Bool, true, false, not, _&&_}
 use mathlib.Core.List.{List, map}
 use Rattle.base.specs.Lists.{keep}
 use Rattle.committee.specs.Committee.{Committee, isQuorum}
@@ -13,6 +13,11 @@ use Rattle.readings.specs.Rejecting.{rejecters, without}
 pub data Reading : Type 0 where
   old : Reading
   withdrawing : Reading
+
+-- the one that a call asks for, by whether owners may withdraw
+abbrev pub readingOf : Bool → Reading
+readingOf true = withdrawing
+readingOf false = old
 
 -- 02: "Its voters are those of the old reading less the rejecting owners", of each block its own: "for that block only"
 unfoldable pub votersIn : Reading → List Block → TransactionLocator → BlockReference → AuthoritySet

@@ -20,7 +20,7 @@ use Rattle.store_layout.specs.Entry.{blockAt, isEntry}
 use Rattle.store_layout.proofs.Stored.{one-reference}
 use Rattle.finality.specs.Voters.{voters}
 use Rattle.finality.specs.Finality.{blocksOf}
-use Rattle.block_votes.specs.Walk.{SortedStore, blockAtPlace, votersAt}
+use Rattle.block_votes.specs.Walk.{SortedStore, blockAtPlace}
 use Rattle.block_votes.proofs.Sorting.{sorted-well, place-entry, place-stored}
 use Rattle.slip_certifiers.specs.Table.{placeIn, votersIn, noted, Listed}
 
@@ -106,8 +106,7 @@ module _ (s : Bytes) (order : List ℕ) (l : TransactionLocator) (positions : Li
       }
 
   pub listed-more : (t : List ℕ) (n : ℕ) → Listed s order l positions t n → 3 * n + 3 ≤ length t → (k : ℕ) → k < length order
-      → blockAtPlace s order k ≡ blockAt s (getD positions n 0) → (v : AuthoritySet) → v ≡ votersAt s order l k → Listed s order l positions (noted t n k v) (n + 1)
-  unfolding votersAt
+      → blockAtPlace s order k ≡ blockAt s (getD positions n 0) → (v : AuthoritySet) → v ≡ voters (blocksOf s) l (blockAtPlace s order k .reference) → Listed s order l positions (noted t n k v) (n + 1)
   listed-more t n w room k h e v f =
       record {
         places = λ i q. places i q (ℕ-discrete i n);

@@ -9,6 +9,7 @@ ghost use Rattle.base.specs.Lists.{_∈_};
 ghost use Rattle.blocks.specs.Reference.{TransactionLocator as Locator};
 ghost use Rattle.types.specs.Values.{asLocator};
 ghost use Rattle.block_votes.specs.Walk.{SortedStore};
+ghost use Rattle.finality.specs.Voters.{ownVote};
 ghost use Rattle.voters.specs.Walk.{Remembers};
 ghost use Rattle.slip_distances.specs.Near.{Distances};
 ghost use Rattle.slip_routes.specs.Reached.{Found, Reached, votersSize};
@@ -27,12 +28,12 @@ fn note_certifier(certifiers: &mut [u64], i: usize, k: usize, voters: AuthorityS
 
 // Remembers the voters of all stored blocks, in ascending reference order: those of an include are then known before they are asked for.
 fn read_voters(store: &[u8], order: &[u64], locator: TransactionLocator, memo: &mut [u64])
-    requires { ⌜ SortedStore (now store) (now order) × ((3 * length (now order) ≤ length (now memo)) × Remembers (now store) (now order) (asLocator locator) (now memo)) ⌝ }
-    ensures { λ _. ⌜ Remembers (now (store .entry)) (now (order .entry)) (asLocator locator) (now (memo .exit)) ⌝ }
+    requires { ⌜ SortedStore (now store) (now order) × ((3 * length (now order) ≤ length (now memo)) × Remembers ownVote (now store) (now order) (asLocator locator) (now memo)) ⌝ }
+    ensures { λ _. ⌜ Remembers ownVote (now (store .entry)) (now (order .entry)) (asLocator locator) (now (memo .exit)) ⌝ }
 {
     let mut k: usize = 0;
     while k < order.len() {
-        voters::visit(store, order, locator, k, memo);
+        voters::visit(store, order, locator, false, k, memo);
         k += 1;
     }
 }
@@ -54,7 +55,7 @@ pub fn list_certifiers(
     while i < positions.len() {
         let block = store_order::reference_at(store, positions[i] as usize);
         let k = block_votes::place_of(store, order, block);
-        let voters = voters::visit(store, order, locator, k, &mut memo);
+        let voters = voters::visit(store, order, locator, false, k, &mut memo);
         note_certifier(certifiers, i, k, voters);
         i += 1;
     }

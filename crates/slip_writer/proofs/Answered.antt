@@ -5,11 +5,12 @@ use mathlib.Core.List.{List, _++_, map}
 use Prim.Native.Nat.{ℕ, _≤_, _<_}
 use native.Mathlib.Omega.{arith}
 use lib.Dec.{ltb}
-use lib.ListN.{length, getD, take, drop}
+use lib.ListN.{length, getD, take, drop, length-take}
 use lib.Seq.{take-at, take-length}
 use Rattle.base.specs.Lists.{allOf, _∈_}
 use Rattle.base.specs.Le.{Bytes}
 use Rattle.base.specs.Checks.{refusal, passes, refused, checked}
+use Rattle.base.proofs.Lists.{length-keep}
 use Rattle.base.proofs.Members.{keep-in}
 use Rattle.base.proofs.Places.{in-place}
 use Rattle.committee.specs.Committee.{Committee, broken}
@@ -19,7 +20,7 @@ use Rattle.store_layout.specs.Store.{storeInOrder}
 use Rattle.finality.specs.Voters.{isFinal}
 use Rattle.finality.specs.Finality.{blocksOf, certifyingPositions}
 use Rattle.block_votes.specs.Walk.{Sorted}
-use Rattle.finalization_interpreter.proofs.Certify.{certifiesAt, found-all, found-few}
+use Rattle.finalization_interpreter.proofs.Certify.{certifiesAt, found-all}
 use Rattle.slips.specs.Slip.{Slip, slipBytes}
 use Rattle.slips.specs.Writing.{certifierOf, slipFor, writeChecks, writeSlip}
 use Rattle.slips.proofs.Coding.{certifiers-at}
@@ -60,7 +61,7 @@ module _ (c : Committee) (s out : Bytes) (l : TransactionLocator) where
 
 module _ (c : Committee) (s : Bytes) (l : TransactionLocator) (order : List ℕ) (o : Sorted c s order) where
   pub certifying-few : length (certifyingPositions c s l) ≤ length order
-  certifying-few = subst (λ (ps : List ℕ). length ps ≤ length order) (found-all c s l order o) (found-few c s l order (length order) (omega arith))
+  certifying-few = subst (λ (ps : List ℕ). length ps ≤ length order) (found-all c s l order o) (omega (arith, length-keep (certifiesAt c s l) (take (length order) order), length-take (length order) order))
 
   certifying-in : (p : ℕ) → p ∈ certifyingPositions c s l → p ∈ order
   certifying-in p m =

@@ -1,5 +1,5 @@
--- What is remembered of the blocks that were read, and the voters of includes one after the other. Assumes nothing.
-use mathlib.Core.Path.{_≡_, refl, sym, ap, subst, _∙_}
+-- What is remembered of the blocks that were read, and the includes one after the other. Assumes nothing.
+use mathlib.Core.Path.{_≡_, sym, subst, _∙_}
 use mathlib.Core.List.{List, map}
 use Prim.Native.Nat.{ℕ, suc, _+_, _*_, _<_, _≤_}
 use native.Mathlib.Omega.{arith}
@@ -13,9 +13,8 @@ use Rattle.authority_set.specs.AuthoritySet.{AuthoritySet, nobody, united}
 use Rattle.authority_set.proofs.Words.{united-assoc, united-nobody}
 use Rattle.blocks.specs.Reference.{BlockReference, TransactionLocator}
 use Rattle.blocks.specs.Record.{noReference}
-use Rattle.finality.specs.Voters.{unions}
-use Rattle.block_votes.specs.Walk.{votersAt}
-use Rattle.voters.specs.Walk.{remembered, noted, Remembers}
+use Rattle.finality.specs.Voters.{Speech, unions}
+use Rattle.voters.specs.Walk.{spokenAt, remembered, noted, Remembers}
 
 -- ---- three words
 
@@ -55,17 +54,17 @@ module _ (memo : List ℕ) (k : ℕ) (v : AuthoritySet) where
 
 -- ---- for every place
 
-module _ (s : Bytes) (order : List ℕ) (l : TransactionLocator) where
-  pub remembers-nothing : (n : ℕ) → 3 * length order ≤ n → Remembers s order l (replicate n 0)
+module _ (own : Speech) (s : Bytes) (order : List ℕ) (l : TransactionLocator) where
+  pub remembers-nothing : (n : ℕ) → 3 * length order ≤ n → Remembers own s order l (replicate n 0)
   unfolding Remembers
   remembers-nothing n m k h e = absurd (omega (arith, getD-replicate {A = ℕ} n (3 * k + 2) 0 0 (omega arith), e))
 
   -- what was just found is remembered with the rest
-  pub remembers-more : (memo : List ℕ) (k : ℕ) (v : AuthoritySet) → 3 * k + 2 < length memo → v ≡ votersAt s order l k → Remembers s order l memo → Remembers s order l (noted memo k v)
+  pub remembers-more : (memo : List ℕ) (k : ℕ) (v : AuthoritySet) → 3 * k + 2 < length memo → v ≡ spokenAt own s order l k → Remembers own s order l memo → Remembers own s order l (noted memo k v)
   unfolding Remembers
   remembers-more memo k v h e r j m t = go (ℕ-discrete j k)
     where
-      go : Dec (j ≡ k) → remembered (noted memo k v) j ≡ votersAt s order l j
+      go : Dec (j ≡ k) → remembered (noted memo k v) j ≡ spokenAt own s order l j
       go (yes q) = rw q (noted-same memo k v h ∙ e)
       go (no q) = others-remembered memo k v j q ∙ r j m (sym (noted-other memo k v j 2 (omega arith) q) ∙ t)
 

@@ -1,4 +1,3 @@
-use mathlib.Core.Path.{sym, _∙_}
 use Rattle.committee.specs.Committee.{isQuorum}
 use borrow.Author.Needs.{needs}
 use Rattle.finalization_interpreter.proofs.certifies.Statement.{statement}

@@ -4,7 +4,8 @@ use mathlib.Core.Path.{_≡_, refl, subst, _∙_}
 use native.Mathlib.Omega.{arith}
 use lib.ListN.{length, getD}
 use Rattle.types.specs.Values.{asLocator}
-use Rattle.voters.specs.Walk.{Remembers}
+use Rattle.finality.specs.Voters.{ownVote}
+use Rattle.voters.specs.Walk.{spokenAt, Remembers}
 use Rattle.voters.proofs.Remembering.{remembers-nothing}
 use Rattle.slip_certifiers.specs.Table.{Listed}
 use Rattle.slip_certifiers.proofs.Words.{position-entry, position-found, position-same, listed-start, listed-more}
@@ -14,7 +15,7 @@ use Rattle.slip_certifiers.proofs.list_certifiers.Tie as tie
 abbrev Inv-loop : tie.InvT-loop
 Inv-loop store order locator positions certifiers₀ memo₀ i₀ certifiers memo i =
     ((i ≤ length positions) × (length certifiers ≡ length certifiers₀))
-    × (((length memo ≡ 3072) × Remembers store order (asLocator locator) memo) × Listed store order (asLocator locator) positions certifiers i)
+    × (((length memo ≡ 3072) × Remembers ownVote store order (asLocator locator) memo) × Listed store order (asLocator locator) positions certifiers i)
 
 abbrev μ-loop : tie.MeasureT-loop
 μ-loop store order locator positions certifiers₀ memo₀ i₀ certifiers memo i =
@@ -26,7 +27,7 @@ slice-aggregate-read-voters c = search needs
 read-voters-requires : tie.Need-read-voters-requires Inv-loop μ-loop
 read-voters-requires c κs = let a = c .before .before .before .before .before .args in
     let q = c .before .before .before .before .before .pre in
-    (q .0 .0, (omega (arith, q .0 .1), remembers-nothing (a .store .now) (a .order .now) (asLocator (a .locator)) 3072 (omega (arith, q .0 .1))))
+    (q .0 .0, (omega (arith, q .0 .1), remembers-nothing ownVote (a .store .now) (a .order .now) (asLocator (a .locator)) 3072 (omega (arith, q .0 .1))))
 
 loop-holds : tie.Need-loop-holds Inv-loop μ-loop
 loop-holds c = let a = c .before .before .before .before .before .before .before .args in
@@ -73,6 +74,7 @@ loop-less : tie.Need-loop-less Inv-loop μ-loop
 loop-less c = search needs
 
 loop-again : tie.Need-loop-again Inv-loop μ-loop
+unfolding spokenAt
 loop-again c = let a = c .before .before .before .before .before .before .before .before .before .before .before .before .before .before .before .before .before .before .before .args in
     let q = c .before .before .before .before .before .before .before .before .before .before .before .before .before .before .before .before .before .before .before .pre in
     let g = c .before .before .before .before .before .before .before .before .before .before .before .loop in
@@ -81,7 +83,7 @@ loop-again c = let a = c .before .before .before .before .before .before .before
     let e = c .before .before .before .before .before .before .before .place-of .ensures in
     let v = c .before .before .before .before .before .visit .ensures in
     let same = position-same (a .store .now) (a .order .now) (q .0 .0) (getD (a .positions .now) (g .i) 0) (q .1 .0 (g .i) t) k (e .0) (e .1 ∙ c .before .before .before .before .before .before .before .before .reference-at .ensures) in
-    ((omega (arith, t), c .before .before .note-certifier .kept .0 ∙ g .inv .0 .1), ((c .before .before .before .before .before .visit .kept .1 .1 .1 .1 .0 ∙ g .inv .1 .0 .0, v .1), rw (c .before .before .note-certifier .ensures) (listed-more (a .store .now) (a .order .now) (asLocator (a .locator)) (a .positions .now) (g .certifiers) (g .i) (g .inv .1 .1) (omega (arith, q .1 .1, g .inv .0 .1, t)) k (e .0) same (c .before .before .before .before .before .visit .result) (v .0))))
+    ((omega (arith, t), c .before .before .note-certifier .kept .0 ∙ g .inv .0 .1), ((c .before .before .before .before .before .visit .kept .1 .1 .1 .1 .1 .0 ∙ g .inv .1 .0 .0, v .1), rw (c .before .before .note-certifier .ensures) (listed-more (a .store .now) (a .order .now) (asLocator (a .locator)) (a .positions .now) (g .certifiers) (g .i) (g .inv .1 .1) (omega (arith, q .1 .1, g .inv .0 .1, t)) k (e .0) same (c .before .before .before .before .before .visit .result) (v .0))))
 
 same-length : tie.Need-same-length Inv-loop μ-loop
 same-length c = c .before .loop .inv .0 .1

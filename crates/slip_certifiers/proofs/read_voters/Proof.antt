@@ -3,13 +3,14 @@ use mathlib.Core.Path.{_≡_, refl, _∙_}
 use native.Mathlib.Omega.{arith}
 use lib.ListN.{length}
 use Rattle.types.specs.Values.{asLocator}
+use Rattle.finality.specs.Voters.{ownVote}
 use Rattle.voters.specs.Walk.{Remembers}
 use Rattle.slip_certifiers.proofs.read_voters.Statement.{statement}
 use Rattle.slip_certifiers.proofs.read_voters.Tie as tie
 
 abbrev Inv-loop : tie.InvT-loop
 Inv-loop store order locator memo₀ k₀ memo k =
-    (k ≤ length order) × ((length memo ≡ length memo₀) × Remembers store order (asLocator locator) memo)
+    (k ≤ length order) × ((length memo ≡ length memo₀) × Remembers ownVote store order (asLocator locator) memo)
 
 abbrev μ-loop : tie.MeasureT-loop
 μ-loop store order locator memo₀ k₀ memo k = length order - k
@@ -30,7 +31,7 @@ loop-less c = omega (arith, c .before .before .before .before .loop-test .taken)
 
 loop-again : tie.Need-loop-again Inv-loop μ-loop
 loop-again c = let v = c .before .before .visit in
-    (omega (arith, c .before .before .before .before .loop-test .taken), (v .kept .1 .1 .1 .1 .0 ∙ c .before .before .before .before .before .loop .inv .1 .0, v .ensures .1))
+    (omega (arith, c .before .before .before .before .loop-test .taken), (v .kept .1 .1 .1 .1 .1 .0 ∙ c .before .before .before .before .before .loop .inv .1 .0, v .ensures .1))
 
 same-length : tie.Need-same-length Inv-loop μ-loop
 same-length c = c .before .loop .inv .1 .0

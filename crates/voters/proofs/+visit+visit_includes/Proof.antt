@@ -1,23 +1,20 @@
 use lib.ListN.{getD}
 use borrow.Author.Tests.{eqb-true}
-use Rattle.authority_set.specs.AuthoritySet.{AuthoritySet, united}
-use Rattle.blocks.specs.Reference.{BlockReference}
 use Rattle.blocks.specs.Record.{noReference}
-use Rattle.types.specs.Values.{asReference}
-use Rattle.finality.specs.Voters.{unions, voters}
+use Rattle.finality.specs.Voters.{spoken}
 use Rattle.finality.specs.Finality.{blocksOf}
-use Rattle.block_votes.specs.Walk.{blockAtPlace, votersAt}
-use Rattle.voters.specs.Walk.{remembered, noted, Remembers}
-use Rattle.block_votes.proofs.Sorting.{place-entry, place-author, place-voters, include-found, include-lower}
-use Rattle.voters.proofs.Remembering.{length-noted, remembers-more, unions-start, unions-on, unions-end}
+use Rattle.block_votes.specs.Walk.{blockAtPlace}
+use Rattle.block_rejects.specs.Speeches.{speechOf}
+use Rattle.voters.specs.Walk.{spokenAt, Remembers}
+use Rattle.block_votes.proofs.Sorting.{place-entry, place-author, include-found, include-lower}
+use Rattle.voters.proofs.Remembering.{remembers-more, unions-start, unions-on, unions-end}
 use borrow.Author.Needs.{needs}
 use Prim.Native.Nat.{ℕ, _+_, _*_, _-_, _<_, _≤_}
 use mathlib.Core.Path.{_≡_, refl, sym, ap, _∙_}
-use mathlib.Core.List.{map}
 use native.Mathlib.Omega.{arith}
-use lib.ListN.{length, drop}
+use lib.ListN.{length}
 use Rattle.types.specs.Values.{asLocator}
-use Rattle.voters.proofs.Visiting.{VisitedIncludes}
+use Rattle.voters.proofs.Visiting.{VisitedIncludes, place-spoken}
 use borrow.Fn.Kinds.{In}
 use borrow.Fn.PlainCycle.{Measures, is, falls, and}
 use Rattle.voters.proofs.visit.Reads as visit
@@ -30,7 +27,7 @@ use Rattle.authority_set.proofs.AuthoritySet.new.Reads as new-reads
 use Rattle.block_votes.proofs.include_at.Reads as include-at-reads
 use Rattle.block_votes.proofs.include_count_at.Reads as include-count-at-reads
 use Rattle.voters.proofs.is_known.Reads as is-known-reads
-use Rattle.block_votes.proofs.own_vote_at.Reads as own-vote-at-reads
+use Rattle.block_rejects.proofs.own_at.Reads as own-at-reads
 use Rattle.block_votes.proofs.place_of.Reads as place-of-reads
 use Rattle.voters.proofs.recall.Reads as recall-reads
 use Rattle.voters.proofs.remember.Reads as remember-reads
@@ -39,10 +36,10 @@ use Rattle.voters.proofs.+visit+visit_includes.{statement}
 use Rattle.voters.proofs.+visit+visit_includes.Tie.{close}
 
 abbrev μ-visit : Measures 3 visit-kinds.ps ℕ
-μ-visit κs a = 2 * a .1 .1 .1 .0 + 1
+μ-visit κs a = 2 * a .1 .1 .1 .1 .0 + 1
 
 abbrev μ-visit-includes : Measures 3 visit-includes-kinds.ps ℕ
-μ-visit-includes κs a = 2 * a .1 .1 .1 .0
+μ-visit-includes κs a = 2 * a .1 .1 .1 .1 .0
 
 abbrev visit-at : ℕ → In 3 visit-kinds.ps
 visit-at t = and 3 visit-kinds.ps (is 3 visit-kinds.ps μ-visit t) visit.Pre
@@ -73,8 +70,8 @@ visit-is-known-requires : (t : ℕ) → visit-lts.Need-is-known-requires (
   recall-reads.Learnt,
   visit-includes-below t,
   visit-includes.Post,
-  own-vote-at-reads.Asked,
-  own-vote-at-reads.Learnt,
+  own-at-reads.Asked,
+  own-at-reads.Learnt,
   union-reads.Asked,
   union-reads.Learnt,
   remember-reads.Asked,
@@ -89,8 +86,8 @@ visit-recall-requires : (t : ℕ) → visit-lts.Need-recall-requires (
   recall-reads.Learnt,
   visit-includes-below t,
   visit-includes.Post,
-  own-vote-at-reads.Asked,
-  own-vote-at-reads.Learnt,
+  own-at-reads.Asked,
+  own-at-reads.Learnt,
   union-reads.Asked,
   union-reads.Learnt,
   remember-reads.Asked,
@@ -105,8 +102,8 @@ visit-same-length : (t : ℕ) → visit-lts.Need-same-length (
   recall-reads.Learnt,
   visit-includes-below t,
   visit-includes.Post,
-  own-vote-at-reads.Asked,
-  own-vote-at-reads.Learnt,
+  own-at-reads.Asked,
+  own-at-reads.Learnt,
   union-reads.Asked,
   union-reads.Learnt,
   remember-reads.Asked,
@@ -121,8 +118,8 @@ visit-returns : (t : ℕ) → visit-lts.Need-returns (
   recall-reads.Learnt,
   visit-includes-below t,
   visit-includes.Post,
-  own-vote-at-reads.Asked,
-  own-vote-at-reads.Learnt,
+  own-at-reads.Asked,
+  own-at-reads.Learnt,
   union-reads.Asked,
   union-reads.Learnt,
   remember-reads.Asked,
@@ -139,8 +136,8 @@ visit-visit-includes-requires : (t : ℕ) → visit-lts.Need-visit-includes-requ
   recall-reads.Learnt,
   visit-includes-below t,
   visit-includes.Post,
-  own-vote-at-reads.Asked,
-  own-vote-at-reads.Learnt,
+  own-at-reads.Asked,
+  own-at-reads.Learnt,
   union-reads.Asked,
   union-reads.Learnt,
   remember-reads.Asked,
@@ -148,54 +145,54 @@ visit-visit-includes-requires : (t : ℕ) → visit-lts.Need-visit-includes-requ
 ) (visit-at t) visit.Post
 visit-visit-includes-requires t c κs = (omega (arith, c .before .before .before .before .before .before .before .pre .0), c .before .before .before .before .before .before .before .pre .1)
 
-visit-mul-own-vote-at : (t : ℕ) → visit-lts.Need-mul-own-vote-at (
+visit-mul-own-at : (t : ℕ) → visit-lts.Need-mul-own-at (
   is-known-reads.Asked,
   is-known-reads.Learnt,
   recall-reads.Asked,
   recall-reads.Learnt,
   visit-includes-below t,
   visit-includes.Post,
-  own-vote-at-reads.Asked,
-  own-vote-at-reads.Learnt,
+  own-at-reads.Asked,
+  own-at-reads.Learnt,
   union-reads.Asked,
   union-reads.Learnt,
   remember-reads.Asked,
   remember-reads.Learnt,
 ) (visit-at t) visit.Post
-visit-mul-own-vote-at t c = search needs
+visit-mul-own-at t c = search needs
 
-visit-shared-slice-read-own-vote-at : (t : ℕ) → visit-lts.Need-shared-slice-read-own-vote-at (
+visit-shared-slice-read-own-at : (t : ℕ) → visit-lts.Need-shared-slice-read-own-at (
   is-known-reads.Asked,
   is-known-reads.Learnt,
   recall-reads.Asked,
   recall-reads.Learnt,
   visit-includes-below t,
   visit-includes.Post,
-  own-vote-at-reads.Asked,
-  own-vote-at-reads.Learnt,
+  own-at-reads.Asked,
+  own-at-reads.Learnt,
   union-reads.Asked,
   union-reads.Learnt,
   remember-reads.Asked,
   remember-reads.Learnt,
 ) (visit-at t) visit.Post
-visit-shared-slice-read-own-vote-at t c = search needs
+visit-shared-slice-read-own-at t c = search needs
 
-visit-own-vote-at-requires : (t : ℕ) → visit-lts.Need-own-vote-at-requires (
+visit-own-at-requires : (t : ℕ) → visit-lts.Need-own-at-requires (
   is-known-reads.Asked,
   is-known-reads.Learnt,
   recall-reads.Asked,
   recall-reads.Learnt,
   visit-includes-below t,
   visit-includes.Post,
-  own-vote-at-reads.Asked,
-  own-vote-at-reads.Learnt,
+  own-at-reads.Asked,
+  own-at-reads.Learnt,
   union-reads.Asked,
   union-reads.Learnt,
   remember-reads.Asked,
   remember-reads.Learnt,
 ) (visit-at t) visit.Post
 unfolding blockAtPlace
-visit-own-vote-at-requires t c κs = let p = c .before .before .before .before .before .before .before .before .before .before .before .pre .1 in
+visit-own-at-requires t c κs = let p = c .before .before .before .before .before .before .before .before .before .before .before .pre .1 in
     let a = c .before .before .before .before .before .before .before .before .before .before .before .args in
     (place-entry (a .store .now) (a .order .now) (p .0 .0) (a .k) (p .0 .1), place-author (a .store .now) (a .order .now) (p .0 .0) (a .k) (p .0 .1))
 
@@ -206,8 +203,8 @@ visit-union-requires : (t : ℕ) → visit-lts.Need-union-requires (
   recall-reads.Learnt,
   visit-includes-below t,
   visit-includes.Post,
-  own-vote-at-reads.Asked,
-  own-vote-at-reads.Learnt,
+  own-at-reads.Asked,
+  own-at-reads.Learnt,
   union-reads.Asked,
   union-reads.Learnt,
   remember-reads.Asked,
@@ -222,14 +219,14 @@ visit-remember-requires : (t : ℕ) → visit-lts.Need-remember-requires (
   recall-reads.Learnt,
   visit-includes-below t,
   visit-includes.Post,
-  own-vote-at-reads.Asked,
-  own-vote-at-reads.Learnt,
+  own-at-reads.Asked,
+  own-at-reads.Learnt,
   union-reads.Asked,
   union-reads.Learnt,
   remember-reads.Asked,
   remember-reads.Learnt,
 ) (visit-at t) visit.Post
-visit-remember-requires t c κs = omega (arith, c .before .before .before .before .before .before .before .before .before .before .before .before .before .before .pre .1, c .before .before .before .before .before .before .visit-includes .kept .1 .1 .1 .1 .0)
+visit-remember-requires t c κs = omega (arith, c .before .before .before .before .before .before .before .before .before .before .before .before .before .before .pre .1, c .before .before .before .before .before .before .visit-includes .kept .1 .1 .1 .1 .1 .0)
 
 visit-same-length-2 : (t : ℕ) → visit-lts.Need-same-length-2 (
   is-known-reads.Asked,
@@ -238,14 +235,14 @@ visit-same-length-2 : (t : ℕ) → visit-lts.Need-same-length-2 (
   recall-reads.Learnt,
   visit-includes-below t,
   visit-includes.Post,
-  own-vote-at-reads.Asked,
-  own-vote-at-reads.Learnt,
+  own-at-reads.Asked,
+  own-at-reads.Learnt,
   union-reads.Asked,
   union-reads.Learnt,
   remember-reads.Asked,
   remember-reads.Learnt,
 ) (visit-at t) visit.Post
-visit-same-length-2 t c = c .before .before .remember .kept .0 ∙ c .before .before .before .before .before .before .before .before .before .visit-includes .kept .1 .1 .1 .1 .0
+visit-same-length-2 t c = c .before .before .remember .kept .0 ∙ c .before .before .before .before .before .before .before .before .before .visit-includes .kept .1 .1 .1 .1 .1 .0
 
 visit-returns-2 : (t : ℕ) → visit-lts.Need-returns-2 (
   is-known-reads.Asked,
@@ -254,8 +251,8 @@ visit-returns-2 : (t : ℕ) → visit-lts.Need-returns-2 (
   recall-reads.Learnt,
   visit-includes-below t,
   visit-includes.Post,
-  own-vote-at-reads.Asked,
-  own-vote-at-reads.Learnt,
+  own-at-reads.Asked,
+  own-at-reads.Learnt,
   union-reads.Asked,
   union-reads.Learnt,
   remember-reads.Asked,
@@ -267,15 +264,15 @@ visit-returns-2 t c = let p = c .before .before .before .before .before .before 
     let s = a .store .now in
     let o = a .order .now in
     let l = asLocator (a .locator) in
-    let e : c .before .before .before .before .union .result ≡ votersAt s o l (a .k) =
-    c .before .before .before .before .union .ensures ∙ rw (c .before .before .before .before .before .own-vote-at .ensures, c .before .before .before .before .before .before .before .before .before .visit-includes .ensures .0) (sym (place-voters s o (p .0 .0) (a .k) (p .0 .1) l)) in
-    (e, rw (c .before .before .remember .ensures) (remembers-more s o l _ (a .k) _ (omega (arith, p, c .before .before .before .before .before .before .before .before .before .visit-includes .kept .1 .1 .1 .1 .0)) e (c .before .before .before .before .before .before .before .before .before .visit-includes .ensures .1)))
+    let e : c .before .before .before .before .union .result ≡ spokenAt (speechOf (a .rejecting)) s o l (a .k) =
+    c .before .before .before .before .union .ensures ∙ rw (c .before .before .before .before .before .own-at .ensures, c .before .before .before .before .before .before .before .before .before .visit-includes .ensures .0) (sym (place-spoken (speechOf (a .rejecting)) s o (p .0 .0) (a .k) (p .0 .1) l)) in
+    (e, rw (c .before .before .remember .ensures) (remembers-more (speechOf (a .rejecting)) s o l _ (a .k) _ (omega (arith, p, c .before .before .before .before .before .before .before .before .before .visit-includes .kept .1 .1 .1 .1 .1 .0)) e (c .before .before .before .before .before .before .before .before .before .visit-includes .ensures .1)))
 
 abbrev visit-includes-Inv-loop : visit-includes-lts.InvT-loop
-visit-includes-Inv-loop store order locator k memo₀ at count votes₀ j₀ memo votes j = VisitedIncludes store order (asLocator locator) k memo₀ memo votes j
+visit-includes-Inv-loop store order locator rejecting k memo₀ at count found₀ j₀ memo found j = VisitedIncludes (speechOf rejecting) store order (asLocator locator) k memo₀ memo found j
 
 abbrev visit-includes-μ-loop : visit-includes-lts.MeasureT-loop
-visit-includes-μ-loop store order locator k memo₀ at count votes₀ j₀ memo votes j = count - j
+visit-includes-μ-loop store order locator rejecting k memo₀ at count found₀ j₀ memo found j = count - j
 
 visit-includes-mul-at : (t : ℕ) → visit-includes-lts.Need-mul-at (
   include-count-at-reads.Asked,
@@ -363,7 +360,7 @@ visit-includes-loop-holds t c = let p = c .before .before .before .before .befor
       some-read = omega arith;
       long = refl;
       remembers = p .1 .1;
-      voted = rw (c .new .ensures) (unions-start (voters (blocksOf (a .store .now)) (asLocator (a .locator))) (blockAtPlace (a .store .now) (a .order .now) (a .k) .includes));
+      together = rw (c .new .ensures) (unions-start (spoken (speechOf (a .rejecting)) (blocksOf (a .store .now)) (asLocator (a .locator))) (blockAtPlace (a .store .now) (a .order .now) (a .k) .includes));
     }
 
 visit-includes-include-at-requires : (t : ℕ) → visit-includes-lts.Need-include-at-requires (
@@ -487,18 +484,18 @@ visit-includes-loop-again : (t : ℕ) → visit-includes-lts.Need-loop-again (
   union-reads.Asked,
   union-reads.Learnt,
 ) (visit-includes-at t) visit-includes.Post visit-includes-Inv-loop visit-includes-μ-loop
-unfolding blockAtPlace votersAt
+unfolding blockAtPlace spokenAt
 visit-includes-loop-again t c = let a = c .before .before .before .before .before .before .before .before .before .before .before .before .before .before .before .args in
     let j = c .before .before .before .before .before .before .before .before .loop .j in
     let is = blockAtPlace (a .store .now) (a .order .now) (a .k) .includes in
     let h : j < length is = omega (arith, c .before .before .before .before .before .before .before .loop-test .taken, c .before .before .before .before .before .before .before .before .before .before .include-count-at .ensures) in
-    let e : c .before .before .before .visit .result ≡ voters (blocksOf (a .store .now)) (asLocator (a .locator)) (getD is j noReference) =
-    c .before .before .before .visit .ensures .0 ∙ ap (voters (blocksOf (a .store .now)) (asLocator (a .locator))) (c .before .before .before .before .before .place-of .ensures .1 ∙ c .before .before .before .before .before .before .include-at .ensures) in
+    let e : c .before .before .before .visit .result ≡ spoken (speechOf (a .rejecting)) (blocksOf (a .store .now)) (asLocator (a .locator)) (getD is j noReference) =
+    c .before .before .before .visit .ensures .0 ∙ ap (spoken (speechOf (a .rejecting)) (blocksOf (a .store .now)) (asLocator (a .locator))) (c .before .before .before .before .before .place-of .ensures .1 ∙ c .before .before .before .before .before .before .include-at .ensures) in
     record {
       some-read = omega arith;
-      long = c .before .before .before .visit .kept .1 .1 .1 .1 .0 ∙ c .before .before .before .before .before .before .before .before .loop .inv .long;
+      long = c .before .before .before .visit .kept .1 .1 .1 .1 .1 .0 ∙ c .before .before .before .before .before .before .before .before .loop .inv .long;
       remembers = c .before .before .before .visit .ensures .1;
-      voted = rw (c .union .ensures, e) (sym (unions-on (voters (blocksOf (a .store .now)) (asLocator (a .locator))) is j (c .before .before .before .before .before .before .before .before .loop .votes) h) ∙ c .before .before .before .before .before .before .before .before .loop .inv .voted);
+      together = rw (c .union .ensures, e) (sym (unions-on (spoken (speechOf (a .rejecting)) (blocksOf (a .store .now)) (asLocator (a .locator))) is j (c .before .before .before .before .before .before .before .before .loop .found) h) ∙ c .before .before .before .before .before .before .before .before .loop .inv .together);
     }
 
 visit-includes-same-length : (t : ℕ) → visit-includes-lts.Need-same-length (
@@ -536,7 +533,7 @@ visit-includes-returns t c = let a = c .before .before .before .before .before .
     let is = blockAtPlace (a .store .now) (a .order .now) (a .k) .includes in
     let l = c .before .loop in
     let h : length is ≤ l .j = omega (arith, c .loop-test .left, c .before .before .before .include-count-at .ensures) in
-    (sym (unions-end (voters (blocksOf (a .store .now)) (asLocator (a .locator))) is (l .j) (l .votes) h) ∙ l .inv .voted, l .inv .remembers)
+    (sym (unions-end (spoken (speechOf (a .rejecting)) (blocksOf (a .store .now)) (asLocator (a .locator))) is (l .j) (l .found) h) ∙ l .inv .together, l .inv .remembers)
 
 pub +visit+visit-includes-spec : {M : Type 1} → statement M
 +visit+visit-includes-spec = close μ-visit μ-visit-includes (λ t. visit-lts.spec (
@@ -546,8 +543,8 @@ pub +visit+visit-includes-spec : {M : Type 1} → statement M
   recall-reads.Learnt,
   visit-includes-below t,
   visit-includes.Post,
-  own-vote-at-reads.Asked,
-  own-vote-at-reads.Learnt,
+  own-at-reads.Asked,
+  own-at-reads.Learnt,
   union-reads.Asked,
   union-reads.Learnt,
   remember-reads.Asked,
@@ -560,9 +557,9 @@ pub +visit+visit-includes-spec : {M : Type 1} → statement M
     (visit-same-length t)
     (visit-returns t)
     (visit-visit-includes-requires t)
-    (visit-mul-own-vote-at t)
-    (visit-shared-slice-read-own-vote-at t)
-    (visit-own-vote-at-requires t)
+    (visit-mul-own-at t)
+    (visit-shared-slice-read-own-at t)
+    (visit-own-at-requires t)
     (visit-union-requires t)
     (visit-remember-requires t)
     (visit-same-length-2 t)

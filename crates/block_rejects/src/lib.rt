@@ -1,0 +1,91 @@
+// The rejects of one stored block, and whom it speaks for: its votes or its rejects. The Rust knows no withdrawing; the loops follow block_votes.
+use authority_set::AuthoritySet;
+use block_record::BaseStatement;
+use types::TransactionLocator;
+ghost use mathlib.Core.Path.{_≡_};
+ghost use mathlib.Core.Bool.{true};
+ghost use Prim.Native.Nat.{_<_};
+ghost use Rattle.base.specs.Le.{Bytes};
+ghost use Rattle.blocks.specs.Reference.{sameLocator};
+ghost use Rattle.blocks.specs.Record.{wellFormed, blockIn};
+ghost use Rattle.types.specs.Values.{asLocator};
+ghost use Rattle.block_record.specs.Values.{asStatement};
+ghost use Rattle.store_layout.specs.Entry.{blockAt, isEntry};
+ghost use Rattle.readings.specs.Rejecting.{rejects, ownReject, without};
+ghost use Rattle.block_rejects.specs.Speeches.{statementRejects, speechOf};
+
+// Who is in the first set and not in the second.
+pub fn less(a: AuthoritySet, b: AuthoritySet) -> AuthoritySet
+    ensures { λ r. ⌜ r ≡ without a b ⌝ }
+{
+    AuthoritySet {
+        low: a.low ^ (a.low & b.low),
+        high: a.high ^ (a.high & b.high),
+    }
+}
+
+// Whether two locators are the same.
+fn same_locator(a: TransactionLocator, b: TransactionLocator) -> bool
+    ensures { λ r. ⌜ r ≡ sameLocator (asLocator a) (asLocator b) ⌝ }
+{
+    if !block_votes::same_reference(a.block, b.block) {
+        return false;
+    }
+    a.offset == b.offset
+}
+
+// Whether the statement rejects the locator: as its first, whatever the second one is.
+fn statement_rejects(statement: BaseStatement, locator: TransactionLocator) -> bool
+    ensures { λ r. ⌜ ((s : Bytes) → r ≡ statementRejects (asStatement s statement) (asLocator locator)) ⌝ }
+{
+    match statement {
+        BaseStatement::Share(_, _) => false,
+        BaseStatement::Accept(_) => false,
+        BaseStatement::Reject(l) => same_locator(locator, l),
+        BaseStatement::RejectFor(l, _) => same_locator(locator, l),
+        BaseStatement::VoteRange(_) => false,
+    }
+}
+
+// Whether the block of a record rejects the locator.
+fn rejects(rec: &[u8], locator: TransactionLocator) -> bool
+    requires { ⌜ wellFormed (now rec) ≡ true ⌝ }
+    ensures { λ r. ⌜ r ≡ rejects (blockIn (now (rec .entry))) (asLocator locator) ⌝ }
+{
+    let count = block_record::statement_count(rec);
+    let mut cursor = block_record::first_statement(rec);
+    while cursor.index < count {
+        let next = block_record::next_statement(rec, cursor);
+        let statement = next.statement;
+        if statement_rejects(statement, locator) {
+            return true;
+        }
+        cursor = next.next;
+    }
+    false
+}
+
+// The author of the block at a position, if it rejects the locator; else nobody.
+fn own_reject_at(store: &[u8], at: usize, locator: TransactionLocator) -> AuthoritySet
+    requires { ⌜ (isEntry (now store) at ≡ true) × (blockAt (now store) at .reference .authority < 128) ⌝ }
+    ensures { λ r. ⌜ r ≡ ownReject (blockAt (now (store .entry)) at) (asLocator locator) ⌝ }
+{
+    let from = at + 8;
+    let end = store_order::record_end(store, at);
+    if !rejects(&store[from..end], locator) {
+        return AuthoritySet::new();
+    }
+    let block = store_order::reference_at(store, at);
+    AuthoritySet::new().insert(block.authority)
+}
+
+// Whom the block at a position speaks for: its author, if it rejects the locator, or if it votes for it; else nobody.
+pub fn own_at(store: &[u8], at: usize, locator: TransactionLocator, rejecting: bool) -> AuthoritySet
+    requires { ⌜ (isEntry (now store) at ≡ true) × (blockAt (now store) at .reference .authority < 128) ⌝ }
+    ensures { λ r. ⌜ r ≡ speechOf rejecting (blockAt (now (store .entry)) at) (asLocator locator) ⌝ }
+{
+    if rejecting {
+        return own_reject_at(store, at, locator);
+    }
+    block_votes::own_vote_at(store, at, locator)
+}
