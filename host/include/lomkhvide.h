@@ -54,6 +54,12 @@ uint64_t lomkhvide_add(const uint8_t *stakes, size_t stakes_len, uint8_t *aggreg
 uint64_t lomkhvide_finality(const uint8_t *stakes, size_t stakes_len, const uint8_t *store, size_t store_len, uint8_t *positions,
                             size_t positions_len, const uint8_t *locator, size_t locator_len);
 
+/* The same in the reading in which an owner may withdraw: in the ancestry of a block, a reject by an owner for a locator (its first)
+ * cancels that owner's share, accepts and ranges for it, for that block. With no rejects in the store both readings answer the same.
+ * Both need at most 96 KB of stack. */
+uint64_t lomkhvide_finality_withdrawing(const uint8_t *stakes, size_t stakes_len, const uint8_t *store, size_t store_len,
+                                        uint8_t *positions, size_t positions_len, const uint8_t *locator, size_t locator_len);
+
 /* The least final locator after a given one, or from the start where `after` has no bytes: 1, and the locator is written to `found`; or 0
  * where none is left. Asked on after the locator that it found, until 0, it gives every final locator in ascending order.
  * Refused last: 40 `found` not of 56 bytes. */

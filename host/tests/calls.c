@@ -151,6 +151,32 @@ static size_t put_record(uint8_t *to, uint64_t round, uint8_t k, const uint8_t *
     return n;
 }
 
+/* A sole owner shares twice and rejects the first share in the same block; a block above takes the second one back too late for that block. */
+static void withdrawn(void) {
+    static uint8_t store[1024], table[LOMKHVIDE_TABLE_LEN], events[LOMKHVIDE_EVENTS_LEN], positions[LOMKHVIDE_POSITIONS_LEN];
+    uint8_t one[8], digest[32] = {0}, first[56] = {0}, record[512], given[128] = {0}, locator[56] = {0};
+    put_word(one, 1);
+    store[4] = 16;
+    same("a block of round 0", lomkhvide_feed(one, 8, store, sizeof store, table, sizeof table, events, sizeof events, first, 56), 0);
+    locator[8] = 1;
+    /* two empty shares, a reject of the first of them */
+    given[10] = 2;
+    memcpy(given + 11, locator, 56);
+    uint64_t n = lomkhvide_write_record(0, 1, digest, 32, 0, first, 48, given, 5 + 5 + 58, record, 256);
+    same("a share is rejected", lomkhvide_feed(one, 8, store, sizeof store, table, sizeof table, events, sizeof events, record, n), 0);
+    same("the old reading", lomkhvide_finality(one, 8, store, sizeof store, positions, sizeof positions, locator, 56), 3);
+    same("it was withdrawn", lomkhvide_finality_withdrawing(one, 8, store, sizeof store, positions, sizeof positions, locator, 56), 0);
+    locator[48] = 1;
+    same("the other share", lomkhvide_finality_withdrawing(one, 8, store, sizeof store, positions, sizeof positions, locator, 56), 3);
+    given[0] = 2;
+    memcpy(given + 1, locator, 56);
+    given[57] = 0;
+    n = lomkhvide_write_record(0, 2, digest, 32, 0, record, 48, given, 58, record + 256, 256);
+    same("it is rejected above", lomkhvide_feed(one, 8, store, sizeof store, table, sizeof table, events, sizeof events, record + 256, n), 0);
+    same("two certify it", lomkhvide_finality(one, 8, store, sizeof store, positions, sizeof positions, locator, 56), 5);
+    same("for that block only", lomkhvide_finality_withdrawing(one, 8, store, sizeof store, positions, sizeof positions, locator, 56), 3);
+}
+
 /* A store with a block of round 0 and one of round 1 that includes it and shares "gain". */
 static void payloads(void) {
     uint8_t one[8], store[512], locator[57], kept[512];
@@ -212,6 +238,27 @@ static void payloads(void) {
     put_word(before, second_at);
     same("the position of its block", memcmp(positions, before, sizeof positions), 0);
     same("the store is as it was", memcmp(store, kept, sizeof store), 0);
+
+    memset(positions, 9, 8);
+    same("nobody withdraws, so both readings say the same", lomkhvide_finality_withdrawing(one, 8, store, sizeof store, positions,
+         LOMKHVIDE_POSITIONS_LEN, locator, 56), 3);
+    same("with the same position", memcmp(positions, before, sizeof positions), 0);
+    for (size_t n = 0; n < 58; n++) {
+        if (n != 56) {
+            uint64_t word = lomkhvide_finality_withdrawing(one, 8, store, sizeof store, positions, LOMKHVIDE_POSITIONS_LEN, locator, n);
+            same("the second reading, a locator of any length", word, refused(20));
+        }
+    }
+    for (size_t n = 0; n < sizeof positions; n += n < 64 ? 1 : 509) {
+        if (n != LOMKHVIDE_POSITIONS_LEN) {
+            uint64_t word = lomkhvide_finality_withdrawing(one, 8, store, sizeof store, positions, n, locator, 56);
+            same("the second reading, positions of any length", word, refused(40));
+        }
+    }
+    same("no committee", lomkhvide_finality_withdrawing(one, 0, store, sizeof store, positions, 8, locator, 3), refused(5));
+    same("no store", lomkhvide_finality_withdrawing(one, 8, store, 0, positions, 8, locator, 3), refused(10));
+    same("20 before 40", lomkhvide_finality_withdrawing(one, 8, store, sizeof store, positions, 8, locator, 3), refused(20));
+    same("refused, so nothing is written", memcmp(positions, before, sizeof positions), 0);
 
     uint8_t found[58], room[58];
     memset(found, 9, sizeof found);
@@ -935,6 +982,7 @@ int main(void) {
     quorums();
     adding();
     payloads();
+    withdrawn();
     feeding();
     ringing();
     written_slips();

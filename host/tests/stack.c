@@ -137,6 +137,34 @@ static void share_alone(void) {
     lomkhvide_feed(owners, 8, store, sizeof store, table, sizeof table, events, sizeof events, record, sizeof record);
 }
 
+/* A sole owner's blocks, each of them including the one before, as many as a store may hold: the deepest ancestry */
+static uint8_t chain[1 << 17], positions[LOMKHVIDE_POSITIONS_LEN], one[8] = {1}, shared[56];
+
+static void finality(void) {
+    answer = lomkhvide_finality(one, sizeof one, chain, sizeof chain, positions, sizeof positions, shared, sizeof shared);
+}
+
+static void finality_withdrawing(void) {
+    answer = lomkhvide_finality_withdrawing(one, sizeof one, chain, sizeof chain, positions, sizeof positions, shared, sizeof shared);
+}
+
+static void grow(void) {
+    uint8_t record[108] = {0};
+    chain[4] = 16;
+    memset(table, 0, sizeof table);
+    for (size_t round = 0; round < 1024; round++) {
+        record[8] = (uint8_t)round;
+        record[9] = (uint8_t)(round >> 8);
+        record[49] = round > 0;
+        record[51] = round == 1;
+        memcpy(record + 104, "\0\1\0g", 4);
+        size_t n = round == 0 ? 56 : round == 1 ? 108 : 104;
+        lomkhvide_feed(one, sizeof one, chain, sizeof chain, table, sizeof table, events, sizeof events, record, n);
+        memcpy(record + 56, record, 48);
+    }
+    shared[8] = 1;
+}
+
 static int failed;
 
 static void at_most(const char *what, void (*call)(void), uint64_t want, size_t most) {
@@ -167,6 +195,9 @@ int main(void) {
     at_most("read_slip", read_slip, 1, 16384);
     share_alone();
     at_most("write_slip", write_slip, 118, 491520);
-    printf("%d passed, %d failed\n", 8 - failed, failed);
+    grow();
+    at_most("finality", finality, 2 * 1023 + 1, 98304);
+    at_most("finality_withdrawing", finality_withdrawing, 2 * 1023 + 1, 98304);
+    printf("%d passed, %d failed\n", 10 - failed, failed);
     return failed != 0;
 }

@@ -8,6 +8,7 @@ use crate::list::List;
 use crate::model::calendar;
 use crate::model::committee::{Committee, COURSE};
 use crate::model::feed::{State, EVENT_BYTES};
+use crate::model::finality::Reading;
 use crate::model::lent;
 use crate::model::record::{given_bytes, includes_bytes, Block, Locator, Reference, Statement};
 use crate::model::writing::{write_record, Given};
@@ -230,9 +231,17 @@ fn cases() -> Vec<Case> {
         },
         Case {
             name: "finality",
-            slices: vec![stakes.clone(), store.clone(), positions, locator],
+            slices: vec![stakes.clone(), store.clone(), positions.clone(), locator.clone()],
             engine: over!(|stakes, store, positions, locator| engine::finality(stakes, store, positions, locator)),
             model: over!(|stakes, store, positions, locator| lent::finality(stakes, store, positions, locator)),
+        },
+        Case {
+            name: "finality_withdrawing",
+            slices: vec![stakes.clone(), store.clone(), positions, locator],
+            engine: over!(|stakes, store, positions, locator| engine::finality_withdrawing(stakes, store, positions, locator)),
+            model: over!(|stakes, store, positions, locator| {
+                lent::finality_in(Reading::Withdrawing, stakes, store, positions, locator)
+            }),
         },
         Case {
             name: "next_final",

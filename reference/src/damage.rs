@@ -3,6 +3,7 @@
 
 use crate::compare::{same, same_bytes, Memory, Outcome};
 use crate::engine;
+use crate::model::finality::Reading;
 use crate::model::lent;
 use crate::rng::Rng;
 use crate::tally::Tally;
@@ -94,6 +95,11 @@ fn questions_of_store(stakes: &[u8], store: &[u8], locator: &[u8]) -> Outcome {
     let told = engine::finality(stakes, store, &mut got, locator);
     same("finality over damaged memory", "engine", told, answer)?;
     same_bytes("positions over damaged memory", &got, &right)?;
+    let (mut right, mut got) = (vec![0x3c; lent::POSITION_BYTES], vec![0x3c; lent::POSITION_BYTES]);
+    let answer = lent::finality_in(Reading::Withdrawing, stakes, store, &mut right, locator);
+    let told = engine::finality_withdrawing(stakes, store, &mut got, locator);
+    same("finality_withdrawing over damaged memory", "engine", told, answer)?;
+    same_bytes("positions of the second reading over damaged memory", &got, &right)?;
     let (mut right, mut got) = (vec![0x3c; 56], vec![0x3c; 56]);
     let answer = lent::next_final(stakes, store, locator, &mut right);
     let told = engine::next_final(stakes, store, locator, &mut got);

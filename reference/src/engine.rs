@@ -55,6 +55,7 @@ call!(pending_voters = lomkhvide_pending_voters(stakes: &[u8], store: &[u8], tab
 call!(payload_length = lomkhvide_payload_length(stakes: &[u8], store: &[u8], locator: &[u8]));
 call!(payload_start = lomkhvide_payload_start(stakes: &[u8], store: &[u8], locator: &[u8]));
 call!(finality = lomkhvide_finality(stakes: &[u8], store: &[u8], positions: &mut [u8], locator: &[u8]));
+call!(finality_withdrawing = lomkhvide_finality_withdrawing(stakes: &[u8], store: &[u8], positions: &mut [u8], locator: &[u8]));
 call!(next_final = lomkhvide_next_final(stakes: &[u8], store: &[u8], after: &[u8], found: &mut [u8]));
 call!(read_slip = lomkhvide_read_slip(stakes: &[u8], slip: &[u8], records: &[u8]));
 call!(final_stretches = lomkhvide_final_stretches(stakes: &[u8], store: &[u8], after: &[u8], stretches: &mut [u8]));

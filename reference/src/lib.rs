@@ -26,4 +26,5 @@ pub mod shrink;
 pub mod slips;
 pub mod tables;
 pub mod tally;
+pub mod withdrawing;
 pub mod writing;

@@ -8,8 +8,9 @@ use reference::compare::compare;
 use reference::list::List;
 use reference::slips::Told;
 use reference::tally::Tally;
+use reference::withdrawing::Withdrawn;
 use reference::writing::Written;
-use reference::{calendars, exhaustive, generate, members, program, rings, shrink, tables};
+use reference::{calendars, exhaustive, generate, members, program, rings, shrink, tables, withdrawing};
 
 fn main() {
     let words: Vec<String> = std::env::args().skip(1).collect();
@@ -27,6 +28,7 @@ fn main() {
         Some("listing") => listing(number(word(1), 1000), number(word(2), 1)),
         Some("slips") => slips(number(word(1), 1000), number(word(2), 1)),
         Some("writing") => writing(number(word(1), 2000), number(word(2), 1)),
+        Some("withdrawing") => withdrawing(number(word(1), 2000), number(word(2), 1)),
         Some("stakes") => tables(number(word(1), 100_000), number(word(2), 1)),
         Some("model") => model(word(1).expect("a file"), word(2)),
         Some("inputs") => inputs(word(1) == Some("check")),
@@ -130,6 +132,22 @@ fn calendars(count: u64, seed: u64) -> u64 {
     }
     println!("{}", tally.describe());
     failed
+}
+
+/// Graphs rich in rejects, with the questions of the second reading.
+fn withdrawing(count: u64, seed: u64) {
+    sides();
+    let mut withdrawn = Withdrawn::default();
+    let mut failed = 0;
+    for n in 0..count {
+        if let Err(text) = withdrawing::compare(seed, n, &mut withdrawn) {
+            failed += 1;
+            println!("graph {n} of seed {seed} failed: {text}");
+        }
+    }
+    let Withdrawn { questions, both, old_alone } = withdrawn;
+    println!("{questions} questions; {both} final in both readings, {old_alone} in the old one alone");
+    end(count, failed);
 }
 
 /// The first of the exhaustive lists, or all of them.

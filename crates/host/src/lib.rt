@@ -8,7 +8,8 @@ ghost use Rattle.host_lib.specs.Pending.{pendingStakeCall, pendingVotersCall};
 ghost use Rattle.host_lib.specs.Feed.{feedCall};
 ghost use Rattle.host_finals.specs.NextFinal.{nextFinalCall};
 ghost use Rattle.host_lib.specs.Payload.{payloadLengthCall, payloadStartCall};
-ghost use Rattle.host_finals.specs.Finality.{finalityCall};
+ghost use Rattle.host_finality.specs.Finality.{finalityCall};
+ghost use Rattle.readings.specs.Readings.{old, withdrawing};
 ghost use Rattle.host_finals.specs.Stretches.{stretchesCall};
 ghost use Rattle.host_calendar.specs.Calendar.{isOpenCall, nextOpenCall};
 ghost use Rattle.host_stakes.specs.LoadStakes.{loadStakesCall};
@@ -77,10 +78,24 @@ pub extern "C" fn lomkhvide_finality(
     positions: &mut [u8],
     locator: &[u8],
 ) -> u64
-    ensures { λ r. ⌜ r ≡ encoded (finalityCall (now (stakes .entry)) (now (store .entry)) (now (positions .entry)) (now (locator .entry)) .answer) ⌝ }
-    ensures { λ r. ⌜ now (positions .exit) ≡ finalityCall (now (stakes .entry)) (now (store .entry)) (now (positions .entry)) (now (locator .entry)) .positions ⌝ }
+    ensures { λ r. ⌜ r ≡ encoded (finalityCall old (now (stakes .entry)) (now (store .entry)) (now (positions .entry)) (now (locator .entry)) .answer) ⌝ }
+    ensures { λ r. ⌜ now (positions .exit) ≡ finalityCall old (now (stakes .entry)) (now (store .entry)) (now (positions .entry)) (now (locator .entry)) .positions ⌝ }
 {
-    host_finality::finality(stakes, store, positions, locator)
+    host_finality::finality_call(stakes, store, positions, locator, false)
+}
+
+// The same in the reading in which an owner may withdraw.
+#[no_mangle]
+pub extern "C" fn lomkhvide_finality_withdrawing(
+    stakes: &[u8],
+    store: &[u8],
+    positions: &mut [u8],
+    locator: &[u8],
+) -> u64
+    ensures { λ r. ⌜ r ≡ encoded (finalityCall withdrawing (now (stakes .entry)) (now (store .entry)) (now (positions .entry)) (now (locator .entry)) .answer) ⌝ }
+    ensures { λ r. ⌜ now (positions .exit) ≡ finalityCall withdrawing (now (stakes .entry)) (now (store .entry)) (now (positions .entry)) (now (locator .entry)) .positions ⌝ }
+{
+    host_finality::finality_call(stakes, store, positions, locator, true)
 }
 
 // The stake of a pending locator.

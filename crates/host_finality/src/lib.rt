@@ -1,22 +1,82 @@
-// The finality question, for numbers and byte slices. A call answers one word: below 2^63 it is the answer, and
-// 2^63 + n is refusal n (`encoded` in host_calls, specs/Calls).
+// The finality question of a host, over byte slices, in either reading.
 ghost use mathlib.Core.Path.{_≡_};
+ghost use lib.ListN.{length};
+ghost use Rattle.finalization_interpreter.specs.Answers.{asFinality};
+ghost use Rattle.readings.specs.Readings.{readingOf};
 ghost use Rattle.host_calls.specs.Calls.{encoded};
-ghost use Rattle.host_finals.specs.Finality.{finalityCall};
+ghost use Rattle.host_lib.specs.Payload.{locatorOf};
+ghost use Rattle.host_finality.specs.Finality.{finalityNumber, askedFinality, finalityCall, numbersFit};
+ghost use Rattle.host_finality.specs.Claims.{Claims};
 use finalization_interpreter::FinalityAnswer;
 
 const REFUSED: u64 = 9223372036854775808;
 
-// Whether a locator is final: 2 · number of certifying blocks, and 1 more where it is; their positions are written to the front.
-pub fn finality(stakes: &[u8], store: &[u8], positions: &mut [u8], locator: &[u8]) -> u64
-    ensures { λ r. ⌜ r ≡ encoded (finalityCall (now (stakes .entry)) (now (store .entry)) (now (positions .entry)) (now (locator .entry)) .answer) ⌝ }
-    ensures { λ r. ⌜ now (positions .exit) ≡ finalityCall (now (stakes .entry)) (now (store .entry)) (now (positions .entry)) (now (locator .entry)) .positions ⌝ }
+// The question itself, with the positions as words.
+fn finality_words(
+    stakes: &[u64],
+    store: &[u8],
+    positions: &mut [u8],
+    locator: &[u8],
+    withdrawing: bool,
+) -> FinalityAnswer
+    requires { ⌜ (length (now locator) ≡ 56) × (length (now positions) ≡ 8192) ⌝ }
+    ensures asked { λ r. ⌜ (finalityNumber (asFinality r) ≡ askedFinality (readingOf withdrawing) (now (stakes .entry)) (now (store .entry)) (now (positions .entry)) (locatorOf (now (locator .entry))) .answer) × (now (positions .exit) ≡ askedFinality (readingOf withdrawing) (now (stakes .entry)) (now (store .entry)) (now (positions .entry)) (locatorOf (now (locator .entry))) .positions) ⌝ }
+    ensures bounded { λ r. ⌜ numbersFit r ⌝ }
+{
+    let mut words = [0u64; 1024];
+    words::words_of(positions, &mut words);
+    let place = types::read_locator(locator, 0);
+    let answer = finalization_interpreter::finality_in(
+        stakes,
+        store,
+        &mut words,
+        place,
+        withdrawing,
+    );
+    words::bytes_of(&words, positions);
+    answer
+}
+
+fn finality_of(
+    stakes: &[u64],
+    store: &[u8],
+    positions: &mut [u8],
+    locator: &[u8],
+    withdrawing: bool,
+) -> FinalityAnswer
+    ensures asked { λ r. ⌜ (finalityNumber (asFinality r) ≡ askedFinality (readingOf withdrawing) (now (stakes .entry)) (now (store .entry)) (now (positions .entry)) (locatorOf (now (locator .entry))) .answer) × (now (positions .exit) ≡ askedFinality (readingOf withdrawing) (now (stakes .entry)) (now (store .entry)) (now (positions .entry)) (locatorOf (now (locator .entry))) .positions) ⌝ }
+    ensures bounded { λ r. ⌜ numbersFit r ⌝ }
+{
+    if locator.len() != 56 {
+        return FinalityAnswer::Refused(host_lib::refusal_before(20, stakes, store));
+    }
+    if positions.len() != 8192 {
+        return FinalityAnswer::Refused(host_lib::refusal_before(40, stakes, store));
+    }
+    finality_words(stakes, store, positions, locator, withdrawing)
+}
+
+// The call: 2 · number of certifying blocks, and 1 more where the locator is final.
+pub fn finality_call(
+    stakes: &[u8],
+    store: &[u8],
+    positions: &mut [u8],
+    locator: &[u8],
+    withdrawing: bool,
+) -> u64
+    ensures { λ r. ⌜ r ≡ encoded (finalityCall (readingOf withdrawing) (now (stakes .entry)) (now (store .entry)) (now (positions .entry)) (now (locator .entry)) .answer) ⌝ }
+    ensures { λ r. ⌜ now (positions .exit) ≡ finalityCall (readingOf withdrawing) (now (stakes .entry)) (now (store .entry)) (now (positions .entry)) (now (locator .entry)) .positions ⌝ }
 {
     let mut held = [0u64; 128];
     let n = host_calls::stakes_of(stakes, &mut held);
-    match host_finals::finality_of(&held[..n], store, positions, locator) {
+    match finality_of(&held[..n], store, positions, locator, withdrawing) {
         FinalityAnswer::Final(count) => 2 * count + 1,
         FinalityAnswer::NotFinal(count) => 2 * count,
         FinalityAnswer::Refused(number) => REFUSED + number,
     }
 }
+
+// A refused question keeps every byte of its positions.
+pub fn claims()
+    ensures { λ _. ⌜ Claims ⌝ }
+{}

@@ -1,3 +1,2 @@
-pub mod Finals
 pub mod NextFinals
 pub mod Stretched

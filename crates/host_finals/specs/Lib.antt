@@ -1,4 +1,2 @@
-pub mod Finality
 pub mod NextFinal
 pub mod Stretches
-pub mod Claims

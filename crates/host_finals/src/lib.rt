@@ -1,4 +1,4 @@
-// What the host's calls about finality are made of, over byte slices.
+// What the host's calls about the final list are made of, over byte slices.
 ghost use mathlib.Core.Path.{_≡_};
 ghost use Prim.Native.Nat.{_+_, _≤_};
 ghost use lib.ListN.{length};
@@ -7,58 +7,14 @@ ghost use Rattle.types.specs.Values.{beBytes, digestBytes, asLocator};
 ghost use Rattle.blocks.specs.Record.{locatorBytes};
 ghost use Rattle.host_calls.specs.Calls.{encoded};
 ghost use Rattle.host_finals.specs.NextFinal.{afterOf, asAfter, askedNextFinal};
-ghost use Rattle.host_lib.specs.Payload.{locatorOf, asked};
-ghost use Rattle.host_finals.specs.Finality.{finalityNumber, askedFinality, numbersFit};
-ghost use Rattle.finalization_interpreter.specs.Answers.{asFinality};
 ghost use Rattle.vote_starts.specs.Answers.{asMaybe};
 ghost use Rattle.final_list.specs.Answers.{asStretches};
 ghost use Rattle.host_finals.specs.Stretches.{stretchesNumber, stretchesIn, askedStretches, countsFit};
-ghost use Rattle.host_finals.specs.Claims.{Claims};
 use final_list::StretchesAnswer;
-use finalization_interpreter::FinalityAnswer;
 use next_final::NextFinalAnswer;
 use vote_starts::MaybeLocator;
 
 const REFUSED: u64 = 9223372036854775808;
-
-// ---- the finality question
-
-// The question itself, with the positions as words.
-fn finality_words(
-    stakes: &[u64],
-    store: &[u8],
-    positions: &mut [u8],
-    locator: &[u8],
-) -> FinalityAnswer
-    requires { ⌜ (length (now locator) ≡ 56) × (length (now positions) ≡ 8192) ⌝ }
-    ensures asked { λ r. ⌜ (finalityNumber (asFinality r) ≡ askedFinality (now (stakes .entry)) (now (store .entry)) (now (positions .entry)) (locatorOf (now (locator .entry))) .answer) × (now (positions .exit) ≡ askedFinality (now (stakes .entry)) (now (store .entry)) (now (positions .entry)) (locatorOf (now (locator .entry))) .positions) ⌝ }
-    ensures bounded { λ r. ⌜ numbersFit r ⌝ }
-{
-    let mut words = [0u64; 1024];
-    words::words_of(positions, &mut words);
-    let place = types::read_locator(locator, 0);
-    let answer = finalization_interpreter::finality(stakes, store, &mut words, place);
-    words::bytes_of(&words, positions);
-    answer
-}
-
-pub fn finality_of(
-    stakes: &[u64],
-    store: &[u8],
-    positions: &mut [u8],
-    locator: &[u8],
-) -> FinalityAnswer
-    ensures asked { λ r. ⌜ (finalityNumber (asFinality r) ≡ askedFinality (now (stakes .entry)) (now (store .entry)) (now (positions .entry)) (locatorOf (now (locator .entry))) .answer) × (now (positions .exit) ≡ askedFinality (now (stakes .entry)) (now (store .entry)) (now (positions .entry)) (locatorOf (now (locator .entry))) .positions) ⌝ }
-    ensures bounded { λ r. ⌜ numbersFit r ⌝ }
-{
-    if locator.len() != 56 {
-        return FinalityAnswer::Refused(host_lib::refusal_before(20, stakes, store));
-    }
-    if positions.len() != 8192 {
-        return FinalityAnswer::Refused(host_lib::refusal_before(40, stakes, store));
-    }
-    finality_words(stakes, store, positions, locator)
-}
 
 // ---- the next final locator
 
@@ -134,8 +90,3 @@ pub fn stretches_of(stakes: &[u64], store: &[u8], after: &[u8], out: &mut [u8]) 
         StretchesAnswer::Refused(number) => REFUSED + number,
     }
 }
-
-// A refused question keeps every byte of its positions.
-pub fn claims()
-    ensures { λ _. ⌜ Claims ⌝ }
-{}

@@ -89,6 +89,16 @@ mod calls {
             locator: *const u8,
             locator_len: usize,
         ) -> u64;
+        pub fn lomkhvide_finality_withdrawing(
+            stakes: *const u8,
+            stakes_len: usize,
+            store: *const u8,
+            store_len: usize,
+            positions: *mut u8,
+            positions_len: usize,
+            locator: *const u8,
+            locator_len: usize,
+        ) -> u64;
         pub fn lomkhvide_payload_length(
             stakes: *const u8,
             stakes_len: usize,
@@ -353,14 +363,25 @@ pub struct Finality {
     pub certifying: Vec<u64>,
 }
 
+type FinalityCall = unsafe extern "C" fn(*const u8, usize, *const u8, usize, *mut u8, usize, *const u8, usize) -> u64;
+
 impl Committee {
     /// Whether a locator is final; or 5, 10.
     pub fn finality(&self, store: &[u8], locator: &Locator) -> Result<Finality, Refused> {
+        self.asked_finality(calls::lomkhvide_finality, store, locator)
+    }
+
+    /// The same in the reading in which an owner may withdraw.
+    pub fn finality_withdrawing(&self, store: &[u8], locator: &Locator) -> Result<Finality, Refused> {
+        self.asked_finality(calls::lomkhvide_finality_withdrawing, store, locator)
+    }
+
+    fn asked_finality(&self, call: FinalityCall, store: &[u8], locator: &Locator) -> Result<Finality, Refused> {
         let mut positions = vec![0; 8 * 1024];
         let (stakes, locator) = (&self.stakes, &locator.0);
         // The slices are lent for the call alone, and the one that it writes is this function's own.
         let word = unsafe {
-            calls::lomkhvide_finality(
+            call(
                 stakes.as_ptr(),
                 stakes.len(),
                 store.as_ptr(),
@@ -1039,6 +1060,8 @@ mod tests {
         let certified = Finality { is_final: true, certifying: vec![80] };
         assert_eq!([share(0), share(1), share(2)], [Ok(certified.clone()), Ok(certified.clone()), Ok(certified)]);
         assert_eq!(share(3), Ok(Finality { is_final: false, certifying: vec![] }));
+        let in_both = |offset| committee.finality_withdrawing(&store, &Locator::new(0, 1, digest, offset)) == share(offset);
+        assert!((0..4).all(in_both), "nobody withdraws");
         let mut listed = Vec::new();
         let mut after = None;
         while let Some(locator) = committee.next_final(&store, after.as_ref()).unwrap() {

@@ -7,7 +7,7 @@ pub mod stakes_file;
 
 use crate::damage::damaged;
 use crate::list::List;
-use crate::model::record::Block;
+use crate::model::record::{Block, Locator, Statement};
 use crate::rng::Rng;
 use graph::{finish, Shape};
 use special::{blocks, counts, events, items};
@@ -65,6 +65,48 @@ fn small(rng: &mut Rng) -> List {
     let stakes = stakes(rng, 7);
     let shape = Shape { rounds: rng.within(1, 5), statements: rng.within(1, 5), run: 3, wrong: 12 };
     finish(rng, stakes, shape)
+}
+
+/// Graphs in which owners withdraw: rejects of what is voted for, above the votes, below them and beside.
+pub fn rejecting(rng: &mut Rng) -> List {
+    let stakes = stakes(rng, 6);
+    let shape = Shape { rounds: rng.within(2, 5), statements: 3, run: 4, wrong: 1000 };
+    let list = finish(rng, stakes, shape);
+    let mut blocks: Vec<Block> = list.records.iter().filter_map(|record| Block::decode(record)).collect();
+    let mut voted: Vec<Locator> = Vec::new();
+    for block in &blocks {
+        for (offset, statement) in block.statements.iter().enumerate() {
+            match statement {
+                Statement::Share(_) => voted.push(Locator::new(block.reference, offset as u64)),
+                Statement::Accept(locator) => voted.push(*locator),
+                Statement::Range(reference, start, end) if start < end => {
+                    voted.push(Locator::new(*reference, rng.within(*start, *end - 1)));
+                    voted.push(Locator::new(*reference, *end));
+                }
+                _ => {}
+            }
+        }
+    }
+    if voted.is_empty() {
+        return list;
+    }
+    // Few locators, so that some are rejected by many and most by nobody.
+    let few: Vec<Locator> = (0..rng.within(1, 4)).map(|_| *rng.pick(&voted)).collect();
+    let often = rng.within(2, 6);
+    for block in blocks.iter_mut().filter(|block| block.reference.round > 0) {
+        while rng.once_in(often) {
+            let pool = if rng.once_in(4) { &voted } else { &few };
+            let mut rejected = *rng.pick(pool);
+            if rng.once_in(12) {
+                rejected.offset = *rng.pick(&[rejected.offset.wrapping_add(1), rejected.offset.wrapping_sub(1), u64::MAX]);
+            }
+            let second = rng.once_in(3).then_some(*rng.pick(pool));
+            let at =
+                if rng.once_in(4) { rng.below(block.statements.len() as u64 + 1) as usize } else { block.statements.len() };
+            block.statements.insert(at, Statement::Reject(rejected, second));
+        }
+    }
+    List::roomy(list.stakes, blocks.iter().map(Block::encode).collect())
 }
 
 /// Many members, few rounds.

@@ -1,9 +1,10 @@
-//! The course run of 01 and the five exercises of docs/COURSE.md.
+//! The course run of 01 and the exercises of docs/COURSE.md.
 
 use super::input::{accept, range, reject, share, Input};
 use super::{named, Named};
 use crate::model::committee::COURSE;
 use crate::model::mistake::Mistake;
+use crate::model::record::{Block, Locator, Reference, Statement};
 
 pub fn inputs() -> Vec<Named> {
     named![course_run, heads_for_stake, owner_twice, marked_block, share_offsets, empty_range]
@@ -95,4 +96,36 @@ fn empty_range() -> Vec<u8> {
     let two = i.round(2, 0..4, &one, &[(1, vec![range(one[0], 3, 5)]), (2, vec![range(one[0], 3, 3)])]);
     i.round(3, 0..4, &two, &[(3, vec![range(one[0], 3, 4)])]);
     i.bytes
+}
+
+/// The records of the course run and one more, 14, of owner 3, round 2, which no other includes; with a reject of the share by the owner of one
+/// of them, after all that it says.
+pub fn withdrawn(rejecting: Option<usize>) -> Vec<Block> {
+    let reference = |k: u8, author: u64, round: u64| {
+        let mut digest = [0; 32];
+        digest[3] = k;
+        Reference { author, round, digest }
+    };
+    let mut blocks: Vec<Block> = Vec::new();
+    let mut add = |author: u64, round: u64, includes: Vec<Reference>, statements: Vec<Statement>| {
+        let reference = reference(1 + blocks.len() as u8, author, round);
+        blocks.push(Block { reference, marked: false, includes, statements, time: None });
+    };
+    (0..4).for_each(|author| add(author, 0, vec![], vec![]));
+    let round = |round: u64, first: u8| -> Vec<Reference> {
+        (0..3).map(|author| reference(first + author as u8, author, round)).collect()
+    };
+    let share = Locator::new(reference(5, 0, 1), 0);
+    for author in 0..3 {
+        add(author, 1, round(0, 1), if author == 0 { vec![Statement::Share(vec![])] } else { vec![] });
+    }
+    for author in 0..3 {
+        add(author, 2, round(1, 5), if author == 0 { vec![] } else { vec![Statement::Accept(share)] });
+    }
+    (0..3).for_each(|author| add(author, 3, round(2, 8), vec![]));
+    add(3, 2, round(1, 5), vec![]);
+    if let Some(k) = rejecting {
+        blocks[k - 1].statements.push(Statement::Reject(share, None));
+    }
+    blocks
 }

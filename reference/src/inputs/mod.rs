@@ -10,8 +10,11 @@ use std::fs;
 use std::path::Path;
 
 use crate::model::committee::{Committee, COURSE};
+use crate::model::feed::{State, EVENT_BYTES};
+use crate::model::finality::{Graph, Reading};
 use crate::model::listing::{listing, mistaken_listing};
 use crate::model::mistake::Mistake;
+use crate::model::record::{Locator, Reference};
 use crate::model::ring;
 
 const ROOT: &str = concat!(env!("CARGO_MANIFEST_DIR"), "/..");
@@ -93,11 +96,17 @@ fn exercise(page: &str, name: &str, input: &[u8], mistake: Mistake) -> Result<()
     Ok(())
 }
 
+/// The rows of the table below a heading, without its head.
+fn rows<'a>(page: &'a str, heading: &str) -> Vec<&'a str> {
+    let section = page.split_once(&format!("\n## {heading}")).map_or("", |(_, rest)| rest);
+    let section = section.split_once("\n## ").map_or(section, |(own, _)| own);
+    section.lines().filter(|line| line.starts_with('|')).skip(2).collect()
+}
+
 /// What is wrong with the exercise about whom to ring, if anything: in the course committee owners 2, 3 and 6 have voted.
 fn ringing(page: &str) -> Result<(), String> {
     let committee = Committee::new(&COURSE).unwrap();
-    let exercise = page.split_once("\n## 6. ").map_or("", |(_, rest)| rest);
-    let rows: Vec<&str> = exercise.lines().filter(|line| line.starts_with('|')).skip(2).collect();
+    let rows = rows(page, "6. ");
     for row in &rows {
         let cells: Vec<&str> = row.split('|').map(str::trim).collect();
         let reachable = cells[1].split(", ").fold(0, |set, owner| set | 1u128 << owner.parse::<u32>().unwrap_or(127));
@@ -114,6 +123,38 @@ fn ringing(page: &str) -> Result<(), String> {
     }
     if rows.is_empty() {
         return Err("docs/COURSE.md has no table of whom to ring".into());
+    }
+    Ok(())
+}
+
+/// What is wrong with the exercise about withdrawing, if anything: the course run with a reject in one of its records.
+fn withdrawing(page: &str) -> Result<(), String> {
+    let committee = Committee::new(&[1; 4]).unwrap();
+    let rows = rows(page, "7. ");
+    for row in &rows {
+        let cells: Vec<&str> = row.split('|').map(str::trim).collect();
+        let blocks = course::withdrawn(cells[1].parse().ok());
+        let mut state = State::default();
+        for block in &blocks {
+            state.feed(&committee, 65_536, EVENT_BYTES, &block.encode()).map_err(|number| format!("a record is refused: {number}"))?;
+        }
+        let graph = Graph::new(&committee, &state.stores);
+        let certify = |reading| {
+            let finality = graph.finality_in(reading, &Locator::new(blocks[4].reference, 0));
+            let number = |certifier: &Reference| 1 + blocks.iter().position(|block| block.reference == *certifier).unwrap();
+            let mut records: Vec<usize> = finality.certifying.iter().map(number).collect();
+            records.sort();
+            let records: Vec<String> = records.iter().map(usize::to_string).collect();
+            (if records.is_empty() { "none".into() } else { records.join(", ") }, finality.is_final)
+        };
+        let (old, new) = (certify(Reading::Old), certify(Reading::Withdrawing));
+        let right = [old.0, new.0, if new.1 { "yes" } else { "no" }.into()];
+        if cells[2..5] != right {
+            return Err(format!("docs/COURSE.md has another answer for a reject in record {}: {right:?}", cells[1]));
+        }
+    }
+    if rows.is_empty() {
+        return Err("docs/COURSE.md has no table of withdrawing".into());
     }
     Ok(())
 }
@@ -139,5 +180,5 @@ pub fn run(check: bool) -> Vec<Result<(), String>> {
         exercise(&page, name, input, *mistake)
     });
     let files = files(&inputs);
-    exercises.chain([ringing(&page)]).chain(files.iter().map(|(place, content)| file(place, content, check))).collect()
+    exercises.chain([ringing(&page), withdrawing(&page)]).chain(files.iter().map(|(place, content)| file(place, content, check))).collect()
 }

@@ -7,6 +7,14 @@ use super::mistake::Mistake;
 use super::record::{Block, Locator, Reference, Statement};
 use super::store::Stores;
 
+/// 02, "Twelve": what a reject means. In the old reading nothing; in the other it withdraws its owner's votes for its first locator, in every
+/// block that has it in its inclusive ancestry.
+#[derive(Clone, Copy, PartialEq, Eq, Debug)]
+pub enum Reading {
+    Old,
+    Withdrawing,
+}
+
 /// What is answered about a locator: final or not, and the blocks that certify it, in ascending order of reference.
 #[derive(Clone, PartialEq, Eq, Debug)]
 pub struct Finality {
@@ -44,13 +52,22 @@ impl<'a> Graph<'a> {
     }
 
     pub fn finality(&self, locator: &Locator) -> Finality {
+        self.finality_in(Reading::Old, locator)
+    }
+
+    pub fn finality_in(&self, reading: Reading, locator: &Locator) -> Finality {
         let votes: Vec<bool> = self.blocks.iter().map(|block| votes_for(block, locator)).collect();
+        let withdraws = |block: &&Block| reading == Reading::Withdrawing && rejects(block, locator);
+        let rejects: Vec<bool> = self.blocks.iter().map(withdraws).collect();
         let mut certifying = Vec::new();
         let mut authors = Votes::default();
         let mut is_final = false;
         for (block, ancestry) in self.blocks.iter().zip(&self.ancestries) {
-            let voting = ancestry.iter().filter(|below| votes[**below]);
-            let voters = voting.fold(0u128, |voters, below| voters | 1 << self.blocks[*below].reference.author);
+            let owners = |said: &[bool]| {
+                let saying = ancestry.iter().filter(|below| said[**below]);
+                saying.fold(0u128, |owners, below| owners | 1 << self.blocks[*below].reference.author)
+            };
+            let voters = owners(&votes) & !owners(&rejects);
             if !block.marked && self.committee.is_quorum(self.committee.stake_of(voters)) {
                 certifying.push(block.reference);
                 is_final = self.committee.vote(&mut authors, block.reference.author);
@@ -79,9 +96,28 @@ impl<'a> Graph<'a> {
 
     /// The final list.
     pub fn final_list(&self) -> Vec<(Locator, Finality)> {
-        let each = self.voted().into_iter().map(|locator| (locator, self.finality(&locator)));
+        self.final_list_in(Reading::Old)
+    }
+
+    pub fn final_list_in(&self, reading: Reading) -> Vec<(Locator, Finality)> {
+        let each = self.voted().into_iter().map(|locator| (locator, self.finality_in(reading, &locator)));
         each.filter(|(_, finality)| finality.is_final).collect()
     }
+
+    /// Every locator that a stored block rejects.
+    pub fn rejected(&self) -> BTreeSet<Locator> {
+        let statements = self.blocks.iter().flat_map(|block| &block.statements);
+        let first = |statement: &Statement| match statement {
+            Statement::Reject(locator, _) => Some(*locator),
+            _ => None,
+        };
+        statements.filter_map(first).collect()
+    }
+}
+
+/// Whether the block has a reject of the locator, its first.
+fn rejects(block: &Block, locator: &Locator) -> bool {
+    block.statements.iter().any(|statement| matches!(statement, Statement::Reject(first, _) if first == locator))
 }
 
 /// Whether the block has the share, an accept or a range covering the locator.

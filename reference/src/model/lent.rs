@@ -2,7 +2,7 @@
 
 use super::committee::{Committee, Votes};
 use super::feed::{Event, State};
-use super::finality::{Finality, Graph};
+use super::finality::{Finality, Graph, Reading};
 use super::record::{locator_of, number, reference_of, Locator};
 use super::ring;
 use super::stakes_file;
@@ -114,13 +114,17 @@ pub fn creation_time(stakes: &[u8], store: &[u8], reference: &[u8], found: &mut 
 
 /// 5, 10, 20, 40.
 pub fn finality(stakes: &[u8], store: &[u8], positions: &mut [u8], locator: &[u8]) -> Answer {
+    finality_in(Reading::Old, stakes, store, positions, locator)
+}
+
+pub fn finality_in(reading: Reading, stakes: &[u8], store: &[u8], positions: &mut [u8], locator: &[u8]) -> Answer {
     let committee = Committee::lent(stakes)?;
     let stores = Stores::read(&committee, store)?;
     let locator = locator_of(locator).ok_or(20u64)?;
     if positions.len() != POSITION_BYTES {
         return Err(40);
     }
-    let finality = Graph::new(&committee, &stores).finality(&locator);
+    let finality = Graph::new(&committee, &stores).finality_in(reading, &locator);
     Ok(write_finality(&stores, &finality, positions))
 }
 

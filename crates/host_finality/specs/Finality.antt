@@ -1,4 +1,4 @@
--- The finality question of a host. Assumes nothing: these are definitions.
+-- The finality question of a host, in either reading. Assumes nothing: these are definitions.
 use Prim.Native.Nat.{ℕ, _+_, _*_, _≤_}
 use mathlib.Core.Option.{Option, none, some}
 use lib.Dec.{eqb}
@@ -9,7 +9,9 @@ use Rattle.base.specs.Checks.{Answer, refused, answered}
 use Rattle.committee.specs.Committee.{Committee}
 use Rattle.blocks.specs.Reference.{TransactionLocator}
 use Rattle.words.specs.Words.{wordsOf, bytesOf}
-use Rattle.finality.specs.Finality.{Finality, finality}
+use Rattle.finality.specs.Finality.{Finality}
+use Rattle.readings.specs.Readings.{Reading}
+use Rattle.readings.specs.Finality.{finalityIn}
 use Rattle.finalization_interpreter.specs.declared.FinalityAnswer.{FinalityAnswer}
 use Rattle.finalization_interpreter.specs.declared.FinalityAnswer.the-variants.{Final, NotFinal, Refused}
 use Rattle.host_calls.specs.Calls.{committeeOf}
@@ -26,21 +28,21 @@ finalityNumber (answered f) = answered (2 * f .certifying + pick (f .final) 1 0)
 finalityNumber (refused n) = refused n
 
 -- 01: "a table, events or positions (1,024) not of `listing`'s size 11, 15 or 40 in place"
-unfoldable pub finalityOf : Committee → Bytes → Bytes → TransactionLocator → FinalityCall
-finalityOf c s ps l =
+unfoldable pub finalityOf : Reading → Committee → Bytes → Bytes → TransactionLocator → FinalityCall
+finalityOf reading c s ps l =
     pick (eqb (length ps) 8192)
     (record {
-      answer = finalityNumber (finality c s (wordsOf ps) l .answer);
-      positions = bytesOf (finality c s (wordsOf ps) l .positions);
+      answer = finalityNumber (finalityIn reading c s (wordsOf ps) l .answer);
+      positions = bytesOf (finalityIn reading c s (wordsOf ps) l .positions);
     })
     (record { answer = refused (refusalBefore 40 c s); positions = ps })
 
-unfoldable pub askedFinality : Committee → Bytes → Bytes → Option TransactionLocator → FinalityCall
-askedFinality c s ps none = record { answer = refused (refusalBefore 20 c s); positions = ps }
-askedFinality c s ps (some l) = finalityOf c s ps l
+unfoldable pub askedFinality : Reading → Committee → Bytes → Bytes → Option TransactionLocator → FinalityCall
+askedFinality reading c s ps none = record { answer = refused (refusalBefore 20 c s); positions = ps }
+askedFinality reading c s ps (some l) = finalityOf reading c s ps l
 
-unfoldable pub finalityCall : Bytes → Bytes → Bytes → Bytes → FinalityCall
-finalityCall stakes s ps b = askedFinality (committeeOf stakes) s ps (locatorOf b)
+unfoldable pub finalityCall : Reading → Bytes → Bytes → Bytes → Bytes → FinalityCall
+finalityCall reading stakes s ps b = askedFinality reading (committeeOf stakes) s ps (locatorOf b)
 
 -- machinery for the contracts of private functions: counts and numbers that leave room for the answer's word
 abbrev pub numbersFit : FinalityAnswer → Type 0

@@ -7,9 +7,10 @@ use Rattle.base.specs.Checks.{refused}
 use Rattle.committee.specs.Committee.{Committee}
 use Rattle.blocks.specs.Reference.{TransactionLocator}
 use Rattle.blocks.specs.Claims.{areBytes}
-use Rattle.host_finals.specs.Finality.{finalityOf}
+use Rattle.readings.specs.Readings.{Reading}
+use Rattle.host_finality.specs.Finality.{finalityOf}
 
 pub record Claims : Type 0 where
   -- 01: "A refusal writes nothing": the positions of a refused question are as they were
-  pub refusedFinality : (c : Committee) (s ps : Bytes) (l : TransactionLocator) (n : ℕ) → areBytes ps ≡ true
-      → finalityOf c s ps l .answer ≡ refused n → finalityOf c s ps l .positions ≡ ps
+  pub refusedFinality : (reading : Reading) (c : Committee) (s ps : Bytes) (l : TransactionLocator) (n : ℕ) → areBytes ps ≡ true
+      → finalityOf reading c s ps l .answer ≡ refused n → finalityOf reading c s ps l .positions ≡ ps

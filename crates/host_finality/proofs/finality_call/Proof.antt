@@ -3,10 +3,10 @@ use lib.Seq.{length-take-le}
 use native.Mathlib.Omega.{arith}
 use borrow.Author.Needs.{needs}
 use Rattle.finalization_interpreter.specs.Answers.{asFinality}
-use Rattle.host_finals.specs.Finality.{finalityNumber, finalityCall}
+use Rattle.host_finality.specs.Finality.{finalityNumber, finalityCall}
 use Rattle.host_calls.specs.Calls.{encoded}
-use Rattle.host_finality.proofs.finality.Statement.{statement}
-use Rattle.host_finality.proofs.finality.Tie as tie
+use Rattle.host_finality.proofs.finality_call.Statement.{statement}
+use Rattle.host_finality.proofs.finality_call.Tie as tie
 
 slice-aggregate-stakes-of : tie.Need-slice-aggregate-stakes-of
 slice-aggregate-stakes-of c = search needs
@@ -65,8 +65,8 @@ returns-3 : tie.Need-returns-3
 unfolding encoded finalityCall finalityNumber asFinality
 returns-3 c = (rw (← c .before .before .before .before .before .before .before .before .before .stakes-of .ensures .1, ← c .before .before .before .before .before .finality-of .ensures .0 .0, c .before .number .given .1), rw (← c .before .before .before .before .before .before .before .before .before .stakes-of .ensures .1) (c .before .before .before .before .before .finality-of .ensures .0 .1))
 
-pub finality-spec : {M : Type 1} → statement M
-finality-spec =
+pub finality-call-spec : {M : Type 1} → statement M
+finality-call-spec =
     tie.close
     (tie.spec
     slice-aggregate-stakes-of

@@ -1,0 +1,2 @@
+pub mod Finality
+pub mod Claims

@@ -1,0 +1,73 @@
+//! An owner may withdraw: graphs rich in rejects, each question of the second reading on the engine and on the model.
+
+use std::collections::BTreeSet;
+
+use crate::compare::{same, same_bytes, set, Outcome, Sides};
+use crate::engine;
+use crate::generate;
+use crate::model::finality::{Graph, Reading};
+use crate::model::lent::{write_finality, POSITION_BYTES};
+use crate::model::record::Locator;
+use crate::rng::Rng;
+use crate::tally::Tally;
+
+/// What the lists of a run held.
+#[derive(Default)]
+pub struct Withdrawn {
+    pub questions: u64,
+    /// Locators that are final in both readings, and in the old one alone.
+    pub both: u64,
+    pub old_alone: u64,
+}
+
+/// List n: questions after some of its records, and after all of them.
+pub fn compare(seed: u64, n: u64, withdrawn: &mut Withdrawn) -> Outcome {
+    let mut rng = Rng::new(seed.wrapping_mul(0x9e3779b97f4a7c15) ^ n);
+    let list = generate::rejecting(&mut rng);
+    let Some(mut sides) = set(&list)? else { return Ok(()) };
+    let asked = rng.below(list.records.len() as u64 + 1) as usize;
+    for (i, record) in list.records.iter().enumerate() {
+        if i == asked {
+            ask(&sides, withdrawn).map_err(|text| format!("after {i} records: {text}"))?;
+        }
+        sides.feed(record, &mut Tally::default()).map_err(|text| format!("record {}: {text}", i + 1))?;
+    }
+    ask(&sides, withdrawn).map_err(|text| format!("at the end: {text}"))
+}
+
+fn ask(sides: &Sides, withdrawn: &mut Withdrawn) -> Outcome {
+    let graph = Graph::new(&sides.committee, &sides.state.stores);
+    for locator in locators(&graph) {
+        withdrawn.questions += 1;
+        let old = graph.finality(&locator).is_final;
+        let new = finality(sides, &graph, &locator)?;
+        withdrawn.both += (old && new) as u64;
+        withdrawn.old_alone += (old && !new) as u64;
+        same("final in the second reading, so in the old one", "model", new && !old, false)?;
+    }
+    if graph.rejected().is_empty() {
+        same("no rejects", "model", graph.final_list_in(Reading::Withdrawing), graph.final_list())?;
+    }
+    Ok(())
+}
+
+/// Those that are voted for or rejected, and their neighbours.
+fn locators(graph: &Graph) -> BTreeSet<Locator> {
+    let mut locators = graph.voted();
+    for locator in graph.rejected() {
+        let beside = [locator.offset.wrapping_sub(1), locator.offset, locator.offset.wrapping_add(1)];
+        locators.extend(beside.map(|offset| Locator { offset, ..locator }));
+    }
+    locators
+}
+
+fn finality(sides: &Sides, graph: &Graph, locator: &Locator) -> Result<bool, String> {
+    let lent = &sides.engine;
+    let (mut got, mut right) = (vec![0x3c; POSITION_BYTES], vec![0x3c; POSITION_BYTES]);
+    let told = engine::finality_withdrawing(&lent.stakes, &lent.store, &mut got, &locator.bytes());
+    let finality = graph.finality_in(Reading::Withdrawing, locator);
+    let answer = write_finality(&sides.state.stores, &finality, &mut right);
+    same(&format!("finality_withdrawing of {locator:?}"), "engine", told, Ok(answer))?;
+    same_bytes(&format!("positions of {locator:?} in the second reading"), &got, &right)?;
+    Ok(finality.is_final)
+}
