@@ -1,7 +1,7 @@
 use mathlib.Core.Path.{refl}
 use native.Mathlib.Omega.{arith}
 use borrow.Author.Needs.{needs}
-use Rattle.listing_run.proofs.Feeds.{fed-holds}
+use Rattle.listing_feeds.proofs.Feeds.{fed-holds}
 use Rattle.listing_run.proofs.run.Statement.{statement}
 use Rattle.listing_run.proofs.run.Tie as tie
 

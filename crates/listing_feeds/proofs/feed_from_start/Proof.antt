@@ -3,10 +3,10 @@ use mathlib.Core.Path.{ap, _∙_}
 use lib.ListN.{length, length-set, length-replicate}
 use native.Mathlib.Omega.{arith}
 use borrow.Author.Needs.{needs}
-use Rattle.listing_run.specs.Feeds.{start}
-use Rattle.listing_run.proofs.Feeds.{fed-start}
-use Rattle.listing_run.proofs.feed_from_start.Statement.{statement}
-use Rattle.listing_run.proofs.feed_from_start.Tie as tie
+use Rattle.listing_feeds.specs.Feeds.{start}
+use Rattle.listing_feeds.proofs.Feeds.{fed-start}
+use Rattle.listing_feeds.proofs.feed_from_start.Statement.{statement}
+use Rattle.listing_feeds.proofs.feed_from_start.Tie as tie
 
 slice-write-store : tie.Need-slice-write-store
 slice-write-store c = omega (arith, ap length (c .before .before .before .before .pre .0 .0) ∙ length-replicate {A = ℕ} 65536 0)

@@ -2,8 +2,8 @@ use mathlib.Core.Path.{sym}
 use lib.Seq.{length-take-le}
 use native.Mathlib.Omega.{arith}
 use borrow.Author.Needs.{needs}
-use Rattle.listing_run.proofs.list_stretches.Statement.{statement}
-use Rattle.listing_run.proofs.list_stretches.Tie as tie
+use Rattle.listing_finals.proofs.list_stretches.Statement.{statement}
+use Rattle.listing_finals.proofs.list_stretches.Tie as tie
 
 slice-aggregate-print-stretches : tie.Need-slice-aggregate-print-stretches
 slice-aggregate-print-stretches c = sym (length-take-le (c .before .before .before .before .args .end) (c .before .before .before .before .args .stretches .now) (omega arith))

@@ -2,9 +2,9 @@ use mathlib.Core.Path.{sym}
 use lib.Seq.{length-take-le}
 use native.Mathlib.Omega.{arith}
 use borrow.Author.Needs.{needs}
-use Rattle.listing_run.proofs.Feeds.{fed-one}
-use Rattle.listing_run.proofs.feed_record.Statement.{statement}
-use Rattle.listing_run.proofs.feed_record.Tie as tie
+use Rattle.listing_feeds.proofs.Feeds.{fed-one}
+use Rattle.listing_feeds.proofs.feed_record.Statement.{statement}
+use Rattle.listing_feeds.proofs.feed_record.Tie as tie
 
 slice-aggregate-feed : tie.Need-slice-aggregate-feed
 slice-aggregate-feed c = search needs

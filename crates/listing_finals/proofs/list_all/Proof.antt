@@ -3,8 +3,8 @@ use mathlib.Core.Path.{_≡_, refl, sym, _∙_}
 use Prim.Native.Nat.{_≤_, _-_}
 use lib.ListN.{length}
 use native.Mathlib.Omega.{arith}
-use Rattle.listing_run.proofs.list_all.Statement.{statement}
-use Rattle.listing_run.proofs.list_all.Tie as tie
+use Rattle.listing_finals.proofs.list_all.Statement.{statement}
+use Rattle.listing_finals.proofs.list_all.Tie as tie
 
 abbrev Inv-loop : tie.InvT-loop
 Inv-loop stakes store out₀ from listed₀ turn₀ out listed turn = (listed .at ≤ length out₀) × (length out ≡ length out₀)

@@ -15,7 +15,7 @@ use Rattle.feeds.specs.Feed.{feed, lentOf}
 use Rattle.feeds.proofs.Keeping.{State, feed-keeps, fresh-table}
 use Rattle.aggregator.proofs.Votes.{order-holds}
 use Rattle.promises.specs.Feeds.{Feed, Engine, fresh, outcome, left, run}
-use Rattle.listing_run.specs.Feeds.{engine, FedFrom, start}
+use Rattle.listing_feeds.specs.Feeds.{engine, FedFrom, start}
 
 -- nothing was fed
 pub fed-none : (c : Committee) (s : Bytes) (t : List ℕ) → FedFrom c (engine s t) s t

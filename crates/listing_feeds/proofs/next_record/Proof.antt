@@ -2,9 +2,9 @@ use mathlib.Core.Path.{sym}
 use lib.Seq.{length-take-le}
 use native.Mathlib.Omega.{arith}
 use borrow.Author.Needs.{needs}
-use Rattle.listing_run.proofs.Feeds.{fed-none}
-use Rattle.listing_run.proofs.next_record.Statement.{statement}
-use Rattle.listing_run.proofs.next_record.Tie as tie
+use Rattle.listing_feeds.proofs.Feeds.{fed-none}
+use Rattle.listing_feeds.proofs.next_record.Statement.{statement}
+use Rattle.listing_feeds.proofs.next_record.Tie as tie
 
 slice-aggregate-read-record : tie.Need-slice-aggregate-read-record
 slice-aggregate-read-record c = search needs

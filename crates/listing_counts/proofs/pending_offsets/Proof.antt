@@ -8,10 +8,10 @@ use Rattle.table_words.proofs.Halves.{holds-full}
 use Rattle.base.proofs.Places.{every-place}
 use mathlib.Core.Path.{_≡_, refl, sym, ap, _∙_}
 use lib.ListN.{length}
-use Rattle.listing_run.specs.Pending.{itemOffsets}
-use Rattle.listing_run.proofs.Pending.{Summed, summed-start, summed-on, summed-end}
-use Rattle.listing_run.proofs.pending_offsets.Statement.{statement}
-use Rattle.listing_run.proofs.pending_offsets.Tie as tie
+use Rattle.listing_counts.specs.Pending.{itemOffsets}
+use Rattle.listing_counts.proofs.Pending.{Summed, summed-start, summed-on, summed-end}
+use Rattle.listing_counts.proofs.pending_offsets.Statement.{statement}
+use Rattle.listing_counts.proofs.pending_offsets.Tie as tie
 
 abbrev Inv-loop : tie.InvT-loop
 Inv-loop table n sum₀ k₀ sum k = Summed (itemsOf table) k sum × (sum < 2 ^ 64)

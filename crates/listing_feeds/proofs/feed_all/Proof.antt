@@ -1,12 +1,12 @@
 use borrow.Author.Needs.{needs}
-use Rattle.listing_run.specs.Feeds.{engine, FedFrom}
-use Rattle.listing_run.proofs.Feeds.{fed-none, fed-on}
+use Rattle.listing_feeds.specs.Feeds.{engine, FedFrom}
+use Rattle.listing_feeds.proofs.Feeds.{fed-none, fed-on}
 use mathlib.Core.Path.{_≡_, refl, sym, _∙_}
 use Prim.Native.Nat.{_≤_, _-_}
 use lib.ListN.{length}
 use native.Mathlib.Omega.{arith}
-use Rattle.listing_run.proofs.feed_all.Statement.{statement}
-use Rattle.listing_run.proofs.feed_all.Tie as tie
+use Rattle.listing_feeds.proofs.feed_all.Statement.{statement}
+use Rattle.listing_feeds.proofs.feed_all.Tie as tie
 
 abbrev Inv-loop : tie.InvT-loop
 Inv-loop fd stakes store₀ table₀ out₀ fed₀ k₀ store table out fed k =

@@ -8,7 +8,7 @@ use lib.ListN.{length, drop, getD}
 use Rattle.base.specs.Lists.{sumOf}
 use Rattle.base.proofs.Loops.{sum-on, sum-end}
 use Rattle.pending_items.specs.Items.{Item, noItem}
-use Rattle.listing_run.specs.Pending.{itemOffsets, pendingOffsets}
+use Rattle.listing_counts.specs.Pending.{itemOffsets, pendingOffsets}
 
 -- what is summed of the first k items, with the rest, makes all
 abbrev pub Summed : List Item → ℕ → ℕ → Type 0

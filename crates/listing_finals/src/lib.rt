@@ -1,0 +1,116 @@
+// The final list, printed as far as it goes.
+use committee::AuthorityIndex;
+use committee::RoundNumber;
+use final_list::StretchesAnswer;
+use types::BlockDigest;
+use types::BlockReference;
+use types::TransactionLocator;
+use vote_starts::MaybeLocator;
+ghost use mathlib.Core.Path.{_≡_};
+ghost use Prim.Native.Nat.{_≤_};
+ghost use lib.ListN.{length};
+
+// How far the buffer is filled, how many locators were final, the last of them, and whether there may be more.
+pub struct Listed {
+    pub at: usize,
+    pub finals: u64,
+    last: MaybeLocator,
+    more: bool,
+}
+
+// The words of n stretches, or all that there are, if these are fewer.
+fn stretch_words(n: u64) -> usize
+    ensures { λ r. ⌜ r ≤ 10240 ⌝ }
+{
+    if 1024 < n {
+        return 10240;
+    }
+    10 * (n as usize)
+}
+
+// The last locator of the stretch before a place.
+fn last_locator(stretches: &[u64], end: usize) -> MaybeLocator
+    requires { ⌜ end ≤ length (now stretches) ⌝ }
+{
+    if end < 10 {
+        return MaybeLocator::Nothing;
+    }
+    let i = end - 10;
+    let digest = BlockDigest(
+        stretches[i + 2],
+        stretches[i + 3],
+        stretches[i + 4],
+        stretches[i + 5],
+    );
+    let block = BlockReference {
+        authority: AuthorityIndex(stretches[i]),
+        round: RoundNumber(stretches[i + 1]),
+        digest,
+    };
+    let offset = std::num::wrapping_sub_u64(stretches[i + 7], 1);
+    MaybeLocator::Locator(TransactionLocator { block, offset })
+}
+
+// Prints the stretches that stand before `end`.
+fn list_stretches(out: &mut [u8], done: Listed, stretches: &[u64], end: usize, more: bool) -> Listed
+    requires { ⌜ (done .at ≤ length (now out)) × ((128 ≤ length (now out)) × (end ≤ length (now stretches))) ⌝ }
+    ensures { λ r. ⌜ (r .at ≤ length (now (out .entry))) × (length (now (out .exit)) ≡ length (now (out .entry))) ⌝ }
+{
+    let printed = listing_io::print_stretches(out, done.at, &stretches[..end]);
+    let at = printed.at;
+    let last = last_locator(stretches, end);
+    Listed {
+        at,
+        finals: std::num::wrapping_add_u64(done.finals, printed.counted),
+        last,
+        more,
+    }
+}
+
+// Asks for the final list from the last locator on, as much as there is room for, and prints it.
+fn list_on(stakes: &[u64], store: &[u8], out: &mut [u8], done: Listed) -> Listed
+    requires { ⌜ (done .at ≤ length (now out)) × (128 ≤ length (now out)) ⌝ }
+    ensures { λ r. ⌜ (r .at ≤ length (now (out .entry))) × (length (now (out .exit)) ≡ length (now (out .entry))) ⌝ }
+{
+    let mut stretches = [0u64; 10240];
+    let last = done.last;
+    let answer = final_list::final_stretches(stakes, store, &mut stretches, last);
+    match answer {
+        StretchesAnswer::Last(n) => {
+            let end = stretch_words(n);
+            list_stretches(out, done, &stretches, end, false)
+        }
+        StretchesAnswer::More(n) => {
+            let end = stretch_words(n);
+            list_stretches(out, done, &stretches, end, 0 < n)
+        }
+        StretchesAnswer::Refused(_) => Listed {
+            at: done.at,
+            finals: done.finals,
+            last,
+            more: false,
+        },
+    }
+}
+
+// Prints the final list. The count of turns only makes the loop end: a store of 65,536 bytes has fewer statements.
+pub fn list_all(stakes: &[u64], store: &[u8], out: &mut [u8], from: usize) -> Listed
+    requires { ⌜ (from ≤ length (now out)) × (128 ≤ length (now out)) ⌝ }
+    ensures { λ r. ⌜ (r .at ≤ length (now (out .entry))) × (length (now (out .exit)) ≡ length (now (out .entry))) ⌝ }
+{
+    let mut listed = Listed {
+        at: from,
+        finals: 0,
+        last: MaybeLocator::Nothing,
+        more: true,
+    };
+    let mut turn: u64 = 0;
+    while turn < 65536 {
+        listed = list_on(stakes, store, out, listed);
+        if !listed.more {
+            return listed;
+        }
+        turn += 1;
+    }
+    listed
+}
