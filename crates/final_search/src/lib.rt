@@ -51,7 +51,7 @@ fn first_start(
 }
 
 // The least offset of a block above a given one at which a vote begins or ends; 0 where there is none.
-fn next_edge(
+pub fn next_edge(
     store: &[u8],
     order: &[u64],
     votes: &[u64],

@@ -19,7 +19,7 @@ use Rattle.store_layout.proofs.Lookups.{lookup-in}
 use Rattle.store_layout.proofs.Loops.{is-entry}
 use Rattle.store_layout.proofs.Search.{laid-out}
 use Rattle.finality.specs.Finality.{blocksOf}
-use Rattle.finality.proofs.FinalList.{Ascending, none-left, and-then}
+use Rattle.finality.proofs.FinalList.{Ascending, and-then}
 use Rattle.stored_finals.specs.Shares.{storedShares}
 use Rattle.loadable.specs.Question.{placeWords, namedBy}
 use Rattle.loadable.proofs.Places.{found-entry, read-back, length-places}

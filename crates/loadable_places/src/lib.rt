@@ -12,7 +12,6 @@ ghost use Rattle.base.specs.Lists.{pick, anyOf};
 ghost use Rattle.blocks.specs.Reference.{sameLocator};
 ghost use Rattle.types.specs.Values.{asLocator};
 ghost use Rattle.store_layout.specs.Entry.{isEntry};
-ghost use Rattle.loadable.specs.Needs.{neededBy};
 ghost use Rattle.loadable.specs.Loadable.{met};
 ghost use Rattle.loadable.specs.Question.{namedBy};
 ghost use Rattle.loadable_share.specs.Answers.{asNeeded};

@@ -51,7 +51,7 @@ pub fn needed_by(bytes: &[u8]) -> Needed
 }
 
 // Whether a locator is final.
-pub fn is_final(
+fn is_final(
     stakes: &[u64],
     total: Stake,
     store: &[u8],

@@ -1,4 +1,0 @@
-pub mod Through
-pub mod Holding
-pub mod Statements
-pub mod Going

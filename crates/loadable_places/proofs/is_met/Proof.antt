@@ -1,13 +1,8 @@
-use mathlib.Core.Path.{_≡_, refl, sym, ap, _∙_}
-use mathlib.Core.Bool.{Bool, _&&_}
-use mathlib.Core.Option.{Option}
 use native.Mathlib.Omega.{arith}
 use borrow.Author.Tests.{lt-ltb, le-ltb}
-use Rattle.base.specs.Lists.{anyOf}
-use Rattle.blocks.specs.Reference.{TransactionLocator, locator, sameLocator}
+use Rattle.blocks.specs.Reference.{locator}
 use Rattle.types.specs.Values.{asReference, asLocator}
 use Rattle.loadable.specs.Loadable.{met}
-use Rattle.loadable.specs.Question.{namedBy}
 use Rattle.loadable_share.specs.Answers.{asNeeded}
 use borrow.Author.Needs.{needs}
 use Rattle.loadable_places.proofs.is_met.Statement.{statement}

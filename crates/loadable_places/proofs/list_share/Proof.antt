@@ -1,13 +1,12 @@
-use mathlib.Core.Path.{_≡_, refl, sym, ap, _∙_}
+use mathlib.Core.Path.{_≡_, sym, ap, _∙_}
 use mathlib.Core.Bool.{true, false}
-use mathlib.Core.Option.{Option}
 use native.Mathlib.Omega.{arith}
 use native.Mathlib.Numerals.{towards-suc}
 use lib.ListN.{length-set}
 use lib.Seq.{sets}
 use borrow.Author.Tests.{not-true, not-false}
 use Rattle.base.specs.Lists.{anyOf}
-use Rattle.blocks.specs.Reference.{TransactionLocator, sameLocator}
+use Rattle.blocks.specs.Reference.{sameLocator}
 use Rattle.types.specs.Values.{asLocator}
 use Rattle.loadable.specs.Loadable.{met}
 use Rattle.loadable.specs.Question.{namedBy}

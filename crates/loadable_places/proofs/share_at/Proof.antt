@@ -1,7 +1,7 @@
 use Prim.Native.Nat.{_+_, _*_}
 use mathlib.Core.Path.{ap}
 use lib.ListN.{getD}
-use Rattle.blocks.specs.Reference.{BlockReference, TransactionLocator, locator}
+use Rattle.blocks.specs.Reference.{BlockReference, locator}
 use Rattle.types.specs.Values.{asLocator}
 use Rattle.loadable_places.specs.Listed.{placeAt}
 use borrow.Author.Needs.{needs}

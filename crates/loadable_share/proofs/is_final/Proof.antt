@@ -1,4 +1,4 @@
-use mathlib.Core.Path.{_≡_, sym, ap, _∙_}
+use mathlib.Core.Path.{_≡_, _∙_}
 use Rattle.committee.specs.Committee.{quorumOf}
 use Rattle.authority_set.specs.AuthoritySet.{stakeOf}
 use Rattle.types.specs.Values.{asLocator}

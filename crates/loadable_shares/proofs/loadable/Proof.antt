@@ -1,7 +1,6 @@
 use mathlib.Core.Path.{_≡_, sym, ap, _∙_}
 use mathlib.Core.Bool.{true}
-use mathlib.Core.List.{List}
-use Prim.Native.Nat.{ℕ, _*_, _/_, _≤_}
+use Prim.Native.Nat.{_/_, _≤_}
 use native.Mathlib.Nat.{mul-div-le}
 use native.Mathlib.Omega.{arith}
 use lib.ListN.{length}
@@ -16,7 +15,7 @@ use Rattle.stored_finals.specs.Shares.{storedShares}
 use Rattle.loadable.specs.Question.{AskedList}
 use Rattle.loadable.proofs.Asking.{list-broken, list-disordered, list-short, list-asked}
 use Rattle.loadable_shares.specs.Answers.{asLoadableList}
-use Rattle.loadable_shares.proofs.Holding.{holding-all}
+use Rattle.loadable_pass.proofs.Holding.{holding-all}
 use borrow.Author.Needs.{needs}
 use Rattle.loadable_shares.proofs.loadable.Statement.{statement}
 use Rattle.loadable_shares.proofs.loadable.Tie as tie
@@ -92,15 +91,15 @@ returns-3 c =
 array-share-prefix-order-2 : tie.Need-array-share-prefix-order-2
 array-share-prefix-order-2 c = search needs
 
-slice-aggregate-list-all : tie.Need-slice-aggregate-list-all
-slice-aggregate-list-all c =
+slice-aggregate-list-tabled : tie.Need-slice-aggregate-list-tabled
+slice-aggregate-list-tabled c =
     let a = c .before .before .before .before .before .before .before .before .before .before .before .before .before .before .before .before .args in
     let q = c .before .before .before .before .before .sorted-positions .ensures in
     let laid = order-laid (a .stakes .now) (a .store .now) (sym (c .before .before .before .before .before .before .before .before .in-order .ensures) ∙ not-false _ (c .before .before .before .before .before .before .before .if1 .left)) in
     q .1 .0 ∙ sym (ap length (q .1 .1) ∙ sorted-count (a .store .now) laid)
 
-list-all-requires : tie.Need-list-all-requires
-list-all-requires c κs =
+list-tabled-requires : tie.Need-list-tabled-requires
+list-tabled-requires c κs =
     let a = c .before .before .before .before .before .before .before .before .before .before .before .before .before .before .before .before .before .args in
     let told = c .before .before .before .before .before .before .before .before .before .before .before .total .given in
     let t = taken-sound (a .stakes .now) (told .0 .0) (ap asNewCommittee (sym (told .1)) ∙ c .before .before .before .before .before .before .before .before .before .before .before .before .before .new-committee .ensures) in
@@ -112,7 +111,7 @@ list-all-requires c κs =
     (((record { sound = t .0; inOrder = o; laid = laid; places = q .1 .1 }, t .1), omega (arith, q, n)), omega (arith, room, mul-div-le (length (a .places .now)) 2))
 
 same-length : tie.Need-same-length
-same-length c = c .before .before .list-all .ensures .1 .long
+same-length c = c .before .before .list-tabled .ensures .1 .long
 
 returns-4 : tie.Need-returns-4
 unfolding asLoadableList
@@ -122,7 +121,7 @@ returns-4 c =
     let t = taken-sound (a .stakes .now) (told .0 .0) (ap asNewCommittee (sym (told .1)) ∙ c .before .before .before .before .before .before .before .before .before .before .before .before .before .before .before .before .new-committee .ensures) in
     let o = sym (c .before .before .before .before .before .before .before .before .before .before .before .before .in-order .ensures) ∙ not-false _ (c .before .before .before .before .before .before .before .before .before .before .before .if1 .left) in
     let room : length (storedShares (blocksOf (a .store .now))) ≤ length (a .places .now) / 2 = omega (arith, c .before .before .before .before .before .if2 .left, c .before .before .before .before .before .before .count-shares .ensures) in
-    let x = holding-all (a .stakes .now) (a .store .now) (a .places .now) (c .before .before .list-all .last .1 .1 .1 .1 .0) (c .before .before .list-all .result) (c .before .before .list-all .ensures .0) (c .before .before .list-all .ensures .1) in
+    let x = holding-all (a .stakes .now) (a .store .now) (a .places .now) (c .before .before .list-tabled .last .1 .1 .1 .1 .0) (c .before .before .list-tabled .result) (c .before .before .list-tabled .ensures .0) (c .before .before .list-tabled .ensures .1) in
     let e = list-asked (a .stakes .now) (a .store .now) (a .places .now) (t .0) o room _ _ (x .0) (x .1) in
     (ap (λ (y : AskedList). y .answer) e, ap (λ (y : AskedList). y .places) e)
 
@@ -143,7 +142,7 @@ loadable-spec =
     count-shares-requires
     returns-3
     array-share-prefix-order-2
-    slice-aggregate-list-all
-    list-all-requires
+    slice-aggregate-list-tabled
+    list-tabled-requires
     same-length
     returns-4)

@@ -1,7 +1,7 @@
-use Rattle.loadable_shares.specs.Answers.{sharedBy}
+use Rattle.loadable_pass.specs.Answers.{sharedBy}
 use borrow.Author.Needs.{needs}
-use Rattle.loadable_shares.proofs.shared.Statement.{statement}
-use Rattle.loadable_shares.proofs.shared.Tie as tie
+use Rattle.loadable_pass.proofs.shared.Statement.{statement}
+use Rattle.loadable_pass.proofs.shared.Tie as tie
 
 enum-known-statement : tie.Need-enum-known-statement
 enum-known-statement c = search needs

@@ -6,18 +6,17 @@ use native.Mathlib.Omega.{arith}
 use lib.ListN.{length, length-append}
 use borrow.Author.Needs.{needs}
 use Rattle.base.proofs.Le.{bytes-of}
-use Rattle.blocks.specs.Reference.{TransactionLocator, locator}
+use Rattle.blocks.specs.Reference.{locator}
 use Rattle.blocks.specs.Block.{isShareAt}
 use Rattle.blocks.specs.Record.{blockIn}
 use Rattle.block_record.specs.Cursor.{cursorAt}
 use Rattle.block_record.specs.Values.{asStatement}
 use Rattle.block_record.specs.declared.StatementCursor.{StatementCursor}
-use Rattle.stored_finals.specs.Shares.{sharesOf}
-use Rattle.loadable_shares.specs.Holding.{sharesBelow}
-use Rattle.loadable_shares.proofs.Through.{below-none, below-all, below-share, below-other}
-use Rattle.loadable_shares.proofs.Statements.{share-here, few-statements}
-use Rattle.loadable_shares.proofs.shares_in.Statement.{statement}
-use Rattle.loadable_shares.proofs.shares_in.Tie as tie
+use Rattle.share_count.specs.Through.{sharesBelow}
+use Rattle.share_count.proofs.Through.{below-none, below-all, below-share, below-other}
+use Rattle.share_count.proofs.Statements.{share-here, few-statements}
+use Rattle.share_count.proofs.shares_in.Statement.{statement}
+use Rattle.share_count.proofs.shares_in.Tie as tie
 
 abbrev Inv-loop : tie.InvT-loop
 Inv-loop rec count cursor₀ n₀ cursor n = (cursor ≡ cursorAt rec (cursor .index)) × (cursor .index ≤ length (blockIn rec .statements)) × (n ≡ length (sharesBelow (blockIn rec) (cursor .index))) × (n ≤ cursor .index)

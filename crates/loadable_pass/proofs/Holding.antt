@@ -3,7 +3,7 @@ use mathlib.Core.Path.{_≡_, refl, sym, ap, ap₂, subst, _∙_}
 use mathlib.Core.Bool.{Bool, true, false}
 use mathlib.Core.List.{List, [], _∷_, _++_, map, map-append, append-assoc, flatten}
 use mathlib.Core.Option.{some}
-use Prim.Native.Nat.{ℕ, _+_, _-_, _*_, _≤_, _<_}
+use Prim.Native.Nat.{ℕ, _+_, _-_, _*_, _≤_}
 use native.Mathlib.Omega.{arith}
 use lib.ListN.{length, take, drop, length-append, take-append-drop}
 use lib.Seq.{sets, sets-eq, length-sets, length-take-le, take-at, drop-at, drop-drop}
@@ -13,8 +13,7 @@ use Rattle.base.proofs.Lists.{append-nil, keep-append, length-keep}
 use Rattle.base.proofs.Members.{in-left, keep-in}
 use Rattle.committee.specs.Committee.{Committee}
 use Rattle.blocks.specs.Reference.{TransactionLocator, sameLocator}
-use Rattle.blocks.specs.Block.{Block}
-use Rattle.store_layout.specs.Layout.{Entry, entries, positionOf, lookup}
+use Rattle.store_layout.specs.Layout.{entries, positionOf, lookup}
 use Rattle.store_layout.specs.Store.{recordsOf, storeInOrder}
 use Rattle.finality.specs.Voters.{isFinal}
 use Rattle.finality.specs.Finality.{blocksOf}
@@ -29,8 +28,8 @@ use Rattle.loadable.proofs.Places.{read-back}
 use Rattle.loadable.proofs.Walking.{walked-shares}
 use Rattle.loadable_places.specs.Listed.{Listed, metBy}
 use Rattle.loadable_places.proofs.Listing.{listed-from}
-use Rattle.loadable_shares.specs.Holding.{Holding, Past}
-use Rattle.loadable_shares.proofs.Through.{flatten-append}
+use Rattle.loadable_pass.specs.Holding.{Holding, Past}
+use Rattle.share_count.proofs.Through.{flatten-append}
 
 ascending-left : (xs ys : List TransactionLocator) → Ascending (xs ++ ys) → Ascending xs
 ascending-left [] ys a = none-left

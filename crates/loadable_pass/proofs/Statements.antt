@@ -1,36 +1,25 @@
 -- The shares among the statements of a record. Assumes nothing.
 use mathlib.Core.Path.{_≡_, refl, sym, ap, _∙_}
 use mathlib.Core.Bool.{true, false}
-use mathlib.Core.List.{List, [], _∷_}
+use mathlib.Core.List.{List}
 use mathlib.Core.Option.{some}
-use Prim.Native.Nat.{ℕ, zero, suc, _+_, _<_, _≤_}
+use Prim.Native.Nat.{ℕ, _+_, _<_, _≤_}
 use native.Mathlib.Omega.{arith}
 use lib.Dec.{eqb}
 use lib.ListN.{length, getD, getElem?}
 use borrow.Author.Tests.{eqb-true}
-use Rattle.base.specs.Lists.{holds}
 use Rattle.base.proofs.Le.{AllBytes}
 use Rattle.base.proofs.Tests.{and-right}
-use Rattle.blocks.specs.Block.{Statement, share, Block, isShare, isShareAt}
-use Rattle.blocks.specs.Record.{wellFormed, blockIn, noStatement, statementStart}
-use Rattle.blocks.proofs.Records.{blockOf-fits, block-of}
+use Rattle.blocks.specs.Block.{share, Block, isShare}
+use Rattle.blocks.specs.Record.{wellFormed, noStatement, statementStart}
 use Rattle.block_record.specs.Cursor.{payloadBetween}
 use Rattle.block_record.specs.Values.{asStatement}
 use Rattle.block_record.specs.declared.BaseStatement.{BaseStatement}
 use Rattle.block_record.specs.declared.BaseStatement.the-variants.{Share, Accept, Reject, RejectFor, VoteRange}
 use Rattle.block_record.proofs.Statements.{start-inside}
 use Rattle.payload.specs.declared.SharePlace.the-variants.{Payload, NoShare}
-use Rattle.loadable_shares.specs.Answers.{sharedBy}
-
-element-at : {A : Type 0} (xs : List A) (i : ℕ) (d : A) → i < length xs → getElem? xs i ≡ some (getD xs i d)
-element-at [] i d h = absurd (omega arith)
-element-at (x ∷ xs) zero d h = refl
-element-at (x ∷ xs) (suc i) d h = element-at xs i d (omega arith)
-
--- the statement of an index, by the one that was read there
-pub share-here : (b : Block) (i : ℕ) (st : Statement) → i < length (b .statements) → st ≡ getD (b .statements) i noStatement → isShareAt b i ≡ isShare st
-unfolding isShareAt holds
-share-here b i st h e = rw (element-at (b .statements) i noStatement h, ← e)
+use Rattle.share_count.proofs.Statements.{element-at}
+use Rattle.loadable_pass.specs.Answers.{sharedBy}
 
 pub payload-here : (b : Block) (i : ℕ) (p : List ℕ) → i < length (b .statements) → share p ≡ getD (b .statements) i noStatement → getElem? (b .statements) i ≡ some (share p)
 payload-here b i p h e = element-at (b .statements) i noStatement h ∙ ap some (sym e)
@@ -59,8 +48,3 @@ pub payload-inside : (rec : List ℕ) → AllBytes rec → wellFormed rec ≡ tr
 unfolding payloadBetween
 payload-inside rec a w i at next start len p e =
     omega (arith, eqb-true (start + len) next (and-right (eqb start (at + 3)) _ p), start-inside rec a w (i + 1))
-
--- ---- how many there are
-
-pub few-statements : (rec : List ℕ) → AllBytes rec → wellFormed rec ≡ true → length (blockIn rec .statements) ≤ 1024
-few-statements rec a w = blockOf-fits rec (blockIn rec) a (block-of rec w) .fewStatements

@@ -31,10 +31,12 @@ use Rattle.loadable.specs.Needs.{payloadIn}
 use Rattle.loadable.proofs.Payloads.{shared-payload}
 use Rattle.loadable.proofs.Looks.{not-final}
 use Rattle.loadable_places.specs.Listed.{metBy}
-use Rattle.loadable_shares.specs.Holding.{sharesBelow, sharesThrough, Holding, Past, Told}
-use Rattle.loadable_shares.specs.declared.FinalRun.{FinalRun}
-use Rattle.loadable_shares.proofs.Through.{through-next, through-left, below-none, below-all, below-share, below-other, below-left}
-use Rattle.loadable_shares.proofs.Holding.{past-none, past-on, by-places, holding-room, holding-skip, Listing, listing}
+use Rattle.loadable_runs.specs.Runs.{Told}
+use Rattle.share_count.specs.Through.{sharesBelow, sharesThrough}
+use Rattle.loadable_pass.specs.Holding.{Holding, Past}
+use Rattle.loadable_runs.specs.declared.FinalRun.{FinalRun}
+use Rattle.share_count.proofs.Through.{through-next, through-left, below-none, below-all, below-share, below-other, below-left}
+use Rattle.loadable_pass.proofs.Holding.{past-none, past-on, by-places, holding-room, holding-skip, Listing, listing}
 
 -- the shares gone through before the statement of that index of the block at a place
 abbrev goneBefore : Bytes → List ℕ → ℕ → Bytes → ℕ → List TransactionLocator

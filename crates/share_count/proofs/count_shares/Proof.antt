@@ -1,20 +1,18 @@
-use mathlib.Core.Path.{_≡_, refl, sym, ap, subst, _∙_}
-use mathlib.Core.List.{List}
-use Prim.Native.Nat.{ℕ, _+_, _-_, _*_, _≤_}
+use mathlib.Core.Path.{_≡_, sym, ap, _∙_}
+use Prim.Native.Nat.{ℕ, _-_, _*_, _≤_}
 use native.Mathlib.Omega.{arith}
 use lib.ListN.{length, getD, length-append}
 use borrow.Author.Needs.{needs}
 use Rattle.base.specs.Le.{Bytes}
-use Rattle.blocks.specs.Reference.{TransactionLocator}
-use Rattle.blocks.specs.Record.{wellFormed, blockIn}
+use Rattle.blocks.specs.Record.{blockIn}
 use Rattle.store_layout.specs.Entry.{blockAt}
 use Rattle.store_layout.proofs.Loops.{entry-room, record-part}
 use Rattle.block_votes.proofs.Sorting.{some-committee, place-entry}
 use Rattle.stored_finals.specs.Shares.{sharesOf}
-use Rattle.loadable_shares.specs.Holding.{sharesThrough}
-use Rattle.loadable_shares.proofs.Through.{through-none, through-next, through-all}
-use Rattle.loadable_shares.proofs.count_shares.Statement.{statement}
-use Rattle.loadable_shares.proofs.count_shares.Tie as tie
+use Rattle.share_count.specs.Through.{sharesThrough}
+use Rattle.share_count.proofs.Through.{through-none, through-next, through-all}
+use Rattle.share_count.proofs.count_shares.Statement.{statement}
+use Rattle.share_count.proofs.count_shares.Tie as tie
 
 abbrev Inv-loop : tie.InvT-loop
 Inv-loop stakes store order n₀ k₀ n k = (k ≤ length order) × (n ≡ length (sharesThrough store order k)) × (n ≤ 1024 * k)

@@ -1,8 +1,8 @@
 -- The stored shares, block by block and offset by offset. Assumes nothing.
 use mathlib.Core.Path.{_≡_, refl, sym, ap, ap₂, _∙_}
-use mathlib.Core.Bool.{Bool, true, false}
+use mathlib.Core.Bool.{true, false}
 use mathlib.Core.List.{List, [], _∷_, _++_, map, map-append, append-assoc, flatten}
-use Prim.Native.Nat.{ℕ, zero, suc, _+_, _-_, _<_, _≤_}
+use Prim.Native.Nat.{ℕ, _+_, _-_, _<_, _≤_}
 use native.Mathlib.Omega.{arith}
 use native.Mathlib.Numerals.{add-one}
 use lib.ListN.{length, take, drop, getD, take-append-drop}
@@ -12,7 +12,7 @@ use Rattle.base.specs.Le.{Bytes}
 use Rattle.base.proofs.Lists.{append-nil, keep-append, countFrom-add}
 use Rattle.base.proofs.Loops.{drop-next}
 use Rattle.committee.specs.Committee.{Committee}
-use Rattle.blocks.specs.Reference.{BlockReference, TransactionLocator, locator}
+use Rattle.blocks.specs.Reference.{TransactionLocator, locator}
 use Rattle.blocks.specs.Block.{Block, isShareAt}
 use Rattle.store_layout.specs.Layout.{Entry, entries, ascending}
 use Rattle.store_layout.specs.Store.{recordsOf}
@@ -24,7 +24,7 @@ use Rattle.finality.specs.Finality.{blocksOf}
 use Rattle.block_votes.specs.Walk.{Sorted}
 use Rattle.stored_finals.specs.Shares.{sharesOf, storedShares}
 use Rattle.stored_finals.proofs.Through.{through-entries}
-use Rattle.loadable_shares.specs.Holding.{sharesBelow, sharesThrough}
+use Rattle.share_count.specs.Through.{sharesBelow, sharesThrough}
 
 -- ---- lists
 

@@ -1,0 +1,131 @@
+// The stored shares gone through in ascending order, and the loadable ones listed.
+use block_record::BaseStatement;
+use committee::Stake;
+use loadable_runs::FinalRun;
+use payload::SharePlace;
+use types::TransactionLocator;
+ghost use mathlib.Core.Path.{_≡_};
+ghost use Prim.Native.Nat.{_+_, _*_, _≤_, _<_};
+ghost use lib.ListN.{length, getD};
+ghost use Rattle.store_layout.specs.Entry.{recordAt};
+ghost use Rattle.finality.specs.Finality.{blocksOf};
+ghost use Rattle.stored_finals.specs.Shares.{storedShares};
+ghost use Rattle.final_search.specs.Search.{Ready, Tables};
+ghost use Rattle.share_count.specs.Through.{sharesThrough};
+ghost use Rattle.loadable_pass.specs.Answers.{sharedBy};
+ghost use Rattle.loadable_pass.specs.Holding.{Holding, Past};
+
+// Where a record has the payload of a statement that is a share.
+fn shared(statement: BaseStatement) -> SharePlace
+    ensures { λ r. ⌜ r ≡ sharedBy statement ⌝ }
+{
+    match statement {
+        BaseStatement::Share(start, len) => SharePlace::Payload(start, len),
+        BaseStatement::Accept(_) => SharePlace::NoShare,
+        BaseStatement::Reject(_) => SharePlace::NoShare,
+        BaseStatement::RejectFor(_, _) => SharePlace::NoShare,
+        BaseStatement::VoteRange(_) => SharePlace::NoShare,
+    }
+}
+
+// Puts the loadable shares of the block of a record, which stands at a place of the order, after the first n places; the answer is how many
+// there are then.
+fn list_record(
+    stakes: &[u64],
+    total: Stake,
+    store: &[u8],
+    order: &[u64],
+    votes: &[u64],
+    m: usize,
+    tabled: usize,
+    includes: &[u64],
+    noted: usize,
+    places: &mut [u64],
+    n: usize,
+    k: usize,
+    rec: &[u8],
+) -> usize
+    requires { ⌜ ((Ready (now stakes) (total .0) (now store) (now order) × Tables (now store) (now order) (now votes) m tabled (now includes) noted) × ((k < length (now order)) × (now rec ≡ recordAt (now store) (getD (now order) k 0)))) × Holding (now stakes) (now store) (sharesThrough (now store) (now order) k) (now places) n ⌝ }
+    ensures { λ r. ⌜ Holding (now (stakes .entry)) (now (store .entry)) (sharesThrough (now (store .entry)) (now (order .entry)) (k + 1)) (now (places .exit)) r × (Past (now (places .entry)) (now (places .exit)) r × (n ≤ r)) ⌝ }
+{
+    let at = order[k] as usize;
+    let block = block_record::reference(rec);
+    let count = block_record::statement_count(rec);
+    let mut cursor = block_record::first_statement(rec);
+    let mut run = FinalRun {
+        end: 0,
+        finals: false,
+    };
+    let mut found = n;
+    while cursor.index < count {
+        let offset = cursor.index as u64;
+        let next = block_record::next_statement(rec, cursor);
+        cursor = next.next;
+        let statement = next.statement;
+        let SharePlace::Payload(start, len) = shared(statement) else {
+            continue;
+        };
+        let share = TransactionLocator { block, offset };
+        run = loadable_runs::run_at(
+            stakes,
+            total,
+            store,
+            order,
+            votes,
+            m,
+            tabled,
+            includes,
+            noted,
+            run,
+            share,
+        );
+        if !run.finals {
+            continue;
+        }
+        let end = start + len;
+        found = loadable_places::list_share(store, places, found, at, share, &rec[start..end]);
+    }
+    found
+}
+
+// Puts all loadable shares at the front of the places; the answer is how many there are.
+pub fn list_all(
+    stakes: &[u64],
+    total: Stake,
+    store: &[u8],
+    order: &[u64],
+    votes: &[u64],
+    m: usize,
+    tabled: usize,
+    includes: &[u64],
+    noted: usize,
+    places: &mut [u64],
+) -> usize
+    requires { ⌜ (Ready (now stakes) (total .0) (now store) (now order) × Tables (now store) (now order) (now votes) m tabled (now includes) noted) × (2 * length (storedShares (blocksOf (now store))) ≤ length (now places)) ⌝ }
+    ensures { λ r. ⌜ Holding (now (stakes .entry)) (now (store .entry)) (storedShares (blocksOf (now (store .entry)))) (now (places .exit)) r × Past (now (places .entry)) (now (places .exit)) r ⌝ }
+{
+    let mut n: usize = 0;
+    let mut k: usize = 0;
+    while k < order.len() {
+        let at = order[k] as usize;
+        let from = at + 8;
+        let end = store_order::record_end(store, at);
+        n = list_record(
+            stakes,
+            total,
+            store,
+            order,
+            votes,
+            m,
+            tabled,
+            includes,
+            noted,
+            places,
+            n,
+            k,
+            &store[from..end],
+        );
+        k += 1;
+    }
+    n
+}

@@ -1,0 +1,92 @@
+// Finality of shares, taken for many neighbours at once: it changes only where a vote begins or ends.
+use committee::Stake;
+use types::TransactionLocator;
+ghost use mathlib.Core.Path.{_≡_};
+ghost use Prim.Native.Nat.{_<_};
+ghost use Rattle.types.specs.Values.{asReference, asLocator};
+ghost use Rattle.finality.specs.Voters.{isFinal};
+ghost use Rattle.finality.specs.Finality.{blocksOf};
+ghost use Rattle.final_search.specs.Search.{Ready, Tables};
+ghost use Rattle.loadable_runs.specs.Runs.{Told};
+
+// Whether the locators of a block are final, up to an offset (excluded).
+pub struct FinalRun {
+    pub end: u64,
+    pub finals: bool,
+}
+
+// Whether a share is final, and up to which offset the same holds: the next one at which a vote begins or ends.
+fn final_run(
+    stakes: &[u64],
+    total: Stake,
+    store: &[u8],
+    order: &[u64],
+    votes: &[u64],
+    m: usize,
+    tabled: usize,
+    includes: &[u64],
+    noted: usize,
+    share: TransactionLocator,
+) -> FinalRun
+    requires { ⌜ (Ready (now stakes) (total .0) (now store) (now order) × Tables (now store) (now order) (now votes) m tabled (now includes) noted) × (share .offset < 18446744073709551615) ⌝ }
+    ensures { λ r. ⌜ (share .offset < r .end) × Told (now (stakes .entry)) (now (store .entry)) (asReference (share .block)) (share .offset) r ⌝ }
+{
+    let mut certified = [0u64; 1024];
+    let found = final_walk::certifiers_of(
+        stakes,
+        total,
+        store,
+        order,
+        votes,
+        m,
+        tabled,
+        includes,
+        noted,
+        share,
+        &mut certified,
+    );
+    let finals = committee::is_quorum(total, authority_set::stake_of(stakes, found.authors));
+    let end = final_search::next_edge(store, order, votes, m, tabled, share.block, share.offset);
+    if end == 0 {
+        // No edge follows a locator that nobody votes for.
+        return FinalRun {
+            end: share.offset + 1,
+            finals,
+        };
+    }
+    FinalRun { end, finals }
+}
+
+// The same, where the last one that was asked for may reach so far.
+pub fn run_at(
+    stakes: &[u64],
+    total: Stake,
+    store: &[u8],
+    order: &[u64],
+    votes: &[u64],
+    m: usize,
+    tabled: usize,
+    includes: &[u64],
+    noted: usize,
+    run: FinalRun,
+    share: TransactionLocator,
+) -> FinalRun
+    requires { ⌜ ((Ready (now stakes) (total .0) (now store) (now order) × Tables (now store) (now order) (now votes) m tabled (now includes) noted) × (share .offset < 18446744073709551615)) × Told (now stakes) (now store) (asReference (share .block)) (share .offset) run ⌝ }
+    ensures { λ r. ⌜ (isFinal (now (stakes .entry)) (blocksOf (now (store .entry))) (asLocator share) ≡ r .finals) × Told (now (stakes .entry)) (now (store .entry)) (asReference (share .block)) (share .offset) r ⌝ }
+{
+    if share.offset < run.end {
+        return run;
+    }
+    final_run(
+        stakes,
+        total,
+        store,
+        order,
+        votes,
+        m,
+        tabled,
+        includes,
+        noted,
+        share,
+    )
+}

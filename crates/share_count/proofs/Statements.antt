@@ -1,0 +1,26 @@
+-- The statements of a record, by their index. Assumes nothing.
+use mathlib.Core.Path.{_≡_, refl}
+use mathlib.Core.Bool.{true}
+use mathlib.Core.List.{List, [], _∷_}
+use mathlib.Core.Option.{some}
+use Prim.Native.Nat.{ℕ, zero, suc, _<_, _≤_}
+use native.Mathlib.Omega.{arith}
+use lib.ListN.{length, getD, getElem?}
+use Rattle.base.specs.Lists.{holds}
+use Rattle.base.proofs.Le.{AllBytes}
+use Rattle.blocks.specs.Block.{Statement, Block, isShare, isShareAt}
+use Rattle.blocks.specs.Record.{wellFormed, blockIn, noStatement}
+use Rattle.blocks.proofs.Records.{blockOf-fits, block-of}
+
+pub element-at : {A : Type 0} (xs : List A) (i : ℕ) (d : A) → i < length xs → getElem? xs i ≡ some (getD xs i d)
+element-at [] i d h = absurd (omega arith)
+element-at (x ∷ xs) zero d h = refl
+element-at (x ∷ xs) (suc i) d h = element-at xs i d (omega arith)
+
+-- the statement of an index, by the one that was read there
+pub share-here : (b : Block) (i : ℕ) (st : Statement) → i < length (b .statements) → st ≡ getD (b .statements) i noStatement → isShareAt b i ≡ isShare st
+unfolding isShareAt holds
+share-here b i st h e = rw (element-at (b .statements) i noStatement h, ← e)
+
+pub few-statements : (rec : List ℕ) → AllBytes rec → wellFormed rec ≡ true → length (blockIn rec .statements) ≤ 1024
+few-statements rec a w = blockOf-fits rec (blockIn rec) a (block-of rec w) .fewStatements
