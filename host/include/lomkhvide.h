@@ -1,7 +1,8 @@
 /* The engine's calls for a host in C.
  *
- * A slice is lent as a pointer and a length in bytes. A pointer may be anything but null, also where the length is 0. No two
- * slices of one call may overlap where one of them is not const. Nothing is kept after a call returns.
+ * A slice is lent as a pointer and a length in bytes; one of words (uint64_t, aligned) as a pointer and the number of words. A pointer may
+ * be anything but null, also where the length is 0. No two slices of one call may overlap where one of them is not const. Nothing is kept
+ * after a call returns.
  *
  * Words and stakes are 8 bytes each, lowest byte first.
  *
@@ -192,5 +193,25 @@ uint64_t lomkhvide_read_slip(const uint8_t *stakes, size_t stakes_len, const uin
  * It needs at most 480 KB of stack. */
 uint64_t lomkhvide_write_slip(const uint8_t *stakes, size_t stakes_len, const uint8_t *store, size_t store_len, const uint8_t *locator,
                               size_t locator_len, uint8_t *out, size_t out_len);
+
+/* ---- Loadable shares
+ *
+ * A payload may begin with the byte 1 and a locator: the change that this one needs. A payload of fewer than 57 bytes, or with another first
+ * byte, needs nothing. A stored share is loadable when it is final and the change that it needs, if any, is a stored share of a lower round
+ * that is itself loadable. */
+
+/* Whether a locator names a loadable stored share: 1 or 0.
+ * Refused, in this order: 5; 10; 20 a locator not of 56 bytes.
+ * It needs at most 96 KB of stack. */
+uint64_t lomkhvide_is_loadable(const uint8_t *stakes, size_t stakes_len, const uint8_t *store, size_t store_len, const uint8_t *locator,
+                               size_t locator_len);
+
+/* All loadable stored shares in ascending order of locator: their number. They are written to the front of `places`, two words each: where
+ * in the store the entry of the block begins, and the offset; a change stands after the one that it needs. The words after them keep their
+ * content. The places cross as words of 64 bits, aligned as such, and `places_len` is the number of words; an odd last one is no place.
+ * Refused, in this order: 5; 10; 58 fewer places than stored shares.
+ * It needs at most 496 KB of stack. */
+uint64_t lomkhvide_loadable(const uint8_t *stakes, size_t stakes_len, const uint8_t *store, size_t store_len, uint64_t *places,
+                            size_t places_len);
 
 #endif

@@ -976,6 +976,62 @@ static void written_slips(void) {
     same("only read", memcmp(&lent, &kept, sizeof lent), 0);
 }
 
+/* A program of round 1, and in round 2 a gain table that needs it, one that needs itself, and a payload a byte too short to need anything; of
+ * a sole owner, so that all are final. */
+static void loadable_shares(void) {
+    static uint8_t store[2048], kept[2048], table[LOMKHVIDE_TABLE_LEN], events[LOMKHVIDE_EVENTS_LEN];
+    uint8_t one[8], first[56] = {0}, digest[32] = {0}, given[256] = {0}, program[256], tables[512], locator[57] = {0};
+    put_word(one, 1);
+    store[4] = 16;
+    lomkhvide_feed(one, 8, store, sizeof store, table, sizeof table, events, sizeof events, first, 56);
+    given[1] = 4;
+    uint64_t n = lomkhvide_write_record(0, 1, digest, 32, 0, first, 48, given, 9, program, sizeof program);
+    lomkhvide_feed(one, 8, store, sizeof store, table, sizeof table, events, sizeof events, program, n);
+    uint64_t at = 16 + 8 + 56, next = at + 8 + n;
+    memset(given, 0, sizeof given);
+    given[1] = 57;
+    given[5] = 1;
+    memcpy(given + 6, program, 48);
+    given[62 + 1] = 57;
+    given[62 + 5] = 1;
+    given[62 + 6 + 8] = 2;
+    given[62 + 6 + 48] = 1;
+    given[124 + 1] = 56;
+    given[124 + 5] = 1;
+    n = lomkhvide_write_record(0, 2, digest, 32, 0, program, 48, given, 62 + 62 + 61, tables, sizeof tables);
+    same("tables are fed", lomkhvide_feed(one, 8, store, sizeof store, table, sizeof table, events, sizeof events, tables, n), 0);
+    memcpy(kept, store, sizeof store);
+    memcpy(locator, tables, 48);
+    const uint64_t want[4] = {1, 0, 1, 0};
+    for (uint8_t offset = 0; offset < 4; offset++) {
+        locator[48] = offset;
+        same("a table", lomkhvide_is_loadable(one, 8, store, sizeof store, locator, 56), want[offset]);
+    }
+    memcpy(locator, program, 48);
+    locator[48] = 0;
+    for (size_t m = 0; m < 58; m++) {
+        same("the program, a locator of any length", lomkhvide_is_loadable(one, 8, store, sizeof store, locator, m), m == 56 ? 1 : refused(20));
+    }
+    same("no committee", lomkhvide_is_loadable(one, 7, store, sizeof store, locator, 3), refused(5));
+    same("no store", lomkhvide_is_loadable(one, 8, store, 15, locator, 3), refused(10));
+    const uint64_t listed[6] = {at, 0, next, 0, next, 2};
+    for (size_t m = 0; m < 12; m++) {
+        /* an allocation of its own, so that a write past the end can be seen by a checker of memory */
+        uint64_t *places = malloc(8 * m + 8);
+        for (size_t i = 0; i < m; i++) {
+            places[i] = 77 + i;
+        }
+        same("places of any number", lomkhvide_loadable(one, 8, store, sizeof store, places, m), m < 8 ? refused(58) : 3);
+        for (size_t i = 0; i < m; i++) {
+            same("a word of them", places[i], m < 8 || i >= 6 ? 77 + i : listed[i]);
+        }
+        same("no committee", lomkhvide_loadable(one, 9, store, sizeof store, places, m), refused(5));
+        same("no store", lomkhvide_loadable(one, 8, store, 0, places, m), refused(10));
+        free(places);
+    }
+    same("the store is as it was", memcmp(store, kept, sizeof store), 0);
+}
+
 int main(void) {
     loading();
     committees();
@@ -983,6 +1039,7 @@ int main(void) {
     adding();
     payloads();
     withdrawn();
+    loadable_shares();
     feeding();
     ringing();
     written_slips();

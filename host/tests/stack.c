@@ -148,6 +148,16 @@ static void finality_withdrawing(void) {
     answer = lomkhvide_finality_withdrawing(one, sizeof one, chain, sizeof chain, positions, sizeof positions, shared, sizeof shared);
 }
 
+static uint64_t places[2];
+
+static void is_loadable(void) {
+    answer = lomkhvide_is_loadable(one, sizeof one, chain, sizeof chain, shared, sizeof shared);
+}
+
+static void loadable(void) {
+    answer = lomkhvide_loadable(one, sizeof one, chain, sizeof chain, places, 2);
+}
+
 static void grow(void) {
     uint8_t record[108] = {0};
     chain[4] = 16;
@@ -198,6 +208,8 @@ int main(void) {
     grow();
     at_most("finality", finality, 2 * 1023 + 1, 98304);
     at_most("finality_withdrawing", finality_withdrawing, 2 * 1023 + 1, 98304);
-    printf("%d passed, %d failed\n", 10 - failed, failed);
+    at_most("is_loadable", is_loadable, 1, 98304);
+    at_most("loadable", loadable, 1, 507904);
+    printf("%d passed, %d failed\n", 12 - failed, failed);
     return failed != 0;
 }

@@ -20,6 +20,7 @@ ghost use Rattle.host_times.specs.Times.{creationTimeCall};
 ghost use Rattle.host_ring.specs.Ring.{whomToRingCall};
 ghost use Rattle.slips.specs.Reading.{readAnswer};
 ghost use Rattle.host_slip_writer.specs.WriteSlip.{writeSlipCall};
+ghost use Rattle.host_loadable.specs.Loading.{isLoadableCall, loadableCall};
 
 // Sets a committee: its total stake.
 #[no_mangle]
@@ -301,4 +302,23 @@ pub extern "C" fn lomkhvide_write_slip(
     ensures { λ r. ⌜ now (out .exit) ≡ writeSlipCall (now (stakes .entry)) (now (store .entry)) (now (locator .entry)) (now (out .entry)) .out ⌝ }
 {
     host_slip_writer::write_slip(stakes, store, locator, out)
+}
+
+// ---- loadable shares
+
+// Whether a locator names a loadable stored share: 1 or 0.
+#[no_mangle]
+pub extern "C" fn lomkhvide_is_loadable(stakes: &[u8], store: &[u8], locator: &[u8]) -> u64
+    ensures { λ r. ⌜ r ≡ encoded (isLoadableCall (now (stakes .entry)) (now (store .entry)) (now (locator .entry))) ⌝ }
+{
+    host_loadable::is_loadable(stakes, store, locator)
+}
+
+// All loadable stored shares in ascending order: their number; they stand at the front of the places, two words each.
+#[no_mangle]
+pub extern "C" fn lomkhvide_loadable(stakes: &[u8], store: &[u8], places: &mut [u64]) -> u64
+    ensures { λ r. ⌜ r ≡ encoded (loadableCall (now (stakes .entry)) (now (store .entry)) (now (places .entry)) .answer) ⌝ }
+    ensures { λ r. ⌜ now (places .exit) ≡ loadableCall (now (stakes .entry)) (now (store .entry)) (now (places .entry)) .places ⌝ }
+{
+    host_loadable::loadable(stakes, store, places)
 }

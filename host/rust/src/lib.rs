@@ -125,6 +125,22 @@ mod calls {
             out: *mut u8,
             out_len: usize,
         ) -> u64;
+        pub fn lomkhvide_is_loadable(
+            stakes: *const u8,
+            stakes_len: usize,
+            store: *const u8,
+            store_len: usize,
+            locator: *const u8,
+            locator_len: usize,
+        ) -> u64;
+        pub fn lomkhvide_loadable(
+            stakes: *const u8,
+            stakes_len: usize,
+            store: *const u8,
+            store_len: usize,
+            places: *mut u64,
+            places_len: usize,
+        ) -> u64;
         pub fn lomkhvide_load_stakes(file: *const u8, file_len: usize, stakes: *mut u8, stakes_len: usize) -> u64;
         pub fn lomkhvide_is_open(calendar: *const u8, calendar_len: usize, time: u64) -> u64;
         pub fn lomkhvide_next_open(calendar: *const u8, calendar_len: usize, time: u64, found: *mut u8, found_len: usize) -> u64;
@@ -574,6 +590,41 @@ impl Committee {
                 locator.len(),
                 out.as_mut_ptr(),
                 out.len(),
+            )
+        };
+        Ok(answer(word)? as usize)
+    }
+
+    /// Whether the locator names a loadable stored share: a final one whose needed change, if any, is loadable; or 10.
+    pub fn is_loadable(&self, store: &[u8], locator: &Locator) -> Result<bool, Refused> {
+        let (stakes, locator) = (&self.stakes, &locator.0);
+        // The slices are lent for the call alone, which writes none of them.
+        let word = unsafe {
+            calls::lomkhvide_is_loadable(
+                stakes.as_ptr(),
+                stakes.len(),
+                store.as_ptr(),
+                store.len(),
+                locator.as_ptr(),
+                locator.len(),
+            )
+        };
+        Ok(answer(word)? == 1)
+    }
+
+    /// The number of loadable stored shares, which are written to the front of `places` in ascending order, two words each: the position of
+    /// the block's entry in the store, and the offset; or 10, 58 for fewer places than stored shares.
+    pub fn loadable(&self, store: &[u8], places: &mut [u64]) -> Result<usize, Refused> {
+        let stakes = &self.stakes;
+        // The slices are lent for the call alone, and the call writes `places` only. Words cross as words: their number is the length.
+        let word = unsafe {
+            calls::lomkhvide_loadable(
+                stakes.as_ptr(),
+                stakes.len(),
+                store.as_ptr(),
+                store.len(),
+                places.as_mut_ptr(),
+                places.len(),
             )
         };
         Ok(answer(word)? as usize)
@@ -1039,6 +1090,40 @@ mod tests {
         let other = Locator::new(0, 1, digest, 1);
         assert_eq!(committee.write_slip(&store, &other, &mut []), Err(Refused(52)));
         assert_eq!(committee.write_slip(&store[..15], &other, &mut []), Err(Refused(10)));
+    }
+
+    #[test]
+    fn loadable_shares() {
+        let committee = Committee::new(&[1]).unwrap();
+        let needs = |reference: &[u8]| [&[1], reference, &[0; 8]].concat();
+        let first = record(0, 1, &[], &[]);
+        let program = record(1, 2, &first[..48], &[b"gain"]);
+        let itself = needs(&record(2, 3, &program[..48], &[])[..48]);
+        let tables = record(2, 3, &program[..48], &[&itself, &needs(&program[..48]), &needs(&first[..48])]);
+        let at = [16 + 8 + first.len() as u64, 16 + 16 + (first.len() + program.len()) as u64];
+        let store = store(&[first, program, tables]);
+        let locator = |round: u64, offset: u64| {
+            let mut digest = [0; 32];
+            digest[3] = round as u8 + 1;
+            Locator::new(0, round, digest, offset)
+        };
+        let loadable = |round, offset| committee.is_loadable(&store, &locator(round, offset));
+        assert_eq!(loadable(1, 0), Ok(true));
+        assert_eq!([0, 1, 2, 3].map(|offset| loadable(2, offset)), [Ok(false), Ok(true), Ok(false), Ok(false)]);
+        assert_eq!(committee.is_loadable(&store[..15], &locator(1, 0)), Err(Refused(10)));
+        for room in 0..12 {
+            let mut places = vec![9; room];
+            let told = committee.loadable(&store, &mut places);
+            if room < 8 {
+                assert_eq!(told, Err(Refused(58)), "{room} words");
+                assert_eq!(places, vec![9; room]);
+            } else {
+                assert_eq!(told, Ok(2), "{room} words");
+                assert_eq!(places[..4], [at[0], 0, at[1], 1]);
+                assert_eq!(places[4..], vec![9; room - 4]);
+            }
+        }
+        assert_eq!(committee.loadable(&store[..15], &mut []), Err(Refused(10)));
     }
 
     #[test]

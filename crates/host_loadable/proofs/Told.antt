@@ -1,0 +1,69 @@
+-- The greatest numbers with which the questions are refused, and the words of their answers. Assumes nothing.
+use mathlib.Core.Path.{_≡_, refl, sym, ap, _∙_}
+use mathlib.Core.List.{List}
+use Prim.Native.Nat.{ℕ, _+_, _≤_}
+use lib.ListN.{length}
+use Rattle.base.specs.Lists.{allOf}
+use Rattle.base.specs.Le.{Bytes}
+use Rattle.base.specs.Checks.{refused}
+use Rattle.committee.specs.Committee.{Committee}
+use Rattle.blocks.specs.Reference.{TransactionLocator}
+use Rattle.finality.specs.Finality.{blocksOf}
+use Rattle.finality.specs.NextFinal.{nextFinalChecks}
+use Rattle.loadable.specs.Loadable.{isLoadable, loadableList}
+use Rattle.loadable.specs.Question.{loadableQuestion, listChecks, loadableQuestions}
+use Rattle.loadable_share.specs.Answers.{asLoadable}
+use Rattle.loadable_share.specs.declared.LoadableAnswer as one
+use Rattle.loadable_share.specs.declared.LoadableAnswer.the-variants.{Loadable, NotLoadable, Refused}
+use Rattle.loadable_shares.specs.Answers.{asLoadableList}
+use Rattle.loadable_shares.specs.declared.LoadableList as all
+use Rattle.loadable_shares.specs.declared.LoadableList.the-variants.{Places, Refused as Denied}
+use Rattle.host_calls.specs.Calls.{flag, committeeOf, encoded}
+use Rattle.host_calls.proofs.Numbers.{checked-most}
+use Rattle.host_lib.specs.Payload.{locatorOf, asked}
+use Rattle.host_lib.proofs.Locators.{asked-most}
+use Rattle.host_loadable.specs.Loading.{flagged, isLoadableCall, loadableCall}
+
+-- ---- yes or no
+
+question-most : (c : Committee) (s : Bytes) (l : TransactionLocator) (n : ℕ) → loadableQuestion c s l ≡ refused n → n ≤ 41
+unfolding loadableQuestion nextFinalChecks allOf
+question-most c s l n e = checked-most 41 (nextFinalChecks c s) (isLoadable c (blocksOf s) l) n refl e
+
+module _ (stakes s b : Bytes) (c : Committee) (h : c ≡ committeeOf stakes) (r : one.LoadableAnswer) (e : asLoadable r ≡ asked c s (loadableQuestion c s) (locatorOf b)) where
+  same-call : flagged (asLoadable r) ≡ isLoadableCall stakes s b
+  unfolding isLoadableCall
+  same-call = ap flagged e ∙ ap (λ (d : Committee). flagged (asked d s (loadableQuestion d s) (locatorOf b))) h
+
+  pub told-yes : r ≡ Loadable → 1 ≡ encoded (isLoadableCall stakes s b)
+  unfolding asLoadable encoded flagged flag
+  told-yes k = rw (← same-call, k)
+
+  pub told-no : r ≡ NotLoadable → 0 ≡ encoded (isLoadableCall stakes s b)
+  unfolding asLoadable encoded flagged flag
+  told-no k = rw (← same-call, k)
+
+  pub told-refusal : (n : ℕ) → r ≡ Refused n → (n ≤ 41) × (9223372036854775808 + n ≡ encoded (isLoadableCall stakes s b))
+  unfolding asLoadable encoded flagged
+  told-refusal n k = (asked-most c s (loadableQuestion c s) (locatorOf b) n (question-most c s) (sym e ∙ ap asLoadable k), rw (← same-call, k))
+
+-- ---- the list
+
+list-most : (c : Committee) (s : Bytes) (ps : List ℕ) (n : ℕ) → loadableQuestions c s ps .answer ≡ refused n → n ≤ 58
+unfolding loadableQuestions listChecks allOf
+list-most c s ps n e = checked-most 58 (listChecks c s ps) (length (loadableList c (blocksOf s))) n refl e
+
+pub list-same : (stakes s : Bytes) (ps : List ℕ) (c : Committee) → c ≡ committeeOf stakes → loadableQuestions c s ps ≡ loadableCall stakes s ps
+unfolding loadableCall
+list-same stakes s ps c h = rw h
+
+module _ (stakes s : Bytes) (ps : List ℕ) (r : all.LoadableList) (e : asLoadableList r ≡ loadableCall stakes s ps .answer) (n : ℕ) where
+  pub told-number : r ≡ Places n → n ≡ encoded (loadableCall stakes s ps .answer)
+  unfolding asLoadableList encoded
+  told-number k = rw (← e, k)
+
+  pub told-denied : r ≡ Denied n → (n ≤ 58) × (9223372036854775808 + n ≡ encoded (loadableCall stakes s ps .answer))
+  unfolding asLoadableList encoded loadableCall
+  told-denied k =
+      let z : loadableQuestions (committeeOf stakes) s ps .answer ≡ refused n = sym e ∙ ap asLoadableList k in
+      (list-most (committeeOf stakes) s ps n z, rw z)

@@ -1,0 +1,25 @@
+-- The questions about loadable shares, for a host. Assumes nothing: these are definitions.
+use Prim.Native.Nat.{ℕ}
+use mathlib.Core.Bool.{Bool}
+use mathlib.Core.List.{List}
+use Rattle.base.specs.Le.{Bytes}
+use Rattle.base.specs.Checks.{Answer, refused, answered}
+use Rattle.committee.specs.Committee.{Committee}
+use Rattle.loadable.specs.Question.{AskedList, loadableQuestion, loadableQuestions}
+use Rattle.host_calls.specs.Calls.{flag, committeeOf}
+use Rattle.host_lib.specs.Payload.{locatorOf, asked}
+
+-- yes as 1, no as 0
+unfoldable pub flagged : Answer Bool → Answer ℕ
+flagged (answered t) = answered (flag t)
+flagged (refused n) = refused n
+
+-- 02: "Give yes or no for a locator": 5, 10, 20 for bytes that are no locator
+unfoldable pub isLoadableCall : Bytes → Bytes → Bytes → Answer ℕ
+isLoadableCall stakes s b =
+    let c : Committee = committeeOf stakes in
+    flagged (asked c s (loadableQuestion c s) (locatorOf b))
+
+-- 02: "the list of all loadable stored shares": 5, 10, 58; the places cross as words
+unfoldable pub loadableCall : Bytes → Bytes → List ℕ → AskedList
+loadableCall stakes s ps = loadableQuestions (committeeOf stakes) s ps
