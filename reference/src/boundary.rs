@@ -10,7 +10,8 @@ use crate::model::committee::{Committee, COURSE};
 use crate::model::feed::{State, EVENT_BYTES};
 use crate::model::finality::Reading;
 use crate::model::lent;
-use crate::model::record::{given_bytes, includes_bytes, Block, Locator, Reference, Statement};
+use crate::model::loading;
+use crate::model::record::{given_bytes, includes_bytes, number, Block, Locator, Reference, Statement};
 use crate::model::writing::{write_record, Given};
 
 const CANARY: u8 = 0xc9;
@@ -138,6 +139,14 @@ macro_rules! over {
     };
 }
 
+/// A call over words, with the whole words of some bytes.
+fn over_words(bytes: &mut [u8], call: impl FnOnce(&mut [u64]) -> Answer) -> Answer {
+    let mut words: Vec<u64> = bytes.chunks_exact(8).map(number).collect();
+    let answer = call(&mut words);
+    lent::put_words(bytes, &words);
+    answer
+}
+
 /// The slices of a draft as one; the numbers are always the same.
 fn draft(digest: &[u8], time: Option<u64>, includes: &[u8], statements: &[u8]) -> Given {
     let (digest, includes, statements) = (digest.to_vec(), includes.to_vec(), statements.to_vec());
@@ -237,11 +246,23 @@ fn cases() -> Vec<Case> {
         },
         Case {
             name: "finality_withdrawing",
-            slices: vec![stakes.clone(), store.clone(), positions, locator],
+            slices: vec![stakes.clone(), store.clone(), positions, locator.clone()],
             engine: over!(|stakes, store, positions, locator| engine::finality_withdrawing(stakes, store, positions, locator)),
             model: over!(|stakes, store, positions, locator| {
                 lent::finality_in(Reading::Withdrawing, stakes, store, positions, locator)
             }),
+        },
+        Case {
+            name: "is_loadable",
+            slices: vec![stakes.clone(), store.clone(), locator],
+            engine: over!(|stakes, store, locator| engine::is_loadable(stakes, store, locator)),
+            model: over!(|stakes, store, locator| loading::is_loadable_call(stakes, store, locator)),
+        },
+        Case {
+            name: "loadable",
+            slices: vec![stakes.clone(), store.clone(), ("places", vec![5; 96], 120)],
+            engine: over!(|stakes, store, places| over_words(places, |words| engine::loadable(stakes, store, words))),
+            model: over!(|stakes, store, places| over_words(places, |words| loading::loadable_call(stakes, store, words))),
         },
         Case {
             name: "next_final",

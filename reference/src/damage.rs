@@ -5,6 +5,7 @@ use crate::compare::{same, same_bytes, Memory, Outcome};
 use crate::engine;
 use crate::model::finality::Reading;
 use crate::model::lent;
+use crate::model::loading;
 use crate::rng::Rng;
 use crate::tally::Tally;
 
@@ -100,6 +101,12 @@ fn questions_of_store(stakes: &[u8], store: &[u8], locator: &[u8]) -> Outcome {
     let told = engine::finality_withdrawing(stakes, store, &mut got, locator);
     same("finality_withdrawing over damaged memory", "engine", told, answer)?;
     same_bytes("positions of the second reading over damaged memory", &got, &right)?;
+    let told = engine::is_loadable(stakes, store, locator);
+    same("is_loadable over damaged memory", "engine", told, loading::is_loadable_call(stakes, store, locator))?;
+    let (mut right, mut got) = ([0x3c; 32], [0x3c; 32]);
+    let answer = loading::loadable_call(stakes, store, &mut right);
+    same("loadable over damaged memory", "engine", engine::loadable(stakes, store, &mut got), answer)?;
+    same("places over damaged memory", "engine", got, right)?;
     let (mut right, mut got) = (vec![0x3c; 56], vec![0x3c; 56]);
     let answer = lent::next_final(stakes, store, locator, &mut right);
     let told = engine::next_final(stakes, store, locator, &mut got);

@@ -31,6 +31,13 @@ impl Lent for &mut [u8] {
     }
 }
 
+/// Words cross as they are: the length is their number.
+impl Lent for &mut [u64] {
+    fn pointer(self) -> *mut u8 {
+        self.as_mut_ptr().cast()
+    }
+}
+
 /// Makes a safe function of a call over slices. Each of them is lent for the call alone, and for writing only where the call
 /// writes it.
 macro_rules! call {
@@ -59,6 +66,8 @@ call!(finality_withdrawing = lomkhvide_finality_withdrawing(stakes: &[u8], store
 call!(next_final = lomkhvide_next_final(stakes: &[u8], store: &[u8], after: &[u8], found: &mut [u8]));
 call!(read_slip = lomkhvide_read_slip(stakes: &[u8], slip: &[u8], records: &[u8]));
 call!(final_stretches = lomkhvide_final_stretches(stakes: &[u8], store: &[u8], after: &[u8], stretches: &mut [u8]));
+call!(is_loadable = lomkhvide_is_loadable(stakes: &[u8], store: &[u8], locator: &[u8]));
+call!(loadable = lomkhvide_loadable(stakes: &[u8], store: &[u8], places: &mut [u64]));
 call!(write_slip = lomkhvide_write_slip(stakes: &[u8], store: &[u8], locator: &[u8], out: &mut [u8]));
 
 pub fn add(stakes: &[u8], aggregator: &mut [u8], voter: u64) -> Answer {

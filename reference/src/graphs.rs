@@ -39,6 +39,28 @@ pub fn generated(count: usize) -> Vec<Block> {
     (0..count).map(block).collect()
 }
 
+/// Four owners as above, but each block above round 0 has 100 shares, and above round 1 three ranges that accept the other three's: at the
+/// end, or among the shares, of which two then stand alone. The first share needs the one that its owner's block before begins with.
+pub fn shared(count: usize, among: bool) -> Vec<Block> {
+    let mut blocks = generated(count);
+    for block in blocks.iter_mut().skip(4) {
+        let (author, round) = (block.reference.author, block.reference.round);
+        let own = block.includes.iter().find(|include| include.author == author).expect("all four");
+        let needing = [&[1], &Locator::new(*own, 0).bytes()[..]].concat();
+        let mut statements: Vec<Statement> = (0..100).map(|_| Statement::Share(vec![1, 2, 3])).collect();
+        statements[0] = Statement::Share(if round > 1 { needing } else { vec![] });
+        if round > 1 {
+            let others = block.includes.iter().filter(|include| include.author != author);
+            for (other, place) in others.zip([49, 51, 101]) {
+                let end = if round > 2 { 103 } else { 100 };
+                statements.insert(if among { place } else { statements.len() }, Statement::Range(*other, 0, end));
+            }
+        }
+        block.statements = statements;
+    }
+    blocks
+}
+
 /// One owner, whose blocks each vote for 2,730 further offsets of one block: as many final locators as `listing` can hold.
 pub fn longest() -> Vec<Block> {
     let reference = |n: u64| Reference { author: 0, round: n, digest: digest(n) };

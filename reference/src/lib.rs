@@ -12,6 +12,7 @@ pub mod generate;
 pub mod graphs;
 pub mod inputs;
 pub mod list;
+pub mod loading;
 pub mod members;
 pub mod model;
 pub mod program;

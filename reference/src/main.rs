@@ -6,6 +6,7 @@ use std::time::{Duration, Instant};
 
 use reference::compare::compare;
 use reference::list::List;
+use reference::loading::{self, Loaded};
 use reference::slips::Told;
 use reference::tally::Tally;
 use reference::withdrawing::Withdrawn;
@@ -29,6 +30,7 @@ fn main() {
         Some("slips") => slips(number(word(1), 1000), number(word(2), 1)),
         Some("writing") => writing(number(word(1), 2000), number(word(2), 1)),
         Some("withdrawing") => withdrawing(number(word(1), 2000), number(word(2), 1)),
+        Some("loading") => loading(number(word(1), 1000), number(word(2), 1)),
         Some("stakes") => tables(number(word(1), 100_000), number(word(2), 1)),
         Some("model") => model(word(1).expect("a file"), word(2)),
         Some("inputs") => inputs(word(1) == Some("check")),
@@ -147,6 +149,22 @@ fn withdrawing(count: u64, seed: u64) {
     }
     let Withdrawn { questions, both, old_alone } = withdrawn;
     println!("{questions} questions; {both} final in both readings, {old_alone} in the old one alone");
+    end(count, failed);
+}
+
+/// Graphs in which shares need others, with the questions about loadable ones.
+fn loading(count: u64, seed: u64) {
+    sides();
+    let mut loaded = Loaded::default();
+    let mut failed = 0;
+    for n in 0..count {
+        if let Err(text) = loading::compare(seed, n, &mut loaded) {
+            failed += 1;
+            println!("graph {n} of seed {seed} failed: {text}");
+        }
+    }
+    let Loaded { shares, loadable, following, damaged } = loaded;
+    println!("{shares} stored shares, {loadable} loadable, {following} of them after another; {damaged} damaged stores");
     end(count, failed);
 }
 

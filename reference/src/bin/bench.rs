@@ -20,6 +20,7 @@ fn main() {
     let words: Vec<String> = std::env::args().skip(1).collect();
     match words.first().map(String::as_str) {
         Some("memory") => memory_of(&words[1]),
+        Some("loadable") => loadable(),
         _ => table(),
     }
 }
@@ -47,6 +48,7 @@ fn table() {
         let size = slip();
         row(&format!("slip of the first final locator, {name} ({size} bytes)"), least(slip), None);
     }
+    loadable();
     println!();
     check(100);
     check(1000);
@@ -176,6 +178,17 @@ fn rust_feed(_blocks: &[Block]) -> Option<f64> {
 #[cfg(not(has_rust))]
 fn rust_feed_checked(_blocks: &[Block]) -> Option<f64> {
     None
+}
+
+/// The list of loadable shares, of nearly 100,000.
+fn loadable() {
+    for (name, among) in [("in a row", false), ("among other statements", true)] {
+        let memory = fed(&graphs::shared(1000, among));
+        let mut places = vec![0; 2 * 99_600];
+        let mut list = || engine::loadable(&memory.stakes, &memory.store, &mut places).expect("room for every share");
+        let count = list();
+        row(&format!("loadable shares, 1,000 blocks of 100 shares {name} ({count} loadable)"), least(list), None);
+    }
 }
 
 /// The check of a store of this many blocks, by a question that is refused right after it, beside one pass over its bytes.

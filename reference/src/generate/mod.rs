@@ -1,6 +1,7 @@
 //! Random lists, each of a kind that comes near some boundary.
 
 mod graph;
+mod loading;
 mod special;
 mod stakes;
 pub mod stakes_file;
@@ -10,6 +11,7 @@ use crate::list::List;
 use crate::model::record::{Block, Locator, Statement};
 use crate::rng::Rng;
 use graph::{finish, Shape};
+pub use loading::loading;
 use special::{blocks, counts, events, items};
 use stakes::{committee_only, stakes};
 

@@ -129,3 +129,30 @@ pub fn withdrawn(rejecting: Option<usize>) -> Vec<Block> {
     }
     blocks
 }
+
+/// A sole owner's program at offset 0 of record 2, an accept of it beside, and in record 3 a gain table whose payload is told in words.
+pub fn following(payload: &str) -> Vec<Block> {
+    let reference = |round: u64| {
+        let mut digest = [0; 32];
+        digest[3] = 1 + round as u8;
+        Reference { author: 0, round, digest }
+    };
+    let program = Locator::new(reference(1), 0);
+    let needing = |first: u8, change: Locator| [&[first], &change.bytes()[..]].concat();
+    let payload = match payload {
+        "1, the program" => needing(1, program),
+        "1, the program, the table" => [needing(1, program), b"gain".to_vec()].concat(),
+        "1, the program without its last byte" => needing(1, program)[..56].to_vec(),
+        "2, the program" => needing(2, program),
+        "1, the accept beside the program" => needing(1, Locator { offset: 1, ..program }),
+        "1, the table itself" => needing(1, Locator::new(reference(2), 0)),
+        "1, a block that nobody sent" => needing(1, Locator::new(Reference { author: 0, round: 1, digest: [9; 32] }, 0)),
+        _ => b"gain".to_vec(),
+    };
+    let block = |round: u64, statements: Vec<Statement>| {
+        let includes = if round == 0 { vec![] } else { vec![reference(round - 1)] };
+        Block { reference: reference(round), marked: false, includes, statements, time: None }
+    };
+    let shared = vec![Statement::Share(b"program".to_vec()), Statement::Accept(program)];
+    vec![block(0, vec![]), block(1, shared), block(2, vec![Statement::Share(payload)])]
+}

@@ -13,6 +13,7 @@ use crate::model::committee::{Committee, COURSE};
 use crate::model::feed::{State, EVENT_BYTES};
 use crate::model::finality::{Graph, Reading};
 use crate::model::listing::{listing, mistaken_listing};
+use crate::model::loading;
 use crate::model::mistake::Mistake;
 use crate::model::record::{Locator, Reference};
 use crate::model::ring;
@@ -159,6 +160,28 @@ fn withdrawing(page: &str) -> Result<(), String> {
     Ok(())
 }
 
+/// What is wrong with the exercise about a gain table and its program, if anything.
+fn following(page: &str) -> Result<(), String> {
+    let committee = Committee::new(&[1]).unwrap();
+    let rows = rows(page, "8. ");
+    for row in &rows {
+        let cells: Vec<&str> = row.split('|').map(str::trim).collect();
+        let mut state = State::default();
+        for block in course::following(cells[1]) {
+            state.feed(&committee, 65_536, EVENT_BYTES, &block.encode()).map_err(|number| format!("a record is refused: {number}"))?;
+        }
+        let table = *loading::stored_shares(&state.stores).last().expect("the table");
+        let right = loading::is_loadable(&Graph::new(&committee, &state.stores), &state.stores, &table);
+        if cells[2] != if right { "yes" } else { "no" } {
+            return Err(format!("docs/COURSE.md has another answer for the payload {}: {right}", cells[1]));
+        }
+    }
+    if rows.len() < 8 {
+        return Err("docs/COURSE.md has no table of payloads".into());
+    }
+    Ok(())
+}
+
 /// Writes a file, or checks that it is what is made.
 fn file(place: &str, content: &[u8], check: bool) -> Result<(), String> {
     let path = Path::new(ROOT).join("crates").join(place);
@@ -180,5 +203,5 @@ pub fn run(check: bool) -> Vec<Result<(), String>> {
         exercise(&page, name, input, *mistake)
     });
     let files = files(&inputs);
-    exercises.chain([ringing(&page), withdrawing(&page)]).chain(files.iter().map(|(place, content)| file(place, content, check))).collect()
+    exercises.chain([ringing(&page), withdrawing(&page), following(&page)]).chain(files.iter().map(|(place, content)| file(place, content, check))).collect()
 }

@@ -8,6 +8,7 @@ pub mod feed;
 pub mod finality;
 pub mod lent;
 pub mod listing;
+pub mod loading;
 pub mod mistake;
 pub mod record;
 pub mod ring;
