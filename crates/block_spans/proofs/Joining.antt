@@ -28,7 +28,7 @@ use Rattle.block_spans.specs.Joined.{beginsShare, lengthened, joinedFrom
 
 -- ---- a run in front
 
-joined-run : (r : BlockReference) (o : ℕ) (s : Statement) (ss : List Statement) → isShare s ≡ true
+pub joined-run : (r : BlockReference) (o : ℕ) (s : Statement) (ss : List Statement) → isShare s ≡ true
     → joinedFrom r o (s ∷ ss) ≡ newRange r o (o + suc (leading true ss)) ∷ joinedFrom r (o + suc (leading true ss)) (drop (leading true ss) ss)
 unfolding joinedFrom lengthened beginsShare leading isOfKind newRange
 joined-run r o s [] h = let z : o + suc 0 ≡ o + 1 = omega arith in rw (h, z)

@@ -1,4 +1,4 @@
-// The final list in bulk: stretches of final locators that have the same certifying blocks.
+// The lists of final locators in bulk, the ordinary and the wide one: stretches of locators that have the same certifying blocks.
 use committee::NewCommittee;
 use committee::Stake;
 use final_search::NextStretch;
@@ -13,8 +13,10 @@ ghost use Rattle.base.specs.Checks.{answered};
 ghost use Rattle.types.specs.Values.{asReference, asLocator};
 ghost use Rattle.finality.specs.Finality.{blocksOf};
 ghost use Rattle.vote_starts.specs.Answers.{asMaybe};
-ghost use Rattle.stretches.specs.Stretches.{wide, stretches};
-ghost use Rattle.stretches.specs.Bulk.{referenceWords, stretchWords, givenAfter, wordsAfter, finalStretches};
+ghost use Rattle.stretches.specs.Stretches.{stretches};
+ghost use Rattle.stretches.specs.Bulk.{referenceWords, stretchWords, givenAfter, wordsAfter, listStretches, finalStretches};
+ghost use Rattle.stored_finals.specs.Ordinary.{shareStretches};
+ghost use Rattle.listed.specs.Listed.{listed};
 ghost use Rattle.final_search.specs.Search.{Ready, Tables};
 ghost use Rattle.final_list.specs.Answers.{asStretches};
 ghost use Rattle.final_list.specs.Step.{stretchOf};
@@ -64,15 +66,15 @@ fn write_stretch(
 
 // ---- the question in bulk
 
-// How many stretches were written, and whether more final locators follow; or the refusal number.
+// How many stretches were written, and whether more locators of the list follow; or the refusal number.
 pub enum StretchesAnswer {
-    // no final locator follows them
+    // no locator follows them
     Last(u64),
     More(u64),
     Refused(u64),
 }
 
-// Writes stretches until the slice is full or no final locator follows: the votes of the first blocks and the places of the includes of the
+// Writes stretches until the slice is full or no locator of the list follows: the votes of the first blocks and the places of the includes of the
 // first blocks are in tables, the rest is read from the store.
 fn fill(
     stakes: &[u64],
@@ -84,12 +86,13 @@ fn fill(
     tabled: usize,
     places: &[u64],
     noted: usize,
+    ordinary: bool,
     out: &mut [u64],
     after: MaybeLocator,
 ) -> StretchesAnswer
     requires { ⌜ Ready (now stakes) (total .0) (now store) (now order) × Tables (now store) (now order) (now votes) m tabled (now places) noted ⌝ }
-    ensures { λ r. ⌜ asStretches r ≡ answered (givenAfter (wide (now (stakes .entry)) (blocksOf (now (store .entry)))) (asMaybe after) (stretches (now (stakes .entry)) (blocksOf (now (store .entry))) (wide (now (stakes .entry)) (blocksOf (now (store .entry)))) (length (now (out .entry)) / 10) (asMaybe after))) ⌝ }
-    ensures { λ r. ⌜ now (out .exit) ≡ wordsAfter (stretches (now (stakes .entry)) (blocksOf (now (store .entry))) (wide (now (stakes .entry)) (blocksOf (now (store .entry)))) (length (now (out .entry)) / 10) (asMaybe after)) (now (out .entry)) ⌝ }
+    ensures { λ r. ⌜ asStretches r ≡ answered (givenAfter (listed ordinary (now (stakes .entry)) (blocksOf (now (store .entry)))) (asMaybe after) (stretches (now (stakes .entry)) (blocksOf (now (store .entry))) (listed ordinary (now (stakes .entry)) (blocksOf (now (store .entry)))) (length (now (out .entry)) / 10) (asMaybe after))) ⌝ }
+    ensures { λ r. ⌜ now (out .exit) ≡ wordsAfter (stretches (now (stakes .entry)) (blocksOf (now (store .entry))) (listed ordinary (now (stakes .entry)) (blocksOf (now (store .entry)))) (length (now (out .entry)) / 10) (asMaybe after)) (now (out .entry)) ⌝ }
 {
     let room = out.len() / 10;
     let mut certified = [0u64; 1024];
@@ -106,6 +109,7 @@ fn fill(
             tabled,
             places,
             noted,
+            ordinary,
             last,
             &mut certified,
         );
@@ -128,6 +132,7 @@ fn fill(
             tabled,
             places,
             noted,
+            ordinary,
             locator,
             &certified,
         );
@@ -147,12 +152,13 @@ fn fill_large(
     total: Stake,
     store: &[u8],
     order: &[u64],
+    ordinary: bool,
     out: &mut [u64],
     after: MaybeLocator,
 ) -> StretchesAnswer
     requires { ⌜ Ready (now stakes) (total .0) (now store) (now order) ⌝ }
-    ensures { λ r. ⌜ asStretches r ≡ answered (givenAfter (wide (now (stakes .entry)) (blocksOf (now (store .entry)))) (asMaybe after) (stretches (now (stakes .entry)) (blocksOf (now (store .entry))) (wide (now (stakes .entry)) (blocksOf (now (store .entry)))) (length (now (out .entry)) / 10) (asMaybe after))) ⌝ }
-    ensures { λ r. ⌜ now (out .exit) ≡ wordsAfter (stretches (now (stakes .entry)) (blocksOf (now (store .entry))) (wide (now (stakes .entry)) (blocksOf (now (store .entry)))) (length (now (out .entry)) / 10) (asMaybe after)) (now (out .entry)) ⌝ }
+    ensures { λ r. ⌜ asStretches r ≡ answered (givenAfter (listed ordinary (now (stakes .entry)) (blocksOf (now (store .entry)))) (asMaybe after) (stretches (now (stakes .entry)) (blocksOf (now (store .entry))) (listed ordinary (now (stakes .entry)) (blocksOf (now (store .entry)))) (length (now (out .entry)) / 10) (asMaybe after))) ⌝ }
+    ensures { λ r. ⌜ now (out .exit) ≡ wordsAfter (stretches (now (stakes .entry)) (blocksOf (now (store .entry))) (listed ordinary (now (stakes .entry)) (blocksOf (now (store .entry)))) (length (now (out .entry)) / 10) (asMaybe after)) (now (out .entry)) ⌝ }
 {
     let mut votes = [0u64; 36864];
     let size = vote_table::table_votes(store, order, &mut votes);
@@ -168,6 +174,7 @@ fn fill_large(
         size.blocks,
         &places,
         noted,
+        ordinary,
         out,
         after,
     )
@@ -179,22 +186,23 @@ fn fill_small(
     total: Stake,
     store: &[u8],
     order: &[u64],
+    ordinary: bool,
     out: &mut [u64],
     after: MaybeLocator,
 ) -> StretchesAnswer
     requires { ⌜ Ready (now stakes) (total .0) (now store) (now order) ⌝ }
-    ensures { λ r. ⌜ asStretches r ≡ answered (givenAfter (wide (now (stakes .entry)) (blocksOf (now (store .entry)))) (asMaybe after) (stretches (now (stakes .entry)) (blocksOf (now (store .entry))) (wide (now (stakes .entry)) (blocksOf (now (store .entry)))) (length (now (out .entry)) / 10) (asMaybe after))) ⌝ }
-    ensures { λ r. ⌜ now (out .exit) ≡ wordsAfter (stretches (now (stakes .entry)) (blocksOf (now (store .entry))) (wide (now (stakes .entry)) (blocksOf (now (store .entry)))) (length (now (out .entry)) / 10) (asMaybe after)) (now (out .entry)) ⌝ }
+    ensures { λ r. ⌜ asStretches r ≡ answered (givenAfter (listed ordinary (now (stakes .entry)) (blocksOf (now (store .entry)))) (asMaybe after) (stretches (now (stakes .entry)) (blocksOf (now (store .entry))) (listed ordinary (now (stakes .entry)) (blocksOf (now (store .entry)))) (length (now (out .entry)) / 10) (asMaybe after))) ⌝ }
+    ensures { λ r. ⌜ now (out .exit) ≡ wordsAfter (stretches (now (stakes .entry)) (blocksOf (now (store .entry))) (listed ordinary (now (stakes .entry)) (blocksOf (now (store .entry)))) (length (now (out .entry)) / 10) (asMaybe after)) (now (out .entry)) ⌝ }
 {
     let mut votes = [0u64; 1152];
     let size = vote_table::table_votes(store, order, &mut votes);
     if size.blocks < order.len() {
-        return fill_large(stakes, total, store, order, out, after);
+        return fill_large(stakes, total, store, order, ordinary, out, after);
     }
     let mut places = [0u64; 256];
     let noted = include_places::note_places(store, order, &mut places);
     if noted < order.len() {
-        return fill_large(stakes, total, store, order, out, after);
+        return fill_large(stakes, total, store, order, ordinary, out, after);
     }
     fill(
         stakes,
@@ -206,22 +214,23 @@ fn fill_small(
         size.blocks,
         &places,
         noted,
+        ordinary,
         out,
         after,
     )
 }
 
-// The final list from the start or after a given locator on, as many stretches as the slice holds, ten words each: author, round, the
-// digest in four words with the first byte highest, first offset, end offset (excluded), number of certifying blocks, their authors'
-// stake. The words past them stay. The store is checked once for the call.
-pub fn final_stretches(
+// The ordinary or the wide list from the start or after a given locator on, as many stretches as the slice holds. The store is checked once
+// for the call.
+pub fn list_stretches(
     stakes: &[u64],
     store: &[u8],
+    ordinary: bool,
     out: &mut [u64],
     after: MaybeLocator,
 ) -> StretchesAnswer
-    ensures { λ r. ⌜ asStretches r ≡ finalStretches (now (stakes .entry)) (now (store .entry)) (now (out .entry)) (asMaybe after) .answer ⌝ }
-    ensures { λ r. ⌜ now (out .exit) ≡ finalStretches (now (stakes .entry)) (now (store .entry)) (now (out .entry)) (asMaybe after) .out ⌝ }
+    ensures { λ r. ⌜ asStretches r ≡ listStretches (now (stakes .entry)) (now (store .entry)) (listed ordinary (now (stakes .entry)) (blocksOf (now (store .entry)))) (now (out .entry)) (asMaybe after) .answer ⌝ }
+    ensures { λ r. ⌜ now (out .exit) ≡ listStretches (now (stakes .entry)) (now (store .entry)) (listed ordinary (now (stakes .entry)) (blocksOf (now (store .entry)))) (now (out .entry)) (asMaybe after) .out ⌝ }
 {
     let NewCommittee::Taken(total) = committee::new_committee(stakes) else {
         return StretchesAnswer::Refused(5);
@@ -231,5 +240,33 @@ pub fn final_stretches(
     }
     let mut order = [0u64; 1024];
     let count = block_votes::sorted_positions(store, &mut order);
-    fill_small(stakes, total, store, &order[..count], out, after)
+    fill_small(stakes, total, store, &order[..count], ordinary, out, after)
+}
+
+// The ordinary list, of the final stored shares, from the start or after a given locator on, as many stretches as the slice holds, ten words
+// each: author, round, the digest in four words with the first byte highest, first offset, end offset (excluded), number of certifying
+// blocks, their authors' stake. The words past them stay.
+pub fn final_stretches(
+    stakes: &[u64],
+    store: &[u8],
+    out: &mut [u64],
+    after: MaybeLocator,
+) -> StretchesAnswer
+    ensures { λ r. ⌜ asStretches r ≡ shareStretches (now (stakes .entry)) (now (store .entry)) (now (out .entry)) (asMaybe after) .answer ⌝ }
+    ensures { λ r. ⌜ now (out .exit) ≡ shareStretches (now (stakes .entry)) (now (store .entry)) (now (out .entry)) (asMaybe after) .out ⌝ }
+{
+    list_stretches(stakes, store, true, out, after)
+}
+
+// The wide list, of every final locator, in the same form.
+pub fn wide_stretches(
+    stakes: &[u64],
+    store: &[u8],
+    out: &mut [u64],
+    after: MaybeLocator,
+) -> StretchesAnswer
+    ensures { λ r. ⌜ asStretches r ≡ finalStretches (now (stakes .entry)) (now (store .entry)) (now (out .entry)) (asMaybe after) .answer ⌝ }
+    ensures { λ r. ⌜ now (out .exit) ≡ finalStretches (now (stakes .entry)) (now (store .entry)) (now (out .entry)) (asMaybe after) .out ⌝ }
+{
+    list_stretches(stakes, store, false, out, after)
 }

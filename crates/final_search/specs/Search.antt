@@ -1,17 +1,23 @@
 -- Machinery for the contracts of inner functions: what the search stands on, and what it finds. Assumes nothing: these are definitions.
 use Prim.Native.Nat.{ℕ, _≤_}
 use mathlib.Core.Path.{_≡_}
+use mathlib.Core.Bool.{Bool, not, _&&_, _||_}
 use mathlib.Core.List.{List, map, flatten}
 use mathlib.Core.Option.{Option, none, some}
 use lib.ListN.{length}
+use Rattle.base.specs.Lists.{pick, keep}
 use Rattle.base.specs.Le.{Bytes}
 use Rattle.committee.specs.Committee.{Committee, Stake, totalStake}
 use Rattle.blocks.specs.Reference.{TransactionLocator}
+use Rattle.blocks.specs.Block.{Block}
 use Rattle.types.specs.Values.{asLocator}
+use Rattle.store_layout.specs.Shares.{isStoredShare}
 use Rattle.finality.specs.Finality.{blocksOf}
+use Rattle.finality.specs.NextFinal.{isAfter, leastLocator}
 use Rattle.block_votes.specs.Walk.{Sorted}
 use Rattle.block_spans.specs.Joined.{joinedSpans}
 use Rattle.vote_starts.specs.Walk.{startOf}
+use Rattle.stretches.specs.Stretches.{Listing}
 use Rattle.vote_table.specs.Table.{Tabled}
 use Rattle.include_places.specs.Places.{Placed}
 use Rattle.final_walk.specs.Walk.{CertifyFlagged}
@@ -30,7 +36,19 @@ Tables s order votes m tabled places noted = ((tabled ≤ length order) × Table
 unfoldable pub votedStarts : Bytes → List TransactionLocator
 votedStarts s = flatten (map (λ b. map startOf (joinedSpans b)) (blocksOf s))
 
--- a final locator that was found, or none
+-- the least of them after a locator that a list shows
+unfoldable pub leastStart : Listing → Bytes → Option TransactionLocator → Option TransactionLocator
+leastStart k s after = leastLocator (keep (λ l. isAfter after l && k .shows l) (votedStarts s))
+
+-- what a list asks of a locator besides being final: the ordinary one shows stored shares only
+unfoldable pub mayShow : Bool → List Block → TransactionLocator → Bool
+mayShow ordinary bs l = not ordinary || isStoredShare bs l
+
+-- a locator where a list shows it
+unfoldable pub whenShown : Listing → TransactionLocator → Option TransactionLocator
+whenShown k l = pick (k .shows l) (some l) none
+
+-- a locator that was found, or none
 unfoldable pub asNext : next.NextStretch → Option TransactionLocator
 asNext (At f) = some (asLocator (f .locator))
 asNext Nothing = none

@@ -1,25 +1,27 @@
-// The next stretch of final locators: the least final locator after a given one, and where its stretch ends.
+// The next stretch of a list of final locators, the ordinary or the wide one: the least locator that it shows after a given one, and where
+// its stretch ends.
 use committee::Stake;
 use finalization_interpreter::Certifiers;
 use types::BlockReference;
 use types::TransactionLocator;
 use vote_starts::MaybeLocator;
 ghost use mathlib.Core.Path.{_≡_};
-ghost use mathlib.Core.Bool.{true, _&&_};
+ghost use mathlib.Core.Bool.{true};
 ghost use Prim.Native.Nat.{_≤_};
 ghost use lib.ListN.{length};
 ghost use Rattle.base.specs.Lists.{keep};
 ghost use Rattle.types.specs.Values.{asReference, asLocator};
-ghost use Rattle.finality.specs.Voters.{isFinal};
 ghost use Rattle.finality.specs.Finality.{blocksOf};
-ghost use Rattle.finality.specs.NextFinal.{isAfter, leastLocator, leastFinal};
+ghost use Rattle.finality.specs.NextFinal.{isAfter, leastLocator};
 ghost use Rattle.vote_starts.specs.Answers.{asMaybe};
 ghost use Rattle.block_votes.specs.Walk.{SortedStore};
 ghost use Rattle.block_spans.specs.Joined.{joinedSpans};
-ghost use Rattle.stretches.specs.Stretches.{edgesBy, wide, nearest, stretchEnd};
+ghost use Rattle.stretches.specs.Stretches.{edgesBy, nearest, stretchEnd};
+ghost use Rattle.stored_shares.specs.Stores.{Ordered};
+ghost use Rattle.listed.specs.Listed.{listed};
 ghost use Rattle.vote_table.specs.Table.{Tabled};
 ghost use Rattle.final_walk.specs.Walk.{Flags};
-ghost use Rattle.final_search.specs.Search.{Ready, Tables, votedStarts, asNext, FoundRight};
+ghost use Rattle.final_search.specs.Search.{Ready, Tables, votedStarts, leastStart, mayShow, whenShown, asNext, FoundRight};
 
 // A final locator, and its certifying blocks.
 pub struct FoundFinal {
@@ -67,54 +69,21 @@ pub fn next_edge(
     vote_edges::least_edge(store, order, tabled, block, offset, near)
 }
 
-// ---- the least final locator
+// ---- a locator by itself
 
-// The least final locator after the given one among those at which a vote begins. Where one is found, a word for each block says whether it
-// certifies it.
-fn final_start(
-    stakes: &[u64],
-    total: Stake,
-    store: &[u8],
-    order: &[u64],
-    votes: &[u64],
-    m: usize,
-    tabled: usize,
-    places: &[u64],
-    noted: usize,
-    after: MaybeLocator,
-    certified: &mut [u64],
-) -> NextStretch
-    requires { ⌜ (Ready (now stakes) (total .0) (now store) (now order) × (length (now certified) ≡ 1024)) × Tables (now store) (now order) (now votes) m tabled (now places) noted ⌝ }
-    ensures { λ r. ⌜ (asNext r ≡ leastLocator (keep (λ l. isAfter (asMaybe after) l && isFinal (now (stakes .entry)) (blocksOf (now (store .entry))) l) (votedStarts (now (store .entry))))) × FoundRight (now (stakes .entry)) (now (store .entry)) (now (order .entry)) (now (certified .exit)) r ⌝ }
+// Whether the list may show a locator: the ordinary one shows stored shares only.
+fn may_show(store: &[u8], ordinary: bool, locator: TransactionLocator) -> bool
+    requires { ⌜ Ordered (now store) ⌝ }
+    ensures { λ r. ⌜ r ≡ mayShow ordinary (blocksOf (now (store .entry))) (asLocator locator) ⌝ }
 {
-    let mut last = after;
-    loop {
-        let start = first_start(store, order, votes, m, tabled, last);
-        let MaybeLocator::Locator(locator) = start else {
-            return NextStretch::Nothing;
-        };
-        let found = final_walk::certifiers_of(
-            stakes,
-            total,
-            store,
-            order,
-            votes,
-            m,
-            tabled,
-            places,
-            noted,
-            locator,
-            certified,
-        );
-        if committee::is_quorum(total, authority_set::stake_of(stakes, found.authors)) {
-            return NextStretch::At(FoundFinal { locator, found });
-        }
-        last = start;
+    if !ordinary {
+        return true;
     }
+    stored_shares::is_stored_share(store, locator)
 }
 
-// The least final locator after the given one, and likewise the words of its certifying blocks.
-pub fn final_after(
+// A locator with its certifying blocks, where the list shows it; a word for each block then says whether it certifies it.
+fn shown_at(
     stakes: &[u64],
     total: Stake,
     store: &[u8],
@@ -124,48 +93,16 @@ pub fn final_after(
     tabled: usize,
     places: &[u64],
     noted: usize,
-    after: MaybeLocator,
+    ordinary: bool,
+    locator: TransactionLocator,
     certified: &mut [u64],
 ) -> NextStretch
     requires { ⌜ (Ready (now stakes) (total .0) (now store) (now order) × (length (now certified) ≡ 1024)) × Tables (now store) (now order) (now votes) m tabled (now places) noted ⌝ }
-    ensures { λ r. ⌜ (asNext r ≡ leastFinal (now (stakes .entry)) (blocksOf (now (store .entry))) (asMaybe after)) × FoundRight (now (stakes .entry)) (now (store .entry)) (now (order .entry)) (now (certified .exit)) r ⌝ }
+    ensures { λ r. ⌜ (asNext r ≡ whenShown (listed ordinary (now (stakes .entry)) (blocksOf (now (store .entry)))) (asLocator locator)) × FoundRight (now (stakes .entry)) (now (store .entry)) (now (order .entry)) (now (certified .exit)) r ⌝ }
 {
-    let MaybeLocator::Locator(given) = after else {
-        return final_start(
-            stakes,
-            total,
-            store,
-            order,
-            votes,
-            m,
-            tabled,
-            places,
-            noted,
-            after,
-            certified,
-        );
-    };
-    if given.offset == 18446744073709551615 {
-        // No offset follows, so only a later block can have the next one.
-        return final_start(
-            stakes,
-            total,
-            store,
-            order,
-            votes,
-            m,
-            tabled,
-            places,
-            noted,
-            after,
-            certified,
-        );
+    if !may_show(store, ordinary, locator) {
+        return NextStretch::Nothing;
     }
-    let block = given.block;
-    let locator = TransactionLocator {
-        block,
-        offset: given.offset + 1,
-    };
     let found = final_walk::certifiers_of(
         stakes,
         total,
@@ -179,10 +116,117 @@ pub fn final_after(
         locator,
         certified,
     );
-    if committee::is_quorum(total, authority_set::stake_of(stakes, found.authors)) {
-        return NextStretch::At(FoundFinal { locator, found });
+    if !committee::is_quorum(total, authority_set::stake_of(stakes, found.authors)) {
+        return NextStretch::Nothing;
     }
-    final_start(
+    NextStretch::At(FoundFinal { locator, found })
+}
+
+// ---- the least locator of the list
+
+// The least locator that the list shows after the given one among those at which a vote begins. Where one is found, a word for each block
+// says whether it certifies it.
+fn shown_start(
+    stakes: &[u64],
+    total: Stake,
+    store: &[u8],
+    order: &[u64],
+    votes: &[u64],
+    m: usize,
+    tabled: usize,
+    places: &[u64],
+    noted: usize,
+    ordinary: bool,
+    after: MaybeLocator,
+    certified: &mut [u64],
+) -> NextStretch
+    requires { ⌜ (Ready (now stakes) (total .0) (now store) (now order) × (length (now certified) ≡ 1024)) × Tables (now store) (now order) (now votes) m tabled (now places) noted ⌝ }
+    ensures { λ r. ⌜ (asNext r ≡ leastStart (listed ordinary (now (stakes .entry)) (blocksOf (now (store .entry)))) (now (store .entry)) (asMaybe after)) × FoundRight (now (stakes .entry)) (now (store .entry)) (now (order .entry)) (now (certified .exit)) r ⌝ }
+{
+    let mut last = after;
+    loop {
+        let start = first_start(store, order, votes, m, tabled, last);
+        let MaybeLocator::Locator(locator) = start else {
+            return NextStretch::Nothing;
+        };
+        let next = shown_at(
+            stakes,
+            total,
+            store,
+            order,
+            votes,
+            m,
+            tabled,
+            places,
+            noted,
+            ordinary,
+            locator,
+            certified,
+        );
+        let NextStretch::Nothing = next else {
+            return next;
+        };
+        last = start;
+    }
+}
+
+// The least locator that the list shows after the given one, and likewise the words of its certifying blocks.
+pub fn final_after(
+    stakes: &[u64],
+    total: Stake,
+    store: &[u8],
+    order: &[u64],
+    votes: &[u64],
+    m: usize,
+    tabled: usize,
+    places: &[u64],
+    noted: usize,
+    ordinary: bool,
+    after: MaybeLocator,
+    certified: &mut [u64],
+) -> NextStretch
+    requires { ⌜ (Ready (now stakes) (total .0) (now store) (now order) × (length (now certified) ≡ 1024)) × Tables (now store) (now order) (now votes) m tabled (now places) noted ⌝ }
+    ensures { λ r. ⌜ (asNext r ≡ listed ordinary (now (stakes .entry)) (blocksOf (now (store .entry))) .next (asMaybe after)) × FoundRight (now (stakes .entry)) (now (store .entry)) (now (order .entry)) (now (certified .exit)) r ⌝ }
+{
+    let MaybeLocator::Locator(given) = after else {
+        return shown_start(
+            stakes,
+            total,
+            store,
+            order,
+            votes,
+            m,
+            tabled,
+            places,
+            noted,
+            ordinary,
+            after,
+            certified,
+        );
+    };
+    if given.offset == 18446744073709551615 {
+        // No offset follows, so only a later block can have the next one.
+        return shown_start(
+            stakes,
+            total,
+            store,
+            order,
+            votes,
+            m,
+            tabled,
+            places,
+            noted,
+            ordinary,
+            after,
+            certified,
+        );
+    }
+    let block = given.block;
+    let locator = TransactionLocator {
+        block,
+        offset: given.offset + 1,
+    };
+    let next = shown_at(
         stakes,
         total,
         store,
@@ -192,6 +236,24 @@ pub fn final_after(
         tabled,
         places,
         noted,
+        ordinary,
+        locator,
+        certified,
+    );
+    let NextStretch::Nothing = next else {
+        return next;
+    };
+    shown_start(
+        stakes,
+        total,
+        store,
+        order,
+        votes,
+        m,
+        tabled,
+        places,
+        noted,
+        ordinary,
         after,
         certified,
     )
@@ -199,8 +261,8 @@ pub fn final_after(
 
 // ---- its stretch
 
-// Where the stretch of a final locator ends, of which a word for each block says whether it certifies it: from edge to edge while the
-// certifying blocks stay the same.
+// Where the stretch of a locator that the list shows ends, of which a word for each block says whether it certifies it: from edge to edge
+// while the list shows the next one and the certifying blocks stay the same.
 pub fn stretch_end(
     stakes: &[u64],
     total: Stake,
@@ -211,11 +273,12 @@ pub fn stretch_end(
     tabled: usize,
     places: &[u64],
     noted: usize,
+    ordinary: bool,
     locator: TransactionLocator,
     certified: &[u64],
 ) -> u64
-    requires { ⌜ ((Ready (now stakes) (total .0) (now store) (now order) × (length (now certified) ≡ 1024)) × Tables (now store) (now order) (now votes) m tabled (now places) noted) × ((isFinal (now stakes) (blocksOf (now store)) (asLocator locator) ≡ true) × Flags (now stakes) (now store) (now order) (asLocator locator) (now certified)) ⌝ }
-    ensures { λ r. ⌜ r ≡ stretchEnd (blocksOf (now (store .entry))) (wide (now (stakes .entry)) (blocksOf (now (store .entry)))) (asLocator locator) ⌝ }
+    requires { ⌜ ((Ready (now stakes) (total .0) (now store) (now order) × (length (now certified) ≡ 1024)) × Tables (now store) (now order) (now votes) m tabled (now places) noted) × ((listed ordinary (now stakes) (blocksOf (now store)) .shows (asLocator locator) ≡ true) × Flags (now stakes) (now store) (now order) (asLocator locator) (now certified)) ⌝ }
+    ensures { λ r. ⌜ r ≡ stretchEnd (blocksOf (now (store .entry))) (listed ordinary (now (stakes .entry)) (blocksOf (now (store .entry)))) (asLocator locator) ⌝ }
 {
     let mut other = [0u64; 1024];
     let mut end = next_edge(
@@ -230,7 +293,7 @@ pub fn stretch_end(
     loop {
         let block = locator.block;
         let at = TransactionLocator { block, offset: end };
-        let _found = final_walk::certifiers_of(
+        let next = shown_at(
             stakes,
             total,
             store,
@@ -240,9 +303,13 @@ pub fn stretch_end(
             tabled,
             places,
             noted,
+            ordinary,
             at,
             &mut other,
         );
+        let NextStretch::At(_) = next else {
+            return end;
+        };
         if !final_walk::same_words(certified, &other, order.len()) {
             return end;
         }

@@ -8,18 +8,19 @@ use Rattle.base.specs.Checks.{refusal, passes, refused, answered, checked}
 use Rattle.committee.specs.Committee.{Committee, broken}
 use Rattle.blocks.specs.Reference.{TransactionLocator}
 use Rattle.store_layout.specs.Store.{storeInOrder}
-use Rattle.finality.specs.Finality.{blocksOf}
-use Rattle.finality.specs.NextFinal.{leastFinal, nextFinalChecks, nextFinal}
+use Rattle.finality.specs.NextFinal.{nextFinalChecks}
+use Rattle.stretches.specs.Stretches.{Listing}
+use Rattle.listed.specs.Listed.{nextListed}
 
-module _ (c : Committee) (s : Bytes) (after : Option TransactionLocator) where
-  pub next-broken : broken c ≡ true → refused 5 ≡ nextFinal c s after
-  unfolding nextFinal nextFinalChecks checked passes refusal allOf
+module _ (c : Committee) (s : Bytes) (k : Listing) (after : Option TransactionLocator) where
+  pub next-broken : broken c ≡ true → refused 5 ≡ nextListed c s k after
+  unfolding nextListed nextFinalChecks checked passes refusal allOf
   next-broken h = rw h
 
-  pub next-disordered : broken c ≡ false → storeInOrder c s ≡ false → refused 10 ≡ nextFinal c s after
-  unfolding nextFinal nextFinalChecks checked passes refusal allOf
+  pub next-disordered : broken c ≡ false → storeInOrder c s ≡ false → refused 10 ≡ nextListed c s k after
+  unfolding nextListed nextFinalChecks checked passes refusal allOf
   next-disordered b h = rw (b, h)
 
-  pub next-answered : broken c ≡ false → storeInOrder c s ≡ true → (o : Option TransactionLocator) → o ≡ leastFinal c (blocksOf s) after → answered o ≡ nextFinal c s after
-  unfolding nextFinal nextFinalChecks checked passes refusal allOf
+  pub next-answered : broken c ≡ false → storeInOrder c s ≡ true → (o : Option TransactionLocator) → o ≡ k .next after → answered o ≡ nextListed c s k after
+  unfolding nextListed nextFinalChecks checked passes refusal allOf
   next-answered b h o e = rw (b, h, e)

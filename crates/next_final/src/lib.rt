@@ -1,23 +1,31 @@
-// The least final locator after a given one. Follows finalization_interpreter.rs.
+// The next locator of a list of final ones: of the ordinary list, and of the wide one. Follows finalization_interpreter.rs.
 use committee::NewCommittee;
 use final_search::NextStretch;
 use types::TransactionLocator;
 use vote_starts::MaybeLocator;
 ghost use mathlib.Core.Path.{_≡_};
+ghost use Rattle.finality.specs.Finality.{blocksOf};
 ghost use Rattle.finality.specs.NextFinal.{nextFinal};
+ghost use Rattle.stored_finals.specs.FinalShares.{nextFinalShare};
+ghost use Rattle.listed.specs.Listed.{listed, nextListed};
 ghost use Rattle.vote_starts.specs.Answers.{asMaybe};
 ghost use Rattle.next_final.specs.Answers.{asNextFinal};
 
-// The least final locator after the given one, or none; or the refusal number.
+// The least locator of the list after the given one, or none; or the refusal number.
 pub enum NextFinalAnswer {
     Found(TransactionLocator),
     NoneLeft,
     Refused(u64),
 }
 
-// The least final locator after a given one, or from the start. Asked on until none it gives the final list.
-pub fn next_final(stakes: &[u64], store: &[u8], after: MaybeLocator) -> NextFinalAnswer
-    ensures { λ r. ⌜ asNextFinal r ≡ nextFinal (now (stakes .entry)) (now (store .entry)) (asMaybe after) ⌝ }
+// The least locator after a given one, or from the start, that the ordinary or the wide list shows.
+pub fn next_listed(
+    stakes: &[u64],
+    store: &[u8],
+    ordinary: bool,
+    after: MaybeLocator,
+) -> NextFinalAnswer
+    ensures { λ r. ⌜ asNextFinal r ≡ nextListed (now (stakes .entry)) (now (store .entry)) (listed ordinary (now (stakes .entry)) (blocksOf (now (store .entry)))) (asMaybe after) ⌝ }
 {
     let NewCommittee::Taken(total) = committee::new_committee(stakes) else {
         return NextFinalAnswer::Refused(5);
@@ -41,6 +49,7 @@ pub fn next_final(stakes: &[u64], store: &[u8], after: MaybeLocator) -> NextFina
         0,
         &places,
         0,
+        ordinary,
         after,
         &mut certified,
     );
@@ -51,4 +60,18 @@ pub fn next_final(stakes: &[u64], store: &[u8], after: MaybeLocator) -> NextFina
         }
         NextStretch::Nothing => NextFinalAnswer::NoneLeft,
     }
+}
+
+// The least final stored share after a given locator, or from the start. Asked on until none it gives the ordinary list.
+pub fn next_final(stakes: &[u64], store: &[u8], after: MaybeLocator) -> NextFinalAnswer
+    ensures { λ r. ⌜ asNextFinal r ≡ nextFinalShare (now (stakes .entry)) (now (store .entry)) (asMaybe after) ⌝ }
+{
+    next_listed(stakes, store, true, after)
+}
+
+// The least final locator after a given one, stored or not. Asked on until none it gives the wide list.
+pub fn next_wide(stakes: &[u64], store: &[u8], after: MaybeLocator) -> NextFinalAnswer
+    ensures { λ r. ⌜ asNextFinal r ≡ nextFinal (now (stakes .entry)) (now (store .entry)) (asMaybe after) ⌝ }
+{
+    next_listed(stakes, store, false, after)
 }

@@ -1,0 +1,1 @@
+// Which list of final locators is asked for: the ordinary or the wide one.
