@@ -61,21 +61,32 @@ uint64_t lomkhvide_finality(const uint8_t *stakes, size_t stakes_len, const uint
 uint64_t lomkhvide_finality_withdrawing(const uint8_t *stakes, size_t stakes_len, const uint8_t *store, size_t store_len,
                                         uint8_t *positions, size_t positions_len, const uint8_t *locator, size_t locator_len);
 
-/* The least final locator after a given one, or from the start where `after` has no bytes: 1, and the locator is written to `found`; or 0
- * where none is left. Asked on after the locator that it found, until 0, it gives every final locator in ascending order.
+/* The ordinary list has the final locators that name a stored share, the wide list every final locator, also one that a mistyped vote
+ * names and for which there is no payload.
+ *
+ * The least locator of the ordinary list after a given one, or from the start where `after` has no bytes: 1, and the locator is written to
+ * `found`; or 0 where none is left. Asked on after the locator that it found, until 0, it gives the list in ascending order.
  * Refused last: 40 `found` not of 56 bytes. */
 uint64_t lomkhvide_next_final(const uint8_t *stakes, size_t stakes_len, const uint8_t *store, size_t store_len, const uint8_t *after,
                               size_t after_len, uint8_t *found, size_t found_len);
 
-/* The final list after a given locator, or from the start where `after` has no bytes, in stretches of neighbouring final locators of one
- * block that have the same certifying blocks, each as long as can be: 2 * number of stretches, at most 128, and 1 more where final locators follow them. Each is
- * ten words: author, round, the digest in four words (each eight of its bytes, the first one highest), first offset, end offset
+/* The same of the wide list. Both need at most 96 KB of stack. */
+uint64_t lomkhvide_next_wide(const uint8_t *stakes, size_t stakes_len, const uint8_t *store, size_t store_len, const uint8_t *after,
+                             size_t after_len, uint8_t *found, size_t found_len);
+
+/* The ordinary list after a given locator, or from the start where `after` has no bytes, in stretches of neighbouring locators of one
+ * block that have the same certifying blocks, each as long as can be: 2 * number of stretches, at most 128, and 1 more where locators of
+ * the list follow them. Each is ten words: author, round, the digest in four words (each eight of its bytes, the first one highest), first offset, end offset
  * (excluded), number of certifying blocks, their authors' stake. The bytes after them keep their content. Asked on after the last locator
- * of the last stretch, until none follow, it gives every final locator in ascending order.
+ * of the last stretch, until none follow, it gives the list in ascending order.
  * Refused last: 40 `stretches` not of 1,280 words. */
 #define LOMKHVIDE_STRETCHES_LEN ((size_t)10240)
 uint64_t lomkhvide_final_stretches(const uint8_t *stakes, size_t stakes_len, const uint8_t *store, size_t store_len, const uint8_t *after,
                                    size_t after_len, uint8_t *stretches, size_t stretches_len);
+
+/* The same of the wide list. Both need at most 480 KB of stack. */
+uint64_t lomkhvide_wide_stretches(const uint8_t *stakes, size_t stakes_len, const uint8_t *store, size_t store_len, const uint8_t *after,
+                                  size_t after_len, uint8_t *stretches, size_t stretches_len);
 
 /* The stake and the number of the voters of a pending locator. The pending table is 6,145 words; a fresh one is zeros.
  * Refused between 10 and 20: 11 a table not of 6,145 words or not in order. Refused last: 42 not pending. */

@@ -27,6 +27,9 @@ static void put_word(uint8_t *to, uint64_t word) {
     }
 }
 
+/* a question for the next locator of a list, or for the list in bulk */
+typedef uint64_t (*list_call)(const uint8_t *, size_t, const uint8_t *, size_t, const uint8_t *, size_t, uint8_t *, size_t);
+
 /* n stakes, each of them `stake`, but for the last, which is `last`; lent from their own allocation, so that a read past the
  * end can be seen by a checker of memory */
 static uint64_t set(size_t n, uint64_t stake, uint64_t last, size_t cut) {
@@ -262,48 +265,57 @@ static void payloads(void) {
 
     uint8_t found[58], room[58];
     memset(found, 9, sizeof found);
-    memcpy(room, found, sizeof found);
-    for (size_t n = 0; n < 58; n++) {
-        if (n != 0 && n != 56) {
-            same("next final after bytes of any length", lomkhvide_next_final(one, 8, store, sizeof store, locator, n, found, 8), refused(20));
+    const list_call nexts[2] = {lomkhvide_next_final, lomkhvide_next_wide};
+    for (int k = 0; k < 2; k++) {
+        list_call next = nexts[k];
+        memset(found, 9, sizeof found);
+        memcpy(room, found, sizeof found);
+        for (size_t n = 0; n < 58; n++) {
+            if (n != 0 && n != 56) {
+                same("next final after bytes of any length", next(one, 8, store, sizeof store, locator, n, found, 8), refused(20));
+            }
+            if (n != 56) {
+                same("room of any length", next(one, 8, store, sizeof store, locator, 0, found, n), refused(40));
+                same("and after a locator", next(one, 8, store, sizeof store, locator, 56, found, n), refused(40));
+            }
         }
-        if (n != 56) {
-            same("room of any length", lomkhvide_next_final(one, 8, store, sizeof store, locator, 0, found, n), refused(40));
-            same("and after a locator", lomkhvide_next_final(one, 8, store, sizeof store, locator, 56, found, n), refused(40));
-        }
+        same("no committee", next(one, 7, store, sizeof store, locator, 3, found, 3), refused(5));
+        same("no store", next(one, 8, store, 15, locator, 3, found, 3), refused(10));
+        same("none after it", next(one, 8, store, sizeof store, locator, 56, found, 56), 0);
+        same("nothing is written", memcmp(found, room, sizeof found), 0);
+        same("one from the start", next(one, 8, store, sizeof store, locator, 0, found, 56), 1);
+        memcpy(room, locator, 56);
+        same("it is the share", memcmp(found, room, sizeof found), 0);
     }
-    same("no committee", lomkhvide_next_final(one, 7, store, sizeof store, locator, 3, found, 3), refused(5));
-    same("no store", lomkhvide_next_final(one, 8, store, 15, locator, 3, found, 3), refused(10));
-    same("none after it", lomkhvide_next_final(one, 8, store, sizeof store, locator, 56, found, 56), 0);
-    same("nothing is written", memcmp(found, room, sizeof found), 0);
-    same("one from the start", lomkhvide_next_final(one, 8, store, sizeof store, locator, 0, found, 56), 1);
-    memcpy(room, locator, 56);
-    same("it is the share", memcmp(found, room, sizeof found), 0);
 
     static uint8_t stretches[LOMKHVIDE_STRETCHES_LEN + 8], blank[LOMKHVIDE_STRETCHES_LEN + 8];
-    memset(stretches, 9, sizeof stretches);
-    memcpy(blank, stretches, sizeof stretches);
-    for (size_t n = 0; n < 58; n++) {
-        if (n != 0 && n != 56) {
-            same("stretches after bytes of any length", lomkhvide_final_stretches(one, 8, store, sizeof store, locator, n, stretches, 8), refused(20));
+    const list_call bulks[2] = {lomkhvide_final_stretches, lomkhvide_wide_stretches};
+    for (int k = 0; k < 2; k++) {
+        list_call bulk = bulks[k];
+        memset(stretches, 9, sizeof stretches);
+        memcpy(blank, stretches, sizeof stretches);
+        for (size_t n = 0; n < 58; n++) {
+            if (n != 0 && n != 56) {
+                same("stretches after bytes of any length", bulk(one, 8, store, sizeof store, locator, n, stretches, 8), refused(20));
+            }
         }
-    }
-    for (size_t n = 0; n < sizeof stretches; n += n < 64 ? 1 : 511) {
-        if (n != LOMKHVIDE_STRETCHES_LEN) {
-            same("stretches of any length", lomkhvide_final_stretches(one, 8, store, sizeof store, locator, 0, stretches, n), refused(40));
+        for (size_t n = 0; n < sizeof stretches; n += n < 64 ? 1 : 511) {
+            if (n != LOMKHVIDE_STRETCHES_LEN) {
+                same("stretches of any length", bulk(one, 8, store, sizeof store, locator, 0, stretches, n), refused(40));
+            }
         }
+        same("no committee", bulk(one, 7, store, sizeof store, locator, 3, stretches, 3), refused(5));
+        same("no store", bulk(one, 8, store, 15, locator, 3, stretches, 3), refused(10));
+        same("none after it", bulk(one, 8, store, sizeof store, locator, 56, stretches, LOMKHVIDE_STRETCHES_LEN), 0);
+        same("nothing is written", memcmp(stretches, blank, sizeof stretches), 0);
+        same("one from the start", bulk(one, 8, store, sizeof store, locator, 0, stretches, LOMKHVIDE_STRETCHES_LEN), 2);
+        /* author 0, round 1, a digest whose fourth byte is 2, offsets 0 to 1, one block, stake 1 */
+        const uint64_t words[10] = {0, 1, UINT64_C(2) << 32, 0, 0, 0, 0, 1, 1, 1};
+        for (int i = 0; i < 10; i++) {
+            put_word(blank + 8 * i, words[i]);
+        }
+        same("it is the share", memcmp(stretches, blank, sizeof stretches), 0);
     }
-    same("no committee", lomkhvide_final_stretches(one, 7, store, sizeof store, locator, 3, stretches, 3), refused(5));
-    same("no store", lomkhvide_final_stretches(one, 8, store, 15, locator, 3, stretches, 3), refused(10));
-    same("none after it", lomkhvide_final_stretches(one, 8, store, sizeof store, locator, 56, stretches, LOMKHVIDE_STRETCHES_LEN), 0);
-    same("nothing is written", memcmp(stretches, blank, sizeof stretches), 0);
-    same("one from the start", lomkhvide_final_stretches(one, 8, store, sizeof store, locator, 0, stretches, LOMKHVIDE_STRETCHES_LEN), 2);
-    /* author 0, round 1, a digest whose fourth byte is 2, offsets 0 to 1, one block, stake 1 */
-    const uint64_t words[10] = {0, 1, UINT64_C(2) << 32, 0, 0, 0, 0, 1, 1, 1};
-    for (int i = 0; i < 10; i++) {
-        put_word(blank + 8 * i, words[i]);
-    }
-    same("it is the share", memcmp(stretches, blank, sizeof stretches), 0);
 
     static uint8_t table[LOMKHVIDE_TABLE_LEN + 8], lent[LOMKHVIDE_TABLE_LEN + 8];
     same("nothing is pending", lomkhvide_pending_stake(one, 8, store, sizeof store, table, LOMKHVIDE_TABLE_LEN, locator, 56), refused(42));

@@ -158,6 +158,24 @@ static void loadable(void) {
     answer = lomkhvide_loadable(one, sizeof one, chain, sizeof chain, places, 2);
 }
 
+static uint8_t next[56], stretches[LOMKHVIDE_STRETCHES_LEN];
+
+static void next_final(void) {
+    answer = lomkhvide_next_final(one, sizeof one, chain, sizeof chain, next, 0, next, sizeof next);
+}
+
+static void next_wide(void) {
+    answer = lomkhvide_next_wide(one, sizeof one, chain, sizeof chain, next, 0, next, sizeof next);
+}
+
+static void final_stretches(void) {
+    answer = lomkhvide_final_stretches(one, sizeof one, chain, sizeof chain, next, 0, stretches, sizeof stretches);
+}
+
+static void wide_stretches(void) {
+    answer = lomkhvide_wide_stretches(one, sizeof one, chain, sizeof chain, next, 0, stretches, sizeof stretches);
+}
+
 static void grow(void) {
     uint8_t record[108] = {0};
     chain[4] = 16;
@@ -210,6 +228,10 @@ int main(void) {
     at_most("finality_withdrawing", finality_withdrawing, 2 * 1023 + 1, 98304);
     at_most("is_loadable", is_loadable, 1, 98304);
     at_most("loadable", loadable, 1, 507904);
-    printf("%d passed, %d failed\n", 12 - failed, failed);
+    at_most("next_final", next_final, 1, 98304);
+    at_most("next_wide", next_wide, 1, 98304);
+    at_most("final_stretches", final_stretches, 2, 491520);
+    at_most("wide_stretches", wide_stretches, 2, 491520);
+    printf("%d passed, %d failed\n", 16 - failed, failed);
     return failed != 0;
 }

@@ -266,9 +266,15 @@ fn cases() -> Vec<Case> {
         },
         Case {
             name: "next_final",
-            slices: vec![stakes.clone(), store.clone(), after(&[]), found],
+            slices: vec![stakes.clone(), store.clone(), after(&[]), found.clone()],
             engine: over!(|stakes, store, after, out| engine::next_final(stakes, store, after, out)),
             model: over!(|stakes, store, after, out| lent::next_final(stakes, store, after, out)),
+        },
+        Case {
+            name: "next_wide",
+            slices: vec![stakes.clone(), store.clone(), after(&[]), found],
+            engine: over!(|stakes, store, after, out| engine::next_wide(stakes, store, after, out)),
+            model: over!(|stakes, store, after, out| lent::next_wide(stakes, store, after, out)),
         },
         Case {
             name: "write_record",
@@ -302,9 +308,15 @@ fn cases() -> Vec<Case> {
         },
         Case {
             name: "final_stretches",
-            slices: vec![stakes, store, after(&[]), stretches],
+            slices: vec![stakes.clone(), store.clone(), after(&[]), stretches.clone()],
             engine: over!(|stakes, store, after, out| engine::final_stretches(stakes, store, after, out)),
             model: over!(|stakes, store, after, out| lent::final_stretches(stakes, store, after, out)),
+        },
+        Case {
+            name: "wide_stretches",
+            slices: vec![stakes, store, after(&[]), stretches],
+            engine: over!(|stakes, store, after, out| engine::wide_stretches(stakes, store, after, out)),
+            model: over!(|stakes, store, after, out| lent::wide_stretches(stakes, store, after, out)),
         },
         Case {
             name: "is_open",

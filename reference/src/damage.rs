@@ -112,10 +112,18 @@ fn questions_of_store(stakes: &[u8], store: &[u8], locator: &[u8]) -> Outcome {
     let told = engine::next_final(stakes, store, locator, &mut got);
     same("next_final over damaged memory", "engine", told, answer)?;
     same_bytes("next_final's locator over damaged memory", &got, &right)?;
+    let answer = lent::next_wide(stakes, store, locator, &mut right);
+    let told = engine::next_wide(stakes, store, locator, &mut got);
+    same("next_wide over damaged memory", "engine", told, answer)?;
+    same_bytes("next_wide's locator over damaged memory", &got, &right)?;
     let (mut right, mut got) = (vec![0x3c; lent::STRETCHES_BYTES], vec![0x3c; lent::STRETCHES_BYTES]);
     let answer = lent::final_stretches(stakes, store, locator, &mut right);
     let told = engine::final_stretches(stakes, store, locator, &mut got);
     same("final_stretches over damaged memory", "engine", told, answer)?;
     same_bytes("stretches over damaged memory", &got, &right)?;
+    let answer = lent::wide_stretches(stakes, store, locator, &mut right);
+    let told = engine::wide_stretches(stakes, store, locator, &mut got);
+    same("wide_stretches over damaged memory", "engine", told, answer)?;
+    same_bytes("wide stretches over damaged memory", &got, &right)?;
     Ok(())
 }

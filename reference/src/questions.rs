@@ -4,7 +4,7 @@ use std::collections::BTreeSet;
 
 use crate::compare::{same, same_bytes, Outcome, Sides};
 use crate::engine::{self, Answer};
-use crate::model::finality::{Finality, Graph};
+use crate::model::finality::{Finality, Graph, Listed};
 use crate::model::lent::{stretches, whom_to_ring, write_finality, write_stretches, MOST_STRETCHES, POSITION_BYTES, STRETCHES_BYTES};
 use crate::model::record::{number, Locator, Reference};
 use crate::rng::Rng;
@@ -22,7 +22,7 @@ pub fn ask(sides: &Sides, rng: &mut Rng, tally: &mut Tally) -> Outcome {
     tally.pending += sides.state.table.items.len() as u64;
     if let Some(rust) = &sides.rust {
         let right = list.iter().map(|(locator, finality)| (*locator, finality.certifying.clone())).collect();
-        same("the final list with its certifying blocks", "Rust", rust.final_list(), Ok(right))?;
+        same("the wide list with its certifying blocks", "Rust", rust.final_list(), Ok(right))?;
     }
     let asked = locators(sides, &graph, rng);
     for locator in &asked {
@@ -34,8 +34,12 @@ pub fn ask(sides: &Sides, rng: &mut Rng, tally: &mut Tally) -> Outcome {
         tally.rings(&rung(sides, locator, rng.word() as u128 | (rng.word() as u128) << 64)?);
     }
     times(sides, rng, tally)?;
-    asked_on(sides, &list, rng)?;
-    in_bulk(sides, &graph, rng)
+    asked_on(sides, Listed::Wide, &list, rng)?;
+    in_bulk(sides, Listed::Wide, &list, rng)?;
+    let shares = graph.listed(Listed::Ordinary);
+    tally.shares += shares.len() as u64;
+    asked_on(sides, Listed::Ordinary, &shares, rng)?;
+    in_bulk(sides, Listed::Ordinary, &shares, rng)
 }
 
 /// The times of some stored blocks, as the Rust's blocks have them, and of one that is not stored.
@@ -136,8 +140,12 @@ fn rung(sides: &Sides, locator: &Locator, reachable: u128) -> Result<Answer, Str
     Ok(told)
 }
 
-/// The next final locator, asked on until none (or a few times, from a random place, where the list is long).
-fn asked_on(sides: &Sides, list: &[(Locator, Finality)], rng: &mut Rng) -> Outcome {
+/// The next locator of a list, asked on until none (or a few times, from a random place, where the list is long).
+fn asked_on(sides: &Sides, listed: Listed, list: &[(Locator, Finality)], rng: &mut Rng) -> Outcome {
+    let (next, name) = match listed {
+        Listed::Ordinary => (engine::next_final as fn(&[u8], &[u8], &[u8], &mut [u8]) -> Answer, "next_final"),
+        Listed::Wide => (engine::next_wide as _, "next_wide"),
+    };
     let lent = &sides.engine;
     let most = if list.len() > 100 { 1 } else { most_asked(sides) };
     let long = list.len() > 3 * most;
@@ -147,26 +155,30 @@ fn asked_on(sides: &Sides, list: &[(Locator, Finality)], rng: &mut Rng) -> Outco
         list.iter().map(|(locator, _)| Some(locator)).chain([None]).skip(first).take(if long { most } else { 3 * most + 1 })
     {
         let mut out = vec![0x77; 56];
-        let got = engine::next_final(&lent.stakes, &lent.store, &after, &mut out);
-        same("next_final", "engine", got, Ok(right.is_some() as u64))?;
-        same_bytes("next_final's locator", &out, &right.map_or([0x77; 56], |locator| locator.bytes()))?;
+        let got = next(&lent.stakes, &lent.store, &after, &mut out);
+        same(name, "engine", got, Ok(right.is_some() as u64))?;
+        same_bytes(&format!("{name}'s locator"), &out, &right.map_or([0x77; 56], |locator| locator.bytes()))?;
         after = out;
     }
     Ok(())
 }
 
-/// The list in bulk, from the start and asked on until no more follow; and once from the middle of a stretch.
-fn in_bulk(sides: &Sides, graph: &Graph, rng: &mut Rng) -> Outcome {
+/// A list in bulk, from the start and asked on until no more follow; and once from the middle of a stretch.
+fn in_bulk(sides: &Sides, listed: Listed, list: &[(Locator, Finality)], rng: &mut Rng) -> Outcome {
+    let (bulk, name) = match listed {
+        Listed::Ordinary => (engine::final_stretches as fn(&[u8], &[u8], &[u8], &mut [u8]) -> Answer, "final_stretches"),
+        Listed::Wide => (engine::wide_stretches as _, "wide_stretches"),
+    };
     let lent = &sides.engine;
-    let all = stretches(graph, None);
+    let all = stretches(list, None);
     let mut after = None;
     let mut middle = all.iter().rfind(|stretch| stretch.end - stretch.first.offset > 1).filter(|_| rng.once_in(4));
     loop {
-        let rest = if after.is_none() { all.clone() } else { stretches(graph, after) };
+        let rest = if after.is_none() { all.clone() } else { stretches(list, after) };
         let (mut right, mut out) = (vec![0x19; STRETCHES_BYTES], vec![0x19; STRETCHES_BYTES]);
         let after_bytes = after.map_or(Vec::new(), |locator: Locator| locator.bytes().to_vec());
-        let got = engine::final_stretches(&lent.stakes, &lent.store, &after_bytes, &mut out);
-        same("final_stretches", "engine", got, Ok(write_stretches(&rest, &mut right)))?;
+        let got = bulk(&lent.stakes, &lent.store, &after_bytes, &mut out);
+        same(name, "engine", got, Ok(write_stretches(&rest, &mut right)))?;
         if out != right {
             let words =
                 |bytes: &[u8]| bytes.chunks_exact(80).map(|c| c.chunks(8).map(number).collect()).collect::<Vec<Vec<_>>>();

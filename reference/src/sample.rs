@@ -14,7 +14,7 @@ use crate::generate;
 use crate::graphs::course_run;
 use crate::list::List;
 use crate::model::feed::{Event, Kind};
-use crate::model::listing::{listing, Lines};
+use crate::model::listing::{listing_wide, Lines};
 use crate::model::record::{Block, Locator, Statement};
 use crate::rust::{in_domain, Call, RustSide};
 
@@ -24,7 +24,7 @@ const LONGEST: usize = 1_500;
 const MOST_BYTES: usize = 16_000;
 const MOST_LINES: usize = 40;
 
-/// The sample: inputs by name, and what `listing` prints for each.
+/// The sample: inputs by name, and what `listing` prints for each with the wide list.
 pub fn make() -> Vec<(String, Vec<u8>, String)> {
     let lists = (0..TRIED).map(|n| generate::list(SEED, n)).filter(|list| list.to_listing().len() <= LONGEST);
     let mut lists: Vec<List> = lists.filter(|list| list.stakes.len() <= 128 && list.store >= list.needed()).collect();
@@ -39,7 +39,7 @@ pub fn make() -> Vec<(String, Vec<u8>, String)> {
         if shown.is_subset(&seen) || bytes + input.len() > MOST_BYTES || text.lines().count() > MOST_LINES {
             continue;
         }
-        assert_eq!(text, listing(&input, &[]), "the model prints what the Rust's answers make");
+        assert_eq!(text, listing_wide(&input, &[]), "the model prints what the Rust's answers make");
         seen.extend(shown);
         bytes += input.len();
         sample.push((format!("rust_{:02}.bin", sample.len() + 1), input, text));

@@ -10,7 +10,9 @@ pub struct Tally {
     pub accepted: u64,
     pub refused: BTreeMap<u64, u64>,
     pub events: BTreeMap<Kind, u64>,
+    /// Locators of the wide lists, and of the ordinary ones.
     pub finals: u64,
+    pub shares: u64,
     pub not_finals: u64,
     pub pending: u64,
     pub questions: u64,
@@ -48,7 +50,7 @@ impl Tally {
         let kind = |kind: Kind| self.events.get(&kind).copied().unwrap_or(0);
         format!(
             "records accepted {}; refused {{{}}}\nevents: processed {}, late {}, unknown {}\n\
-             locators answered final {}, not final {}; pending items {}; questions {}\n\
+             locators listed as final {}, stored shares of these {}; asked about and not final {}; pending items {}; questions {}\n\
              of pending ones, somebody to ring {}, nobody {}, 60 {}\n\
              stored blocks asked for their time: {} have one, {} have none\n\
              answers over damaged memory (0: none refused) {{{}}}",
@@ -58,6 +60,7 @@ impl Tally {
             kind(Kind::Late),
             kind(Kind::Unknown),
             self.finals,
+            self.shares,
             self.not_finals,
             self.pending,
             self.questions,

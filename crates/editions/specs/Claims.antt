@@ -17,6 +17,7 @@ use Rattle.feeds.specs.ProcessBlock.{Event}
 use Rattle.finality.specs.Voters.{isFinal}
 use Rattle.finality.specs.Finality.{blocksOf}
 use Rattle.finality.specs.NextFinal.{FinalList}
+use Rattle.stored_finals.specs.FinalShares.{FinalShareList}
 use Rattle.promises.specs.Feeds.{Feed, Accepted}
 use Rattle.promises.specs.ThirdStatement.{Start, engineOf, acceptedOf}
 
@@ -62,7 +63,9 @@ pub record SameCounts (c : Committee) (t u : Start) : Type 0 where
   -- the stored blocks are the same, and with them everything final
   pub blocks : blocksOf (engineOf c t .store) ≡ blocksOf (engineOf c u .store)
   pub final : (l : TransactionLocator) → isFinal c (blocksOf (engineOf c t .store)) l ≡ isFinal c (blocksOf (engineOf c u .store)) l
+  -- the wide list, and the ordinary one
   pub list : broken c ≡ false → (ls ms : List TransactionLocator) → FinalList c (engineOf c t .store) ls → FinalList c (engineOf c u .store) ms → ls ≡ ms
+  pub shares : broken c ≡ false → (ls ms : List TransactionLocator) → FinalShareList c (engineOf c t .store) ls → FinalShareList c (engineOf c u .store) ms → ls ≡ ms
 
 pub record Claims : Type 0 where
   pub accepting : Accepting

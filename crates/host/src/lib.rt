@@ -6,11 +6,11 @@ ghost use Rattle.host_calls.specs.Calls.{encoded, flag, committeeOf, newCommitt
 ghost use Rattle.host_add.specs.Add.{addCall};
 ghost use Rattle.host_lib.specs.Pending.{pendingStakeCall, pendingVotersCall};
 ghost use Rattle.host_lib.specs.Feed.{feedCall};
-ghost use Rattle.host_finals.specs.NextFinal.{nextFinalCall};
+ghost use Rattle.host_finals.specs.NextFinal.{nextFinalCall, nextWideCall};
 ghost use Rattle.host_lib.specs.Payload.{payloadLengthCall, payloadStartCall};
 ghost use Rattle.host_finality.specs.Finality.{finalityCall};
 ghost use Rattle.readings.specs.Readings.{old, withdrawing};
-ghost use Rattle.host_finals.specs.Stretches.{stretchesCall};
+ghost use Rattle.host_finals.specs.Stretches.{stretchesCall, wideStretchesCall};
 ghost use Rattle.host_calendar.specs.Calendar.{isOpenCall, nextOpenCall};
 ghost use Rattle.host_stakes.specs.LoadStakes.{loadStakesCall};
 ghost use mathlib.Core.Option.{some};
@@ -125,7 +125,7 @@ pub extern "C" fn lomkhvide_pending_voters(
     host_pending::pending_voters(stakes, store, table, locator)
 }
 
-// The least final locator after a given one, or from the start: 1 where it was written, 0 where none is left.
+// The least final stored share after a given locator, or from the start: 1 where it was written, 0 where none is left.
 #[no_mangle]
 pub extern "C" fn lomkhvide_next_final(
     stakes: &[u8],
@@ -138,11 +138,11 @@ pub extern "C" fn lomkhvide_next_final(
 {
     let mut held = [0u64; 128];
     let n = host_calls::stakes_of(stakes, &mut held);
-    host_finals::next_final_of(&held[..n], store, after, found)
+    host_finals::next_final_of(&held[..n], store, true, after, found)
 }
 
-// The final list after a given locator, or from the start, in stretches of ten words: twice their number, and 1 more where a final locator
-// follows them.
+// The ordinary list after a given locator, or from the start, in stretches of ten words: twice their number, and 1 more where a locator of
+// the list follows them.
 #[no_mangle]
 pub extern "C" fn lomkhvide_final_stretches(
     stakes: &[u8],
@@ -155,7 +155,39 @@ pub extern "C" fn lomkhvide_final_stretches(
 {
     let mut held = [0u64; 128];
     let n = host_calls::stakes_of(stakes, &mut held);
-    host_finals::stretches_of(&held[..n], store, after, out)
+    host_finals::stretches_of(&held[..n], store, true, after, out)
+}
+
+// The least final locator after a given one, stored or not, in the same form.
+#[no_mangle]
+pub extern "C" fn lomkhvide_next_wide(
+    stakes: &[u8],
+    store: &[u8],
+    after: &[u8],
+    found: &mut [u8],
+) -> u64
+    ensures { λ r. ⌜ r ≡ encoded (nextWideCall (now (stakes .entry)) (now (store .entry)) (now (after .entry)) (now (found .entry)) .answer) ⌝ }
+    ensures { λ r. ⌜ now (found .exit) ≡ nextWideCall (now (stakes .entry)) (now (store .entry)) (now (after .entry)) (now (found .entry)) .found ⌝ }
+{
+    let mut held = [0u64; 128];
+    let n = host_calls::stakes_of(stakes, &mut held);
+    host_finals::next_final_of(&held[..n], store, false, after, found)
+}
+
+// The wide list in stretches, in the same form.
+#[no_mangle]
+pub extern "C" fn lomkhvide_wide_stretches(
+    stakes: &[u8],
+    store: &[u8],
+    after: &[u8],
+    out: &mut [u8],
+) -> u64
+    ensures { λ r. ⌜ r ≡ encoded (wideStretchesCall (now (stakes .entry)) (now (store .entry)) (now (after .entry)) (now (out .entry)) .answer) ⌝ }
+    ensures { λ r. ⌜ now (out .exit) ≡ wideStretchesCall (now (stakes .entry)) (now (store .entry)) (now (after .entry)) (now (out .entry)) .stretches ⌝ }
+{
+    let mut held = [0u64; 128];
+    let n = host_calls::stakes_of(stakes, &mut held);
+    host_finals::stretches_of(&held[..n], store, false, after, out)
 }
 
 // Feeds a record: the number of events, which stand at the front, three words each.

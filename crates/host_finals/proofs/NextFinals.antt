@@ -1,4 +1,4 @@
--- The next final locator of a host. Assumes nothing.
+-- The next locator of a list, for a host. Assumes nothing.
 use mathlib.Core.Path.{_≡_, refl}
 use mathlib.Core.List.{List}
 use mathlib.Core.Option.{Option, none, some}
@@ -9,27 +9,29 @@ use Rattle.base.specs.Lists.{allOf}
 use Rattle.base.specs.Checks.{Answer, refused}
 use Rattle.committee.specs.Committee.{Committee}
 use Rattle.blocks.specs.Reference.{TransactionLocator}
-use Rattle.finality.specs.NextFinal.{nextFinal, nextFinalChecks}
+use Rattle.finality.specs.NextFinal.{nextFinalChecks}
+use Rattle.stretches.specs.Stretches.{Listing}
+use Rattle.listed.specs.Listed.{nextListed}
 use Rattle.host_lib.specs.Payload.{refusalBefore}
 use Rattle.host_finals.specs.NextFinal.{foundIn, askedNextFinal}
 use Rattle.host_calls.proofs.Numbers.{checked-most}
 
-pub next-most : (c : Committee) (s : List ℕ) (after : Option TransactionLocator) (n : ℕ) → nextFinal c s after ≡ refused n → n ≤ 10
-unfolding nextFinal nextFinalChecks allOf
-next-most c s after n e = checked-most 10 (nextFinalChecks c s) _ n refl e
+pub next-most : (c : Committee) (s : List ℕ) (k : Listing) (after : Option TransactionLocator) (n : ℕ) → nextListed c s k after ≡ refused n → n ≤ 10
+unfolding nextListed nextFinalChecks allOf
+next-most c s k after n e = checked-most 10 (nextFinalChecks c s) _ n refl e
 
-module _ (c : Committee) (s : List ℕ) (o : Option (Option TransactionLocator)) (out : List ℕ) where
-  pub next-malformed : o ≡ none → askedNextFinal c s o out ≡ record { answer = refused (refusalBefore 20 c s); found = out }
+module _ (c : Committee) (s : List ℕ) (k : Listing) (o : Option (Option TransactionLocator)) (out : List ℕ) where
+  pub next-malformed : o ≡ none → askedNextFinal c s k o out ≡ record { answer = refused (refusalBefore 20 c s); found = out }
   unfolding askedNextFinal
   next-malformed e = rw e
 
   pub next-unsized : (after : Option TransactionLocator) → o ≡ some after → (length out ≡ 56 → ⊥)
-      → askedNextFinal c s o out ≡ record { answer = refused (refusalBefore 40 c s); found = out }
+      → askedNextFinal c s k o out ≡ record { answer = refused (refusalBefore 40 c s); found = out }
   unfolding askedNextFinal
   next-unsized after e h = rw (e, ne-eqb (length out) 56 h)
 
   -- a place and room for a locator: the engine's question
-  pub next-asked : (after : Option TransactionLocator) (a : Answer (Option TransactionLocator)) → o ≡ some after → length out ≡ 56 → nextFinal c s after ≡ a
-      → askedNextFinal c s o out ≡ foundIn out a
+  pub next-asked : (after : Option TransactionLocator) (a : Answer (Option TransactionLocator)) → o ≡ some after → length out ≡ 56 → nextListed c s k after ≡ a
+      → askedNextFinal c s k o out ≡ foundIn out a
   unfolding askedNextFinal
-  next-asked after a e h k = rw (e, eq-eqb (length out) 56 h, k)
+  next-asked after a e h q = rw (e, eq-eqb (length out) 56 h, q)

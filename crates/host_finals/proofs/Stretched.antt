@@ -1,4 +1,4 @@
--- The final list in bulk of a host. Assumes nothing.
+-- A list in bulk, for a host. Assumes nothing.
 use mathlib.Core.Path.{_≡_, refl, sym, ap}
 use mathlib.Core.Bool.{Bool, true, false}
 use mathlib.Core.List.{List, _∷_}
@@ -16,8 +16,8 @@ use Rattle.words.specs.Words.{wordsIn, wordsOf, bytesOf}
 use Rattle.finality.specs.Finality.{blocksOf}
 use Rattle.finality.specs.NextFinal.{nextFinalChecks}
 use Rattle.final_list.specs.Answers.{asStretches}
-use Rattle.stretches.specs.Stretches.{Listing, wide, lastLocator, stretchAt, fromFound, stretches}
-use Rattle.stretches.specs.Bulk.{Given, givenAfter, listStretches, finalStretches}
+use Rattle.stretches.specs.Stretches.{Listing, lastLocator, stretchAt, fromFound, stretches}
+use Rattle.stretches.specs.Bulk.{Given, givenAfter, listStretches}
 use Rattle.final_list.specs.declared.StretchesAnswer.{StretchesAnswer}
 use Rattle.final_list.specs.declared.StretchesAnswer.the-variants.{Last, More, Refused}
 use Rattle.host_lib.specs.Payload.{refusalBefore}
@@ -36,44 +36,44 @@ few-stretches c bs k (suc n) after = go (k .next after) (few-stretches c bs k n)
     go (some l) h = omega (arith, h (some (lastLocator (stretchAt c bs k l))))
 
 -- so the answer leaves room for the word
-given-few : (c : Committee) (s ws : List ℕ) (after : Option TransactionLocator) (g : Given) → finalStretches c s ws after .answer ≡ answered g → g .stretches ≤ length ws / 10
+given-few : (c : Committee) (s ws : List ℕ) (k : Listing) (after : Option TransactionLocator) (g : Given) → listStretches c s k ws after .answer ≡ answered g → g .stretches ≤ length ws / 10
 unfolding listStretches checked givenAfter
-given-few c s ws after g e = by (passes (nextFinalChecks c s)) e
+given-few c s ws k after g e = by (passes (nextFinalChecks c s)) e
   where
     told : Given
-    told = givenAfter (wide c (blocksOf s)) after (stretches c (blocksOf s) (wide c (blocksOf s)) (length ws / 10) after)
+    told = givenAfter k after (stretches c (blocksOf s) k (length ws / 10) after)
 
     by : (t : Bool) → _≡_ {A = Answer Given} (pick t (answered told) (refused (refusal (nextFinalChecks c s)))) (answered g) → g .stretches ≤ length ws / 10
-    by true e = let z : told ≡ g = cc in omega (arith, ap (λ (x : Given). x .stretches) z, few-stretches c (blocksOf s) (wide c (blocksOf s)) (length ws / 10) after)
+    by true e = let z : told ≡ g = cc in omega (arith, ap (λ (x : Given). x .stretches) z, few-stretches c (blocksOf s) k (length ws / 10) after)
     by false e = let z : _≡_ {A = ℕ} 0 1 = cc in absurd (omega arith)
 
-pub counts-fit : (c : Committee) (s ws : List ℕ) (after : Option TransactionLocator) (r : StretchesAnswer) → length ws ≡ 1280
-    → asStretches r ≡ finalStretches c s ws after .answer → countsFit r
+pub counts-fit : (c : Committee) (s ws : List ℕ) (k : Listing) (after : Option TransactionLocator) (r : StretchesAnswer) → length ws ≡ 1280
+    → asStretches r ≡ listStretches c s k ws after .answer → countsFit r
 unfolding asStretches
-counts-fit c s ws after (Last n) h e = omega (arith, given-few c s ws after _ (sym e))
-counts-fit c s ws after (More n) h e = omega (arith, given-few c s ws after _ (sym e))
-counts-fit c s ws after (Refused n) h e = few-numbers n (sym e)
+counts-fit c s ws k after (Last n) h e = omega (arith, given-few c s ws k after _ (sym e))
+counts-fit c s ws k after (More n) h e = omega (arith, given-few c s ws k after _ (sym e))
+counts-fit c s ws k after (Refused n) h e = few-numbers n (sym e)
   where
-    few-numbers : (n : ℕ) → finalStretches c s ws after .answer ≡ refused n → n ≤ 10
+    few-numbers : (n : ℕ) → listStretches c s k ws after .answer ≡ refused n → n ≤ 10
     few-numbers n e = unfold listStretches nextFinalChecks allOf in checked-most 10 (nextFinalChecks c s) _ n refl e
 
 -- as words
-pub stretches-in : (c : Committee) (s out : List ℕ) (after : Option TransactionLocator) → length out ≡ 10240
-    → stretchesIn c s after out
-    ≡ record { answer = stretchesNumber (finalStretches c s (wordsIn 1280 out) after .answer); stretches = bytesOf (finalStretches c s (wordsIn 1280 out) after .out) }
+pub stretches-in : (c : Committee) (s out : List ℕ) (k : Listing) (after : Option TransactionLocator) → length out ≡ 10240
+    → stretchesIn c s k after out
+    ≡ record { answer = stretchesNumber (listStretches c s k (wordsIn 1280 out) after .answer); stretches = bytesOf (listStretches c s k (wordsIn 1280 out) after .out) }
 unfolding stretchesIn wordsOf
-stretches-in c s out after h = rw h
+stretches-in c s out k after h = rw h
 
-module _ (c : Committee) (s : List ℕ) (o : Option (Option TransactionLocator)) (out : List ℕ) where
-  pub stretches-malformed : o ≡ none → askedStretches c s o out ≡ record { answer = refused (refusalBefore 20 c s); stretches = out }
+module _ (c : Committee) (s : List ℕ) (k : Listing) (o : Option (Option TransactionLocator)) (out : List ℕ) where
+  pub stretches-malformed : o ≡ none → askedStretches c s k o out ≡ record { answer = refused (refusalBefore 20 c s); stretches = out }
   unfolding askedStretches
   stretches-malformed e = rw e
 
   pub stretches-unsized : (after : Option TransactionLocator) → o ≡ some after → (length out ≡ 10240 → ⊥)
-      → askedStretches c s o out ≡ record { answer = refused (refusalBefore 40 c s); stretches = out }
+      → askedStretches c s k o out ≡ record { answer = refused (refusalBefore 40 c s); stretches = out }
   unfolding askedStretches
   stretches-unsized after e h = rw (e, ne-eqb (length out) 10240 h)
 
-  pub stretches-asked : (after : Option TransactionLocator) → o ≡ some after → length out ≡ 10240 → askedStretches c s o out ≡ stretchesIn c s after out
+  pub stretches-asked : (after : Option TransactionLocator) → o ≡ some after → length out ≡ 10240 → askedStretches c s k o out ≡ stretchesIn c s k after out
   unfolding askedStretches
   stretches-asked after e h = rw (e, eq-eqb (length out) 10240 h)

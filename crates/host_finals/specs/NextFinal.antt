@@ -1,4 +1,4 @@
--- The next final locator, asked for by a host. Assumes nothing: these are definitions.
+-- The next locator of a list of final ones, asked for by a host. Assumes nothing: these are definitions.
 use Prim.Native.Nat.{ℕ}
 use mathlib.Core.Option.{Option, none, some}
 use lib.Dec.{eqb}
@@ -10,7 +10,10 @@ use Rattle.committee.specs.Committee.{Committee}
 use Rattle.blocks.specs.Reference.{TransactionLocator}
 use Rattle.blocks.specs.Record.{locatorBytes}
 use Rattle.vote_starts.specs.Answers.{asMaybe}
-use Rattle.finality.specs.NextFinal.{nextFinal}
+use Rattle.finality.specs.Finality.{blocksOf}
+use Rattle.stretches.specs.Stretches.{Listing, wide}
+use Rattle.stored_finals.specs.Ordinary.{ordinary}
+use Rattle.listed.specs.Listed.{nextListed}
 use Rattle.host_finals.specs.declared.After.{After}
 use Rattle.host_finals.specs.declared.After.the-variants.{Place, Malformed}
 use Rattle.host_calls.specs.Calls.{committeeOf}
@@ -41,10 +44,15 @@ foundIn out (answered none) = record { answer = answered 0; found = out }
 foundIn out (refused n) = record { answer = refused n; found = out }
 
 -- 20 for bytes that are no place, then 40 for bytes that do not hold a locator
-unfoldable pub askedNextFinal : Committee → Bytes → Option (Option TransactionLocator) → Bytes → NextFinalCall
-askedNextFinal c s none out = record { answer = refused (refusalBefore 20 c s); found = out }
-askedNextFinal c s (some after) out =
-    pick (eqb (length out) 56) (foundIn out (nextFinal c s after)) (record { answer = refused (refusalBefore 40 c s); found = out })
+unfoldable pub askedNextFinal : Committee → Bytes → Listing → Option (Option TransactionLocator) → Bytes → NextFinalCall
+askedNextFinal c s k none out = record { answer = refused (refusalBefore 20 c s); found = out }
+askedNextFinal c s k (some after) out =
+    pick (eqb (length out) 56) (foundIn out (nextListed c s k after)) (record { answer = refused (refusalBefore 40 c s); found = out })
 
+-- of the ordinary list
 unfoldable pub nextFinalCall : Bytes → Bytes → Bytes → Bytes → NextFinalCall
-nextFinalCall stakes s after out = askedNextFinal (committeeOf stakes) s (afterOf after) out
+nextFinalCall stakes s after out = askedNextFinal (committeeOf stakes) s (ordinary (committeeOf stakes) (blocksOf s)) (afterOf after) out
+
+-- of the wide list
+unfoldable pub nextWideCall : Bytes → Bytes → Bytes → Bytes → NextFinalCall
+nextWideCall stakes s after out = askedNextFinal (committeeOf stakes) s (wide (committeeOf stakes) (blocksOf s)) (afterOf after) out

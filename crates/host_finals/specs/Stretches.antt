@@ -1,4 +1,4 @@
--- The final list in bulk, asked for by a host. Assumes nothing: these are definitions.
+-- The lists in bulk, asked for by a host. Assumes nothing: these are definitions.
 use Prim.Native.Nat.{ℕ, _+_, _*_, _≤_}
 use mathlib.Core.Option.{Option, none, some}
 use lib.Dec.{eqb}
@@ -11,7 +11,10 @@ use Rattle.blocks.specs.Reference.{TransactionLocator}
 use Rattle.words.specs.Words.{wordsOf, bytesOf}
 use Rattle.final_list.specs.declared.StretchesAnswer.{StretchesAnswer}
 use Rattle.final_list.specs.declared.StretchesAnswer.the-variants.{Last, More, Refused}
-use Rattle.stretches.specs.Bulk.{Given, finalStretches}
+use Rattle.finality.specs.Finality.{blocksOf}
+use Rattle.stretches.specs.Stretches.{Listing, wide}
+use Rattle.stretches.specs.Bulk.{Given, listStretches}
+use Rattle.stored_finals.specs.Ordinary.{ordinary}
 use Rattle.host_calls.specs.Calls.{flag, committeeOf}
 use Rattle.host_lib.specs.Payload.{refusalBefore}
 use Rattle.host_finals.specs.NextFinal.{afterOf}
@@ -21,27 +24,32 @@ pub record StretchesCall : Type 0 where
   pub answer : Answer ℕ
   pub stretches : Bytes
 
--- 2 · number of stretches, and 1 more where a final locator follows them
+-- 2 · number of stretches, and 1 more where a locator of the list follows them
 unfoldable pub stretchesNumber : Answer Given → Answer ℕ
 stretchesNumber (answered g) = answered (2 * g .stretches + flag (g .more))
 stretchesNumber (refused n) = refused n
 
 -- the engine's question with room for 128 stretches of ten words
-unfoldable pub stretchesIn : Committee → Bytes → Option TransactionLocator → Bytes → StretchesCall
-stretchesIn c s after out =
+unfoldable pub stretchesIn : Committee → Bytes → Listing → Option TransactionLocator → Bytes → StretchesCall
+stretchesIn c s k after out =
     record {
-      answer = stretchesNumber (finalStretches c s (wordsOf out) after .answer);
-      stretches = bytesOf (finalStretches c s (wordsOf out) after .out);
+      answer = stretchesNumber (listStretches c s k (wordsOf out) after .answer);
+      stretches = bytesOf (listStretches c s k (wordsOf out) after .out);
     }
 
 -- 20 for bytes that are no place, then 40 for bytes that are not of that size
-unfoldable pub askedStretches : Committee → Bytes → Option (Option TransactionLocator) → Bytes → StretchesCall
-askedStretches c s none out = record { answer = refused (refusalBefore 20 c s); stretches = out }
-askedStretches c s (some after) out =
-    pick (eqb (length out) 10240) (stretchesIn c s after out) (record { answer = refused (refusalBefore 40 c s); stretches = out })
+unfoldable pub askedStretches : Committee → Bytes → Listing → Option (Option TransactionLocator) → Bytes → StretchesCall
+askedStretches c s k none out = record { answer = refused (refusalBefore 20 c s); stretches = out }
+askedStretches c s k (some after) out =
+    pick (eqb (length out) 10240) (stretchesIn c s k after out) (record { answer = refused (refusalBefore 40 c s); stretches = out })
 
+-- of the ordinary list
 unfoldable pub stretchesCall : Bytes → Bytes → Bytes → Bytes → StretchesCall
-stretchesCall stakes s after out = askedStretches (committeeOf stakes) s (afterOf after) out
+stretchesCall stakes s after out = askedStretches (committeeOf stakes) s (ordinary (committeeOf stakes) (blocksOf s)) (afterOf after) out
+
+-- of the wide list
+unfoldable pub wideStretchesCall : Bytes → Bytes → Bytes → Bytes → StretchesCall
+wideStretchesCall stakes s after out = askedStretches (committeeOf stakes) s (wide (committeeOf stakes) (blocksOf s)) (afterOf after) out
 
 -- machinery for the contracts of private functions: counts and numbers that leave room for the answer's word
 abbrev pub countsFit : StretchesAnswer → Type 0

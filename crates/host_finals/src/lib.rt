@@ -1,10 +1,12 @@
-// What the host's calls about the final list are made of, over byte slices.
+// What the host's calls about the ordinary and the wide list are made of, over byte slices.
 ghost use mathlib.Core.Path.{_≡_};
 ghost use Prim.Native.Nat.{_+_, _≤_};
 ghost use lib.ListN.{length};
 ghost use lib.Seq.{sets};
 ghost use Rattle.types.specs.Values.{beBytes, digestBytes, asLocator};
 ghost use Rattle.blocks.specs.Record.{locatorBytes};
+ghost use Rattle.finality.specs.Finality.{blocksOf};
+ghost use Rattle.listed.specs.Listed.{listed};
 ghost use Rattle.host_calls.specs.Calls.{encoded};
 ghost use Rattle.host_finals.specs.NextFinal.{afterOf, asAfter, askedNextFinal};
 ghost use Rattle.vote_starts.specs.Answers.{asMaybe};
@@ -16,7 +18,7 @@ use vote_starts::MaybeLocator;
 
 const REFUSED: u64 = 9223372036854775808;
 
-// ---- the next final locator
+// ---- the next locator of a list
 
 // Where a question goes on: after a locator, or from the start; or bytes that are neither.
 enum After {
@@ -36,8 +38,14 @@ fn after_of(bytes: &[u8]) -> After
     After::Place(MaybeLocator::Locator(types::read_locator(bytes, 0)))
 }
 
-pub fn next_final_of(stakes: &[u64], store: &[u8], after: &[u8], found: &mut [u8]) -> u64
-    ensures { λ r. ⌜ (r ≡ encoded (askedNextFinal (now (stakes .entry)) (now (store .entry)) (afterOf (now (after .entry))) (now (found .entry)) .answer)) × (now (found .exit) ≡ askedNextFinal (now (stakes .entry)) (now (store .entry)) (afterOf (now (after .entry))) (now (found .entry)) .found) ⌝ }
+pub fn next_final_of(
+    stakes: &[u64],
+    store: &[u8],
+    ordinary: bool,
+    after: &[u8],
+    found: &mut [u8],
+) -> u64
+    ensures { λ r. ⌜ (r ≡ encoded (askedNextFinal (now (stakes .entry)) (now (store .entry)) (listed ordinary (now (stakes .entry)) (blocksOf (now (store .entry)))) (afterOf (now (after .entry))) (now (found .entry)) .answer)) × (now (found .exit) ≡ askedNextFinal (now (stakes .entry)) (now (store .entry)) (listed ordinary (now (stakes .entry)) (blocksOf (now (store .entry)))) (afterOf (now (after .entry))) (now (found .entry)) .found) ⌝ }
 {
     let After::Place(place) = after_of(after) else {
         return REFUSED + host_lib::refusal_before(20, stakes, store);
@@ -45,7 +53,7 @@ pub fn next_final_of(stakes: &[u64], store: &[u8], after: &[u8], found: &mut [u8
     if found.len() != 56 {
         return REFUSED + host_lib::refusal_before(40, stakes, store);
     }
-    match next_final::next_final(stakes, store, place) {
+    match next_final::next_listed(stakes, store, ordinary, place) {
         NextFinalAnswer::Found(locator) => {
             types::write_locator(found, 0, locator);
             1
@@ -55,28 +63,35 @@ pub fn next_final_of(stakes: &[u64], store: &[u8], after: &[u8], found: &mut [u8
     }
 }
 
-// ---- the final list in bulk
+// ---- a list in bulk
 
 // The question itself, with the stretches as words.
 fn stretches_words(
     stakes: &[u64],
     store: &[u8],
+    ordinary: bool,
     after: MaybeLocator,
     out: &mut [u8],
 ) -> StretchesAnswer
     requires { ⌜ length (now out) ≡ 10240 ⌝ }
-    ensures asked { λ r. ⌜ (stretchesNumber (asStretches r) ≡ stretchesIn (now (stakes .entry)) (now (store .entry)) (asMaybe after) (now (out .entry)) .answer) × (now (out .exit) ≡ stretchesIn (now (stakes .entry)) (now (store .entry)) (asMaybe after) (now (out .entry)) .stretches) ⌝ }
+    ensures asked { λ r. ⌜ (stretchesNumber (asStretches r) ≡ stretchesIn (now (stakes .entry)) (now (store .entry)) (listed ordinary (now (stakes .entry)) (blocksOf (now (store .entry)))) (asMaybe after) (now (out .entry)) .answer) × (now (out .exit) ≡ stretchesIn (now (stakes .entry)) (now (store .entry)) (listed ordinary (now (stakes .entry)) (blocksOf (now (store .entry)))) (asMaybe after) (now (out .entry)) .stretches) ⌝ }
     ensures bounded { λ r. ⌜ countsFit r ⌝ }
 {
     let mut words = [0u64; 1280];
     words::words_of(out, &mut words);
-    let answer = final_list::final_stretches(stakes, store, &mut words, after);
+    let answer = final_list::list_stretches(stakes, store, ordinary, &mut words, after);
     words::bytes_of(&words, out);
     answer
 }
 
-pub fn stretches_of(stakes: &[u64], store: &[u8], after: &[u8], out: &mut [u8]) -> u64
-    ensures { λ r. ⌜ (r ≡ encoded (askedStretches (now (stakes .entry)) (now (store .entry)) (afterOf (now (after .entry))) (now (out .entry)) .answer)) × (now (out .exit) ≡ askedStretches (now (stakes .entry)) (now (store .entry)) (afterOf (now (after .entry))) (now (out .entry)) .stretches) ⌝ }
+pub fn stretches_of(
+    stakes: &[u64],
+    store: &[u8],
+    ordinary: bool,
+    after: &[u8],
+    out: &mut [u8],
+) -> u64
+    ensures { λ r. ⌜ (r ≡ encoded (askedStretches (now (stakes .entry)) (now (store .entry)) (listed ordinary (now (stakes .entry)) (blocksOf (now (store .entry)))) (afterOf (now (after .entry))) (now (out .entry)) .answer)) × (now (out .exit) ≡ askedStretches (now (stakes .entry)) (now (store .entry)) (listed ordinary (now (stakes .entry)) (blocksOf (now (store .entry)))) (afterOf (now (after .entry))) (now (out .entry)) .stretches) ⌝ }
 {
     let After::Place(place) = after_of(after) else {
         return REFUSED + host_lib::refusal_before(20, stakes, store);
@@ -84,7 +99,7 @@ pub fn stretches_of(stakes: &[u64], store: &[u8], after: &[u8], out: &mut [u8]) 
     if out.len() != 10240 {
         return REFUSED + host_lib::refusal_before(40, stakes, store);
     }
-    match stretches_words(stakes, store, place, out) {
+    match stretches_words(stakes, store, ordinary, place, out) {
         StretchesAnswer::Last(count) => 2 * count,
         StretchesAnswer::More(count) => 2 * count + 1,
         StretchesAnswer::Refused(number) => REFUSED + number,

@@ -2,7 +2,7 @@
 ghost use mathlib.Core.Path.{_≡_};
 ghost use Rattle.types.specs.Values.{asLocator};
 ghost use Rattle.finality.specs.Finality.{finality};
-ghost use Rattle.finality.specs.NextFinal.{nextFinal};
+ghost use Rattle.stored_finals.specs.FinalShares.{nextFinalShare};
 ghost use Rattle.finalization_interpreter.specs.Answers.{asFinality};
 ghost use Rattle.vote_starts.specs.Answers.{asMaybe};
 ghost use Rattle.next_final.specs.Answers.{asNextFinal};
@@ -33,13 +33,13 @@ pub fn finality<'s, 'a>(
     finalization_interpreter::finality(stakes, interpreter.store, positions, locator)
 }
 
-// The least final locator after a given one, or from the start, in the store that is held.
+// The least final stored share after a given locator, or from the start, in the store that is held.
 pub fn next_final<'s, 'a>(
     stakes: &'s [u64],
     interpreter: Interpreter<'a>,
     after: MaybeLocator,
 ) -> NextFinalAnswer
-    ensures { λ r. ⌜ asNextFinal r ≡ nextFinal (now (stakes .entry)) (now (interpreter .entry .store)) (asMaybe after) ⌝ }
+    ensures { λ r. ⌜ asNextFinal r ≡ nextFinalShare (now (stakes .entry)) (now (interpreter .entry .store)) (asMaybe after) ⌝ }
 {
     next_final::next_final(stakes, interpreter.store, after)
 }
@@ -56,9 +56,9 @@ pub fn finality_held(
     finality(stakes, new(store), positions, locator)
 }
 
-// The next final locator with plain parameters.
+// The next final stored share with plain parameters.
 pub fn next_final_held(stakes: &[u64], store: &[u8], after: MaybeLocator) -> NextFinalAnswer
-    ensures { λ r. ⌜ asNextFinal r ≡ nextFinal (now (stakes .entry)) (now (store .entry)) (asMaybe after) ⌝ }
+    ensures { λ r. ⌜ asNextFinal r ≡ nextFinalShare (now (stakes .entry)) (now (store .entry)) (asMaybe after) ⌝ }
 {
     next_final(stakes, new(store), after)
 }

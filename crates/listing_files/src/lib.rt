@@ -7,35 +7,44 @@ fn print_heading(name: &[u8]) {
     io::write_all(STDOUT_FILENO, b"\n");
 }
 
-// The listing of an input, with a file of stakes.
-fn run_input(input: &[u8], stakes: &[u8]) {
+// The listing of an input, with a file of stakes; with the wide list where that is asked for.
+fn run_input(input: &[u8], stakes: &[u8], wide: bool) {
     let fd = os::open_read(input);
     if fd < 0 {
         os::fail(input);
         return;
     }
-    listing_run::listing(fd, stakes);
+    if wide {
+        listing_run::listing_wide(fd, stakes);
+    } else {
+        listing_run::listing(fd, stakes);
+    }
     libc::close(fd);
 }
 
 // The listing of one file, under a heading; its stakes, where it asks for a file, are those of `stakes`.
-pub fn run_file(name: &[u8]) {
+fn run_headed(name: &[u8], wide: bool) {
     print_heading(name);
-    run_input(name, b"stakes");
+    run_input(name, b"stakes", wide);
 }
 
-fn run_argument(i: usize) {
+// The same with the ordinary list.
+pub fn run_file(name: &[u8]) {
+    run_headed(name, false);
+}
+
+fn run_argument(i: usize, wide: bool) {
     let mut path = io::buffer();
     let length = os::arg(i, &mut path);
-    run_file(&path[..length]);
+    run_headed(&path[..length], wide);
 }
 
-// Prints the listing of every argument's file.
-pub fn run_arguments() {
+// Prints the listing of every argument's file, with the ordinary list or the wide one.
+pub fn run_arguments(wide: bool) {
     let count = os::arg_count();
     let mut i = 1;
     while i < count {
-        run_argument(i);
+        run_argument(i, wide);
         i += 1;
     }
 }
@@ -44,7 +53,7 @@ fn run_table(input: &[u8], i: usize) {
     let mut path = io::buffer();
     let length = os::arg(i, &mut path);
     print_heading(&path[..length]);
-    run_input(input, &path[..length]);
+    run_input(input, &path[..length], false);
 }
 
 // Prints the listing of one input with every argument as the file of stakes.

@@ -1,4 +1,4 @@
-// The final list, printed as far as it goes.
+// The ordinary list, or the wide one, printed as far as it goes.
 use committee::AuthorityIndex;
 use committee::RoundNumber;
 use final_list::StretchesAnswer;
@@ -7,8 +7,14 @@ use types::BlockReference;
 use types::TransactionLocator;
 use vote_starts::MaybeLocator;
 ghost use mathlib.Core.Path.{_≡_};
+ghost use mathlib.Core.Bool.{not};
 ghost use Prim.Native.Nat.{_≤_};
 ghost use lib.ListN.{length};
+ghost use Rattle.finality.specs.Finality.{blocksOf};
+ghost use Rattle.stretches.specs.Bulk.{listStretches};
+ghost use Rattle.listed.specs.Listed.{listed};
+ghost use Rattle.vote_starts.specs.Answers.{asMaybe};
+ghost use Rattle.final_list.specs.Answers.{asStretches};
 
 // How far the buffer is filled, how many locators were final, the last of them, and whether there may be more.
 pub struct Listed {
@@ -67,14 +73,31 @@ fn list_stretches(out: &mut [u8], done: Listed, stretches: &[u64], end: usize, m
     }
 }
 
-// Asks for the final list from the last locator on, as much as there is room for, and prints it.
-fn list_on(stakes: &[u64], store: &[u8], out: &mut [u8], done: Listed) -> Listed
+// Asks for the ordinary list, or the wide one, from a locator on, as much as there is room for.
+fn ask_on(
+    stakes: &[u64],
+    store: &[u8],
+    stretches: &mut [u64],
+    last: MaybeLocator,
+    wide: bool,
+) -> StretchesAnswer
+    ensures { λ r. ⌜ asStretches r ≡ listStretches (now (stakes .entry)) (now (store .entry)) (listed (not wide) (now (stakes .entry)) (blocksOf (now (store .entry)))) (now (stretches .entry)) (asMaybe last) .answer ⌝ }
+    ensures { λ r. ⌜ now (stretches .exit) ≡ listStretches (now (stakes .entry)) (now (store .entry)) (listed (not wide) (now (stakes .entry)) (blocksOf (now (store .entry)))) (now (stretches .entry)) (asMaybe last) .out ⌝ }
+{
+    if wide {
+        return final_list::wide_stretches(stakes, store, stretches, last);
+    }
+    final_list::final_stretches(stakes, store, stretches, last)
+}
+
+// Asks for the list from the last locator on, and prints and counts it.
+fn list_on(stakes: &[u64], store: &[u8], out: &mut [u8], done: Listed, wide: bool) -> Listed
     requires { ⌜ (done .at ≤ length (now out)) × (128 ≤ length (now out)) ⌝ }
     ensures { λ r. ⌜ (r .at ≤ length (now (out .entry))) × (length (now (out .exit)) ≡ length (now (out .entry))) ⌝ }
 {
     let mut stretches = [0u64; 10240];
     let last = done.last;
-    let answer = final_list::final_stretches(stakes, store, &mut stretches, last);
+    let answer = ask_on(stakes, store, &mut stretches, last, wide);
     match answer {
         StretchesAnswer::Last(n) => {
             let end = stretch_words(n);
@@ -93,8 +116,8 @@ fn list_on(stakes: &[u64], store: &[u8], out: &mut [u8], done: Listed) -> Listed
     }
 }
 
-// Prints the final list. The count of turns only makes the loop end: a store of 65,536 bytes has fewer statements.
-pub fn list_all(stakes: &[u64], store: &[u8], out: &mut [u8], from: usize) -> Listed
+// Prints the list. The count of turns only makes the loop end: a store of 65,536 bytes has fewer statements.
+pub fn list_all(stakes: &[u64], store: &[u8], out: &mut [u8], from: usize, wide: bool) -> Listed
     requires { ⌜ (from ≤ length (now out)) × (128 ≤ length (now out)) ⌝ }
     ensures { λ r. ⌜ (r .at ≤ length (now (out .entry))) × (length (now (out .exit)) ≡ length (now (out .entry))) ⌝ }
 {
@@ -106,7 +129,7 @@ pub fn list_all(stakes: &[u64], store: &[u8], out: &mut [u8], from: usize) -> Li
     };
     let mut turn: u64 = 0;
     while turn < 65536 {
-        listed = list_on(stakes, store, out, listed);
+        listed = list_on(stakes, store, out, listed, wide);
         if !listed.more {
             return listed;
         }

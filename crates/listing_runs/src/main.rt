@@ -1,5 +1,5 @@
 // Prints the listing of each file that its arguments name, under a heading.
 
 fn main() {
-    listing_files::run_arguments();
+    listing_files::run_arguments(false);
 }

@@ -21,6 +21,7 @@ use Rattle.blocks.specs.Block.{Block}
 use Rattle.blocks.specs.Record.{blockOf}
 use Rattle.store_layout.specs.Layout.{Record}
 use Rattle.store_layout.specs.Store.{recordsOf}
+use Rattle.store_layout.specs.Shares.{StoredShare}
 use Rattle.store_layout.proofs.Store.{in-order, recordsOf-right, right-block}
 use Rattle.finality.specs.Ancestry.{Final}
 use Rattle.finality.specs.Voters.{isFinal}
@@ -30,8 +31,11 @@ use Rattle.finality.specs.NextFinal.{nextFinal, FinalList, finalList}
 use Rattle.finality.proofs.Claimed.{final-meant}
 use Rattle.finality.proofs.FinalList.{Ascending, none-left, and-then, final-list-ascending, final-list-in, final-list-order}
 use Rattle.finality.proofs.Asked.{in-order-stored, asked-on, asked-once}
+use Rattle.stored_finals.specs.FinalShares.{FinalShareList, finalShares}
+use Rattle.stored_finals.proofs.Asked.{shares-once, shares-asked}
+use Rattle.stored_finals.proofs.Lists.{exactly-finals, same-shares}
 use Rattle.promises.specs.Feeds.{Engine, fresh, Accepted, storedBlocks, storedRecords}
-use Rattle.promises.specs.ThirdStatement.{AnsweredFinal, GivesFinal, Start, engineOf, acceptedOf, SameRecords}
+use Rattle.promises.specs.ThirdStatement.{AnsweredFinal, GivesFinal, GivesFinalShares, Start, engineOf, acceptedOf, SameRecords}
 use Rattle.promises.proofs.Storing.{asRecord, StoreOf, fresh-holds, run-holds}
 
 -- ---- what a store that holds the accepted records answers
@@ -90,6 +94,18 @@ gives-final c g as′ b h =
       ascending = ascending-pairwise (final-list-ascending c bs);
     }
 
+-- 02: "the ordinary list adds being a stored share"
+gives-final-share : (c : Committee) (g : Engine) (as′ : List Accepted) → broken c ≡ false → StoreOf c (g .store) as′ → GivesFinalShares c g (storedBlocks as′)
+gives-final-share c g as′ b h =
+    let bs : List Block = blocksOf (g .store) in
+    let x = exactly-finals c (in-order-stored c (g .store) (h .order)) in
+    record {
+      list = finalShares c bs;
+      given = shares-asked c (g .store) b (h .order);
+      exactly = λ l. subst (λ (ds : List Block). (l ∈ finalShares c bs) ↔ (StoredShare ds l × Final c ds l)) (blocks-are c (g .store) as′ h) (x .exactly l);
+      ascending = x .ascending;
+    }
+
 -- ---- the same records have the same blocks
 
 block-carried : (c d : Committee) (s t : Bytes) (xs ys : List Accepted) → StoreOf c s xs → StoreOf d t ys
@@ -126,6 +142,17 @@ answers-40 c b t = short-refused c (engineOf c t) (acceptedOf c t) b (store-of c
 pub gives-finals : (c : Committee) → broken c ≡ false → (t : Start) → GivesFinal c (engineOf c t) (storedBlocks (acceptedOf c t))
 gives-finals c b t = gives-final c (engineOf c t) (acceptedOf c t) b (store-of c t)
 
+pub gives-final-shares : (c : Committee) → broken c ≡ false → (t : Start) → GivesFinalShares c (engineOf c t) (storedBlocks (acceptedOf c t))
+gives-final-shares c b t = gives-final-share c (engineOf c t) (acceptedOf c t) b (store-of c t)
+
+same-blocks : (c : Committee) (t u : Start) → SameRecords c t u → (e : Block) → (e ∈ blocksOf (engineOf c t .store)) ↔ (e ∈ blocksOf (engineOf c u .store))
+same-blocks c t u f e =
+    let h = store-of c t in
+    let k = store-of c u in
+    let s : Bytes = engineOf c t .store in
+    let r : Bytes = engineOf c u .store in
+    (block-carried c c s r (acceptedOf c t) (acceptedOf c u) h k (λ z. f z .0) e, block-carried c c r s (acceptedOf c u) (acceptedOf c t) k h (λ z. f z .1) e)
+
 pub same-list : (c : Committee) → broken c ≡ false → (t u : Start) → SameRecords c t u → (ls ms : List TransactionLocator)
     → FinalList c (engineOf c t .store) ls → FinalList c (engineOf c u .store) ms → ls ≡ ms
 same-list c b t u f ls ms x y =
@@ -134,6 +161,16 @@ same-list c b t u f ls ms x y =
     let s : Bytes = engineOf c t .store in
     let r : Bytes = engineOf c u .store in
     asked-once (nextFinal c s) x (asked-on c s b (h .order))
-    ∙ final-list-order c (in-order-stored c s (h .order)) (in-order-stored c r (k .order))
-    (λ e. (block-carried c c s r (acceptedOf c t) (acceptedOf c u) h k (λ z. f z .0) e, block-carried c c r s (acceptedOf c u) (acceptedOf c t) k h (λ z. f z .1) e))
+    ∙ final-list-order c (in-order-stored c s (h .order)) (in-order-stored c r (k .order)) (same-blocks c t u f)
     ∙ asked-once (nextFinal c r) (asked-on c r b (k .order)) y
+
+pub same-share-list : (c : Committee) → broken c ≡ false → (t u : Start) → SameRecords c t u → (ls ms : List TransactionLocator)
+    → FinalShareList c (engineOf c t .store) ls → FinalShareList c (engineOf c u .store) ms → ls ≡ ms
+same-share-list c b t u f ls ms x y =
+    let h = store-of c t in
+    let k = store-of c u in
+    let s : Bytes = engineOf c t .store in
+    let r : Bytes = engineOf c u .store in
+    shares-once c s x (shares-asked c s b (h .order))
+    ∙ same-shares c (in-order-stored c s (h .order)) (in-order-stored c r (k .order)) (same-blocks c t u f) .final
+    ∙ shares-once c r (shares-asked c r b (k .order)) y

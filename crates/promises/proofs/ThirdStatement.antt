@@ -3,7 +3,7 @@ use mathlib.Core.Path.{_≡_}
 use mathlib.Core.Bool.{false}
 use Rattle.committee.specs.Committee.{Committee, broken}
 use Rattle.promises.specs.ThirdStatement.{Holds, Start, engineOf, acceptedOf, ThirdStatement}
-use Rattle.promises.proofs.Finals.{answers-final, answers-40, gives-finals, same-list}
+use Rattle.promises.proofs.Finals.{answers-final, answers-40, gives-finals, gives-final-shares, same-list, same-share-list}
 use Rattle.promises.proofs.Announced.{others-quiet}
 use Rattle.promises.proofs.Shares.{share-stands}
 use Rattle.promises.proofs.Since.{final-announced}
@@ -14,10 +14,11 @@ holds-after c b t =
       final = answers-final c b t;
       only40 = answers-40 c b t;
       finals = gives-finals c b t;
+      ordinary = gives-final-shares c b t;
       shares = share-stands c b t;
       others = others-quiet c t;
       announced = final-announced c b t;
     }
 
 pub third-statement : ThirdStatement
-third-statement = record { every = holds-after; sameList = same-list }
+third-statement = record { every = holds-after; sameList = same-list; sameShares = same-share-list }

@@ -11,11 +11,12 @@ use Rattle.base.specs.Checks.{refused, answered}
 use Rattle.committee.specs.Committee.{Committee, broken}
 use Rattle.blocks.specs.Reference.{TransactionLocator, locatorBefore}
 use Rattle.blocks.specs.Block.{Block}
-use Rattle.store_layout.specs.Shares.{isStoredShare}
+use Rattle.store_layout.specs.Shares.{isStoredShare, StoredShare}
 use Rattle.feeds.specs.Pending.{Standing, pending}
 use Rattle.finality.specs.Ancestry.{VoteIn, Final}
 use Rattle.finality.specs.Finality.{finality}
 use Rattle.finality.specs.NextFinal.{FinalList}
+use Rattle.stored_finals.specs.FinalShares.{FinalShareList}
 use Rattle.promises.specs.Feeds.{Feed, Engine, fresh, run, Accepted, accepted, storedBlocks, storedRecords}
 use Rattle.promises.specs.Shares.{Place, Vote, countedVotes, countedVoters, LeftQuorum, NoneLeft, Tally, announcements}
 
@@ -26,11 +27,18 @@ pub record AnsweredFinal (c : Committee) (g : Engine) (bs : List Block) (l : Tra
   pub answer : finality c (g .store) ps l .answer ≡ answered (record { final = final; certifying = certifying })
   pub exactly : (final ≡ true) ↔ Final c bs l
 
--- the final list, asked on from the start until none, is given
+-- the wide list, asked on from the start until none, is given
 pub record GivesFinal (c : Committee) (g : Engine) (bs : List Block) : Type 0 where
   pub list : List TransactionLocator
   pub given : FinalList c (g .store) list
   pub exactly : (l : TransactionLocator) → (l ∈ list) ↔ Final c bs l
+  pub ascending : pairwise locatorBefore list ≡ true
+
+-- the ordinary list likewise
+pub record GivesFinalShares (c : Committee) (g : Engine) (bs : List Block) : Type 0 where
+  pub list : List TransactionLocator
+  pub given : FinalShareList c (g .store) list
+  pub exactly : (l : TransactionLocator) → (l ∈ list) ↔ (StoredShare bs l × Final c bs l)
   pub ascending : pairwise locatorBefore list ≡ true
 
 -- a stored share stands in one of two ways, and not in both: the pending question is answered in one and refused in the other
@@ -64,8 +72,10 @@ pub record Holds (c : Committee) (g : Engine) (as′ : List Accepted) : Type 0 w
   pub final : (l : TransactionLocator) (ps : List ℕ) → length as′ ≤ length ps → AnsweredFinal c g (storedBlocks as′) l ps
   -- 01: "Only 40 can then refuse the finality question": a position slice shorter than the block count
   pub only40 : (l : TransactionLocator) (ps : List ℕ) → length ps < length as′ → finality c (g .store) ps l .answer ≡ refused 40
-  -- "the final list gives exactly these, ascending"
+  -- "the final list gives exactly these, ascending": 02's wide list
   pub finals : GivesFinal c g (storedBlocks as′)
+  -- 02: "the ordinary list adds being a stored share": exactly the final stored shares, ascending
+  pub ordinary : GivesFinalShares c g (storedBlocks as′)
   -- "A stored share is pending, with the stake and number of its counted voters, exactly when no counted vote left these with quorum stake;
   -- else the first that did, and no other, announced it as processed, once."
   pub shares : (l : TransactionLocator) → isStoredShare (storedBlocks as′) l ≡ true → ShareStands c g as′ l
@@ -96,6 +106,10 @@ SameRecords c t u = (r : Bytes) → (r ∈ storedRecords (acceptedOf c t)) ↔ (
 pub record ThirdStatement : Type 0 where
   -- "Take a fresh engine under one committee. After every list of feeds from there, records good and bad, refused ones included, this holds."
   pub every : (c : Committee) → broken c ≡ false → (t : Start) → Holds c (engineOf c t) (acceptedOf c t)
-  -- "Every other list from a fresh engine under that committee that leaves the same records stored, in whatever order, gives the same final list."
+  -- "Every other list from a fresh engine under that committee that leaves the same records stored, in whatever order, gives the same final list.":
+  -- the same wide list
   pub sameList : (c : Committee) → broken c ≡ false → (t u : Start) → SameRecords c t u → (ls ms : List TransactionLocator)
       → FinalList c (engineOf c t .store) ls → FinalList c (engineOf c u .store) ms → ls ≡ ms
+  -- and the same ordinary one
+  pub sameShares : (c : Committee) → broken c ≡ false → (t u : Start) → SameRecords c t u → (ls ms : List TransactionLocator)
+      → FinalShareList c (engineOf c t .store) ls → FinalShareList c (engineOf c u .store) ms → ls ≡ ms

@@ -23,6 +23,26 @@ mod calls {
             found: *mut u8,
             found_len: usize,
         ) -> u64;
+        pub fn lomkhvide_next_wide(
+            stakes: *const u8,
+            stakes_len: usize,
+            store: *const u8,
+            store_len: usize,
+            after: *const u8,
+            after_len: usize,
+            found: *mut u8,
+            found_len: usize,
+        ) -> u64;
+        pub fn lomkhvide_wide_stretches(
+            stakes: *const u8,
+            stakes_len: usize,
+            store: *const u8,
+            store_len: usize,
+            after: *const u8,
+            after_len: usize,
+            stretches: *mut u8,
+            stretches_len: usize,
+        ) -> u64;
         pub fn lomkhvide_final_stretches(
             stakes: *const u8,
             stakes_len: usize,
@@ -381,6 +401,8 @@ pub struct Finality {
 
 type FinalityCall = unsafe extern "C" fn(*const u8, usize, *const u8, usize, *mut u8, usize, *const u8, usize) -> u64;
 
+type ListCall = unsafe extern "C" fn(*const u8, usize, *const u8, usize, *const u8, usize, *mut u8, usize) -> u64;
+
 impl Committee {
     /// Whether a locator is final; or 5, 10.
     pub fn finality(&self, store: &[u8], locator: &Locator) -> Result<Finality, Refused> {
@@ -445,14 +467,23 @@ impl Committee {
         Ok(words.chunks_exact(3).map(event).collect())
     }
 
-    /// The least final locator after a given one, or from the start; or 5, 10.
+    /// The least final stored share after a given locator, or from the start; or 5, 10.
     pub fn next_final(&self, store: &[u8], after: Option<&Locator>) -> Result<Option<Locator>, Refused> {
+        self.next_of(calls::lomkhvide_next_final, store, after)
+    }
+
+    /// The least final locator after a given one, stored or not; or 5, 10.
+    pub fn next_wide(&self, store: &[u8], after: Option<&Locator>) -> Result<Option<Locator>, Refused> {
+        self.next_of(calls::lomkhvide_next_wide, store, after)
+    }
+
+    fn next_of(&self, call: ListCall, store: &[u8], after: Option<&Locator>) -> Result<Option<Locator>, Refused> {
         let mut found = [0; 56];
         let stakes = &self.stakes;
         let after: &[u8] = after.map_or(&[], |locator| &locator.0);
         // The slices are lent for the call alone, and the one that it writes is this function's own.
         let word = unsafe {
-            calls::lomkhvide_next_final(
+            call(
                 stakes.as_ptr(),
                 stakes.len(),
                 store.as_ptr(),
@@ -466,14 +497,23 @@ impl Committee {
         Ok(if answer(word)? == 1 { Some(Locator(found)) } else { None })
     }
 
-    /// The final list after a given locator, or from the start, up to 128 stretches of it; or 5, 10.
+    /// The ordinary list, of the final stored shares, after a given locator, or from the start, up to 128 stretches of it; or 5, 10.
     pub fn final_stretches(&self, store: &[u8], after: Option<&Locator>) -> Result<Stretches, Refused> {
+        self.stretches_of(calls::lomkhvide_final_stretches, store, after)
+    }
+
+    /// The wide list, of every final locator, likewise.
+    pub fn wide_stretches(&self, store: &[u8], after: Option<&Locator>) -> Result<Stretches, Refused> {
+        self.stretches_of(calls::lomkhvide_wide_stretches, store, after)
+    }
+
+    fn stretches_of(&self, call: ListCall, store: &[u8], after: Option<&Locator>) -> Result<Stretches, Refused> {
         let mut stretches = vec![0; 8 * 1280];
         let stakes = &self.stakes;
         let after: &[u8] = after.map_or(&[], |locator| &locator.0);
         // The slices are lent for the call alone, and the one that it writes is this function's own.
         let word = unsafe {
-            calls::lomkhvide_final_stretches(
+            call(
                 stakes.as_ptr(),
                 stakes.len(),
                 store.as_ptr(),
@@ -1160,6 +1200,7 @@ mod tests {
         assert_eq!(committee.final_stretches(&store, None), Ok(all));
         let last = Stretches { stretches: vec![stretch(2)], more: false };
         assert_eq!(committee.final_stretches(&store, Some(&shares[1])), Ok(last));
+        assert_eq!(committee.wide_stretches(&store, None), committee.final_stretches(&store, None), "every final locator is a share");
         let mut table = fresh_table();
         let pending = |table: &[u8], offset| committee.pending(&store, table, &Locator::new(0, 1, digest, offset));
         assert_eq!(pending(&table, 0), Err(Refused(42)));
@@ -1177,6 +1218,31 @@ mod tests {
             let want = if length < used { Err(Refused(10)) } else { Ok(&b"gain"[..]) };
             assert_eq!(got, want, "{length} bytes of the store");
         }
+    }
+
+    #[test]
+    fn a_mistyped_vote() {
+        let committee = Committee::new(&[1]).unwrap();
+        let first = record(0, 1, &[], &[]);
+        let mut second = record(1, 2, &first[..48], &[b"gain"]);
+        let mut unsent = first[..48].to_vec();
+        unsent[47] = 9;
+        second[51] = 2;
+        second.push(1);
+        second.extend(&unsent);
+        second.extend(bytes_of(&[5]));
+        let store = store(&[first, second.clone()]);
+        let share = Locator::new(0, 1, second[16..48].try_into().unwrap(), 0);
+        let mistyped = Locator::new(0, 0, unsent[16..48].try_into().unwrap(), 5);
+        assert_eq!(committee.payload(&store, &mistyped), Err(Refused(41)));
+        assert!(committee.finality(&store, &mistyped).unwrap().is_final);
+        assert_eq!(committee.next_wide(&store, None), Ok(Some(mistyped)));
+        assert_eq!(committee.next_wide(&store, Some(&mistyped)), Ok(Some(share)));
+        assert_eq!(committee.next_final(&store, None), Ok(Some(share)));
+        assert_eq!(committee.next_final(&store, Some(&share)), Ok(None));
+        let firsts = |list: Result<Stretches, Refused>| list.unwrap().stretches.iter().map(|one| one.first).collect::<Vec<_>>();
+        assert_eq!(firsts(committee.final_stretches(&store, None)), [share]);
+        assert_eq!(firsts(committee.wide_stretches(&store, None)), [mistyped, share]);
     }
 
     #[test]

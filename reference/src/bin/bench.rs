@@ -34,10 +34,12 @@ fn table() {
     {
         let memory = fed(&blocks);
         let finals = asked_on(&memory);
-        assert_eq!(final_list(&memory), finals, "the list in bulk is as long as asked on");
+        assert_eq!(wide_list(&memory), finals, "the list in bulk is as long as asked on");
         let rust = rust_final(&blocks, finals);
-        row(&format!("final list in bulk, {name} ({finals} final)"), least(|| final_list(&memory)), rust);
-        row(&format!("final list asked on, {name}"), least(|| asked_on(&memory)), rust);
+        row(&format!("wide list in bulk, {name} ({finals} final)"), least(|| wide_list(&memory)), rust);
+        row(&format!("wide list asked on, {name}"), least(|| asked_on(&memory)), rust);
+        let shares = final_list(&memory);
+        row(&format!("ordinary list in bulk, {name} ({shares} shares)"), least(|| final_list(&memory)), rust);
         let engine = least(|| fed(&blocks));
         row(&format!("feeding, {name}"), engine, rust_feed(&blocks));
         row(&format!("the same, the Rust with `verify` and its store, {name}"), engine, rust_feed_checked(&blocks));
@@ -111,21 +113,30 @@ fn fed(blocks: &[Block]) -> Memory {
     memory
 }
 
-/// The final list by the next final locator, asked on until none: the number of its locators.
+/// The wide list by its next locator, asked on until none: the number of its locators.
 fn asked_on(memory: &Memory) -> u64 {
     let (mut after, mut out, mut count) = (Vec::new(), vec![0; 56], 0);
-    while engine::next_final(&memory.stakes, &memory.store, &after, &mut out) == Ok(1) {
+    while engine::next_wide(&memory.stakes, &memory.store, &after, &mut out) == Ok(1) {
         after = out.clone();
         count += 1;
     }
     count
 }
 
-/// The whole final list in bulk: the number of its locators.
+/// The whole ordinary list in bulk: the number of its locators.
 fn final_list(memory: &Memory) -> u64 {
+    in_bulk(memory, engine::final_stretches)
+}
+
+/// The whole wide list likewise.
+fn wide_list(memory: &Memory) -> u64 {
+    in_bulk(memory, engine::wide_stretches)
+}
+
+fn in_bulk(memory: &Memory, bulk: fn(&[u8], &[u8], &[u8], &mut [u8]) -> engine::Answer) -> u64 {
     let (mut after, mut out, mut count) = (Vec::new(), vec![0; 128 * STRETCH_BYTES], 0);
     loop {
-        let answer = engine::final_stretches(&memory.stakes, &memory.store, &after, &mut out).expect("a store in order");
+        let answer = bulk(&memory.stakes, &memory.store, &after, &mut out).expect("a store in order");
         for stretch in out.chunks(STRETCH_BYTES).take(answer as usize / 2) {
             count += number(&stretch[56..64]) - number(&stretch[48..56]);
         }

@@ -9,7 +9,7 @@ pub fn inputs() -> Vec<Named> {
     named![accept_edges, events_room, store_full, blocks_most, table_full, sole_owner, events, two_blocks]
 }
 
-/// Accepts at 2^64 - 2 become final; a range of a million offsets has no room for its events.
+/// Accepts at 2^64 - 2 become final, and as no stored share they are not listed; a range of a million offsets has no room for its events.
 fn accept_edges() -> Vec<u8> {
     let mut i = Input::new(&[1; 3]);
     let first = i.round(0, 0..3, &[], &[]);

@@ -1,22 +1,23 @@
 //! The course run of 01 and the exercises of docs/COURSE.md.
 
-use super::input::{accept, range, reject, share, Input};
+use super::input::{accept, range, reference, reject, share, Input};
 use super::{named, Named};
 use crate::model::committee::COURSE;
 use crate::model::mistake::Mistake;
 use crate::model::record::{Block, Locator, Reference, Statement};
 
 pub fn inputs() -> Vec<Named> {
-    named![course_run, heads_for_stake, owner_twice, marked_block, share_offsets, empty_range]
+    named![course_run, heads_for_stake, owner_twice, marked_block, share_offsets, empty_range, mistyped_vote]
 }
 
 /// The mistake that each exercise shows.
-pub const MISTAKES: [(&str, Mistake); 5] = [
+pub const MISTAKES: [(&str, Mistake); 6] = [
     ("heads_for_stake", Mistake::HeadsForStake),
     ("owner_twice", Mistake::OwnerTwice),
     ("marked_block", Mistake::MarkedBlock),
     ("share_offsets", Mistake::ShareOffsets),
     ("empty_range", Mistake::EmptyRange),
+    ("mistyped_vote", Mistake::NoShareListed),
 ];
 
 const FOUR: [u64; 4] = [1; 4];
@@ -95,6 +96,17 @@ fn empty_range() -> Vec<u8> {
     let one = i.round(1, 0..4, &first, &[(0, vec![share(b""); 8])]);
     let two = i.round(2, 0..4, &one, &[(1, vec![range(one[0], 3, 5)]), (2, vec![range(one[0], 3, 3)])]);
     i.round(3, 0..4, &two, &[(3, vec![range(one[0], 3, 4)])]);
+    i.bytes
+}
+
+/// Owners 1, 2 and 3 vote by range 0..3 for a block of two shares, and accept a block that nobody sent.
+fn mistyped_vote() -> Vec<u8> {
+    let mut i = Input::new(&FOUR);
+    let first = i.round(0, 0..4, &[], &[]);
+    let one = i.round(1, 0..4, &first, &[(0, vec![share(b"gain"), share(b"filter"), reject(first[1], 0)])]);
+    let votes = vec![range(one[0], 0, 3), accept(reference(0, 1, 85), 0)];
+    let two = i.round(2, 0..4, &one, &[(1, votes.clone()), (2, votes.clone()), (3, votes)]);
+    i.round(3, 0..4, &two, &[]);
     i.bytes
 }
 

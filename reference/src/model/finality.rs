@@ -24,6 +24,13 @@ pub struct Finality {
     pub stake: u64,
 }
 
+/// Which list is asked for: the ordinary one has the final locators that name a stored share, the wide one every final locator.
+#[derive(Clone, Copy, PartialEq, Eq, Debug)]
+pub enum Listed {
+    Ordinary,
+    Wide,
+}
+
 /// The stored blocks in ascending order of reference, each with its inclusive ancestry as places in this order.
 pub struct Graph<'a> {
     committee: &'a Committee,
@@ -94,7 +101,7 @@ impl<'a> Graph<'a> {
         voted
     }
 
-    /// The final list.
+    /// Every final locator: the wide list.
     pub fn final_list(&self) -> Vec<(Locator, Finality)> {
         self.final_list_in(Reading::Old)
     }
@@ -102,6 +109,14 @@ impl<'a> Graph<'a> {
     pub fn final_list_in(&self, reading: Reading) -> Vec<(Locator, Finality)> {
         let each = self.voted().into_iter().map(|locator| (locator, self.finality_in(reading, &locator)));
         each.filter(|(_, finality)| finality.is_final).collect()
+    }
+
+    /// The list that is asked for: of every final locator, or of those that name a stored share.
+    pub fn listed(&self, list: Listed) -> Vec<(Locator, Finality)> {
+        let names_share = |locator: &Locator| {
+            self.blocks.iter().any(|block| block.reference == locator.block && block.shares(locator.offset))
+        };
+        self.final_list().into_iter().filter(|(locator, _)| list == Listed::Wide || names_share(locator)).collect()
     }
 
     /// Every locator that a stored block rejects.

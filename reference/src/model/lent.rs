@@ -2,7 +2,7 @@
 
 use super::committee::{Committee, Votes};
 use super::feed::{Event, State};
-use super::finality::{Finality, Graph, Reading};
+use super::finality::{Finality, Graph, Listed, Reading};
 use super::record::{locator_of, number, reference_of, Locator};
 use super::ring;
 use super::stakes_file;
@@ -143,15 +143,25 @@ fn after_of(bytes: &[u8]) -> Result<Option<Locator>, u64> {
     }
 }
 
-/// The least final locator after a given one, or from the start: 5, 10, 20, 40 for an answer not of 56 bytes.
+/// The least final stored share after a given locator, or from the start.
 pub fn next_final(stakes: &[u8], store: &[u8], after: &[u8], out: &mut [u8]) -> Answer {
+    next_listed(Listed::Ordinary, stakes, store, after, out)
+}
+
+/// The least final locator likewise.
+pub fn next_wide(stakes: &[u8], store: &[u8], after: &[u8], out: &mut [u8]) -> Answer {
+    next_listed(Listed::Wide, stakes, store, after, out)
+}
+
+/// 5, 10, 20, 40 for an answer not of 56 bytes.
+fn next_listed(list: Listed, stakes: &[u8], store: &[u8], after: &[u8], out: &mut [u8]) -> Answer {
     let committee = Committee::lent(stakes)?;
     let stores = Stores::read(&committee, store)?;
     let after = after_of(after)?;
     if out.len() != 56 {
         return Err(40);
     }
-    let list = Graph::new(&committee, &stores).final_list();
+    let list = Graph::new(&committee, &stores).listed(list);
     match list.iter().find(|(locator, _)| Some(*locator) > after) {
         Some((locator, _)) => {
             out.copy_from_slice(&locator.bytes());
@@ -161,15 +171,25 @@ pub fn next_final(stakes: &[u8], store: &[u8], after: &[u8], out: &mut [u8]) -> 
     }
 }
 
-/// The final list in bulk: 5, 10, 20, 40 for a slice not of 128 stretches.
+/// The ordinary list in bulk.
 pub fn final_stretches(stakes: &[u8], store: &[u8], after: &[u8], out: &mut [u8]) -> Answer {
+    list_stretches(Listed::Ordinary, stakes, store, after, out)
+}
+
+/// The wide list in bulk.
+pub fn wide_stretches(stakes: &[u8], store: &[u8], after: &[u8], out: &mut [u8]) -> Answer {
+    list_stretches(Listed::Wide, stakes, store, after, out)
+}
+
+/// 5, 10, 20, 40 for a slice not of 128 stretches.
+fn list_stretches(list: Listed, stakes: &[u8], store: &[u8], after: &[u8], out: &mut [u8]) -> Answer {
     let committee = Committee::lent(stakes)?;
     let stores = Stores::read(&committee, store)?;
     let after = after_of(after)?;
     if out.len() != STRETCHES_BYTES {
         return Err(40);
     }
-    Ok(write_stretches(&stretches(&Graph::new(&committee, &stores), after), out))
+    Ok(write_stretches(&stretches(&Graph::new(&committee, &stores).listed(list), after), out))
 }
 
 /// Writes as many stretches as fit: twice their number, and 1 more where more follow.
@@ -204,22 +224,22 @@ impl Stretch {
     }
 }
 
-/// The final list after a locator, in stretches.
-pub fn stretches(graph: &Graph, after: Option<Locator>) -> Vec<Stretch> {
+/// A list after a locator, in stretches.
+pub fn stretches(list: &[(Locator, Finality)], after: Option<Locator>) -> Vec<Stretch> {
     let mut stretches: Vec<Stretch> = Vec::new();
-    let mut certifying = Vec::new();
-    for (locator, finality) in graph.final_list().into_iter().filter(|(locator, _)| Some(*locator) > after) {
-        let alike = certifying == finality.certifying;
+    let mut certifying = &vec![];
+    for (locator, finality) in list.iter().filter(|(locator, _)| Some(*locator) > after) {
+        let alike = *certifying == finality.certifying;
         match stretches.last_mut() {
             Some(last) if last.first.block == locator.block && last.end == locator.offset && alike => last.end += 1,
             _ => stretches.push(Stretch {
-                first: locator,
+                first: *locator,
                 end: locator.offset + 1,
                 blocks: finality.certifying.len() as u64,
                 stake: finality.stake,
             }),
         }
-        certifying = finality.certifying;
+        certifying = &finality.certifying;
     }
     stretches
 }

@@ -2,7 +2,7 @@
 
 use super::committee::Committee;
 use super::feed::{Event, Kind, State, EVENT_BYTES};
-use super::finality::Graph;
+use super::finality::{Graph, Listed};
 use super::mistake::Mistake;
 use super::record::{number, Locator};
 use super::stakes_file;
@@ -74,8 +74,18 @@ pub fn listing(input: &[u8], file: &[u8]) -> String {
     mistaken_listing(input, file, None)
 }
 
+/// The same with every final locator in place of the final stored shares.
+pub fn listing_wide(input: &[u8], file: &[u8]) -> String {
+    listing_of(input, file, None, Listed::Wide)
+}
+
 /// What it would print, did it make this mistake.
 pub fn mistaken_listing(input: &[u8], file: &[u8], mistake: Option<Mistake>) -> String {
+    let list = if mistake == Some(Mistake::NoShareListed) { Listed::Wide } else { Listed::Ordinary };
+    listing_of(input, file, mistake, list)
+}
+
+fn listing_of(input: &[u8], file: &[u8], mistake: Option<Mistake>, list: Listed) -> String {
     let (committee, records, broken) = read(input, file);
     let mut lines = Lines::default();
     let committee = match committee {
@@ -96,7 +106,7 @@ pub fn mistaken_listing(input: &[u8], file: &[u8], mistake: Option<Mistake>) -> 
     if broken {
         lines.refused(records.len() + 1, 20);
     }
-    let finals = Graph::new(&committee, &state.stores).final_list();
+    let finals = Graph::new(&committee, &state.stores).listed(list);
     for (locator, finality) in &finals {
         lines.finals(locator, finality.certifying.len(), finality.stake);
     }

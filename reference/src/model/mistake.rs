@@ -1,4 +1,4 @@
-//! The five mistakes of the course page (docs/COURSE.md). Who makes one counts as 01 has it but for that rule; `Committee::makes`
+//! The six mistakes of the course page (docs/COURSE.md). Who makes one counts as 01 has it but for that rule; `Committee::makes`
 //! stands where they part.
 
 #[derive(Clone, Copy, PartialEq, Eq, Debug)]
@@ -13,4 +13,6 @@ pub enum Mistake {
     ShareOffsets,
     /// A range that ends where it starts votes on the item that starts there, as the Rust does.
     EmptyRange,
+    /// Every final locator is listed, also one that names no stored share.
+    NoShareListed,
 }

@@ -1,22 +1,36 @@
 use mathlib.Core.Path.{_≡_, sym, _∙_}
+use Rattle.finality.specs.Finality.{blocksOf}
+use Rattle.stretches.specs.Stretches.{wide}
+use Rattle.stretches.proofs.Wide.{wide-lawful}
+use Rattle.stored_finals.specs.Ordinary.{ordinary}
+use Rattle.stored_finals.proofs.Ordinary.{ordinary-lawful}
 use Rattle.promises.specs.ThirdStatement.{engineOf}
-use Rattle.promises.proofs.Finals.{store-of, gives-finals, same-list}
-use Rattle.bulk_statement.proofs.Asked.{spread-on, alike-on, longest-on}
+use Rattle.promises.proofs.Finals.{store-of, gives-finals, gives-final-shares, same-list, same-share-list}
+use Rattle.bulk_statement.proofs.Asked.{wide-spread, ordinary-spread, wide-alike-on, longest-on, ordinary-alike-on}
 use Rattle.bulk_statement.proofs.bulk_statement.Statement.{statement}
 use Rattle.bulk_statement.proofs.bulk_statement.Tie as tie
 
 returns : tie.Need-returns
 returns c =
     record {
-      spread = λ d b t ts on ls k. spread-on d (engineOf d t .store) b (store-of d t .order) on ls k;
-      alike = λ d b t ts on. alike-on d (engineOf d t .store) b (store-of d t .order) on;
-      longest = λ d b t ts on. longest-on d (engineOf d t .store) b (store-of d t .order) on;
+      spread = λ d b t ts on ls k. wide-spread d (engineOf d t .store) b (store-of d t .order) on ls k;
+      alike = λ d b t ts on. wide-alike-on d (engineOf d t .store) b (store-of d t .order) on;
+      longest = λ d b t ts on. let s = engineOf d t .store in longest-on d s b (store-of d t .order) (wide d (blocksOf s)) (wide-lawful d (blocksOf s)) on;
       sameList = λ d b t u same ts us on un.
           let f = gives-finals d b t in
           let g = gives-finals d b u in
-          spread-on d (engineOf d t .store) b (store-of d t .order) on (f .list) (f .given)
+          wide-spread d (engineOf d t .store) b (store-of d t .order) on (f .list) (f .given)
           ∙ same-list d b t u same (f .list) (g .list) (f .given) (g .given)
-          ∙ sym (spread-on d (engineOf d u .store) b (store-of d u .order) un (g .list) (g .given));
+          ∙ sym (wide-spread d (engineOf d u .store) b (store-of d u .order) un (g .list) (g .given));
+      ordinarySpread = λ d b t ts on ls k. ordinary-spread d (engineOf d t .store) b (store-of d t .order) on ls k;
+      ordinaryAlike = λ d b t ts on. ordinary-alike-on d (engineOf d t .store) b (store-of d t .order) on;
+      ordinaryLongest = λ d b t ts on. let s = engineOf d t .store in longest-on d s b (store-of d t .order) (ordinary d (blocksOf s)) (ordinary-lawful d (blocksOf s)) on;
+      ordinarySame = λ d b t u same ts us on un.
+          let f = gives-final-shares d b t in
+          let g = gives-final-shares d b u in
+          ordinary-spread d (engineOf d t .store) b (store-of d t .order) on (f .list) (f .given)
+          ∙ same-share-list d b t u same (f .list) (g .list) (f .given) (g .given)
+          ∙ sym (ordinary-spread d (engineOf d u .store) b (store-of d u .order) un (g .list) (g .given));
     }
 
 pub bulk-statement-spec : {M : Type 1} → statement M

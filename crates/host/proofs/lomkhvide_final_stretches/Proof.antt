@@ -1,6 +1,7 @@
 use Rattle.host_finals.specs.Stretches.{stretchesCall}
 use native.Mathlib.Omega.{arith}
 use lib.Seq.{length-take-le}
+use Rattle.listed.specs.Listed.{listed}
 use mathlib.Core.Path.{sym}
 use borrow.Author.Needs.{needs}
 use Rattle.host.proofs.lomkhvide_final_stretches.Statement.{statement}
@@ -25,7 +26,7 @@ same-length : tie.Need-same-length
 same-length c = search needs
 
 returns : tie.Need-returns
-unfolding stretchesCall
+unfolding stretchesCall listed
 returns c = (rw (← c .before .before .before .before .before .before .stakes-of .ensures .1) (c .before .before .stretches-of .ensures .0), rw (← c .before .before .before .before .before .before .stakes-of .ensures .1) (c .before .before .stretches-of .ensures .1))
 
 pub lomkhvide-final-stretches-spec : {M : Type 1} → statement M

@@ -1,6 +1,7 @@
 use Rattle.host_finals.specs.NextFinal.{nextFinalCall}
 use native.Mathlib.Omega.{arith}
 use lib.Seq.{length-take-le}
+use Rattle.listed.specs.Listed.{listed}
 use mathlib.Core.Path.{sym}
 use borrow.Author.Needs.{needs}
 use Rattle.host.proofs.lomkhvide_next_final.Statement.{statement}
@@ -25,7 +26,7 @@ same-length : tie.Need-same-length
 same-length c = search needs
 
 returns : tie.Need-returns
-unfolding nextFinalCall
+unfolding nextFinalCall listed
 returns c = (rw (← c .before .before .before .before .before .before .stakes-of .ensures .1) (c .before .before .next-final-of .ensures .0), rw (← c .before .before .before .before .before .before .stakes-of .ensures .1) (c .before .before .next-final-of .ensures .1))
 
 pub lomkhvide-next-final-spec : {M : Type 1} → statement M

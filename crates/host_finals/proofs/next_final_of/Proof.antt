@@ -1,3 +1,5 @@
+use Rattle.listed.specs.Listed.{listed}
+use Rattle.finality.specs.Finality.{blocksOf}
 use Rattle.host_finals.proofs.NextFinals.{next-malformed, next-unsized, next-asked, next-most}
 use Rattle.host_lib.proofs.Locators.{before-most}
 use Rattle.host_finals.specs.NextFinal.{NextFinalCall, asAfter, afterOf, foundIn}
@@ -34,7 +36,7 @@ unfolding encoded asAfter
 returns c =
     let start = c .before .before .before .before .before .before .before .before .args in
     let place = sym (c .before .before .before .after-of .ensures) ∙ ap asAfter (c .before .enum-told .given .1) in
-    let e = next-malformed (start .stakes .now) (start .store .now) (afterOf (start .after .now)) (start .found .now) place in
+    let e = next-malformed (start .stakes .now) (start .store .now) (listed (start .ordinary) (start .stakes .now) (blocksOf (start .store .now))) (afterOf (start .after .now)) (start .found .now) place in
     (rw (c .refusal-before .ensures) (sym (ap (λ (x : NextFinalCall). encoded (x .answer)) e)), sym (ap (λ (x : NextFinalCall). x .found) e))
 
 refusal-before-requires-2 : tie.Need-refusal-before-requires-2
@@ -48,11 +50,11 @@ unfolding encoded asAfter
 returns-2 c =
     let start = c .before .before .before .before .before .before .before .before .before .before .args in
     let place = sym (c .before .before .before .before .before .after-of .ensures) ∙ ap asAfter (c .before .before .before .place .given .1) in
-    let e = next-unsized (start .stakes .now) (start .store .now) (afterOf (start .after .now)) (start .found .now) _ place (c .before .if1 .taken) in
+    let e = next-unsized (start .stakes .now) (start .store .now) (listed (start .ordinary) (start .stakes .now) (blocksOf (start .store .now))) (afterOf (start .after .now)) (start .found .now) _ place (c .before .if1 .taken) in
     (rw (c .refusal-before2 .ensures) (sym (ap (λ (x : NextFinalCall). encoded (x .answer)) e)), sym (ap (λ (x : NextFinalCall). x .found) e))
 
-next-final-requires : tie.Need-next-final-requires
-next-final-requires c κs = search needs
+next-listed-requires : tie.Need-next-listed-requires
+next-listed-requires c κs = search needs
 
 enum-known-locator : tie.Need-enum-known-locator
 enum-known-locator c = search needs
@@ -70,7 +72,7 @@ add-result-3 : tie.Need-add-result-3
 unfolding asNextFinal
 add-result-3 c =
     let start = c .before .before .before .before .before .before .before .before .before .before .before .before .before .args in
-    omega (arith, next-most (start .stakes .now) (start .store .now) (asMaybe (c .before .before .before .before .before .before .place .given .0 .0)) (c .before .number .given .0 .0) (sym (c .before .before .before .next-final .ensures) ∙ ap asNextFinal (c .before .number .given .1)))
+    omega (arith, next-most (start .stakes .now) (start .store .now) (listed (start .ordinary) (start .stakes .now) (blocksOf (start .store .now))) (asMaybe (c .before .before .before .before .before .before .place .given .0 .0)) (c .before .number .given .0 .0) (sym (c .before .before .before .next-listed .ensures) ∙ ap asNextFinal (c .before .number .given .1)))
 
 same-length : tie.Need-same-length
 same-length c = search needs
@@ -80,8 +82,8 @@ unfolding encoded asAfter asNextFinal foundIn
 returns-3 c =
     let start = c .before .before .before .before .before .before .before .before .before .before .before .before .before .before .before .before .before .args in
     let place = sym (c .before .before .before .before .before .before .before .before .before .before .before .before .after-of .ensures) ∙ ap asAfter (c .before .before .before .before .before .before .before .before .before .before .place .given .1) in
-    let told = sym (c .before .before .before .before .before .before .before .next-final .ensures) ∙ ap asNextFinal (c .before .before .before .before .before .locator .given .1) in
-    let e = next-asked (start .stakes .now) (start .store .now) (afterOf (start .after .now)) (start .found .now) _ _ place (c .before .before .before .before .before .before .before .before .if1 .left) told in
+    let told = sym (c .before .before .before .before .before .before .before .next-listed .ensures) ∙ ap asNextFinal (c .before .before .before .before .before .locator .given .1) in
+    let e = next-asked (start .stakes .now) (start .store .now) (listed (start .ordinary) (start .stakes .now) (blocksOf (start .store .now))) (afterOf (start .after .now)) (start .found .now) _ _ place (c .before .before .before .before .before .before .before .before .if1 .left) told in
     let l = c .before .before .before .before .before .locator .given .0 .0 in
     let whole = sets-complete (start .found .now) (locatorBytes (asLocator l)) (omega (arith, length-locatorBytes l, c .before .before .before .before .before .before .before .before .if1 .left)) in
     (sym (ap (λ (x : NextFinalCall). encoded (x .answer)) e), c .before .before .write-locator .ensures ∙ whole ∙ sym (ap (λ (x : NextFinalCall). x .found) e))
@@ -91,8 +93,8 @@ unfolding encoded asAfter asNextFinal foundIn
 returns-4 c =
     let start = c .before .before .before .before .before .before .before .before .before .before .before .before .args in
     let place = sym (c .before .before .before .before .before .before .before .after-of .ensures) ∙ ap asAfter (c .before .before .before .before .before .place .given .1) in
-    let told = sym (c .before .before .next-final .ensures) ∙ ap asNextFinal (c .enum-told2 .given .1) in
-    let e = next-asked (start .stakes .now) (start .store .now) (afterOf (start .after .now)) (start .found .now) _ _ place (c .before .before .before .if1 .left) told in
+    let told = sym (c .before .before .next-listed .ensures) ∙ ap asNextFinal (c .enum-told2 .given .1) in
+    let e = next-asked (start .stakes .now) (start .store .now) (listed (start .ordinary) (start .stakes .now) (blocksOf (start .store .now))) (afterOf (start .after .now)) (start .found .now) _ _ place (c .before .before .before .if1 .left) told in
     (sym (ap (λ (x : NextFinalCall). encoded (x .answer)) e), sym (ap (λ (x : NextFinalCall). x .found) e))
 
 returns-5 : tie.Need-returns-5
@@ -100,8 +102,8 @@ unfolding encoded asAfter asNextFinal foundIn
 returns-5 c =
     let start = c .before .before .before .before .before .before .before .before .before .before .before .before .before .args in
     let place = sym (c .before .before .before .before .before .before .before .before .after-of .ensures) ∙ ap asAfter (c .before .before .before .before .before .before .place .given .1) in
-    let told = sym (c .before .before .before .next-final .ensures) ∙ ap asNextFinal (c .before .number .given .1) in
-    let e = next-asked (start .stakes .now) (start .store .now) (afterOf (start .after .now)) (start .found .now) _ _ place (c .before .before .before .before .if1 .left) told in
+    let told = sym (c .before .before .before .next-listed .ensures) ∙ ap asNextFinal (c .before .number .given .1) in
+    let e = next-asked (start .stakes .now) (start .store .now) (listed (start .ordinary) (start .stakes .now) (blocksOf (start .store .now))) (afterOf (start .after .now)) (start .found .now) _ _ place (c .before .before .before .before .if1 .left) told in
     (sym (ap (λ (x : NextFinalCall). encoded (x .answer)) e), sym (ap (λ (x : NextFinalCall). x .found) e))
 
 pub next-final-of-spec : {M : Type 1} → statement M
@@ -117,7 +119,7 @@ next-final-of-spec =
     refusal-before-requires-2
     add-result-2
     returns-2
-    next-final-requires
+    next-listed-requires
     enum-known-locator
     write-locator-requires
     enum-told-2

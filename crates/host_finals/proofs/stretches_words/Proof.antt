@@ -1,3 +1,5 @@
+use Rattle.listed.specs.Listed.{listed}
+use Rattle.finality.specs.Finality.{blocksOf}
 use mathlib.Core.Path.{sym, ap, _∙_}
 use Rattle.vote_starts.specs.Answers.{asMaybe}
 use Rattle.host_finals.specs.Stretches.{StretchesCall, stretchesNumber}
@@ -12,11 +14,11 @@ slice-aggregate-words-of c = search needs
 words-of-requires : tie.Need-words-of-requires
 words-of-requires c κs = search needs
 
-slice-aggregate-final-stretches : tie.Need-slice-aggregate-final-stretches
-slice-aggregate-final-stretches c = search needs
+slice-aggregate-list-stretches : tie.Need-slice-aggregate-list-stretches
+slice-aggregate-list-stretches c = search needs
 
-final-stretches-requires : tie.Need-final-stretches-requires
-final-stretches-requires c κs = search needs
+list-stretches-requires : tie.Need-list-stretches-requires
+list-stretches-requires c κs = search needs
 
 slice-aggregate-bytes-of : tie.Need-slice-aggregate-bytes-of
 slice-aggregate-bytes-of c = search needs
@@ -30,10 +32,10 @@ same-length c = search needs
 returns : tie.Need-returns
 returns c =
     let start = c .before .before .before .before .before .before .before .before .before .before .before .before .before .before .before .args in
-    let e = stretches-in (start .stakes .now) (start .store .now) (start .out .now) (asMaybe (start .after)) (c .before .before .before .before .before .before .before .before .before .before .before .before .before .before .before .pre) in
+    let e = stretches-in (start .stakes .now) (start .store .now) (start .out .now) (listed (start .ordinary) (start .stakes .now) (blocksOf (start .store .now))) (asMaybe (start .after)) (c .before .before .before .before .before .before .before .before .before .before .before .before .before .before .before .pre) in
     let words = c .before .before .before .before .before .before .before .before .before .words-of .ensures in
-    let told = c .before .before .before .before .before .before .final-stretches in
-    ((ap stretchesNumber (told .ensures .0) ∙ rw words (sym (ap (λ (x : StretchesCall). x .answer) e)), c .before .before .bytes-of .ensures ∙ rw (told .ensures .1, words) (sym (ap (λ (x : StretchesCall). x .stretches) e))), counts-fit (start .stakes .now) (start .store .now) _ (asMaybe (start .after)) (told .result) (c .before .before .before .before .before .before .before .before .before .words-of .kept .1 .0) (told .ensures .0))
+    let told = c .before .before .before .before .before .before .list-stretches in
+    ((ap stretchesNumber (told .ensures .0) ∙ rw words (sym (ap (λ (x : StretchesCall). x .answer) e)), c .before .before .bytes-of .ensures ∙ rw (told .ensures .1, words) (sym (ap (λ (x : StretchesCall). x .stretches) e))), counts-fit (start .stakes .now) (start .store .now) _ (listed (start .ordinary) (start .stakes .now) (blocksOf (start .store .now))) (asMaybe (start .after)) (told .result) (c .before .before .before .before .before .before .before .before .before .words-of .kept .1 .0) (told .ensures .0))
 
 pub stretches-words-spec : {M : Type 1} → statement M
 stretches-words-spec =
@@ -41,8 +43,8 @@ stretches-words-spec =
     (tie.spec
     slice-aggregate-words-of
     words-of-requires
-    slice-aggregate-final-stretches
-    final-stretches-requires
+    slice-aggregate-list-stretches
+    list-stretches-requires
     slice-aggregate-bytes-of
     bytes-of-requires
     same-length

@@ -44,7 +44,7 @@ use denote.Exit.{yes}
 use denote.Triple.Clauses.{ensured, lasts}
 use Rattle.vote_starts.specs.declared.MaybeLocator.{MaybeLocator}
 use Rattle.next_final.specs.declared.NextFinalAnswer.{NextFinalAnswer}
-use Rattle.finality.specs.NextFinal as meant
+use Rattle.stored_finals.specs.FinalShares as meant
 use Rattle.vote_starts.specs.Answers.{asMaybe}
 use Rattle.next_final.specs.Answers.{asNextFinal}
 use Rattle.vote_starts.proofs.MaybeLocator as G
@@ -149,7 +149,7 @@ module _ {M : Type 1} (𝓤 : URA M) (H : Heap 𝓤) (A : Atoms 𝓤) (W : Given
 
   -- what the callee tells
   abbrev Answers : NextFinalAnswer → Type 0
-  Answers r = asNextFinal r ≡ meant.nextFinal (now c) (now (d .store)) (asMaybe m)
+  Answers r = asNextFinal r ≡ meant.nextFinalShare (now c) (now (d .store)) (asMaybe m)
 
   said : (r : NextFinalAnswer) → ent 𝓤 (ensured 𝓤 H A question.ended (question.clauses 𝓤 H A mem run) κs given-to tt r) (fact 𝓤 (Answers r))
   said r = exE 𝓤 _ (λ ws. snd∗ 𝓤 (sem 𝓤 H A (lasts question.ended κs given-to ws)) (fact 𝓤 (Answers r)))

@@ -40,7 +40,7 @@ use denote.Exit.{yes}
 use denote.Triple.Clauses.{ensured, lasts}
 use Rattle.vote_starts.specs.declared.MaybeLocator.{MaybeLocator}
 use Rattle.next_final.specs.declared.NextFinalAnswer.{NextFinalAnswer}
-use Rattle.finality.specs.NextFinal as meant
+use Rattle.stored_finals.specs.FinalShares as meant
 use Rattle.vote_starts.specs.Answers.{asMaybe}
 use Rattle.next_final.specs.Answers.{asNextFinal}
 use Rattle.vote_starts.proofs.MaybeLocator as G
@@ -140,7 +140,7 @@ module _ {M : Type 1} (𝓤 : URA M) (H : Heap 𝓤) (A : Atoms 𝓤) (W : Given
   asks r u = qed W ((‵ (flft κ q) ⊛ ‵ (flft κ′ q′) ⊛ ‵ ftrue) ∷ ‵ (owns (ShrSlice (named 0) κ u64 ∷ B ∷ G.the-row ∷ []) (given-to r) (passed u)) ∷ []) ∵ join ! $ frame ! $ done !
 
   abbrev Said : RefT (List ℕ) → NextFinalAnswer → Type 0
-  Said y r = asNextFinal r ≡ meant.nextFinal (now c) (now y) (asMaybe m)
+  Said y r = asNextFinal r ≡ meant.nextFinalShare (now c) (now y) (asMaybe m)
 
   said : (r : Interpreter) (t : NextFinalAnswer) → ent 𝓤 (ensured 𝓤 H A question.ended (question.clauses 𝓤 H A mem run) κs (given-to r) tt t) (fact 𝓤 (Said (r .store) t))
   said r t = exE 𝓤 _ (λ ws. snd∗ 𝓤 (sem 𝓤 H A (lasts question.ended κs (given-to r) ws)) (fact 𝓤 (Said (r .store) t)))
@@ -180,7 +180,7 @@ module _ {M : Type 1} (𝓤 : URA M) (H : Heap 𝓤) (A : Atoms 𝓤) (W : Given
         land ! (from ! (stop !)) (init ! 10 refl (EL.lawful E.the-type E′.the-laws 𝓤 H A W tt .typed t _ is′ .0)) $
         returns ! (look ! 10 refl) $ forget ! 2 refl $ forget ! 4 refl $ forget ! 6 refl $ forget ! 8 refl $ forget ! 10 refl $
         move ! (10 ∷ 11 ∷ []) $ free1 ! $ move ! (8 ∷ 9 ∷ []) $ free1 ! $ move ! (6 ∷ 7 ∷ []) $ free1 ! $ move ! (4 ∷ 5 ∷ []) $ free1 ! $ move ! (2 ∷ 3 ∷ []) $ free1 ! $ free0 ! $
-        keep ! (1 ∷ 0 ∷ 3 ∷ 2 ∷ []) $ by ! (exits t w gm (f ∙ ap (λ (y : RefT (List ℕ)). meant.nextFinal (now c) (now y) (asMaybe m)) e)))))))))))))))
+        keep ! (1 ∷ 0 ∷ 3 ∷ 2 ∷ []) $ by ! (exits t w gm (f ∙ ap (λ (y : RefT (List ℕ)). meant.nextFinalShare (now c) (now y) (asMaybe m)) e)))))))))))))))
 
 module _ {M : Type 1} (𝓤 : URA M) (H : Heap 𝓤) (A : Atoms 𝓤) (W : Given 𝓤 H A) (mem : Memory → SProp 𝓤) (run : Routine → Fun 𝓤) where
   held-walks : (C : Calls 𝓤 H) (Λ : Loops 𝓤 H) → FmC 𝓤 H (W .laws) C → Triple 𝓤 (C #interpreter·new) (New 𝓤 H A mem run) → Triple 𝓤 (C #interpreter·next-final) (Asks 𝓤 H A mem run)

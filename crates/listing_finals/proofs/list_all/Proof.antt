@@ -7,10 +7,10 @@ use Rattle.listing_finals.proofs.list_all.Statement.{statement}
 use Rattle.listing_finals.proofs.list_all.Tie as tie
 
 abbrev Inv-loop : tie.InvT-loop
-Inv-loop stakes store out₀ from listed₀ turn₀ out listed turn = (listed .at ≤ length out₀) × (length out ≡ length out₀)
+Inv-loop stakes store out₀ from wide listed₀ turn₀ out listed turn = (listed .at ≤ length out₀) × (length out ≡ length out₀)
 
 abbrev μ-loop : tie.MeasureT-loop
-μ-loop stakes store out₀ from listed₀ turn₀ out listed turn = 65536 - turn
+μ-loop stakes store out₀ from wide listed₀ turn₀ out listed turn = 65536 - turn
 
 loop-holds : tie.Need-loop-holds Inv-loop μ-loop
 loop-holds c = (omega arith, refl)

@@ -3,8 +3,8 @@ use lib.Seq.{length-take-le}
 use native.Mathlib.Omega.{arith}
 use Rattle.stakes_file.proofs.Front.{members-fit}
 use borrow.Author.Needs.{needs}
-use Rattle.listing_run.proofs.listing.Statement.{statement}
-use Rattle.listing_run.proofs.listing.Tie as tie
+use Rattle.listing_run.proofs.listing_of.Statement.{statement}
+use Rattle.listing_run.proofs.listing_of.Tie as tie
 
 slice-aggregate-read-committee : tie.Need-slice-aggregate-read-committee
 slice-aggregate-read-committee c = search needs
@@ -40,8 +40,8 @@ returns c = search needs
 returns-2 : tie.Need-returns-2
 returns-2 c = search needs
 
-pub listing-spec : {M : Type 1} → statement M
-listing-spec =
+pub listing-of-spec : {M : Type 1} → statement M
+listing-of-spec =
     tie.close
     (tie.spec
     slice-aggregate-read-committee
