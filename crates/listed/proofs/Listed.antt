@@ -1,15 +1,15 @@
 -- Either list is lawful, changes at the edges of votes only, with shares in a row as one vote, and begins where a vote does. Assumes nothing.
-use mathlib.Core.Path.{_≡_, refl, sym, ap, subst, _∙_}
+use mathlib.Core.Path.{_≡_, refl, subst, _∙_}
 use mathlib.Core.Bool.{Bool, true, false, not, _&&_, _||_}
 use mathlib.Core.List.{List, map}
-use Prim.Native.Nat.{ℕ, suc, _+_, _≤_, _<_}
+use Prim.Native.Nat.{ℕ, suc, _≤_}
 use native.Mathlib.Omega.{arith}
 use native.Mathlib.Decide.{ℕ-discrete}
 use Rattle.base.specs.Lists.{_∈_}
 use Rattle.base.proofs.Members.{in-map, in-flatten}
 use Rattle.committee.specs.Committee.{Committee}
 use Rattle.blocks.specs.Reference.{BlockReference, TransactionLocator, TransactionLocatorRange, locator}
-use Rattle.blocks.specs.Block.{Block, isShareAt}
+use Rattle.blocks.specs.Block.{Block}
 use Rattle.store_layout.specs.Shares.{isStoredShare, StoredShare}
 use Rattle.store_layout.proofs.Shares.{stored-share, share-stored}
 use Rattle.finality.specs.Voters.{certifies, isFinal}

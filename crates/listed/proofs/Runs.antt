@@ -1,20 +1,19 @@
 -- Shares in a row are one range of a block's votes: a share stands in a range of shares only. Assumes nothing.
-use mathlib.Core.Path.{_≡_, refl, sym, ap, subst, _∙_}
+use mathlib.Core.Path.{_≡_, refl, sym, subst}
 use mathlib.Core.Logic.{_⊎_, inl, inr}
 use mathlib.Core.Bool.{Bool, true, false, true≢false}
-use mathlib.Core.List.{List, [], _∷_, _++_, Option·toList}
+use mathlib.Core.List.{List, [], _∷_, Option·toList}
 use Prim.Native.Nat.{ℕ, zero, suc, _+_, _-_, _≤_, _<_}
 use native.Mathlib.Omega.{arith}
-use native.Mathlib.Decide.{decLt}
 use lib.ListN.{getElem?, drop}
 use Rattle.base.specs.Lists.{pick, holds, _∈_, here, there}
 use Rattle.base.proofs.Members.{in-cases, in-right}
 use Rattle.blocks.specs.Reference.{BlockReference, TransactionLocatorRange, newRange}
-use Rattle.blocks.specs.Block.{Statement, Block, isShare, isShareAt, votedRange}
+use Rattle.blocks.specs.Block.{Statement, isShare, isShareAt, votedRange}
 use Rattle.shared_ranges.specs.Step.{isOfKind, leading}
 use Rattle.block_spans.specs.Joined.{beginsShare, lengthened, joinedFrom, joinedSpans}
 use Rattle.block_spans.proofs.Joining.{joined-run}
-use Rattle.stored_finals.proofs.Ordinary.{Around, Surrounding}
+use Rattle.stored_finals.proofs.Ordinary.{Surrounding}
 
 -- the share at index k stands in a range of shares, among statements of which the first has offset o
 record InRun (r : BlockReference) (o : ℕ) (ss : List Statement) (k : ℕ) : Type 0 where

@@ -7,7 +7,7 @@ use Rattle.types.specs.Values.{asLocator}
 use Rattle.blocks.specs.Reference.{locator}
 use Rattle.base.proofs.Le.{bytes-of}
 use native.Mathlib.Omega.{arith}
-use mathlib.Core.Path.{_≡_, sym, ap, _∙_}
+use mathlib.Core.Path.{sym, ap, _∙_}
 use Prim.Native.Nat.{_+_}
 use borrow.Author.Needs.{needs}
 use Rattle.final_search.proofs.final_after.Statement.{statement}

@@ -1,6 +1,5 @@
 use Rattle.final_search.specs.Search.{mayShow}
 use borrow.Author.Tests.{not-true, not-false}
-use mathlib.Core.Path.{_≡_, sym, ap, _∙_}
 use borrow.Author.Needs.{needs}
 use Rattle.final_search.proofs.may_show.Statement.{statement}
 use Rattle.final_search.proofs.may_show.Tie as tie

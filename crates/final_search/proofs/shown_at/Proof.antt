@@ -5,7 +5,7 @@ use Rattle.finalization_interpreter.proofs.Asking.{final-by}
 use Rattle.finality.specs.Finality.{blocksOf}
 use Rattle.types.specs.Values.{asLocator}
 use borrow.Author.Tests.{not-true, not-false}
-use mathlib.Core.Path.{_≡_, sym, ap, _∙_}
+use mathlib.Core.Path.{sym, _∙_}
 use borrow.Author.Needs.{needs}
 use Rattle.final_search.proofs.shown_at.Statement.{statement}
 use Rattle.final_search.proofs.shown_at.Tie as tie

@@ -1,4 +1,4 @@
-use mathlib.Core.Path.{_≡_, sym, ap, _∙_}
+use mathlib.Core.Path.{sym, ap, _∙_}
 use Rattle.base.specs.Lists.{isNone}
 use Rattle.types.specs.Values.{asLocator}
 use Rattle.store_layout.proofs.Check.{order-laid}
