@@ -27,7 +27,7 @@ use Rattle.store_layout.specs.Store.{recordsOf, recordIn, storeFull, storeHoldi
 use Rattle.store_layout.specs.Entry.{laidOut}
 use Rattle.pending_items.specs.Table.{itemsOf, room}
 use Rattle.feeds.specs.Pending.{pendingChecks}
-use Rattle.feeds.specs.Feed.{Lent, processed, lentChecks, ruleChecks, recordChecks, feedChecks, refusedFeed, acceptedFeed, feedRecord, feed}
+use Rattle.feeds.specs.Feed.{Lent, lentOf, processed, lentChecks, ruleChecks, recordChecks, feedChecks, refusedFeed, acceptedFeed, feedRecord, feed}
 use Rattle.record_checks.specs.Step.{acceptChecks}
 use Rattle.feeds.specs.ProcessBlock.{wordsOf}
 use Rattle.aggregator.specs.Step.{VotesCounted, Feeding}
@@ -35,6 +35,7 @@ use Rattle.pending.proofs.Lending.{lying}
 use Rattle.aggregator.specs.declared.Processed.{Processed}
 use Rattle.feeds.proofs.ProcessBlock.{events-processBlock, length-words}
 use Rattle.record_checks.proofs.Feeds.{accept-numbered}
+use Rattle.feeding.specs.Step.{Accepting, AcceptedAs}
 
 -- ---- the record that is read
 
@@ -111,7 +112,7 @@ module _ (c : Committee) (m : Lent) (bytes : Bytes) where
       go true w = ap refusal (with-full w) ∙ refusal-first asked (full ∷ []) h
       go false w = rw (read-none bytes w, w)
 
-  pub feeds-full : wellFormed bytes ≡ true → refusal (acceptChecks c (m .store) (length (m .events)) bytes) ≡ 0
+  feeds-full : wellFormed bytes ≡ true → refusal (acceptChecks c (m .store) (length (m .events)) bytes) ≡ 0
       → refusal (recordChecks c m (readRecord bytes)) ≡ pick (ltb (room (m .table)) (processed c m (recordIn bytes) .most)) 14 0
   unfolding asked full refusal
   feeds-full w z = ap refusal (with-full w) ∙ refusal-then asked (full ∷ []) asked-numbered z
@@ -121,7 +122,7 @@ module _ (c : Committee) (m : Lent) (bytes : Bytes) where
 
   -- ---- what a feed gives
 
-  pub feed-refuses : (n : ℕ) → n ≡ refusal (feedChecks c m (readRecord bytes)) → (n ≡ 0 → ⊥) → feed c m bytes ≡ refusedFeed m n
+  feed-refuses : (n : ℕ) → n ≡ refusal (feedChecks c m (readRecord bytes)) → (n ≡ 0 → ⊥) → feed c m bytes ≡ refusedFeed m n
   unfolding feed feedRecord
   feed-refuses n e f = go (readRecord bytes) e
     where
@@ -129,14 +130,18 @@ module _ (c : Committee) (m : Lent) (bytes : Bytes) where
       go none z = ap (refusedFeed m) (sym z)
       go (some r) z = rw (fails (passes (feedChecks c m (some r))) (λ p. f (z ∙ passes-zero _ p))) (ap (refusedFeed m) (sym z))
 
-  pub feed-accepts : wellFormed bytes ≡ true → refusal (feedChecks c m (readRecord bytes)) ≡ 0 → feed c m bytes ≡ acceptedFeed c m (recordIn bytes)
-  unfolding feed feedRecord asked full
-  feed-accepts w z = rw (read-some bytes w, zero-passes _ all-numbered (rw (read-some bytes w) at z))
+  pub checks-pass : wellFormed bytes ≡ true → refusal (feedChecks c m (readRecord bytes)) ≡ 0 → passes (feedChecks c m (some (recordIn bytes))) ≡ true
+  unfolding asked full
+  checks-pass w z = zero-passes _ all-numbered (rw (read-some bytes w) at z)
     where
       all-numbered : Numbered (feedChecks c m (some (recordIn bytes)))
       all-numbered =
           rw (split (some (recordIn bytes)), ← read-some bytes w, with-full w)
           (every-append (lent ++ work) _ lent-numbered (every-append asked _ (accept-numbered c (m .store) (length (m .events)) bytes) (and (lit< tt) none-of)))
+
+  feed-accepts : wellFormed bytes ≡ true → refusal (feedChecks c m (readRecord bytes)) ≡ 0 → feed c m bytes ≡ acceptedFeed c m (recordIn bytes)
+  unfolding feed feedRecord
+  feed-accepts w z = rw (read-some bytes w, checks-pass w z)
 
 -- ---- what it says that none of them applies
 
@@ -190,22 +195,39 @@ module _ (c : Committee) (m : Lent) (bytes : Bytes) where
   unfolding refusedFeed
   gives-refusal n e f = rw (feed-refuses c m bytes n e f) (refl, (refl, (refl, refl)))
 
-  pub gives-acceptance : (s : Bytes) (t v : List ℕ) (q : Processed) → Acceptable c (m .store) (length (m .events)) bytes → refusal (feedChecks c m (readRecord bytes)) ≡ 0
-      → s ≡ storeHolding (recordIn bytes ∷ recordsOf (m .store)) (m .store)
-      → VotesCounted (processed c m (recordIn bytes)) true 0 (m .table) (m .events) q t v → q .fits ≡ true
-      → Gives (answered (q .events)) s t v
-  unfolding acceptedFeed
-  gives-acceptance s t v q a z e w y =
-      rw (feed-accepts c m bytes (a .formed) z)
-      (ap answered many, (e, (w .table y, w .stated y .words ∙ sets-eq words (m .events) 0 enough ∙ ap (λ n. words ++ drop n (m .events)) (zero-add (length words)))))
-    where
-      words : List ℕ
-      words = wordsOf (processed c m (recordIn bytes) .events)
+  -- no refusal applies, and the slices are those of an accepted feed
+  pub gives-acceptance : (n : ℕ) (s : Bytes) (t v : List ℕ) → wellFormed bytes ≡ true → refusal (feedChecks c m (readRecord bytes)) ≡ 0
+      → AcceptedAs (acceptedFeed c (lentOf (m .store) (m .table) [] (m .events)) (recordIn bytes)) n s t v → Gives (answered n) s t v
+  unfolding acceptedFeed processed
+  gives-acceptance n s t v w z a = rw (feed-accepts c m bytes w z) (a .answer, (a .store, (a .table, a .events)))
 
-      many : q .events ≡ length (processed c m (recordIn bytes) .events)
-      many = omega (arith, w .stated y .many)
+-- what counting and storing the record leaves
+pub accepted-as : (c : Committee) (s : Bytes) (t v : List ℕ) (bytes after : Bytes) (t′ v′ : List ℕ) (q : Processed) → Accepting c s t v bytes
+    → after ≡ storeHolding (recordIn bytes ∷ recordsOf s) s
+    → VotesCounted (processed c (lentOf s t [] v) (recordIn bytes)) true 0 t v q t′ v′
+    → AcceptedAs (acceptedFeed c (lentOf s t [] v) (recordIn bytes)) (q .events) after t′ v′
+unfolding acceptedFeed
+accepted-as c s t v bytes after t′ v′ q a e w =
+    record {
+      answer = ap answered many;
+      store = e;
+      table = w .table y;
+      events = w .stated y .words ∙ sets-eq words v 0 enough ∙ ap (λ n. words ++ drop n v) (zero-add (length words));
+    }
+  where
+    m : Lent
+    m = lentOf s t [] v
 
-      enough : 0 + length words ≤ length (m .events)
-      enough =
-          unfold processed recordIn in
-          omega (arith, length-words (processed c m (recordIn bytes) .events), events-processBlock c (entries (recordIn bytes ∷ recordsOf (m .store))) (blockIn bytes) (itemsOf (m .table)), a .events)
+    y : q .fits ≡ true
+    y = w .fits ∙ a .items
+
+    words : List ℕ
+    words = wordsOf (processed c m (recordIn bytes) .events)
+
+    many : q .events ≡ length (processed c m (recordIn bytes) .events)
+    many = omega (arith, w .stated y .many)
+
+    enough : 0 + length words ≤ length v
+    enough =
+        unfold processed recordIn in
+        omega (arith, length-words (processed c m (recordIn bytes) .events), events-processBlock c (entries (recordIn bytes ∷ recordsOf s)) (blockIn bytes) (itemsOf t), a .events)

@@ -53,6 +53,11 @@ pub record Agreeing (s : Bytes) (order ix starts₀ starts : List ℕ) (at pos i
   pub checked : Checked (blocks (olderAt (recordsOf s) i)) ix
   pub known : Known s order ix starts (blocks (olderAt (recordsOf s) i))
 
+-- the newest block's part
+pub newest-part : (b : Block) (bs : List Block) → partIn (b ∷ bs) (b .reference) ≡ partFrom b (map (partIn bs) (b .includes))
+unfolding partIn
+newest-part b bs = rw (reference-refl (b .reference))
+
 module _ (c : Committee) (s : Bytes) (order ix starts₀ : List ℕ) (o : Sorted c s order) (bytes : AllBytes s) where
   abbrev rs : List Record
   rs = recordsOf s
@@ -69,11 +74,6 @@ module _ (c : Committee) (s : Bytes) (order ix starts₀ : List ℕ) (o : Sorted
         checked = subst (λ (qs : List Record). Checked (blocks qs) ix) (sym (older-none rs)) (checked-start ix h);
         known = record { long = m; parts = λ k n d j e. absurd (in-empty (subst (λ (qs : List Record). d ∈ blocks qs) (older-none rs) j)) };
       }
-
-  -- the newest block's part
-  newest-part : (b : Block) (bs : List Block) → partIn (b ∷ bs) (b .reference) ≡ partFrom b (map (partIn bs) (b .includes))
-  unfolding partIn
-  newest-part b bs = rw (reference-refl (b .reference))
 
   other-part : (b : Block) (bs : List Block) (r : BlockReference) → (b .reference ≡ r → ⊥) → partIn (b ∷ bs) r ≡ partIn bs r
   unfolding partIn

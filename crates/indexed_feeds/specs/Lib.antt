@@ -1,0 +1,2 @@
+pub mod IndexedFeed
+pub mod Claims
