@@ -1,0 +1,92 @@
+-- The statements, from those without the index. Assumes nothing.
+use mathlib.Core.Path.{_≡_, sym, ap, subst, _∙_}
+use mathlib.Core.Bool.{true, false}
+use mathlib.Core.List.{List, [], _∷_, _++_, map}
+use Prim.Native.Nat.{ℕ}
+use Rattle.base.specs.Lists.{_∈_}
+use Rattle.base.specs.Le.{Bytes}
+use Rattle.base.proofs.Orders.{same-refl, same-true}
+use Rattle.committee.specs.Committee.{Committee, broken}
+use Rattle.blocks.specs.Reference.{TransactionLocator}
+use Rattle.store_layout.specs.Layout.{Record}
+use Rattle.finality.specs.Finality.{blocksOf}
+use Rattle.finality.specs.NextFinal.{FinalList}
+use Rattle.voters_index.specs.Index.{indexed, bodyWords, usedWords, indexWords, indexOf, freshIndex, usedPart, indexAgrees}
+use Rattle.promises.specs.Feeds.{Feed, Engine, fresh, Accepted, storedRecords}
+use Rattle.promises.specs.ThirdStatement.{Holds, engineOf, acceptedOf, SameRecords}
+use Rattle.promises.proofs.Storing.{fresh-holds}
+use Rattle.promises.proofs.ThirdStatement.{third-statement}
+use Rattle.trust.specs.Staying.{StillFinal}
+use Rattle.trust.proofs.Staying.{stays-final}
+use Rattle.index_statement.specs.Indexed.{IndexedEngine, runIndexed, IndexedStart, freshIndexed, engineIndexed, acceptedIndexedOf, but55, without55}
+use Rattle.index_statement.specs.Statement.{IndexStatement, SameStored, IndexedThird, IndexedStays}
+use Rattle.index_statement.proofs.Reduced.{Agreeing, same-outcome, run-agreeing, run-reduced, taken-reduced}
+
+fresh-index : (past : List ℕ) → indexAgrees [] (freshIndex ++ past) ≡ true
+unfolding indexAgrees usedPart freshIndex indexWords usedWords bodyWords indexed
+fresh-index past = same-refl (1 ∷ [])
+
+fresh-agreeing : (c : Committee) (t : IndexedStart) → Agreeing c (freshIndexed t)
+unfolding freshIndexed fresh blocksOf
+fresh-agreeing c t =
+    let h = fresh-holds c (t .start .past) (t .start .allowed) in
+    record {
+      order = h .order;
+      agrees = ap (λ (rs : List Record). indexAgrees (map (λ r. r .block) rs) (freshIndex ++ t .past)) (h .records) ∙ fresh-index (t .past);
+    }
+
+after : (c : Committee) (t : IndexedStart) → Agreeing c (engineIndexed c t)
+unfolding engineIndexed
+after c t = run-agreeing c (freshIndexed t) (fresh-agreeing c t) (t .start .feeds)
+
+same-engine : (c : Committee) (t : IndexedStart) → engineIndexed c t .engine ≡ engineOf c (without55 c t)
+unfolding engineIndexed engineOf without55 freshIndexed
+same-engine c t = unfold freshIndexed in run-reduced c (freshIndexed t) (fresh-agreeing c t) (t .start .feeds)
+
+same-accepted : (c : Committee) (t : IndexedStart) → acceptedIndexedOf c t ≡ acceptedOf c (without55 c t)
+unfolding acceptedIndexedOf acceptedOf without55 freshIndexed
+same-accepted c t = unfold freshIndexed in taken-reduced c (freshIndexed t) (fresh-agreeing c t) (t .start .feeds)
+
+worked-afresh : (c : Committee) (g : IndexedEngine) → Agreeing c g → usedPart (g .index) ≡ indexOf (g .engine .store)
+unfolding indexOf
+worked-afresh c g h = same-true (usedPart (g .index)) (indexWords (blocksOf (g .engine .store))) (unfold indexAgrees in h .agrees)
+
+pub index-statement : IndexStatement
+index-statement =
+    record {
+      afresh = λ c t. worked-afresh c (engineIndexed c t) (after c t);
+      alike = λ c t f n. same-outcome c (engineIndexed c t) (after c t) f n;
+      engine = same-engine;
+      accepted = same-accepted;
+    }
+
+every : (c : Committee) → broken c ≡ false → (t : IndexedStart) → Holds c (engineIndexed c t .engine) (acceptedIndexedOf c t)
+every c b t =
+    subst (λ (g : Engine). Holds c g (acceptedIndexedOf c t)) (sym (same-engine c t))
+    (subst (λ (as′ : List Accepted). Holds c (engineOf c (without55 c t)) as′) (sym (same-accepted c t)) (third-statement .every c b (without55 c t)))
+
+same-list : (c : Committee) → broken c ≡ false → (t u : IndexedStart) → SameStored c t u → (ls ms : List TransactionLocator)
+    → FinalList c (engineIndexed c t .engine .store) ls → FinalList c (engineIndexed c u .engine .store) ms → ls ≡ ms
+same-list c b t u s ls ms x y =
+    third-statement .sameList c b (without55 c t) (without55 c u) stored ls ms (subst (λ (g : Engine). FinalList c (g .store) ls) (same-engine c t) x)
+    (subst (λ (g : Engine). FinalList c (g .store) ms) (same-engine c u) y)
+  where
+    to : (r : Bytes) (v w : IndexedStart) → (r ∈ storedRecords (acceptedIndexedOf c v) → r ∈ storedRecords (acceptedIndexedOf c w))
+        → r ∈ storedRecords (acceptedOf c (without55 c v)) → r ∈ storedRecords (acceptedOf c (without55 c w))
+    to r v w f m =
+        subst (λ (as′ : List Accepted). r ∈ storedRecords as′) (same-accepted c w)
+        (f (subst (λ (as′ : List Accepted). r ∈ storedRecords as′) (sym (same-accepted c v)) m))
+
+    stored : SameRecords c (without55 c t) (without55 c u)
+    stored r = (to r t u (s r .0), to r u t (s r .1))
+
+pub third-indexed : IndexedThird
+third-indexed = record { every = every; sameList = same-list }
+
+pub stays-indexed : IndexedStays
+stays-indexed =
+    record {
+      fed = λ reading c b t fs.
+          subst (λ (g : Engine). StillFinal reading c (engineIndexed c t .engine .store) (g .store)) (sym (run-reduced c (engineIndexed c t) (after c t) fs))
+          (stays-final .further reading c b (engineIndexed c t .engine) (after c t .order) (but55 c (engineIndexed c t) fs));
+    }
