@@ -7,6 +7,7 @@ ghost use Rattle.host_add.specs.Add.{addCall};
 ghost use Rattle.host_lib.specs.Pending.{pendingStakeCall, pendingVotersCall};
 ghost use Rattle.host_lib.specs.Feed.{feedCall};
 ghost use Rattle.host_finals.specs.NextFinal.{nextFinalCall, nextWideCall};
+ghost use Rattle.host_feed_indexed.specs.IndexedFeed.{feedIndexedCall};
 ghost use Rattle.host_lib.specs.Payload.{payloadLengthCall, payloadStartCall};
 ghost use Rattle.host_finality.specs.Finality.{finalityCall};
 ghost use Rattle.readings.specs.Readings.{old, withdrawing};
@@ -205,6 +206,25 @@ pub extern "C" fn lomkhvide_feed(
     ensures { λ r. ⌜ now (events .exit) ≡ feedCall (now (stakes .entry)) (now (store .entry)) (now (table .entry)) (now (events .entry)) (now (rec .entry)) .events ⌝ }
 {
     host_feed::feed(stakes, store, table, events, rec)
+}
+
+// The same with the index beside the store, to which the record's part is appended.
+#[no_mangle]
+pub extern "C" fn lomkhvide_feed_indexed(
+    stakes: &[u8],
+    store: &mut [u8],
+    table: &mut [u8],
+    index: &mut [u64],
+    events: &mut [u8],
+    rec: &[u8],
+) -> u64
+    ensures { λ r. ⌜ r ≡ encoded (feedIndexedCall (now (stakes .entry)) (now (store .entry)) (now (table .entry)) (now (index .entry)) (now (events .entry)) (now (rec .entry)) .answer) ⌝ }
+    ensures { λ r. ⌜ now (store .exit) ≡ feedIndexedCall (now (stakes .entry)) (now (store .entry)) (now (table .entry)) (now (index .entry)) (now (events .entry)) (now (rec .entry)) .store ⌝ }
+    ensures { λ r. ⌜ now (table .exit) ≡ feedIndexedCall (now (stakes .entry)) (now (store .entry)) (now (table .entry)) (now (index .entry)) (now (events .entry)) (now (rec .entry)) .table ⌝ }
+    ensures { λ r. ⌜ now (index .exit) ≡ feedIndexedCall (now (stakes .entry)) (now (store .entry)) (now (table .entry)) (now (index .entry)) (now (events .entry)) (now (rec .entry)) .index ⌝ }
+    ensures { λ r. ⌜ now (events .exit) ≡ feedIndexedCall (now (stakes .entry)) (now (store .entry)) (now (table .entry)) (now (index .entry)) (now (events .entry)) (now (rec .entry)) .events ⌝ }
+{
+    host_feed_indexed::feed_indexed(stakes, store, table, index, events, rec)
 }
 
 // Loads a network's own stakes from the bytes of its file: the number of members, whose stakes stand at the front, a word each.

@@ -30,20 +30,27 @@ use Rattle.host_lib.proofs.Locators.{before-most}
 
 -- ---- the numbers of a feed are 1 to 30
 
+-- every number is above 0 and below n
+abbrev pub Below : ℕ → List Check → Type 0
+Below n ks = Every (λ k. (0 < k .number) × (k .number < n)) ks
+
 abbrev Ordinary : List Check → Type 0
-Ordinary ks = Every (λ k. (0 < k .number) × (k .number < 31)) ks
+Ordinary ks = Below 31 ks
 
-numbered : (ks : List Check) → Ordinary ks → Numbered ks
-numbered ks h = every (λ k l. l .0) ks h
+pub numbered : (n : ℕ) (ks : List Check) → Below n ks → Numbered ks
+numbered n ks h = every (λ k l. l .0) ks h
 
-most : (ks : List Check) → Ordinary ks → refusal ks ≤ 30
+pub below : (n : ℕ) → 0 < n → (ks : List Check) → Below n ks → refusal ks < n
 unfolding refusal
-most [] none-of = omega arith
-most (k ∷ ks) (and h hs) = go (k .applies) (most ks hs)
+below n m [] none-of = omega arith
+below n m (k ∷ ks) (and h hs) = go (k .applies) (below n m ks hs)
   where
-    go : (t : Bool) → refusal ks ≤ 30 → pick t (k .number) (refusal ks) ≤ 30
+    go : (t : Bool) → refusal ks < n → pick t (k .number) (refusal ks) < n
     go true l = omega (arith, h .1)
     go false l = l
+
+most : (ks : List Check) → Ordinary ks → refusal ks ≤ 30
+most ks h = omega (arith, below 31 (lit< tt) ks h)
 
 statement-ordinary : (s : Statement) → Ordinary (statementChecks s)
 unfolding statementChecks
@@ -64,12 +71,15 @@ block-ordinary c rs b =
     (and (lit< tt, lit< tt) none-of)))
     (and (lit< tt, lit< tt) none-of))))
 
+pub record-ordinary : (c : Committee) (m : Lent) (o : Option Record) → Below 31 (recordChecks c m o)
+unfolding ruleChecks recordChecks
+record-ordinary c m none = and (lit< tt, lit< tt) none-of
+record-ordinary c m (some r) =
+    every-append (blockChecks c (recordsOf (m .store)) (r .block)) _ (block-ordinary c (recordsOf (m .store)) (r .block)) (and (lit< tt, lit< tt) (and (lit< tt, lit< tt) (and (lit< tt, lit< tt) none-of)))
+
 checks-ordinary : (c : Committee) (m : Lent) (o : Option Record) → Ordinary (feedChecks c m o)
-unfolding feedChecks lentChecks pendingChecks ruleChecks recordChecks
-checks-ordinary c m none = and (lit< tt, lit< tt) (and (lit< tt, lit< tt) (and (lit< tt, lit< tt) (and (lit< tt, lit< tt) (and (lit< tt, lit< tt) none-of))))
-checks-ordinary c m (some r) =
-    and (lit< tt, lit< tt) (and (lit< tt, lit< tt) (and (lit< tt, lit< tt) (and (lit< tt, lit< tt)
-    (every-append (blockChecks c (recordsOf (m .store)) (r .block)) _ (block-ordinary c (recordsOf (m .store)) (r .block)) (and (lit< tt, lit< tt) (and (lit< tt, lit< tt) (and (lit< tt, lit< tt) none-of)))))))
+unfolding feedChecks lentChecks pendingChecks
+checks-ordinary c m o = and (lit< tt, lit< tt) (and (lit< tt, lit< tt) (and (lit< tt, lit< tt) (and (lit< tt, lit< tt) (record-ordinary c m o))))
 
 feed-most : (c : Committee) (m : Lent) (rec : Bytes) (n : ℕ) → feed c m rec .answer ≡ refused n → n ≤ 30
 unfolding feed feedRecord refusedFeed acceptedFeed
@@ -83,7 +93,7 @@ feed-most c m rec n e = by (readRecord rec) e
         go true e = let z : _≡_ {A = ℕ} 0 1 = cc in absurd (omega arith)
         go false e = let z : refusal (feedChecks c m (some r)) ≡ n = cc in omega (arith, most (feedChecks c m (some r)) (checks-ordinary c m (some r)))
 
-rules-ordinary : (c : Committee) (s : Bytes) (o : Option Record) → Ordinary (ruleChecks c s o)
+pub rules-ordinary : (c : Committee) (s : Bytes) (o : Option Record) → Below 31 (ruleChecks c s o)
 unfolding ruleChecks
 rules-ordinary c s none = and (lit< tt, lit< tt) none-of
 rules-ordinary c s (some r) = block-ordinary c (recordsOf s) (r .block)
@@ -147,4 +157,4 @@ module _ (c : Committee) (s : Bytes) (t : List ℕ) (rec : Bytes) where
 
   pub early-passed : refusal (earlyChecks c s t rec) ≡ 0 → refusal (earlyChecks c s t rec ++ ((true ⇒ 15) ∷ [])) ≡ 15
   unfolding refusal
-  early-passed h = refusal-then (earlyChecks c s t rec) ((true ⇒ 15) ∷ []) (numbered (earlyChecks c s t rec) (early-ordinary c s t rec)) h
+  early-passed h = refusal-then (earlyChecks c s t rec) ((true ⇒ 15) ∷ []) (numbered 31 (earlyChecks c s t rec) (early-ordinary c s t rec)) h
