@@ -82,9 +82,12 @@ fn lent_refusal(
     ensures { λ r. ⌜ r .refusal ≡ refusal (indexedLentChecks (now (stakes .entry)) (now (store .entry)) (now (table .entry)) (now (index .entry))) ⌝ }
     ensures { λ r. ⌜ (r .refusal ≡ 0 → (r .count ≤ 1024) × Agreed (now (stakes .entry)) (now (store .entry)) (now (table .entry)) (now (index .entry)) (take (r .count) (now (order .exit))) (now (starts .exit))) ⌝ }
 {
-    let refusal = pending::lent_refusal(stakes, store, table);
-    if refusal != 0 {
-        return Lent { refusal, count: 0 };
+    let lent = pending::lent_refusal(stakes, store, table);
+    if lent != 0 {
+        return Lent {
+            refusal: lent,
+            count: 0,
+        };
     }
     let count = block_votes::sorted_positions(store, order);
     if !index_growth::agrees(store, &order[..count], index, starts) {
