@@ -116,6 +116,17 @@ uint64_t lomkhvide_whom_to_ring(const uint8_t *stakes, size_t stakes_len, const 
 uint64_t lomkhvide_feed(const uint8_t *stakes, size_t stakes_len, uint8_t *store, size_t store_len, uint8_t *table, size_t table_len,
                         uint8_t *events, size_t events_len, const uint8_t *record, size_t record_len);
 
+/* The same with an index, the voters beside the store: any number of words, their number given in words, 8-byte aligned. A fresh store's is one
+ * word 1; the words past the used part are free and keep their content. It holds the number of used words, then for each stored block in order
+ * of arrival a run count and its runs, ascending, ten words each: author, round, the digest in four words (each eight of its bytes, the first
+ * one lowest), first offset, end offset (excluded), the voters' bits, 0 to 63 and 64 to 127. Each run is the longest stretch of locators with
+ * the same voters in the block's ancestry. The new block's part is appended, and nothing else of the index changes but its first word.
+ * Refused between 11 and 20: 54 no words, or used words that are not those of the store. Refused last: 55 too few words for the new part.
+ * It needs at most 256 KB of stack. */
+uint64_t lomkhvide_feed_indexed(const uint8_t *stakes, size_t stakes_len, uint8_t *store, size_t store_len, uint8_t *table,
+                                size_t table_len, uint64_t *index, size_t index_len, uint8_t *events, size_t events_len,
+                                const uint8_t *record, size_t record_len);
+
 /* The length of a stored share's payload. Refused last: 41 no such share. */
 uint64_t lomkhvide_payload_length(const uint8_t *stakes, size_t stakes_len, const uint8_t *store, size_t store_len,
                                   const uint8_t *locator, size_t locator_len);

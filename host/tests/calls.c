@@ -411,6 +411,83 @@ static void feeding(void) {
     same("no byte past the table", memcmp(lent.table + t, kept.table + t, sizeof lent.table - t), 0);
 }
 
+/* Feeds with an index of these words, lent from its own allocation. */
+static uint64_t feed_indexed(const uint8_t *stakes, size_t stakes_len, size_t store, size_t table, uint64_t *index, size_t words,
+                             size_t events, const uint8_t *record, size_t n) {
+    uint8_t *own = malloc(n + 1);
+    uint64_t *ours = malloc(8 * words + 1);
+    memcpy(own, record, n);
+    memcpy(ours, index, 8 * words);
+    uint64_t word = lomkhvide_feed_indexed(stakes, stakes_len, lent.store, store, lent.table, table, ours, words, lent.events, events, own, n);
+    memcpy(index, ours, 8 * words);
+    free(ours);
+    free(own);
+    return word;
+}
+
+/* The same three blocks with the index: a part without runs, and twice the sharer's run. */
+static void indexing(void) {
+    const size_t t = LOMKHVIDE_TABLE_LEN, v = LOMKHVIDE_EVENTS_LEN;
+    uint8_t one[8], first[256], second[256], third[256];
+    /* used words; no run; author, round, a digest whose fourth byte is 2, offsets 0 to 1, owner 0; the same */
+    const uint64_t right[24] = {24, 0, 1, 0, 1, UINT64_C(2) << 24, 0, 0, 0, 0, 1, 1, 0, 1, 0, 1, UINT64_C(2) << 24, 0, 0, 0, 0, 1, 1, 0};
+    uint64_t index[26], before[26];
+    put_word(one, 1);
+    memset(&lent, 0, sizeof lent);
+    lent.store[4] = 16;
+    memset(lent.events, 9, sizeof lent.events);
+    memset(index, 7, sizeof index);
+    index[0] = 1;
+    memcpy(before, index, sizeof index);
+    kept = lent;
+    size_t n = put_record(first, 0, 1, NULL, "");
+    same("no committee", feed_indexed(one, 7, 0, 0, index, 0, 0, first, 0), refused(5));
+    same("no store", feed_indexed(one, 8, 15, 0, index, 0, 0, first, 0), refused(10));
+    for (size_t m = 0; m < sizeof lent.table; m += m < 64 ? 1 : 499) {
+        if (m != t) {
+            same("a table of any length", feed_indexed(one, 8, 1024, m, index, 0, 0, first, 0), refused(11));
+        }
+    }
+    same("no words", feed_indexed(one, 8, 1024, t, index, 0, 0, first, 0), refused(54));
+    for (uint64_t used = 0; used < 28; used++) {
+        index[0] = used;
+        same("used words, right for 1", feed_indexed(one, 8, 1024, t, index, 26, 0, first, 0), refused(used == 1 ? 20 : 54));
+    }
+    index[0] = 1;
+    for (size_t m = 0; m < sizeof lent.events; m += m < 64 ? 1 : 499) {
+        if (m != v) {
+            same("events of any length", feed_indexed(one, 8, 1024, t, index, 1, m, first, n), refused(15));
+            same("20 before 15", feed_indexed(one, 8, 1024, t, index, 1, m, first, n - 1), refused(20));
+            same("54 before 20", feed_indexed(one, 8, 1024, t, index, 0, m, first, n - 1), refused(54));
+        }
+    }
+    same("13 before 55", feed_indexed(one, 8, 16 + 8 + n - 1, t, index, 1, v, first, n), refused(13));
+    same("no word for the part", feed_indexed(one, 8, 1024, t, index, 1, v, first, n), refused(55));
+    same("refused, so nothing is written", memcmp(&lent, &kept, sizeof lent), 0);
+    same("nor to the index", memcmp(index, before, sizeof index), 0);
+    same("the first block", feed_indexed(one, 8, 1024, t, index, 2, v, first, n), 0);
+    same("a part without runs", index[0] == 2 && index[1] == 0 && index[2] == before[2], 1);
+    same("once", feed_indexed(one, 8, 1024, t, index, 26, v, first, n), refused(23));
+    n = put_record(second, 1, 2, first, "gain");
+    for (size_t words = 0; words < 13; words++) {
+        same("an index of any length", feed_indexed(one, 8, 1024, t, index, words, v, second, n), refused(words < 2 ? 54 : 55));
+    }
+    same("the second block", feed_indexed(one, 8, 1024, t, index, 13, v, second, n), 0);
+    same("its share's run", index[0] == 13 && memcmp(index + 1, right + 1, 96) == 0 && index[13] == before[13], 1);
+    n = put_record(third, 2, 3, second, "");
+    for (size_t at = 0; at < 13; at++) {
+        index[at] ^= 1;
+        same("any word changed", feed_indexed(one, 8, 1024, t, index, 26, v, third, n), refused(54));
+        index[at] ^= 1;
+    }
+    for (size_t words = 13; words < 24; words++) {
+        same("a word short", feed_indexed(one, 8, 1024, t, index, words, v, third, n), refused(55));
+    }
+    same("the third block", feed_indexed(one, 8, 1024, t, index, 25, v, third, n), 0);
+    same("its include's run", memcmp(index, right, sizeof right), 0);
+    same("the words past it stay", memcmp(index + 24, before + 24, 16), 0);
+}
+
 /* A record of the file of stakes. Answers where the next one goes. */
 static uint8_t *put_member(uint8_t *to, uint16_t next, const char *name, uint64_t stake) {
     to[0] = (uint8_t)next;
@@ -1053,6 +1130,7 @@ int main(void) {
     withdrawn();
     loadable_shares();
     feeding();
+    indexing();
     ringing();
     written_slips();
     calendars();

@@ -176,9 +176,18 @@ static void wide_stretches(void) {
     answer = lomkhvide_wide_stretches(one, sizeof one, chain, sizeof chain, next, 0, stretches, sizeof stretches);
 }
 
+/* The last of these blocks is fed here, with the index of all before it: a whole feed */
+static uint64_t voters[12 * 1024];
+static uint8_t last[104];
+
+static void feed_indexed(void) {
+    answer = lomkhvide_feed_indexed(one, sizeof one, chain, sizeof chain, table, sizeof table, voters, sizeof voters / 8, events, sizeof events, last, sizeof last);
+}
+
 static void grow(void) {
     uint8_t record[108] = {0};
     chain[4] = 16;
+    voters[0] = 1;
     memset(table, 0, sizeof table);
     for (size_t round = 0; round < 1024; round++) {
         record[8] = (uint8_t)round;
@@ -187,9 +196,12 @@ static void grow(void) {
         record[51] = round == 1;
         memcpy(record + 104, "\0\1\0g", 4);
         size_t n = round == 0 ? 56 : round == 1 ? 108 : 104;
-        lomkhvide_feed(one, sizeof one, chain, sizeof chain, table, sizeof table, events, sizeof events, record, n);
-        memcpy(record + 56, record, 48);
+        if (round < 1023) {
+            lomkhvide_feed_indexed(one, sizeof one, chain, sizeof chain, table, sizeof table, voters, sizeof voters / 8, events, sizeof events, record, n);
+            memcpy(record + 56, record, 48);
+        }
     }
+    memcpy(last, record, sizeof last);
     shared[8] = 1;
 }
 
@@ -224,6 +236,7 @@ int main(void) {
     share_alone();
     at_most("write_slip", write_slip, 118, 491520);
     grow();
+    at_most("feed_indexed", feed_indexed, 0, 262144);
     at_most("finality", finality, 2 * 1023 + 1, 98304);
     at_most("finality_withdrawing", finality_withdrawing, 2 * 1023 + 1, 98304);
     at_most("is_loadable", is_loadable, 1, 98304);
@@ -232,6 +245,6 @@ int main(void) {
     at_most("next_wide", next_wide, 1, 98304);
     at_most("final_stretches", final_stretches, 2, 491520);
     at_most("wide_stretches", wide_stretches, 2, 491520);
-    printf("%d passed, %d failed\n", 16 - failed, failed);
+    printf("%d passed, %d failed\n", 17 - failed, failed);
     return failed != 0;
 }

@@ -99,6 +99,20 @@ mod calls {
             record: *const u8,
             record_len: usize,
         ) -> u64;
+        pub fn lomkhvide_feed_indexed(
+            stakes: *const u8,
+            stakes_len: usize,
+            store: *mut u8,
+            store_len: usize,
+            table: *mut u8,
+            table_len: usize,
+            index: *mut u64,
+            index_len: usize,
+            events: *mut u8,
+            events_len: usize,
+            record: *const u8,
+            record_len: usize,
+        ) -> u64;
         pub fn lomkhvide_finality(
             stakes: *const u8,
             stakes_len: usize,
@@ -380,11 +394,32 @@ pub struct Event {
     pub offset: u64,
 }
 
+/// The events that a feed wrote, three words each.
+fn events_of(bytes: &[u8]) -> Vec<Event> {
+    let event = |words: &[u64]| Event {
+        outcome: match words[0] {
+            1 => Outcome::Processed,
+            2 => Outcome::Late,
+            _ => Outcome::Unknown,
+        },
+        statement: words[1],
+        offset: words[2],
+    };
+    words_of(bytes).chunks_exact(3).map(event).collect()
+}
+
 /// A fresh store of that many bytes, at least 16.
 pub fn fresh_store(length: usize) -> Vec<u8> {
     let mut bytes = vec![0; length.max(16)];
     bytes[4] = 16;
     bytes
+}
+
+/// The index of a fresh store, of that many words, at least one.
+pub fn fresh_index(length: usize) -> Vec<u64> {
+    let mut words = vec![0; length.max(1)];
+    words[0] = 1;
+    words
 }
 
 /// A fresh pending table: 6,145 words.
@@ -453,18 +488,37 @@ impl Committee {
                 record.len(),
             )
         };
-        let count = answer(word)? as usize;
-        let words = words_of(&events[..24 * count]);
-        let event = |words: &[u64]| Event {
-            outcome: match words[0] {
-                1 => Outcome::Processed,
-                2 => Outcome::Late,
-                _ => Outcome::Unknown,
-            },
-            statement: words[1],
-            offset: words[2],
+        Ok(events_of(&events[..24 * answer(word)? as usize]))
+    }
+
+    /// The same with the index beside the store, to which the block's part is appended: 54 after 11, and 55 last; a refusal leaves the index too.
+    pub fn feed_indexed(
+        &self,
+        store: &mut [u8],
+        table: &mut [u8],
+        index: &mut [u64],
+        record: &[u8],
+    ) -> Result<Vec<Event>, Refused> {
+        let mut events = vec![0; 8 * 8192];
+        let stakes = &self.stakes;
+        // As in `feed`; the index crosses as words.
+        let word = unsafe {
+            calls::lomkhvide_feed_indexed(
+                stakes.as_ptr(),
+                stakes.len(),
+                store.as_mut_ptr(),
+                store.len(),
+                table.as_mut_ptr(),
+                table.len(),
+                index.as_mut_ptr(),
+                index.len(),
+                events.as_mut_ptr(),
+                events.len(),
+                record.as_ptr(),
+                record.len(),
+            )
         };
-        Ok(words.chunks_exact(3).map(event).collect())
+        Ok(events_of(&events[..24 * answer(word)? as usize]))
     }
 
     /// The least final stored share after a given locator, or from the start; or 5, 10.
@@ -1272,6 +1326,32 @@ mod tests {
         assert_eq!(committee.pending(&store, &table, &locator(0)), Ok(Pending { stake: 1, voters: 1 }));
         assert_eq!(committee.pending(&store, &table, &locator(1)), Err(Refused(42)));
         assert_eq!(committee.payload(&store, &locator(1)), Ok(&b"table"[..]));
+    }
+
+    #[test]
+    fn feeding_with_the_index() {
+        let committee = Committee::new(&[1]).unwrap();
+        let (mut store, mut table, mut index) = (fresh_store(1000), fresh_table(), fresh_index(30));
+        let first = record(0, 1, &[], &[]);
+        let second = record(1, 2, &first[..48], &[b"gain", b"table"]);
+        let mut feed = |index: &mut [u64], record| committee.feed_indexed(&mut store, &mut table, index, record);
+        assert_eq!(feed(&mut [], &first), Err(Refused(54)));
+        assert_eq!(feed(&mut [2, 0], &first), Err(Refused(54)));
+        assert_eq!(feed(&mut [1], &first), Err(Refused(55)));
+        assert_eq!(feed(&mut index, &first), Ok(vec![]));
+        // no votes: a part of no runs
+        assert_eq!(index[..3], [2, 0, 0]);
+        assert_eq!(feed(&mut index, &first), Err(Refused(23)));
+        assert_eq!(feed(&mut index[..12], &second), Err(Refused(55)));
+        assert_eq!(feed(&mut index, &second), Ok(vec![]));
+        // the sharer's vote for both shares, the digest's fourth byte 2
+        assert_eq!(index[..14], [13, 0, 1, 0, 1, 2 << 24, 0, 0, 0, 0, 2, 1, 0, 0]);
+        index[11] = 2;
+        let third = record(2, 3, &second[..48], &[]);
+        assert_eq!(committee.feed_indexed(&mut store, &mut table, &mut index, &third), Err(Refused(54)));
+        index[11] = 1;
+        assert_eq!(committee.feed_indexed(&mut store, &mut table, &mut index[..24], &third), Ok(vec![]));
+        assert_eq!(index[..25], [24, 0, 1, 0, 1, 2 << 24, 0, 0, 0, 0, 2, 1, 0, 1, 0, 1, 2 << 24, 0, 0, 0, 0, 2, 1, 0, 0]);
     }
 
     const MONDAY: u64 = 345_600;
