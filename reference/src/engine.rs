@@ -80,6 +80,50 @@ pub fn add(stakes: &[u8], aggregator: &mut [u8], voter: u64) -> Answer {
     answer(unsafe { lomkhvide_add(stakes.as_ptr(), stakes_len, aggregator.as_mut_ptr(), aggregator_len, voter) })
 }
 
+/// The index crosses as words.
+pub fn feed_indexed(
+    stakes: &[u8],
+    store: &mut [u8],
+    table: &mut [u8],
+    index: &mut [u64],
+    events: &mut [u8],
+    record: &[u8],
+) -> Answer {
+    extern "C" {
+        fn lomkhvide_feed_indexed(
+            stakes: *const u8,
+            stakes_len: usize,
+            store: *mut u8,
+            store_len: usize,
+            table: *mut u8,
+            table_len: usize,
+            index: *mut u64,
+            index_len: usize,
+            events: *mut u8,
+            events_len: usize,
+            record: *const u8,
+            record_len: usize,
+        ) -> u64;
+    }
+    let lengths = [store.len(), table.len(), index.len(), events.len()];
+    answer(unsafe {
+        lomkhvide_feed_indexed(
+            stakes.as_ptr(),
+            stakes.len(),
+            store.as_mut_ptr(),
+            lengths[0],
+            table.as_mut_ptr(),
+            lengths[1],
+            index.as_mut_ptr(),
+            lengths[2],
+            events.as_mut_ptr(),
+            lengths[3],
+            record.as_ptr(),
+            record.len(),
+        )
+    })
+}
+
 /// With a time, the call that takes one.
 pub fn write_record(given: &Given, out: &mut [u8]) -> Answer {
     extern "C" {

@@ -11,6 +11,7 @@ pub mod exhaustive;
 pub mod generate;
 pub mod graphs;
 pub mod inputs;
+pub mod indexes;
 pub mod list;
 pub mod loading;
 pub mod members;

@@ -5,13 +5,14 @@ use std::process::exit;
 use std::time::{Duration, Instant};
 
 use reference::compare::compare;
+use reference::indexes::Indexed;
 use reference::list::List;
 use reference::loading::{self, Loaded};
 use reference::slips::Told;
 use reference::tally::Tally;
 use reference::withdrawing::Withdrawn;
 use reference::writing::Written;
-use reference::{calendars, exhaustive, generate, members, program, rings, shrink, tables, withdrawing};
+use reference::{calendars, exhaustive, generate, indexes, members, program, rings, shrink, tables, withdrawing};
 
 fn main() {
     let words: Vec<String> = std::env::args().skip(1).collect();
@@ -31,6 +32,7 @@ fn main() {
         Some("writing") => writing(number(word(1), 2000), number(word(2), 1)),
         Some("withdrawing") => withdrawing(number(word(1), 2000), number(word(2), 1)),
         Some("loading") => loading(number(word(1), 1000), number(word(2), 1)),
+        Some("indexes") => indexes(number(word(1), 400), number(word(2), 1)),
         Some("stakes") => tables(number(word(1), 100_000), number(word(2), 1)),
         Some("model") => model(word(1).expect("a file"), word(2)),
         Some("inputs") => inputs(word(1) == Some("check")),
@@ -134,6 +136,21 @@ fn calendars(count: u64, seed: u64) -> u64 {
     }
     println!("{}", tally.describe());
     failed
+}
+
+/// Lists fed with the index.
+fn indexes(count: u64, seed: u64) {
+    let mut indexed = Indexed::default();
+    let mut failed = 0;
+    for n in 0..count {
+        if let Err(text) = indexes::compare(seed, n, &mut indexed) {
+            failed += 1;
+            println!("list {n} of seed {seed} failed with the index: {text}");
+        }
+    }
+    let Indexed { feeds, accepted, disagreeing, short, longest } = indexed;
+    println!("{feeds} feeds with the index: {accepted} accepted, {disagreeing} refused by 54, {short} by 55; the longest index has {longest} words");
+    end(count, failed);
 }
 
 /// Graphs rich in rejects, with the questions of the second reading.

@@ -43,6 +43,10 @@ fn table() {
         let engine = least(|| fed(&blocks));
         row(&format!("feeding, {name}"), engine, rust_feed(&blocks));
         row(&format!("the same, the Rust with `verify` and its store, {name}"), engine, rust_feed_checked(&blocks));
+        if blocks.len() <= 100 {
+            let words = fed_indexed(&blocks).1[0];
+            row(&format!("feeding with the index, {name} ({words} words)"), least(|| fed_indexed(&blocks)), None);
+        }
         let mut out = vec![0; 16 << 20];
         let mut first = [0; 56];
         assert_eq!(engine::next_final(&memory.stakes, &memory.store, &[], &mut first), Ok(1));
@@ -54,6 +58,8 @@ fn table() {
     println!();
     check(100);
     check(1000);
+    check_index(100);
+    check_index(1000);
     longest_listing();
     peak_memory();
 }
@@ -111,6 +117,18 @@ fn fed(blocks: &[Block]) -> Memory {
         engine::feed(stakes, store, table, events, record).expect("each record is accepted");
     }
     memory
+}
+
+/// The same with the index beside the store, of ten words for each block and each vote below it, which is enough.
+fn fed_indexed(blocks: &[Block]) -> (Memory, Vec<u64>) {
+    let (mut memory, records) = lent(blocks);
+    let mut index = vec![0; 1 + 10 * blocks.len() * (blocks.len() + 1)];
+    index[0] = 1;
+    for record in &records {
+        let Memory { stakes, store, table, events } = &mut memory;
+        engine::feed_indexed(stakes, store, table, &mut index, events, record).expect("each record is accepted");
+    }
+    (memory, index)
 }
 
 /// The wide list by its next locator, asked on until none: the number of its locators.
@@ -217,6 +235,22 @@ fn check(blocks: usize) {
     );
 }
 
+/// The check of an index of this many blocks, by a record that is refused right after it, beside one pass over its words.
+fn check_index(blocks: usize) {
+    let (mut memory, mut index) = fed_indexed(&graphs::generated(blocks));
+    let used = index[0] as usize;
+    let Memory { stakes, store, table, events } = &mut memory;
+    let check = least(|| engine::feed_indexed(stakes, store, table, &mut index, events, &[]));
+    let pass = least(|| index[..used].iter().fold(0u64, |h, &w| h.wrapping_mul(31).wrapping_add(w)));
+    println!(
+        "check of store, table and index of {blocks} blocks, {used} words ({:.1} MB): {}; one pass of a multiply and add over each word: {}; ratio {:.1}",
+        used as f64 * 8e-6,
+        time(check),
+        time(pass),
+        check / pass
+    );
+}
+
 /// The longest `listing`, where the program has been built.
 fn longest_listing() {
     let program = concat!(env!("CARGO_MANIFEST_DIR"), "/../target/bin/listing");
@@ -250,10 +284,11 @@ fn high_water(status: &str) -> Option<u64> {
     line.split_whitespace().nth(1)?.parse().ok()
 }
 
-/// Peak memory of a process that feeds 1,000 blocks and makes the final list on one side, and of one that only makes the blocks.
+/// Peak memory of a process that feeds 1,000 blocks and makes the final list on one side, the engine also with the index, and of one that only
+/// makes the blocks.
 fn peak_memory() {
     let this = std::env::current_exe().unwrap();
-    for side in ["none", "engine", "rust"] {
+    for side in ["none", "engine", "index", "rust"] {
         let out = Command::new(&this).args(["memory", side]).output().unwrap();
         println!("peak memory, 1,000 blocks, {side}: {} kB", String::from_utf8_lossy(&out.stdout).trim());
     }
@@ -263,6 +298,7 @@ fn memory_of(side: &str) {
     let blocks = graphs::generated(1000);
     match side {
         "engine" => assert!(final_list(&fed(&blocks)) > 0),
+        "index" => assert!(final_list(&fed_indexed(&blocks).0) > 0),
         #[cfg(has_rust)]
         "rust" => assert!(rust_once(&blocks) > 0),
         _ => {}

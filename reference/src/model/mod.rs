@@ -6,6 +6,7 @@ pub mod calendar;
 pub mod committee;
 pub mod feed;
 pub mod finality;
+pub mod index;
 pub mod lent;
 pub mod listing;
 pub mod loading;
