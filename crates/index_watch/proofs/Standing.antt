@@ -73,7 +73,7 @@ ahead-of x s l c h = past-ahead (l .block) (l .offset) x (go (holds-or-not (loca
     go (inr t) = here-it (locator-total s l h t)
 
 -- a later locator of the same block, or of any, is past the place
-at-past : (p : Place) (l : TransactionLocator) (r : BlockReference) (o : ℕ) → At p (l .block) (l .offset) → Past (l .block) (l .offset) r o → At p r o
+pub at-past : (p : Place) (l : TransactionLocator) (r : BlockReference) (o : ℕ) → At p (l .block) (l .offset) → Past (l .block) (l .offset) r o → At p r o
 at-past anywhere l r o a b = tt
 at-past (beyond q e) l r o a b = past-trans a (omega arith) b
 
@@ -102,7 +102,7 @@ Fits ix = (i : ℕ) → getD ix i 0 < 18446744073709551616
 
 module _ (c : Committee) (bs : List Block) (ix ends : List ℕ) (p : Place) (cursors : List ℕ) (w : Watched c bs ix ends p cursors) where
   -- the run at a cursor
-  bright : (j : ℕ) → Left ends cursors j → (passed p (runAt ix cursors j) ≡ false) × (quorumRun c (runAt ix cursors j) ≡ true)
+  pub bright : (j : ℕ) → Left ends cursors j → (passed p (runAt ix cursors j) ≡ false) × (quorumRun c (runAt ix cursors j) ≡ true)
   unfolding Left runAt dull
   bright j k =
       let v = w .each j (k .0) in
@@ -230,6 +230,11 @@ module _ (c : Committee) (bs : List Block) (ix ends : List ℕ) (p : Place) (cur
     pub first-ahead : (j : ℕ) → Left ends cursors j → passed (beyond (l .block) (l .offset)) (runAt ix cursors j) ≡ false
     unfolding FirstStart
     first-ahead j k = ahead-of (runAt ix cursors j) (startFrom p (runAt ix cursors j)) l (start-of j k .covers) (f .1 j k)
+
+    -- a run at a cursor covers it
+    pub first-covered : (j : ℕ) × (Left ends cursors j × Covered (runAt ix cursors j) l)
+    unfolding FirstStart
+    first-covered = (f .0 .0, (f .0 .1 .0, subst (Covered (runAt ix cursors (f .0 .0))) (f .0 .1 .1) (start-of (f .0 .0) (f .0 .1 .0) .covers)))
 
     -- it lies below the last offset
     pub first-below : Fits ix → l .offset < 18446744073709551615
