@@ -13,7 +13,7 @@ ghost use Rattle.index_runs.specs.Values.{asRun, asPlace};
 ghost use Rattle.index_cursors.specs.Cursors.{passed, dull, Skipped, Cursor, Cursors, Settled};
 
 // Whether a run ends at a place or before it.
-fn is_passed(place: Place, run: Run) -> bool
+pub fn is_passed(place: Place, run: Run) -> bool
     ensures { λ r. ⌜ r ≡ passed (asPlace place) (asRun run) ⌝ }
 {
     let Place::Beyond(block, offset) = place else {

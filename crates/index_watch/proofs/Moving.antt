@@ -101,7 +101,7 @@ pub record Watching (c : Committee) (bs : List Block) (ix : List ℕ) (b : Block
   pub place : at + 10 * (length (source .runs) - gone) ≡ end
   pub told : (l : TransactionLocator) → At p (l .block) (l .offset) → quorumAt c (source .runs) l ≡ quorumAt c (drop gone (source .runs)) l
 
-chain-drop : {D : Run → List Run → Type 0} {p : Place} (j : ℕ) (xs : List Run) → Chain D p xs → (q : Place) × Chain D q (drop j xs)
+pub chain-drop : {D : Run → List Run → Type 0} {p : Place} (j : ℕ) (xs : List Run) → Chain D p xs → (q : Place) × Chain D q (drop j xs)
 chain-drop {p = p} zero xs h = (p, h)
 chain-drop {p = p} (suc j) [] h = (p, end)
 chain-drop (suc j) (x ∷ xs) (link a g d h) = chain-drop j xs h
