@@ -1,0 +1,71 @@
+-- What a list with the index answers, refusal by refusal. Assumes nothing.
+use mathlib.Core.Path.{_≡_, refl, sym, ap, _∙_}
+use mathlib.Core.Logic.{_⊎_, inl, inr}
+use mathlib.Core.Bool.{true, false}
+use mathlib.Core.List.{List}
+use mathlib.Core.Option.{Option}
+use Prim.Native.Nat.{ℕ, _/_}
+use lib.ListN.{length}
+use Rattle.base.specs.Lists.{allOf}
+use Rattle.base.specs.Le.{Bytes}
+use Rattle.base.specs.Checks.{refusal, passes, Answer, refused, answered, checked}
+use Rattle.base.proofs.Tests.{holds-or-not, not-both}
+use Rattle.committee.specs.Committee.{Committee, broken}
+use Rattle.blocks.specs.Reference.{TransactionLocator}
+use Rattle.store_layout.specs.Store.{storeInOrder}
+use Rattle.finality.specs.Finality.{blocksOf}
+use Rattle.finality.specs.NextFinal.{nextFinalChecks}
+use Rattle.stretches.specs.Stretches.{Listing, stretches}
+use Rattle.stretches.specs.Bulk.{Given, givenAfter, wordsAfter, AskedBulk, listStretches}
+use Rattle.voters_index.specs.Index.{indexAgrees}
+use Rattle.indexed_lists.specs.Indexed.{indexedChecks, listStretchesIndexed}
+
+module _ (c : Committee) (s : Bytes) (ix : List ℕ) (k : Listing) (out : List ℕ) (after : Option TransactionLocator) where
+  pub indexed-broken : broken c ≡ true → record { answer = refused 5; out = out } ≡ listStretchesIndexed c s ix k out after
+  unfolding listStretchesIndexed indexedChecks nextFinalChecks checked passes refusal allOf
+  indexed-broken b = rw b
+
+  module _ (b : broken c ≡ false) where
+    pub indexed-disordered : storeInOrder c s ≡ false → record { answer = refused 10; out = out } ≡ listStretchesIndexed c s ix k out after
+    unfolding listStretchesIndexed indexedChecks nextFinalChecks checked passes refusal allOf
+    indexed-disordered o = rw (b, o)
+
+    module _ (o : storeInOrder c s ≡ true) where
+      pub indexed-disagrees : indexAgrees (blocksOf s) ix ≡ false → record { answer = refused 54; out = out } ≡ listStretchesIndexed c s ix k out after
+      unfolding listStretchesIndexed indexedChecks nextFinalChecks checked passes refusal allOf
+      indexed-disagrees h = rw (b, o, h)
+
+      pub indexed-asked : indexAgrees (blocksOf s) ix ≡ true → (a : Answer Given) (ws : List ℕ) → a ≡ answered (givenAfter k after (stretches c (blocksOf s) k (length out / 10) after))
+          → ws ≡ wordsAfter (stretches c (blocksOf s) k (length out / 10) after) out → record { answer = a; out = ws } ≡ listStretchesIndexed c s ix k out after
+      unfolding listStretchesIndexed indexedChecks nextFinalChecks checked passes refusal allOf
+      indexed-asked h a ws e f = rw (b, o, h, e, f)
+
+  -- ---- beside the list without it
+
+  module _ (agrees : indexAgrees (blocksOf s) ix ≡ true) where
+    pub same-list : listStretchesIndexed c s ix k out after ≡ listStretches c s k out after
+    unfolding listStretchesIndexed listStretches indexedChecks nextFinalChecks checked passes refusal allOf
+    same-list = go (holds-or-not (broken c)) (holds-or-not (storeInOrder c s))
+      where
+        go : (broken c ≡ true) ⊎ (broken c ≡ false) → (storeInOrder c s ≡ true) ⊎ (storeInOrder c s ≡ false) → listStretchesIndexed c s ix k out after ≡ listStretches c s k out after
+        go (inl b) o = rw b
+        go (inr b) (inl o) = rw (b, o, agrees)
+        go (inr b) (inr o) = rw (b, o)
+
+  pub same-refusal : passes (nextFinalChecks c s) ≡ false → listStretchesIndexed c s ix k out after ≡ listStretches c s k out after
+  unfolding listStretchesIndexed listStretches indexedChecks nextFinalChecks checked passes refusal allOf
+  same-refusal h = go (holds-or-not (broken c)) (holds-or-not (storeInOrder c s))
+    where
+      go : (broken c ≡ true) ⊎ (broken c ≡ false) → (storeInOrder c s ≡ true) ⊎ (storeInOrder c s ≡ false) → listStretchesIndexed c s ix k out after ≡ listStretches c s k out after
+      go (inl b) o = rw b
+      go (inr b) (inl o) = let t : passes (nextFinalChecks c s) ≡ true = rw (b, o) in absurd (not-both t h)
+      go (inr b) (inr o) = rw (b, o)
+
+  pub fifty-four : passes (nextFinalChecks c s) ≡ true → indexAgrees (blocksOf s) ix ≡ false → listStretchesIndexed c s ix k out after ≡ record { answer = refused 54; out = out }
+  unfolding nextFinalChecks passes allOf
+  fifty-four h d = go (holds-or-not (broken c)) (holds-or-not (storeInOrder c s))
+    where
+      go : (broken c ≡ true) ⊎ (broken c ≡ false) → (storeInOrder c s ≡ true) ⊎ (storeInOrder c s ≡ false) → listStretchesIndexed c s ix k out after ≡ record { answer = refused 54; out = out }
+      go (inl b) o = let t : passes (nextFinalChecks c s) ≡ false = rw b in absurd (not-both h t)
+      go (inr b) (inl o) = sym (indexed-disagrees b o d)
+      go (inr b) (inr o) = let t : passes (nextFinalChecks c s) ≡ false = rw (b, o) in absurd (not-both h t)
