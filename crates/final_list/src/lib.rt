@@ -45,7 +45,7 @@ fn write_reference(out: &mut [u64], at: usize, block: BlockReference)
 }
 
 // Writes the ten words of a stretch.
-fn write_stretch(
+pub fn write_stretch(
     out: &mut [u64],
     n: usize,
     locator: TransactionLocator,
