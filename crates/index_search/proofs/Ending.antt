@@ -38,9 +38,9 @@ flag-same false true h = absurd (omega arith)
 flag-same false false h = refl
 
 module _ (c : Committee) (bs : List Block) (ix ends : List ℕ) (l : TransactionLocator) (limit : ℕ) where
-  pub going-start : (cursors : List ℕ) (edge : ℕ) → l .offset < edge → l .offset < limit → Alike c bs l edge → Watched c bs ix ends (beyond (l .block) (l .offset)) cursors
+  pub going-start : (cursors : List ℕ) (edge q : ℕ) → q ≤ l .offset → l .offset < edge → l .offset < limit → Alike c bs l edge → Watched c bs ix ends (beyond (l .block) q) cursors
       → Going c bs ix ends l limit cursors edge
-  going-start cursors edge h k a w = record { longer = h; alike = a; from = l .offset; below = omega arith; under = k; watched = w }
+  going-start cursors edge q m h k a w = record { longer = h; alike = a; from = q; below = omega arith; under = omega arith; watched = w }
 
   module _ (cursors : List ℕ) (end : ℕ) (g : Going c bs ix ends l limit cursors end) where
     -- moved on to a place

@@ -7,7 +7,7 @@ use vote_starts::MaybeLocator;
 ghost use mathlib.Core.Path.{_≡_};
 ghost use mathlib.Core.Bool.{false};
 ghost use mathlib.Core.List.{List};
-ghost use Prim.Native.Nat.{_<_};
+ghost use Prim.Native.Nat.{ℕ, _≤_, _<_};
 ghost use lib.ListN.{length};
 ghost use Rattle.committee.specs.Committee.{broken, totalStake};
 ghost use Rattle.blocks.specs.Block.{Block};
@@ -69,7 +69,8 @@ pub fn final_from(
     }
 }
 
-// Where the stretch of a final locator ends, but no later than a limit: from edge to edge while the flagged blocks certify.
+// Where the stretch of a final locator ends, but no later than a limit: from edge to edge while the flagged blocks certify. The cursors stand
+// at the locator, or before it in its block.
 pub fn stretch_end(
     stakes: &[u64],
     total: Stake,
@@ -83,8 +84,8 @@ pub fn stretch_end(
 ) -> u64
     requires weighed { ⌜ (broken (now stakes) ≡ false) × (total .0 ≡ totalStake (now stakes)) ⌝ }
     requires room { ⌜ (length (now flags) ≡ length (now ends)) × ((locator .offset < edge) × (locator .offset < limit)) ⌝ }
-    requires watched { ⌜ ((bs : List Block) × (Watched (now stakes) bs (now index) (now ends) (beyond (asLocator locator .block) (locator .offset)) (now cursors) × (Flags (now stakes) bs (asLocator locator) (now flags) × Alike (now stakes) bs (asLocator locator) edge))) ⌝ }
-    ensures { λ r. ⌜ ((bs : List Block) → Watched (now (stakes .entry)) bs (now (index .entry)) (now (ends .entry)) (beyond (asLocator locator .block) (locator .offset)) (now (cursors .entry)) → Flags (now (stakes .entry)) bs (asLocator locator) (now (flags .entry)) → Alike (now (stakes .entry)) bs (asLocator locator) edge → Ended (now (stakes .entry)) bs (now (index .entry)) (now (ends .entry)) (asLocator locator) limit (now (cursors .exit)) r) ⌝ }
+    requires watched { ⌜ ((bs : List Block) × ((q : ℕ) × ((q ≤ locator .offset) × (Watched (now stakes) bs (now index) (now ends) (beyond (asLocator locator .block) q) (now cursors) × (Flags (now stakes) bs (asLocator locator) (now flags) × Alike (now stakes) bs (asLocator locator) edge))))) ⌝ }
+    ensures { λ r. ⌜ ((bs : List Block) (q : ℕ) → q ≤ locator .offset → Watched (now (stakes .entry)) bs (now (index .entry)) (now (ends .entry)) (beyond (asLocator locator .block) q) (now (cursors .entry)) → Flags (now (stakes .entry)) bs (asLocator locator) (now (flags .entry)) → Alike (now (stakes .entry)) bs (asLocator locator) edge → Ended (now (stakes .entry)) bs (now (index .entry)) (now (ends .entry)) (asLocator locator) limit (now (cursors .exit)) r) ⌝ }
 {
     let mut end = edge;
     loop {
