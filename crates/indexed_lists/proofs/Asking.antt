@@ -20,6 +20,26 @@ use Rattle.stretches.specs.Bulk.{Given, givenAfter, wordsAfter, AskedBulk, list
 use Rattle.voters_index.specs.Index.{indexAgrees}
 use Rattle.indexed_lists.specs.Indexed.{indexedChecks, listStretchesIndexed}
 
+-- the refusal alone
+module _ (c : Committee) (s : Bytes) (ix : List ℕ) where
+  pub refusal-broken : broken c ≡ true → 5 ≡ refusal (indexedChecks c s ix)
+  unfolding indexedChecks nextFinalChecks refusal
+  refusal-broken b = rw b
+
+  module _ (b : broken c ≡ false) where
+    pub refusal-disordered : storeInOrder c s ≡ false → 10 ≡ refusal (indexedChecks c s ix)
+    unfolding indexedChecks nextFinalChecks refusal
+    refusal-disordered o = rw (b, o)
+
+    module _ (o : storeInOrder c s ≡ true) where
+      pub refusal-disagrees : indexAgrees (blocksOf s) ix ≡ false → 54 ≡ refusal (indexedChecks c s ix)
+      unfolding indexedChecks nextFinalChecks refusal
+      refusal-disagrees h = rw (b, o, h)
+
+      pub refusal-none : indexAgrees (blocksOf s) ix ≡ true → 0 ≡ refusal (indexedChecks c s ix)
+      unfolding indexedChecks nextFinalChecks refusal
+      refusal-none h = rw (b, o, h)
+
 module _ (c : Committee) (s : Bytes) (ix : List ℕ) (k : Listing) (out : List ℕ) (after : Option TransactionLocator) where
   pub indexed-broken : broken c ≡ true → record { answer = refused 5; out = out } ≡ listStretchesIndexed c s ix k out after
   unfolding listStretchesIndexed indexedChecks nextFinalChecks checked passes refusal allOf
