@@ -88,6 +88,16 @@ uint64_t lomkhvide_final_stretches(const uint8_t *stakes, size_t stakes_len, con
 uint64_t lomkhvide_wide_stretches(const uint8_t *stakes, size_t stakes_len, const uint8_t *store, size_t store_len, const uint8_t *after,
                                   size_t after_len, uint8_t *stretches, size_t stretches_len);
 
+/* Both lists with the index, which goes from feed to feed with the store: in words, 8-byte aligned, as many as there are. Certifying blocks and
+ * voters come from it; what is answered and written is as without it.
+ * Refused between 10 and 20: 54 an index that disagrees with the store. Both need at most 128 KB of stack. */
+uint64_t lomkhvide_final_stretches_indexed(const uint8_t *stakes, size_t stakes_len, const uint8_t *store, size_t store_len,
+                                           const uint64_t *index, size_t index_len, const uint8_t *after, size_t after_len,
+                                           uint8_t *stretches, size_t stretches_len);
+uint64_t lomkhvide_wide_stretches_indexed(const uint8_t *stakes, size_t stakes_len, const uint8_t *store, size_t store_len,
+                                          const uint64_t *index, size_t index_len, const uint8_t *after, size_t after_len,
+                                          uint8_t *stretches, size_t stretches_len);
+
 /* The stake and the number of the voters of a pending locator. The pending table is 6,145 words; a fresh one is zeros.
  * Refused between 10 and 20: 11 a table not of 6,145 words or not in order. Refused last: 42 not pending. */
 #define LOMKHVIDE_TABLE_LEN ((size_t)49160)

@@ -29,6 +29,7 @@ static void put_word(uint8_t *to, uint64_t word) {
 
 /* a question for the next locator of a list, or for the list in bulk */
 typedef uint64_t (*list_call)(const uint8_t *, size_t, const uint8_t *, size_t, const uint8_t *, size_t, uint8_t *, size_t);
+typedef uint64_t (*indexed_call)(const uint8_t *, size_t, const uint8_t *, size_t, const uint64_t *, size_t, const uint8_t *, size_t, uint8_t *, size_t);
 
 /* n stakes, each of them `stake`, but for the last, which is `last`; lent from their own allocation, so that a read past the
  * end can be seen by a checker of memory */
@@ -310,6 +311,38 @@ static void payloads(void) {
         same("nothing is written", memcmp(stretches, blank, sizeof stretches), 0);
         same("one from the start", bulk(one, 8, store, sizeof store, locator, 0, stretches, LOMKHVIDE_STRETCHES_LEN), 2);
         /* author 0, round 1, a digest whose fourth byte is 2, offsets 0 to 1, one block, stake 1 */
+        const uint64_t words[10] = {0, 1, UINT64_C(2) << 32, 0, 0, 0, 0, 1, 1, 1};
+        for (int i = 0; i < 10; i++) {
+            put_word(blank + 8 * i, words[i]);
+        }
+        same("it is the share", memcmp(stretches, blank, sizeof stretches), 0);
+    }
+
+    /* the first block votes for nothing, the second for its share; two words more */
+    const uint64_t index[15] = {13, 0, 1, 0, 1, UINT64_C(2) << 24, 0, 0, 0, 0, 1, 1, 0, 9, 9};
+    const indexed_call indexed[2] = {lomkhvide_final_stretches_indexed, lomkhvide_wide_stretches_indexed};
+    for (int k = 0; k < 2; k++) {
+        indexed_call bulk = indexed[k];
+        memset(stretches, 9, sizeof stretches);
+        memset(blank, 9, sizeof blank);
+        for (size_t n = 0; n < 58; n++) {
+            if (n != 0 && n != 56) {
+                same("stretches with the index after bytes of any length", bulk(one, 8, store, sizeof store, index, 15, locator, n, stretches, 8), refused(20));
+            }
+        }
+        for (size_t n = 0; n < sizeof stretches; n += n < 64 ? 1 : 511) {
+            if (n != LOMKHVIDE_STRETCHES_LEN) {
+                same("stretches with the index of any length", bulk(one, 8, store, sizeof store, index, 15, locator, 0, stretches, n), refused(40));
+            }
+        }
+        for (size_t n = 0; n < 13; n++) {
+            same("an index of any length", bulk(one, 8, store, sizeof store, index, n, locator, 3, stretches, 3), refused(54));
+        }
+        same("no committee", bulk(one, 7, store, sizeof store, index, 0, locator, 3, stretches, 3), refused(5));
+        same("no store", bulk(one, 8, store, 15, index, 0, locator, 3, stretches, 3), refused(10));
+        same("none after it", bulk(one, 8, store, sizeof store, index, 13, locator, 56, stretches, LOMKHVIDE_STRETCHES_LEN), 0);
+        same("nothing is written", memcmp(stretches, blank, sizeof stretches), 0);
+        same("one from the start", bulk(one, 8, store, sizeof store, index, 15, locator, 0, stretches, LOMKHVIDE_STRETCHES_LEN), 2);
         const uint64_t words[10] = {0, 1, UINT64_C(2) << 32, 0, 0, 0, 0, 1, 1, 1};
         for (int i = 0; i < 10; i++) {
             put_word(blank + 8 * i, words[i]);

@@ -184,6 +184,14 @@ static void feed_indexed(void) {
     answer = lomkhvide_feed_indexed(one, sizeof one, chain, sizeof chain, table, sizeof table, voters, sizeof voters / 8, events, sizeof events, last, sizeof last);
 }
 
+static void final_stretches_indexed(void) {
+    answer = lomkhvide_final_stretches_indexed(one, sizeof one, chain, sizeof chain, voters, sizeof voters / 8, next, 0, stretches, sizeof stretches);
+}
+
+static void wide_stretches_indexed(void) {
+    answer = lomkhvide_wide_stretches_indexed(one, sizeof one, chain, sizeof chain, voters, sizeof voters / 8, next, 0, stretches, sizeof stretches);
+}
+
 static void grow(void) {
     uint8_t record[108] = {0};
     chain[4] = 16;
@@ -245,6 +253,8 @@ int main(void) {
     at_most("next_wide", next_wide, 1, 98304);
     at_most("final_stretches", final_stretches, 2, 491520);
     at_most("wide_stretches", wide_stretches, 2, 491520);
-    printf("%d passed, %d failed\n", 17 - failed, failed);
+    at_most("final_stretches_indexed", final_stretches_indexed, 2, 131072);
+    at_most("wide_stretches_indexed", wide_stretches_indexed, 2, 131072);
+    printf("%d passed, %d failed\n", 19 - failed, failed);
     return failed != 0;
 }

@@ -12,6 +12,7 @@ ghost use Rattle.host_lib.specs.Payload.{payloadLengthCall, payloadStartCall};
 ghost use Rattle.host_finality.specs.Finality.{finalityCall};
 ghost use Rattle.readings.specs.Readings.{old, withdrawing};
 ghost use Rattle.host_finals.specs.Stretches.{stretchesCall, wideStretchesCall};
+ghost use Rattle.host_index_finals.specs.Indexed.{stretchesIndexedCall, wideStretchesIndexedCall};
 ghost use Rattle.host_calendar.specs.Calendar.{isOpenCall, nextOpenCall};
 ghost use Rattle.host_stakes.specs.LoadStakes.{loadStakesCall};
 ghost use mathlib.Core.Option.{some};
@@ -189,6 +190,40 @@ pub extern "C" fn lomkhvide_wide_stretches(
     let mut held = [0u64; 128];
     let n = host_calls::stakes_of(stakes, &mut held);
     host_finals::stretches_of(&held[..n], store, false, after, out)
+}
+
+// The ordinary list with the index, in the same form.
+#[no_mangle]
+pub extern "C" fn lomkhvide_final_stretches_indexed(
+    stakes: &[u8],
+    store: &[u8],
+    index: &[u64],
+    after: &[u8],
+    out: &mut [u8],
+) -> u64
+    ensures { λ r. ⌜ r ≡ encoded (stretchesIndexedCall (now (stakes .entry)) (now (store .entry)) (now (index .entry)) (now (after .entry)) (now (out .entry)) .answer) ⌝ }
+    ensures { λ r. ⌜ now (out .exit) ≡ stretchesIndexedCall (now (stakes .entry)) (now (store .entry)) (now (index .entry)) (now (after .entry)) (now (out .entry)) .stretches ⌝ }
+{
+    let mut held = [0u64; 128];
+    let n = host_calls::stakes_of(stakes, &mut held);
+    host_index_finals::stretches_of(&held[..n], store, true, index, after, out)
+}
+
+// The wide list with the index, in the same form.
+#[no_mangle]
+pub extern "C" fn lomkhvide_wide_stretches_indexed(
+    stakes: &[u8],
+    store: &[u8],
+    index: &[u64],
+    after: &[u8],
+    out: &mut [u8],
+) -> u64
+    ensures { λ r. ⌜ r ≡ encoded (wideStretchesIndexedCall (now (stakes .entry)) (now (store .entry)) (now (index .entry)) (now (after .entry)) (now (out .entry)) .answer) ⌝ }
+    ensures { λ r. ⌜ now (out .exit) ≡ wideStretchesIndexedCall (now (stakes .entry)) (now (store .entry)) (now (index .entry)) (now (after .entry)) (now (out .entry)) .stretches ⌝ }
+{
+    let mut held = [0u64; 128];
+    let n = host_calls::stakes_of(stakes, &mut held);
+    host_index_finals::stretches_of(&held[..n], store, false, index, after, out)
 }
 
 // Feeds a record: the number of events, which stand at the front, three words each.

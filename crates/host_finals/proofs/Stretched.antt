@@ -25,7 +25,7 @@ use Rattle.host_finals.specs.Stretches.{stretchesNumber, stretchesIn, as
 use Rattle.host_calls.proofs.Numbers.{checked-most}
 
 -- no more stretches than asked for
-few-stretches : (c : Committee) (bs : List Block) (k : Listing) (n : ℕ) (after : Option TransactionLocator) → length (stretches c bs k n after) ≤ n
+pub few-stretches : (c : Committee) (bs : List Block) (k : Listing) (n : ℕ) (after : Option TransactionLocator) → length (stretches c bs k n after) ≤ n
 unfolding stretches fromFound
 few-stretches c bs k zero after = omega arith
 few-stretches c bs k (suc n) after = go (k .next after) (few-stretches c bs k n)

@@ -21,12 +21,12 @@ const REFUSED: u64 = 9223372036854775808;
 // ---- the next locator of a list
 
 // Where a question goes on: after a locator, or from the start; or bytes that are neither.
-enum After {
+pub enum After {
     Place(MaybeLocator),
     Malformed,
 }
 
-fn after_of(bytes: &[u8]) -> After
+pub fn after_of(bytes: &[u8]) -> After
     ensures { λ r. ⌜ asAfter r ≡ afterOf (now (bytes .entry)) ⌝ }
 {
     if bytes.len() == 0 {

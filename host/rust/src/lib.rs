@@ -43,6 +43,30 @@ mod calls {
             stretches: *mut u8,
             stretches_len: usize,
         ) -> u64;
+        pub fn lomkhvide_final_stretches_indexed(
+            stakes: *const u8,
+            stakes_len: usize,
+            store: *const u8,
+            store_len: usize,
+            index: *const u64,
+            index_len: usize,
+            after: *const u8,
+            after_len: usize,
+            stretches: *mut u8,
+            stretches_len: usize,
+        ) -> u64;
+        pub fn lomkhvide_wide_stretches_indexed(
+            stakes: *const u8,
+            stakes_len: usize,
+            store: *const u8,
+            store_len: usize,
+            index: *const u64,
+            index_len: usize,
+            after: *const u8,
+            after_len: usize,
+            stretches: *mut u8,
+            stretches_len: usize,
+        ) -> u64;
         pub fn lomkhvide_final_stretches(
             stakes: *const u8,
             stakes_len: usize,
@@ -438,6 +462,22 @@ type FinalityCall = unsafe extern "C" fn(*const u8, usize, *const u8, usize, *mu
 
 type ListCall = unsafe extern "C" fn(*const u8, usize, *const u8, usize, *const u8, usize, *mut u8, usize) -> u64;
 
+type IndexedCall = unsafe extern "C" fn(*const u8, usize, *const u8, usize, *const u64, usize, *const u8, usize, *mut u8, usize) -> u64;
+
+/// The stretches that a call has written, by its answer.
+fn stretches_in(number: u64, bytes: &[u8]) -> Stretches {
+    let words = words_of(&bytes[..80 * (number / 2) as usize]);
+    let stretch = |words: &[u64]| {
+        let mut digest = [0; 32];
+        for (bytes, word) in digest.chunks_exact_mut(8).zip(&words[2..6]) {
+            bytes.copy_from_slice(&word.to_be_bytes());
+        }
+        let first = Locator::new(words[0], words[1], digest, words[6]);
+        Stretch { first, end: words[7], blocks: words[8], stake: words[9] }
+    };
+    Stretches { stretches: words.chunks_exact(10).map(stretch).collect(), more: number % 2 == 1 }
+}
+
 impl Committee {
     /// Whether a locator is final; or 5, 10.
     pub fn finality(&self, store: &[u8], locator: &Locator) -> Result<Finality, Refused> {
@@ -578,17 +618,39 @@ impl Committee {
                 stretches.len(),
             )
         };
-        let number = answer(word)?;
-        let words = words_of(&stretches[..80 * (number / 2) as usize]);
-        let stretch = |words: &[u64]| {
-            let mut digest = [0; 32];
-            for (bytes, word) in digest.chunks_exact_mut(8).zip(&words[2..6]) {
-                bytes.copy_from_slice(&word.to_be_bytes());
-            }
-            let first = Locator::new(words[0], words[1], digest, words[6]);
-            Stretch { first, end: words[7], blocks: words[8], stake: words[9] }
+        Ok(stretches_in(answer(word)?, &stretches))
+    }
+
+    /// The ordinary list with the index, which goes from feed to feed with the store; or 5, 10, 54 an index that disagrees with the store.
+    pub fn final_stretches_indexed(&self, store: &[u8], index: &[u64], after: Option<&Locator>) -> Result<Stretches, Refused> {
+        self.indexed_stretches_of(calls::lomkhvide_final_stretches_indexed, store, index, after)
+    }
+
+    /// The wide list with the index, likewise.
+    pub fn wide_stretches_indexed(&self, store: &[u8], index: &[u64], after: Option<&Locator>) -> Result<Stretches, Refused> {
+        self.indexed_stretches_of(calls::lomkhvide_wide_stretches_indexed, store, index, after)
+    }
+
+    fn indexed_stretches_of(&self, call: IndexedCall, store: &[u8], index: &[u64], after: Option<&Locator>) -> Result<Stretches, Refused> {
+        let mut stretches = vec![0; 8 * 1280];
+        let stakes = &self.stakes;
+        let after: &[u8] = after.map_or(&[], |locator| &locator.0);
+        // The slices are lent for the call alone, and the one that it writes is this function's own.
+        let word = unsafe {
+            call(
+                stakes.as_ptr(),
+                stakes.len(),
+                store.as_ptr(),
+                store.len(),
+                index.as_ptr(),
+                index.len(),
+                after.as_ptr(),
+                after.len(),
+                stretches.as_mut_ptr(),
+                stretches.len(),
+            )
         };
-        Ok(Stretches { stretches: words.chunks_exact(10).map(stretch).collect(), more: number % 2 == 1 })
+        Ok(stretches_in(answer(word)?, &stretches))
     }
 
     /// The stake and the number of voters of a pending locator; or 5, 10, 11, 42.
@@ -1297,6 +1359,24 @@ mod tests {
         let firsts = |list: Result<Stretches, Refused>| list.unwrap().stretches.iter().map(|one| one.first).collect::<Vec<_>>();
         assert_eq!(firsts(committee.final_stretches(&store, None)), [share]);
         assert_eq!(firsts(committee.wide_stretches(&store, None)), [mistyped, share]);
+        // The first block votes for nothing; the second for its share and for the other locator.
+        let run = |locator: &Locator, start: u64| {
+            let mut words = words_of(&locator.0[..48]);
+            words.extend([start, start + 1, 1, 0]);
+            words
+        };
+        let index: Vec<u64> = [vec![23, 0, 2], run(&mistyped, 5), run(&share, 0), vec![7; 3]].concat();
+        assert_eq!(committee.final_stretches_indexed(&store, &index, None), committee.final_stretches(&store, None));
+        assert_eq!(committee.wide_stretches_indexed(&store, &index, None), committee.wide_stretches(&store, None));
+        assert_eq!(committee.wide_stretches_indexed(&store, &index, Some(&mistyped)), committee.wide_stretches(&store, Some(&mistyped)));
+        for length in 0..23 {
+            assert_eq!(committee.wide_stretches_indexed(&store, &index[..length], None), Err(Refused(54)), "{length} words of the index");
+        }
+        for at in 0..23 {
+            let mut other = index.clone();
+            other[at] += 1;
+            assert_eq!(committee.final_stretches_indexed(&store, &other, None), Err(Refused(54)), "another word {at}");
+        }
     }
 
     #[test]

@@ -1,0 +1,54 @@
+-- A list of final locators with the index, asked for by a host. Assumes nothing: these are definitions.
+use Prim.Native.Nat.{ℕ, _≤_}
+use mathlib.Core.Bool.{true}
+use mathlib.Core.List.{List, [], _∷_, _++_}
+use mathlib.Core.Option.{Option, none, some}
+use lib.Dec.{eqb}
+use lib.ListN.{length}
+use Rattle.base.specs.Lists.{pick}
+use Rattle.base.specs.Le.{Bytes}
+use Rattle.base.specs.Checks.{_⇒_, refusal, refused}
+use Rattle.committee.specs.Committee.{Committee}
+use Rattle.blocks.specs.Reference.{TransactionLocator}
+use Rattle.words.specs.Words.{wordsOf, bytesOf}
+use Rattle.finality.specs.Finality.{blocksOf}
+use Rattle.stretches.specs.Stretches.{Listing, wide}
+use Rattle.stored_finals.specs.Ordinary.{ordinary}
+use Rattle.final_list.specs.declared.StretchesAnswer.{StretchesAnswer}
+use Rattle.final_list.specs.declared.StretchesAnswer.the-variants.{Last, More, Refused}
+use Rattle.indexed_lists.specs.Indexed.{indexedChecks, listStretchesIndexed}
+use Rattle.host_calls.specs.Calls.{committeeOf}
+use Rattle.host_finals.specs.NextFinal.{afterOf}
+use Rattle.host_finals.specs.Stretches.{StretchesCall, stretchesNumber}
+
+-- the number of a refusal that applies in any case, after 5, 10 and 54
+unfoldable pub refusalIndexed : ℕ → Committee → Bytes → List ℕ → ℕ
+refusalIndexed n c s ix = refusal (indexedChecks c s ix ++ ((true ⇒ n) ∷ []))
+
+-- the engine's question with room for 128 stretches of ten words; the index crosses as words
+unfoldable pub stretchesIndexedIn : Committee → Bytes → List ℕ → Listing → Option TransactionLocator → Bytes → StretchesCall
+stretchesIndexedIn c s ix k after out =
+    record {
+      answer = stretchesNumber (listStretchesIndexed c s ix k (wordsOf out) after .answer);
+      stretches = bytesOf (listStretchesIndexed c s ix k (wordsOf out) after .out);
+    }
+
+-- 54 before 20 for bytes that are no place, then 40 for bytes that are not of that size
+unfoldable pub askedStretchesIndexed : Committee → Bytes → List ℕ → Listing → Option (Option TransactionLocator) → Bytes → StretchesCall
+askedStretchesIndexed c s ix k none out = record { answer = refused (refusalIndexed 20 c s ix); stretches = out }
+askedStretchesIndexed c s ix k (some after) out =
+    pick (eqb (length out) 10240) (stretchesIndexedIn c s ix k after out) (record { answer = refused (refusalIndexed 40 c s ix); stretches = out })
+
+-- of the ordinary list
+unfoldable pub stretchesIndexedCall : Bytes → Bytes → List ℕ → Bytes → Bytes → StretchesCall
+stretchesIndexedCall stakes s ix after out = askedStretchesIndexed (committeeOf stakes) s ix (ordinary (committeeOf stakes) (blocksOf s)) (afterOf after) out
+
+-- of the wide list
+unfoldable pub wideStretchesIndexedCall : Bytes → Bytes → List ℕ → Bytes → Bytes → StretchesCall
+wideStretchesIndexedCall stakes s ix after out = askedStretchesIndexed (committeeOf stakes) s ix (wide (committeeOf stakes) (blocksOf s)) (afterOf after) out
+
+-- machinery for the contracts of private functions: counts and numbers that leave room for the answer's word
+abbrev pub indexedFit : StretchesAnswer → Type 0
+indexedFit (Last n) = n ≤ 128
+indexedFit (More n) = n ≤ 128
+indexedFit (Refused n) = n ≤ 54
