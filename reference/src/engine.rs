@@ -38,6 +38,12 @@ impl Lent for &mut [u64] {
     }
 }
 
+impl Lent for &[u64] {
+    fn pointer(self) -> *mut u8 {
+        self.as_ptr() as *mut u8
+    }
+}
+
 /// Makes a safe function of a call over slices. Each of them is lent for the call alone, and for writing only where the call
 /// writes it.
 macro_rules! call {
@@ -70,6 +76,8 @@ call!(final_stretches = lomkhvide_final_stretches(stakes: &[u8], store: &[u8], a
 call!(is_loadable = lomkhvide_is_loadable(stakes: &[u8], store: &[u8], locator: &[u8]));
 call!(loadable = lomkhvide_loadable(stakes: &[u8], store: &[u8], places: &mut [u64]));
 call!(wide_stretches = lomkhvide_wide_stretches(stakes: &[u8], store: &[u8], after: &[u8], stretches: &mut [u8]));
+call!(final_stretches_indexed = lomkhvide_final_stretches_indexed(stakes: &[u8], store: &[u8], index: &[u64], after: &[u8], stretches: &mut [u8]));
+call!(wide_stretches_indexed = lomkhvide_wide_stretches_indexed(stakes: &[u8], store: &[u8], index: &[u64], after: &[u8], stretches: &mut [u8]));
 call!(write_slip = lomkhvide_write_slip(stakes: &[u8], store: &[u8], locator: &[u8], out: &mut [u8]));
 
 pub fn add(stakes: &[u8], aggregator: &mut [u8], voter: u64) -> Answer {

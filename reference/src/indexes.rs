@@ -4,6 +4,7 @@ use crate::compare::{same, set, Memory, Outcome};
 use crate::engine;
 use crate::generate;
 use crate::model::index;
+use crate::model::lent;
 use crate::model::record::number;
 use crate::model::store::Stores;
 use crate::rng::Rng;
@@ -16,6 +17,8 @@ pub struct Indexed {
     /// Feeds that 54 and 55 refused.
     pub disagreeing: u64,
     pub short: u64,
+    /// Lists asked for with the index.
+    pub lists: u64,
     /// The longest index, in words.
     pub longest: usize,
 }
@@ -61,6 +64,7 @@ pub fn compare(seed: u64, n: u64, indexed: &mut Indexed) -> Outcome {
         }
         let before = lent.clone();
         let fed = feed(&mut lent, record, indexed).map_err(text)?;
+        lists(&lent, &mut rng, indexed).map_err(text)?;
         if fed.is_ok() {
             // As many words as the new part needs do, and one fewer do not.
             let needed = lent.index[0] as usize;
@@ -92,6 +96,33 @@ fn feed(lent: &mut Lent, record: &[u8], indexed: &mut Indexed) -> Result<engine:
     indexed.disagreeing += (right == Err(54)) as u64;
     indexed.short += (right == Err(55)) as u64;
     Ok(right)
+}
+
+/// Holds both lists with the index to the model's without it: from the start, and after a locator that a stretch begins with, or any.
+fn lists(lent: &Lent, rng: &mut Rng, indexed: &mut Indexed) -> Outcome {
+    let Memory { stakes, store, .. } = &lent.memory;
+    let mut after = Vec::new();
+    for _ in 0..2 {
+        let mut right = vec![7; 10240];
+        let mut got = right.clone();
+        let told = engine::wide_stretches_indexed(stakes, store, &lent.index, &after, &mut got);
+        same("wide_stretches_indexed", "engine", told, lent::wide_stretches(stakes, store, &after, &mut right))?;
+        same("the wide list with the index", "engine", &got, &right)?;
+        let (mut ordinary, mut shares) = (vec![7; 10240], vec![7; 10240]);
+        let told = engine::final_stretches_indexed(stakes, store, &lent.index, &after, &mut shares);
+        same("final_stretches_indexed", "engine", told, lent::final_stretches(stakes, store, &after, &mut ordinary))?;
+        same("the ordinary list with the index", "engine", &shares, &ordinary)?;
+        indexed.lists += 2;
+        let words: Vec<u64> = right[..80].chunks(8).map(number).collect();
+        let mut offset = words[6].wrapping_add(rng.below(3)).wrapping_sub(1);
+        if rng.once_in(8) {
+            offset = u64::MAX;
+        }
+        after = [words[0].to_le_bytes(), words[1].to_le_bytes()].concat();
+        after.extend(words[2..6].iter().flat_map(|word| word.to_be_bytes()));
+        after.extend(offset.to_le_bytes());
+    }
+    Ok(())
 }
 
 /// Changes one thing: mostly a word of the index or its length, else a byte of the other slices or their length.

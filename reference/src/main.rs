@@ -148,8 +148,8 @@ fn indexes(count: u64, seed: u64) {
             println!("list {n} of seed {seed} failed with the index: {text}");
         }
     }
-    let Indexed { feeds, accepted, disagreeing, short, longest } = indexed;
-    println!("{feeds} feeds with the index: {accepted} accepted, {disagreeing} refused by 54, {short} by 55; the longest index has {longest} words");
+    let Indexed { feeds, accepted, disagreeing, short, lists, longest } = indexed;
+    println!("{feeds} feeds with the index: {accepted} accepted, {disagreeing} refused by 54, {short} by 55; {lists} lists; the longest index has {longest} words");
     end(count, failed);
 }
 

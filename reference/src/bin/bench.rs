@@ -43,6 +43,14 @@ fn table() {
         let engine = least(|| fed(&blocks));
         row(&format!("feeding, {name}"), engine, rust_feed(&blocks));
         row(&format!("the same, the Rust with `verify` and its store, {name}"), engine, rust_feed_checked(&blocks));
+        let (indexed, index) = fed_indexed(&blocks);
+        let wide = wide_list_indexed(&indexed, &index);
+        row(&format!("wide list in bulk with the index, {name} ({wide} final)"), least(|| wide_list_indexed(&indexed, &index)), rust);
+        row(&format!("ordinary list in bulk with the index, {name}"), least(|| final_list_indexed(&indexed, &index)), rust);
+        // Refused right after the index (20): as often as the list is asked.
+        let calls = wide.div_ceil(128).max(1);
+        let check = least(|| engine::wide_stretches_indexed(&indexed.stakes, &indexed.store, &index, &[0; 3], &mut []));
+        row(&format!("of which the checks of store and index, {name} ({calls} calls)"), calls as f64 * check, None);
         if blocks.len() <= 100 {
             let words = fed_indexed(&blocks).1[0];
             row(&format!("feeding with the index, {name} ({words} words)"), least(|| fed_indexed(&blocks)), None);
@@ -143,18 +151,27 @@ fn asked_on(memory: &Memory) -> u64 {
 
 /// The whole ordinary list in bulk: the number of its locators.
 fn final_list(memory: &Memory) -> u64 {
-    in_bulk(memory, engine::final_stretches)
+    in_bulk(|after, out| engine::final_stretches(&memory.stakes, &memory.store, after, out))
 }
 
 /// The whole wide list likewise.
 fn wide_list(memory: &Memory) -> u64 {
-    in_bulk(memory, engine::wide_stretches)
+    in_bulk(|after, out| engine::wide_stretches(&memory.stakes, &memory.store, after, out))
 }
 
-fn in_bulk(memory: &Memory, bulk: fn(&[u8], &[u8], &[u8], &mut [u8]) -> engine::Answer) -> u64 {
+/// Both with the index.
+fn final_list_indexed(memory: &Memory, index: &[u64]) -> u64 {
+    in_bulk(|after, out| engine::final_stretches_indexed(&memory.stakes, &memory.store, index, after, out))
+}
+
+fn wide_list_indexed(memory: &Memory, index: &[u64]) -> u64 {
+    in_bulk(|after, out| engine::wide_stretches_indexed(&memory.stakes, &memory.store, index, after, out))
+}
+
+fn in_bulk(bulk: impl Fn(&[u8], &mut [u8]) -> engine::Answer) -> u64 {
     let (mut after, mut out, mut count) = (Vec::new(), vec![0; 128 * STRETCH_BYTES], 0);
     loop {
-        let answer = bulk(&memory.stakes, &memory.store, &after, &mut out).expect("a store in order");
+        let answer = bulk(&after, &mut out).expect("a store in order");
         for stretch in out.chunks(STRETCH_BYTES).take(answer as usize / 2) {
             count += number(&stretch[56..64]) - number(&stretch[48..56]);
         }
