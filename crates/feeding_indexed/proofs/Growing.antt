@@ -1,7 +1,7 @@
 -- A record that no refusal applies to: its votes end where offsets end, and its includes are stored. Assumes nothing.
-use mathlib.Core.Path.{_≡_, refl, sym, ap, _∙_}
+use mathlib.Core.Path.{_≡_, ap, _∙_}
 use mathlib.Core.Bool.{true}
-use mathlib.Core.List.{List, _∷_, map}
+use mathlib.Core.List.{List, _∷_}
 use Prim.Native.Nat.{ℕ}
 use native.Mathlib.Omega.{arith}
 use Rattle.base.specs.Lists.{_∈_}
@@ -17,7 +17,6 @@ use Rattle.blocks.specs.Block.{Block, author}
 use Rattle.blocks.specs.Record.{blockIn}
 use Rattle.blocks.proofs.References.{same-reference}
 use Rattle.blocks.proofs.Records.{block-of, blockOf-fits}
-use Rattle.store_layout.specs.Layout.{Record}
 use Rattle.store_layout.specs.Store.{recordsOf, recordIn, storeInOrder}
 use Rattle.store_layout.specs.Accept.{isStored, blockChecks, allAccepted}
 use Rattle.store_layout.proofs.Store.{in-order}

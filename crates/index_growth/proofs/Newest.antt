@@ -1,18 +1,16 @@
 -- The part of a record that is fed: what the sources make, its room and its words. Assumes nothing.
-use mathlib.Core.Path.{_≡_, refl, sym, ap, subst, _∙_}
+use mathlib.Core.Path.{_≡_, sym, subst}
 use mathlib.Core.Bool.{true, false}
-use mathlib.Core.List.{List, _∷_, map}
+use mathlib.Core.List.{List, _∷_}
 use Prim.Native.Nat.{ℕ, _+_, _-_, _*_, _/_, _≤_, _<_}
 use native.Mathlib.Omega.{arith}
-use lib.ListN.{length, getD, take, set}
-use lib.Seq.{sets}
+use lib.ListN.{length, getD}
 use borrow.Author.Tests.{lt-ltb, le-ltb, ltb-false}
 use Rattle.base.specs.Le.{Bytes}
 use Rattle.blocks.specs.Record.{blockIn}
 use Rattle.finality.specs.Finality.{blocksOf}
-use Rattle.voters_index.specs.Runs.{Run}
-use Rattle.voters_index.specs.Part.{RunsOf, partFrom, partIn}
-use Rattle.voters_index.specs.Index.{partWords, indexed, usedWords, usedPart, indexAgrees, indexShort, appended}
+use Rattle.voters_index.specs.Part.{RunsOf}
+use Rattle.voters_index.specs.Index.{indexed, usedWords, indexAgrees, indexShort}
 use Rattle.voters_index.proofs.Grown.{used-grows, agrees-used}
 use Rattle.index_parts.specs.Parts.{merged, Counted}
 use Rattle.index_parts.specs.declared.RunCount.{RunCount}

@@ -38,7 +38,7 @@ is-55 a e = ap is55 e
 -- ---- one feed
 
 module _ (c : Committee) (g : IndexedEngine) (h : Agreeing c g) (f : Feed) where
-  pub index-stays : indexAgrees (blocksOf (leftIndexed (outcomeIndexed c g f) .engine .store)) (leftIndexed (outcomeIndexed c g f) .index) ≡ true
+  index-stays : indexAgrees (blocksOf (leftIndexed (outcomeIndexed c g f) .engine .store)) (leftIndexed (outcomeIndexed c g f) .index) ≡ true
   unfolding outcomeIndexed leftIndexed left StaysAgreed
   index-stays = stays-agreed c (record { store = g .engine .store; table = g .engine .table; work = f .work; events = f .events }) (g .index) (f .bytes) (h .order) (h .agrees)
 

@@ -12,13 +12,13 @@ use Rattle.store_layout.specs.Layout.{Record}
 use Rattle.finality.specs.Finality.{blocksOf}
 use Rattle.finality.specs.NextFinal.{FinalList}
 use Rattle.voters_index.specs.Index.{indexed, bodyWords, usedWords, indexWords, indexOf, freshIndex, usedPart, indexAgrees}
-use Rattle.promises.specs.Feeds.{Feed, Engine, fresh, Accepted, storedRecords}
+use Rattle.promises.specs.Feeds.{Engine, fresh, Accepted, storedRecords}
 use Rattle.promises.specs.ThirdStatement.{Holds, engineOf, acceptedOf, SameRecords}
 use Rattle.promises.proofs.Storing.{fresh-holds}
 use Rattle.promises.proofs.ThirdStatement.{third-statement}
 use Rattle.trust.specs.Staying.{StillFinal}
 use Rattle.trust.proofs.Staying.{stays-final}
-use Rattle.index_statement.specs.Indexed.{IndexedEngine, runIndexed, IndexedStart, freshIndexed, engineIndexed, acceptedIndexedOf, but55, without55}
+use Rattle.index_statement.specs.Indexed.{IndexedEngine, IndexedStart, freshIndexed, engineIndexed, acceptedIndexedOf, but55, without55}
 use Rattle.index_statement.specs.Statement.{IndexStatement, SameStored, IndexedThird, IndexedStays}
 use Rattle.index_statement.proofs.Reduced.{Agreeing, same-outcome, run-agreeing, run-reduced, taken-reduced}
 

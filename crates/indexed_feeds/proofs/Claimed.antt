@@ -1,22 +1,22 @@
 -- The claims, proved. Assumes nothing.
-use mathlib.Core.Path.{_≡_, refl, sym, ap, subst, _∙_}
+use mathlib.Core.Path.{_≡_, refl, sym, ap, _∙_}
 use mathlib.Core.Bool.{Bool, true, false}
-use mathlib.Core.List.{List, [], _∷_, _++_, map, append-nil}
+use mathlib.Core.List.{List, _∷_, append-nil}
 use mathlib.Core.Option.{Option, none, some}
 use Prim.Native.Nat.{ℕ}
 use native.Mathlib.Omega.{arith}
 use borrow.Author.Tests.{not-true}
 use Rattle.base.specs.Lists.{pick, same}
 use Rattle.base.specs.Le.{Bytes}
-use Rattle.base.specs.Checks.{refusal, passes, refused, answered}
+use Rattle.base.specs.Checks.{refusal, passes, refused}
 use Rattle.base.proofs.Orders.{same-refl}
 use Rattle.base.proofs.Tests.{and-left, and-right}
 use Rattle.base.proofs.Checks.{refusal-append}
 use Rattle.committee.specs.Committee.{Committee}
 use Rattle.store_layout.specs.Layout.{Record, readRecord}
-use Rattle.store_layout.specs.Store.{recordsOf, storeInOrder, storeHolding}
+use Rattle.store_layout.specs.Store.{recordsOf, storeHolding}
 use Rattle.store_layout.proofs.Store.{readRecord-some}
-use Rattle.feeds.specs.Feed.{Lent, Fed, feedChecks, refusedFeed, acceptedFeed, feedRecord, feed}
+use Rattle.feeds.specs.Feed.{Lent, feedChecks, refusedFeed, acceptedFeed, feedRecord, feed}
 use Rattle.feeds.proofs.Keeping.{Passed, passed}
 use Rattle.finality.specs.Finality.{blocksOf}
 use Rattle.voters_index.specs.Part.{partIn}
@@ -27,7 +27,7 @@ use Rattle.indexed_feeds.specs.Claims.{AsWithout, RefusedLeaves, StaysAg
 use Rattle.indexed_feeds.proofs.Order.{agreed-refusal, room-refusal, room-passes}
 
 -- what holds of every refusal and of every record that passes the checks holds of the feed
-pub indexed-cases : (c : Committee) (m : Lent) (ix : List ℕ) (bytes : Bytes) (P : IndexedFed → Type 0)
+indexed-cases : (c : Committee) (m : Lent) (ix : List ℕ) (bytes : Bytes) (P : IndexedFed → Type 0)
     → ((n : ℕ) → P (refusedIndexed m ix n))
     → ((r : Record) → readRecord bytes ≡ some r → passes (indexedChecks c m ix (some r)) ≡ true → P (acceptedIndexed c m ix r)) → P (feedIndexed c m ix bytes)
 unfolding feedIndexed feedIndexedRecord

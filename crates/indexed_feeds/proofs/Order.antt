@@ -1,23 +1,21 @@
 -- The checks of feeding with the index, one group after the other, and what such a feed gives in each case. Assumes nothing.
-use mathlib.Core.Path.{_≡_, refl, sym, ap, _∙_}
+use mathlib.Core.Path.{_≡_, refl, ap, _∙_}
 use mathlib.Core.Bool.{Bool, true, false, not, _&&_}
-use mathlib.Core.List.{List, [], _∷_, _++_, append-nil}
-use mathlib.Core.Option.{Option, none, some}
+use mathlib.Core.List.{List, _∷_, _++_}
+use mathlib.Core.Option.{Option, some}
 use Prim.Native.Nat.{ℕ}
-use native.Mathlib.Omega.{arith}
 use lib.Dec.{lit<}
 use Rattle.base.specs.Lists.{pick, allOf}
 use Rattle.base.specs.Le.{Bytes}
-use Rattle.base.specs.Checks.{Check, refusal, passes}
-use Rattle.base.proofs.Tests.{fails}
+use Rattle.base.specs.Checks.{refusal, passes}
 use Rattle.base.proofs.Lists.{none-of, and}
 use Rattle.base.proofs.Checks.{refusal-append}
 use Rattle.base.proofs.Passing.{passes-append}
-use Rattle.base.proofs.Refusals.{Numbered, passes-zero, refusal-first, refusal-then}
+use Rattle.base.proofs.Refusals.{Numbered, refusal-first, refusal-then}
 use Rattle.committee.specs.Committee.{Committee}
-use Rattle.store_layout.specs.Layout.{Record, readRecord}
+use Rattle.store_layout.specs.Layout.{Record}
 use Rattle.feeds.specs.Pending.{pendingChecks}
-use Rattle.feeds.specs.Feed.{Lent, lentChecks, recordChecks, feedChecks}
+use Rattle.feeds.specs.Feed.{Lent, lentChecks, feedChecks}
 use Rattle.finality.specs.Finality.{blocksOf}
 use Rattle.voters_index.specs.Index.{indexAgrees, indexShort}
 use Rattle.indexed_feeds.specs.IndexedFeed.{indexedLentChecks, roomChecks, indexedChecks}
@@ -57,7 +55,7 @@ module _ (c : Committee) (m : Lent) (ix : List ℕ) (o : Option Record) where
     unfolding indexedChecks indexedLentChecks feedChecks lentChecks pendingChecks refusal
     agreed-refusal = rw h
 
-    pub agreed-passes : passes (indexedChecks c m ix o) ≡ passes (feedChecks c m o ++ roomChecks m ix o)
+    agreed-passes : passes (indexedChecks c m ix o) ≡ passes (feedChecks c m o ++ roomChecks m ix o)
     unfolding indexedChecks indexedLentChecks feedChecks lentChecks pendingChecks passes allOf
     agreed-passes = rw h
 

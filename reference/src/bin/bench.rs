@@ -21,6 +21,11 @@ fn main() {
     match words.first().map(String::as_str) {
         Some("memory") => memory_of(&words[1]),
         Some("loadable") => loadable(),
+        Some("index") => {
+            feeding_indexed();
+            check_index(100);
+            check_index(1000);
+        }
         _ => table(),
     }
 }
@@ -51,10 +56,6 @@ fn table() {
         let calls = wide.div_ceil(128).max(1);
         let check = least(|| engine::wide_stretches_indexed(&indexed.stakes, &indexed.store, &index, &[0; 3], &mut []));
         row(&format!("of which the checks of store and index, {name} ({calls} calls)"), calls as f64 * check, None);
-        if blocks.len() <= 100 {
-            let words = fed_indexed(&blocks).1[0];
-            row(&format!("feeding with the index, {name} ({words} words)"), least(|| fed_indexed(&blocks)), None);
-        }
         let mut out = vec![0; 16 << 20];
         let mut first = [0; 56];
         assert_eq!(engine::next_final(&memory.stakes, &memory.store, &[], &mut first), Ok(1));
@@ -63,6 +64,7 @@ fn table() {
         row(&format!("slip of the first final locator, {name} ({size} bytes)"), least(slip), None);
     }
     loadable();
+    feeding_indexed();
     println!();
     check(100);
     check(1000);
@@ -224,6 +226,19 @@ fn rust_feed(_blocks: &[Block]) -> Option<f64> {
 #[cfg(not(has_rust))]
 fn rust_feed_checked(_blocks: &[Block]) -> Option<f64> {
     None
+}
+
+/// Feeding with the index, from fresh.
+fn feeding_indexed() {
+    for (name, blocks) in [
+        ("course run", graphs::course_run()),
+        ("100 blocks", graphs::generated(100)),
+        ("1,000 blocks", graphs::generated(1000)),
+    ] {
+        let mut words = 0;
+        let engine = least(|| words = fed_indexed(&blocks).1[0]);
+        row(&format!("feeding with the index, {name} ({words} words)"), engine, None);
+    }
 }
 
 /// The list of loadable shares, of nearly 100,000.

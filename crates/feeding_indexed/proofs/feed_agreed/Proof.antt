@@ -1,4 +1,4 @@
-use mathlib.Core.Path.{_≡_, refl, sym, ap, subst, _∙_}
+use mathlib.Core.Path.{sym, subst, _∙_}
 use native.Mathlib.Omega.{arith}
 use Rattle.base.proofs.Le.{bytes-of}
 use Rattle.feeds.specs.Feed.{Lent, lentOf}

@@ -1,4 +1,4 @@
-use mathlib.Core.Path.{_≡_, sym, _∙_}
+use mathlib.Core.Path.{sym}
 use native.Mathlib.Omega.{arith}
 use Rattle.index_growth.proofs.Used.{used-over, used-all, used-inside}
 use borrow.Author.Needs.{needs}
