@@ -2,3 +2,4 @@ pub mod Unfolded
 pub mod Stepping
 pub mod Words
 pub mod Writing
+mod Passed

@@ -1,12 +1,11 @@
 -- The runs of a part against the words of the index. Assumes nothing.
-use mathlib.Core.Path.{_≡_, refl, sym, ap, subst, _∙_}
-use mathlib.Core.Bool.{true, false}
+use mathlib.Core.Path.{_≡_, refl, sym, ap, _∙_}
+use mathlib.Core.Bool.{true}
 use mathlib.Core.List.{List, [], _∷_, _++_, map, flatten, append-assoc, append-nil}
 use Prim.Native.Nat.{ℕ, zero, suc, _+_, _*_, _≤_, _<_}
 use native.Mathlib.Omega.{arith}
-use native.Mathlib.Numerals.{add-one}
 use lib.Dec.{eqb}
-use lib.ListN.{length, getD, take, drop, length-drop, length-append, take-append-drop, drop-of-length-le}
+use lib.ListN.{length, getD, take, drop, length-drop, length-append}
 use lib.Seq.{drop-drop, take-length}
 use borrow.Author.Tests.{eq-eqb, eqb-true}
 use Rattle.base.proofs.Loops.{drop-next}
@@ -80,12 +79,13 @@ module _ (ix : List ℕ) (at : ℕ) (xs : List Run) (rest : List ℕ) (e : drop 
   unfolding partWords
   part-count = ap (λ (ws : List ℕ). getD ws 0 0) (sym (drop-next ix at part-inside) ∙ e)
 
-  part-body : drop (at + 1) ix ≡ runsWords xs ++ rest
+  pub part-body : drop (at + 1) ix ≡ runsWords xs ++ rest
   unfolding partWords
   part-body = sym (drop-drop 1 at ix) ∙ ap (drop 1) e
 
+module _ (ix : List ℕ) (at : ℕ) (xs : List Run) (rest : List ℕ) (e : drop (at + 1) ix ≡ runsWords xs ++ rest) where
   pub part-from : (k : ℕ) → k ≤ length xs → drop (at + 1 + 10 * k) ix ≡ runsWords (drop k xs) ++ rest
-  part-from k h = sym (drop-drop (10 * k) (at + 1) ix) ∙ ap (drop (10 * k)) part-body ∙ words-drop k xs rest h
+  part-from k h = sym (drop-drop (10 * k) (at + 1) ix) ∙ ap (drop (10 * k)) e ∙ words-drop k xs rest h
 
   module _ (k : ℕ) (y : Run) (h : k < length xs) (f : drop k xs ≡ y ∷ drop (k + 1) xs) where
     run-from : drop (at + 1 + 10 * k) ix ≡ runWords y ++ (runsWords (drop (k + 1) xs) ++ rest)
@@ -123,9 +123,6 @@ module _ (ix : List ℕ) (at : ℕ) (xs : List Run) where
       ∙ ap (λ (ws : List ℕ). ws ++ drop (at + 1 + 10 * (k + 1)) ix)
       (ap (λ (ws : List ℕ). runsWords (take k xs) ++ ws) (sym (append-nil (runWords y))) ∙ sym (words-append (take k xs) (y ∷ [])) ∙ ap runsWords (sym (take-more k xs y (drop (k + 1) xs) f)))
 
-  pub stood-end : at < length ix → Stood ix at (length xs) xs → getD ix at 0 ≡ length xs → drop at ix ≡ partWords xs ++ drop (at + 1 + 10 * length xs) ix
-  unfolding Stood partWords
-  stood-end m h c =
-      drop-next ix at m
-      ∙ ap (λ (w : ℕ). w ∷ drop (at + 1) ix) c
-      ∙ ap (λ (ws : List ℕ). length xs ∷ ws) (h ∙ ap (λ (zs : List Run). runsWords zs ++ drop (at + 1 + 10 * length xs) ix) (take-length xs))
+  pub stood-end : Stood ix at (length xs) xs → drop (at + 1) ix ≡ runsWords xs ++ drop (at + 1 + 10 * length xs) ix
+  unfolding Stood
+  stood-end h = h ∙ ap (λ (zs : List Run). runsWords zs ++ drop (at + 1 + 10 * length xs) ix) (take-length xs)

@@ -11,7 +11,11 @@ ghost use Rattle.voters_index.specs.Runs.{Run};
 ghost use Rattle.voters_index.specs.Part.{RunsOf};
 ghost use Rattle.voters_index.specs.Index.{partWords};
 ghost use Rattle.index_merge.specs.Sources.{Ready, Voting};
-ghost use Rattle.index_parts.specs.Parts.{merged, Compared, Counted};
+ghost use Rattle.finality.specs.Voters.{ownVote};
+ghost use Rattle.voters_index.specs.Walk.{anywhere};
+ghost use Rattle.index_runs.specs.Values.{asMaybe};
+ghost use Rattle.index_runs.specs.Pieces.{PieceOr};
+ghost use Rattle.index_parts.specs.Parts.{merged, Compared, Rested, Counted};
 
 // Where a part ends; or the words are not those of the part.
 pub enum PartEnd {
@@ -25,19 +29,22 @@ pub enum RunCount {
     TooMany,
 }
 
-// Holds the words from a position on against the part of a record whose includes' parts are n sources.
-pub fn part_end(index: &[u64], cursors: &mut [u64], n: usize, rec: &[u8], at: usize) -> PartEnd
-    requires { ⌜ Ready (now index) (now cursors) n × Voting (now rec) ⌝ }
-    ensures { λ r. ⌜ ((xs : List Run) → RunsOf (merged (blockIn (now (rec .entry))) (now (index .entry)) (now (cursors .entry)) n) xs → Compared (now (index .entry)) at xs r) ⌝ }
+// Holds the words after a position against so many runs: those of a record's votes, of which the first piece is at hand, and of n sources.
+fn rest_end(
+    index: &[u64],
+    cursors: &mut [u64],
+    n: usize,
+    rec: &[u8],
+    mine: MaybeRun,
+    at: usize,
+    count: usize,
+) -> PartEnd
+    requires { ⌜ (Ready (now index) (now cursors) n × Voting (now rec)) × ((at < length (now index)) × PieceOr (ownVote (blockIn (now rec))) anywhere (asMaybe mine)) ⌝ }
+    ensures { λ r. ⌜ ((xs : List Run) → RunsOf (merged (blockIn (now (rec .entry))) (now (index .entry)) (now (cursors .entry)) n) xs → Rested (now (index .entry)) at count xs r) ⌝ }
 {
-    if index.len() <= at {
-        return PartEnd::Differs;
-    }
-    let mine = index_merge::own_piece(rec, Place::Anywhere);
     let found = index_merge::next_piece(index, cursors, n, rec, mine, Place::Anywhere);
     let mut own = found.own;
     let mut next = found.next;
-    let count = index[at] as usize;
     let mut pos = at + 1;
     let mut k: usize = 0;
     loop {
@@ -63,6 +70,28 @@ pub fn part_end(index: &[u64], cursors: &mut [u64], n: usize, rec: &[u8], at: us
         pos = pos + 10;
         k = k + 1;
     }
+}
+
+// Holds the words from a position on against the part of a record whose includes' parts are n sources.
+pub fn part_end(index: &[u64], cursors: &mut [u64], n: usize, rec: &[u8], at: usize) -> PartEnd
+    requires { ⌜ Ready (now index) (now cursors) n × Voting (now rec) ⌝ }
+    ensures { λ r. ⌜ ((xs : List Run) → RunsOf (merged (blockIn (now (rec .entry))) (now (index .entry)) (now (cursors .entry)) n) xs → Compared (now (index .entry)) at xs r) ⌝ }
+{
+    if index.len() <= at {
+        return PartEnd::Differs;
+    }
+    let mine = index_merge::own_piece(rec, Place::Anywhere);
+    let count = index[at] as usize;
+    let passed = index_prefix::pass_shared(index, cursors, n, at + 1, count, mine);
+    rest_end(
+        index,
+        cursors,
+        n,
+        rec,
+        mine,
+        at + 10 * passed,
+        count - passed,
+    )
 }
 
 // The number of runs of that part, if it is not above a limit.

@@ -1,0 +1,149 @@
+-- The first runs of a chain: what they name, and that they are the next runs where others name nobody. Assumes nothing.
+use mathlib.Core.Path.{_≡_, refl, sym, ap, subst, _∙_}
+use mathlib.Core.Bool.{true}
+use mathlib.Core.List.{List, [], _∷_, _++_}
+use mathlib.Core.Option.{Option, none, some}
+use Prim.Native.Nat.{ℕ, _+_, _≤_, _<_}
+use native.Mathlib.Omega.{arith}
+use Rattle.authority_set.specs.AuthoritySet.{AuthoritySet, nobody, united}
+use Rattle.blocks.specs.Reference.{BlockReference, TransactionLocator, locator, referenceBefore}
+use Rattle.blocks.proofs.References.{reference-same, reference-irrefl}
+use Rattle.types.specs.Values.{referenceOrder}
+use Rattle.types.specs.declared.Ordering.the-variants.{Less, Equal}
+use Rattle.types.proofs.Words.{compared-equal, compared-less}
+use Rattle.voters_index.specs.Runs.{Run, votesAt, votersIn}
+use Rattle.voters_index.specs.Walk.{Past, byBlock, byOffset, Place, anywhere, beyond, At, NextRun}
+use Rattle.voters_index.proofs.Chain.{past-trans, Covered, Good, Chain, end, link, Differs, past-head, chain-from, nobody-before, at-head}
+use Rattle.voters_index.proofs.Unique.{Placed, earlier, later, alike, placed, at-end}
+use Rattle.index_runs.proofs.Pieces.{at-later, at-beyond}
+use Rattle.index_prefix.specs.Prefix.{PastRun, Nexts, here, onward}
+
+-- ---- places
+
+past-one : {q r : BlockReference} {e o k : ℕ} → Past q e r o → o < k → Past q (e + 1) r k
+past-one (byBlock h) m = byBlock h
+past-one (byOffset e h) m = byOffset e (omega arith)
+
+-- a locator past the end of a run is not in it
+pub out : (x : Run) (l : TransactionLocator) → Past (x .reference) (x .end) (l .block) (l .offset) → Covered x l → ⊥
+out x l (byBlock h) c = reference-irrefl (l .block) (subst (λ (r : BlockReference). referenceBefore r (l .block) ≡ true) (c .of) h)
+out x l (byOffset h k) c = omega (arith, c .below)
+
+-- what is not past a place is before it
+pub not-past : (q : BlockReference) (e : ℕ) (r : BlockReference) (o : ℕ) → (Past q e r o → ⊥) → Past r (o + 1) q e
+not-past q e r o h = go (placed q e r o)
+  where
+    go : Placed q e r o → Past r (o + 1) q e
+    go (earlier (byBlock k)) = absurd (h (byBlock k))
+    go (earlier (byOffset k m)) = absurd (h (byOffset k (omega arith)))
+    go (later k) = k
+    go (alike k m) = absurd (h (byOffset k (omega arith)))
+
+-- ---- a piece past a run
+
+module _ (x : Run) where
+  pub past-none : (own : Option Run) → own ≡ none → PastRun x own
+  unfolding PastRun
+  past-none own e = subst (PastRun x) (sym e) tt
+
+  module _ (y : Run) (own : Option Run) (e : own ≡ some y) where
+    pub past-less : referenceOrder (x .reference) (y .reference) ≡ Less → PastRun x own
+    unfolding PastRun
+    past-less h = subst (PastRun x) (sym e) (byBlock (compared-less (x .reference) (y .reference) h .1))
+
+    pub past-equal : referenceOrder (x .reference) (y .reference) ≡ Equal → x .end ≤ y .start → PastRun x own
+    unfolding PastRun
+    past-equal h m = subst (PastRun x) (sym e) (byOffset (reference-same (x .reference) (y .reference) (compared-equal (x .reference) (y .reference) h)) m)
+
+-- ---- chains
+
+-- a run that begins past a place
+pub record LastOf (q : BlockReference) (e : ℕ) (z : Run) : Type 0 where
+  pub past : Past q e (z .reference) (z .start)
+  pub good : Good z
+
+module _ {D : Run → List Run → Type 0} where
+  pub chain-last : {q : BlockReference} {e : ℕ} (ys : List Run) (z : Run) (rest : List Run) → Chain D (beyond q e) (ys ++ z ∷ rest) → LastOf q e z
+  chain-last [] z rest (link a g d h) = record { past = a; good = g }
+  chain-last (x ∷ ys) z rest (link a g d h) =
+      let k = chain-last ys z rest h in
+      record { past = past-trans a (omega (arith, g .full)) (k .past); good = k .good }
+
+  pub chain-rest : {p : Place} (ys rest : List Run) → Chain D p (ys ++ rest) → Chain D anywhere rest
+  chain-rest [] rest h = chain-from (λ r o a. tt) rest h
+  chain-rest (x ∷ ys) rest (link a g d h) = chain-rest ys rest h
+
+  pub chain-after : {p : Place} (ys : List Run) (y : Run) (rest : List Run) → Chain D p (ys ++ y ∷ rest) → Chain D (beyond (y .reference) (y .end)) rest
+  chain-after [] y rest (link a g d h) = h
+  chain-after (x ∷ ys) y rest (link a g d h) = chain-after ys y rest h
+
+  -- the first of a chain
+  pub chain-head : {q : BlockReference} {e : ℕ} (z : Run) (rest : List Run) → Chain D (beyond q e) (z ∷ rest) → LastOf q e z
+  chain-head z rest (link a g d h) = record { past = a; good = g }
+
+  -- before the end of a run those after it name nobody
+  pub cut-names : {p : Place} (ys : List Run) (z : Run) (rest : List Run) (l : TransactionLocator) → Chain D p (ys ++ z ∷ rest) → Past (l .block) (l .offset + 1) (z .reference) (z .end)
+      → votersIn (ys ++ z ∷ rest) l ≡ votersIn (ys ++ z ∷ []) l
+  unfolding votersIn locator
+  cut-names [] z rest l (link a g d h) b =
+      ap (united (votesAt z l)) (nobody-before (l .block) (l .offset) rest (chain-from (λ r o c. past-trans b (omega arith) c) rest h))
+  cut-names (x ∷ ys) z rest l (link a g d h) b = ap (united (votesAt x l)) (cut-names ys z rest l h b)
+
+  -- past the end of a run those up to it name nobody
+  pub names-after : {p : Place} (ys : List Run) (y : Run) (rest : List Run) (l : TransactionLocator) → Chain D p (ys ++ y ∷ rest) → Past (y .reference) (y .end) (l .block) (l .offset)
+      → votersIn (ys ++ y ∷ rest) l ≡ votersIn rest l
+  names-after [] y rest l (link a g d h) b = past-head y rest l (out y l b)
+  names-after (x ∷ ys) y rest l (link a g d h) b =
+      let k = chain-last ys y rest h in
+      past-head x (ys ++ y ∷ rest) l (out x l (past-trans (k .past) (omega (arith, k .good .full)) b)) ∙ names-after ys y rest l h b
+
+-- ---- the next runs
+
+-- the place at the end of the last of some runs
+unfoldable pub after : Place → List Run → Place
+after p [] = p
+after p (x ∷ xs) = after (beyond (x .reference) (x .end)) xs
+
+module _ {f : TransactionLocator → AuthoritySet} (z : Run) where
+  -- up to the end of z, f names whom these runs name
+  pub nexts : (p : Place) (ys : List Run) → Chain Differs p (ys ++ z ∷ [])
+      → ((l : TransactionLocator) → At p (l .block) (l .offset) → Past (l .block) (l .offset + 1) (z .reference) (z .end) → f l ≡ votersIn (ys ++ z ∷ []) l)
+      → Nexts f p ys (after p ys)
+  unfolding locator after
+  nexts p [] h e = here
+  nexts p (x ∷ ys) (link a g d h) e = onward next (nexts (beyond (x .reference) (x .end)) ys h rest)
+    where
+      last : LastOf (x .reference) (x .end) z
+      last = chain-last ys z [] h
+
+      before : (o : ℕ) → o ≤ x .end → Past (x .reference) (o + 1) (z .reference) (z .end)
+      before o m = past-one (past-trans (byOffset refl m) (omega arith) (last .past)) (last .good .full)
+
+      there : (o : ℕ) → x .start ≤ o → At p (x .reference) o
+      there o i = at-later p (x .reference) (x .start) o a i
+
+      next : NextRun f p x
+      next =
+          record {
+            there = a;
+            stretch = record {
+              full = g .full;
+              voted = g .voted;
+              told = λ o i j.
+                  e (locator (x .reference) o) (there o i) (before o (omega arith))
+                  ∙ at-head x (ys ++ z ∷ []) h (locator (x .reference) o) (record { of = refl; from = i; below = j });
+            };
+            onward = λ w.
+                at-end x (ys ++ z ∷ []) g d h
+                (sym (past-head x (ys ++ z ∷ []) (locator (x .reference) (x .end)) (λ c. omega (arith, c .below)))
+                ∙ sym (e (locator (x .reference) (x .end)) (there (x .end) (omega (arith, g .full))) (before (x .end) (omega arith)))
+                ∙ w);
+            first = λ l i j.
+                e l i (at-later (beyond (l .block) (l .offset + 1)) (z .reference) (z .start) (z .end) (past-trans j (omega (arith, g .full)) (last .past)) (omega (arith, last .good .full)))
+                ∙ nobody-before (l .block) (l .offset) (x ∷ ys ++ z ∷ []) (link j g d h);
+          }
+
+      rest : (l : TransactionLocator) → Past (x .reference) (x .end) (l .block) (l .offset) → Past (l .block) (l .offset + 1) (z .reference) (z .end) → f l ≡ votersIn (ys ++ z ∷ []) l
+      rest l b c =
+          e l (at-beyond p (x .reference) (x .start) (x .end) a (omega (arith, g .full)) (l .block) (l .offset) b) c
+          ∙ past-head x (ys ++ z ∷ []) l (out x l b)

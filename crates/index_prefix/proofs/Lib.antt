@@ -1,0 +1,4 @@
+pub mod Chains
+mod Words
+mod Passing
+mod Moving
