@@ -246,4 +246,14 @@ uint64_t lomkhvide_is_loadable(const uint8_t *stakes, size_t stakes_len, const u
 uint64_t lomkhvide_loadable(const uint8_t *stakes, size_t stakes_len, const uint8_t *store, size_t store_len, uint64_t *places,
                             size_t places_len);
 
+/* Answers a list of locators, each the 56 bytes that it has in a record, in ascending order, equal ones included: the number of locators.
+ * At the front of `replies` each has three words: 1 if it is final, else 0, and the set of the authors of its certifying blocks, low and high,
+ * author i the bit i of the low word, or i - 64 of the high one. The words after them keep their content. `index` is the index that was kept
+ * beside the store, whole. Index and replies are lent in words, 8-byte aligned, and their lengths are numbers of words.
+ * Refused, in this order: 5; 10; 54 an index that disagrees with the store; 62 a list out of order, or whose bytes are not whole locators;
+ * 63 fewer words for replies than three each.
+ * It needs at most 48 KB of stack. */
+uint64_t lomkhvide_answer_sorted(const uint8_t *stakes, size_t stakes_len, const uint8_t *store, size_t store_len, const uint64_t *index,
+                                 size_t index_len, const uint8_t *locators, size_t locators_len, uint64_t *replies, size_t replies_len);
+
 #endif

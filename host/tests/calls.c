@@ -1154,6 +1154,66 @@ static void loadable_shares(void) {
     same("the store is as it was", memcmp(store, kept, sizeof store), 0);
 }
 
+/* ---- sorted lists */
+
+/* The replies, and the words after them, which were 9. */
+static void replied(const char *what, const uint64_t *index, size_t index_len, const uint8_t *locators, size_t n, size_t room, uint64_t want) {
+    static const uint64_t right[12] = {1, 1, 0, 1, 1, 0, 0, 0, 0, 9, 9, 9};
+    uint8_t one[8];
+    put_word(one, 1);
+    uint64_t *replies = malloc(8 * room + 8);
+    for (size_t i = 0; i < room; i++) {
+        replies[i] = 9;
+    }
+    same(what, lomkhvide_answer_sorted(one, 8, lent.store, 1024, index, index_len, locators, n, replies, room), want);
+    for (size_t i = 0; i < room; i++) {
+        same("a word of the replies", replies[i], want >> 63 == 0 && i < 3 * want ? right[i] : 9);
+    }
+    free(replies);
+}
+
+/* One owner, whose second block shares: it has itself for a voter. The list is that share, twice, and the offset after it. */
+static void sorted_lists(void) {
+    const size_t t = LOMKHVIDE_TABLE_LEN, v = LOMKHVIDE_EVENTS_LEN;
+    uint8_t one[8], first[256], shares[256], locators[168], turned[168];
+    put_word(one, 1);
+    memset(&lent, 0, sizeof lent);
+    lent.store[4] = 16;
+    same("the first block", feed(one, 8, 1024, t, v, first, put_record(first, 0, 1, NULL, "")), 0);
+    same("a share", feed(one, 8, 1024, t, v, shares, put_record(shares, 1, 2, first, "gain")), 0);
+    kept = lent;
+    uint64_t index[14] = {13, 0, 1, 0, 1, UINT64_C(2) << 24, 0, 0, 0, 0, 1, 1, 0, 5};
+    memset(locators, 0, sizeof locators);
+    for (size_t i = 0; i < 3; i++) {
+        memcpy(locators + 56 * i, shares, 48);
+    }
+    locators[56 * 2 + 48] = 1;
+    memcpy(turned, locators + 112, 56);
+    memcpy(turned + 56, locators, 112);
+    for (size_t n = 0; n <= 168; n++) {
+        replied("a list of any length", index, 13, locators, n, 12, n % 56 == 0 ? n / 56 : refused(62));
+    }
+    for (size_t room = 0; room < 12; room++) {
+        replied("replies of any length", index, 13, locators, 168, room, room < 9 ? refused(63) : 3);
+        replied("62 before 63", index, 13, turned, 168, room, refused(62));
+    }
+    for (size_t words = 0; words <= 14; words++) {
+        replied("an index of any length", index, words, locators, 168, 9, words < 13 ? refused(54) : 3);
+        replied("54 before 62 and 63", index, words, turned, 167, 0, words < 13 ? refused(54) : refused(62));
+    }
+    for (size_t i = 0; i < 14; i++) {
+        index[i]++;
+        replied("a word of the index changed", index, 14, locators, 168, 9, i < 13 ? refused(54) : 3);
+        index[i]--;
+    }
+    uint64_t replies[9];
+    same("no committee", lomkhvide_answer_sorted(one, 7, lent.store, 15, index, 12, turned, 167, replies, 0), refused(5));
+    for (size_t m = 0; m < 16; m++) {
+        same("no store", lomkhvide_answer_sorted(one, 8, lent.store, m, index, 12, turned, 167, replies, 0), refused(10));
+    }
+    same("only read", memcmp(&lent, &kept, sizeof lent), 0);
+}
+
 int main(void) {
     loading();
     committees();
@@ -1166,6 +1226,7 @@ int main(void) {
     indexing();
     ringing();
     written_slips();
+    sorted_lists();
     calendars();
     writing();
     times();

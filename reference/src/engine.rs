@@ -298,3 +298,35 @@ pub fn next_open(calendar: &[u8], time: u64, found: &mut [u8]) -> Answer {
     }
     answer(unsafe { lomkhvide_next_open(calendar.as_ptr(), calendar.len(), time, found.as_mut_ptr(), found.len()) })
 }
+
+/// Index and replies cross as words.
+pub fn answer_sorted(stakes: &[u8], store: &[u8], index: &[u64], locators: &[u8], replies: &mut [u64]) -> Answer {
+    extern "C" {
+        fn lomkhvide_answer_sorted(
+            stakes: *const u8,
+            stakes_len: usize,
+            store: *const u8,
+            store_len: usize,
+            index: *const u64,
+            index_len: usize,
+            locators: *const u8,
+            locators_len: usize,
+            replies: *mut u64,
+            replies_len: usize,
+        ) -> u64;
+    }
+    answer(unsafe {
+        lomkhvide_answer_sorted(
+            stakes.as_ptr(),
+            stakes.len(),
+            store.as_ptr(),
+            store.len(),
+            index.as_ptr(),
+            index.len(),
+            locators.as_ptr(),
+            locators.len(),
+            replies.as_mut_ptr(),
+            replies.len(),
+        )
+    })
+}

@@ -26,6 +26,7 @@ pub mod rust;
 pub mod sample;
 pub mod shrink;
 pub mod slips;
+pub mod sorted;
 pub mod tables;
 pub mod tally;
 pub mod withdrawing;

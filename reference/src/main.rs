@@ -9,10 +9,11 @@ use reference::indexes::Indexed;
 use reference::list::List;
 use reference::loading::{self, Loaded};
 use reference::slips::Told;
+use reference::sorted::Asked;
 use reference::tally::Tally;
 use reference::withdrawing::Withdrawn;
 use reference::writing::Written;
-use reference::{calendars, exhaustive, generate, indexes, members, program, rings, shrink, tables, withdrawing};
+use reference::{calendars, exhaustive, generate, indexes, members, program, rings, shrink, sorted, tables, withdrawing};
 
 fn main() {
     let words: Vec<String> = std::env::args().skip(1).collect();
@@ -29,6 +30,7 @@ fn main() {
         Some("boundary") => boundary(word(1) == Some("exact")),
         Some("listing") => listing(number(word(1), 1000), number(word(2), 1)),
         Some("slips") => slips(number(word(1), 1000), number(word(2), 1)),
+        Some("sorted") => sorted(number(word(1), 2000), number(word(2), 1)),
         Some("writing") => writing(number(word(1), 2000), number(word(2), 1)),
         Some("withdrawing") => withdrawing(number(word(1), 2000), number(word(2), 1)),
         Some("loading") => loading(number(word(1), 1000), number(word(2), 1)),
@@ -150,6 +152,22 @@ fn indexes(count: u64, seed: u64) {
     }
     let Indexed { feeds, accepted, disagreeing, short, lists, longest } = indexed;
     println!("{feeds} feeds with the index: {accepted} accepted, {disagreeing} refused by 54, {short} by 55; {lists} lists; the longest index has {longest} words");
+    end(count, failed);
+}
+
+/// Sorted lists of locators answered with the index.
+fn sorted(count: u64, seed: u64) {
+    sides();
+    let mut asked = Asked::default();
+    let mut failed = 0;
+    for n in 0..count {
+        if let Err(text) = sorted::compare(seed, n, &mut asked) {
+            failed += 1;
+            println!("list {n} of seed {seed} failed: {text}");
+        }
+    }
+    let Asked { lists, locators, finals, refused } = asked;
+    println!("{lists} lists of {locators} locators, {finals} final; refused with 54, 62, 63: {refused:?}");
     end(count, failed);
 }
 

@@ -23,6 +23,7 @@ ghost use Rattle.host_ring.specs.Ring.{whomToRingCall};
 ghost use Rattle.slips.specs.Reading.{readAnswer};
 ghost use Rattle.host_slip_writer.specs.WriteSlip.{writeSlipCall};
 ghost use Rattle.host_loadable.specs.Loading.{isLoadableCall, loadableCall};
+ghost use Rattle.sorted_replies.specs.Sorted.{answerSorted};
 
 // Sets a committee: its total stake.
 #[no_mangle]
@@ -408,4 +409,21 @@ pub extern "C" fn lomkhvide_loadable(stakes: &[u8], store: &[u8], places: &mut [
     ensures { λ r. ⌜ now (places .exit) ≡ loadableCall (now (stakes .entry)) (now (store .entry)) (now (places .entry)) .places ⌝ }
 {
     host_loadable::loadable(stakes, store, places)
+}
+
+// ---- sorted lists
+
+// Answers an ascending list of locators with the index: the number of locators, and three words each in front of `replies`.
+#[no_mangle]
+pub extern "C" fn lomkhvide_answer_sorted(
+    stakes: &[u8],
+    store: &[u8],
+    index: &[u64],
+    locators: &[u8],
+    replies: &mut [u64],
+) -> u64
+    ensures { λ r. ⌜ r ≡ encoded (answerSorted (committeeOf (now (stakes .entry))) (now (store .entry)) (now (index .entry)) (now (locators .entry)) (now (replies .entry)) .answer) ⌝ }
+    ensures { λ r. ⌜ now (replies .exit) ≡ answerSorted (committeeOf (now (stakes .entry))) (now (store .entry)) (now (index .entry)) (now (locators .entry)) (now (replies .entry)) .out ⌝ }
+{
+    host_sorted::answer_sorted_of(stakes, store, index, locators, replies)
 }

@@ -77,6 +77,18 @@ mod calls {
             stretches: *mut u8,
             stretches_len: usize,
         ) -> u64;
+        pub fn lomkhvide_answer_sorted(
+            stakes: *const u8,
+            stakes_len: usize,
+            store: *const u8,
+            store_len: usize,
+            index: *const u64,
+            index_len: usize,
+            locators: *const u8,
+            locators_len: usize,
+            replies: *mut u64,
+            replies_len: usize,
+        ) -> u64;
         pub fn lomkhvide_pending_stake(
             stakes: *const u8,
             stakes_len: usize,
@@ -312,6 +324,14 @@ impl Locator {
         bytes[48..].copy_from_slice(&offset.to_le_bytes());
         Locator(bytes)
     }
+}
+
+/// What is answered about a locator of a sorted list.
+#[derive(Clone, Copy, Debug, PartialEq, Eq)]
+pub struct Reply {
+    pub is_final: bool,
+    /// The authors of its certifying blocks: author i is bit i.
+    pub authors: u128,
 }
 
 /// Whether an amount of stake is quorum of a total.
@@ -651,6 +671,31 @@ impl Committee {
             )
         };
         Ok(stretches_in(answer(word)?, &stretches))
+    }
+
+    /// The replies to locators in ascending order, equal ones included, with the index that was kept beside the store; or 5, 10, 54, 62.
+    pub fn answer_sorted(&self, store: &[u8], index: &[u64], locators: &[Locator]) -> Result<Vec<Reply>, Refused> {
+        let stakes = &self.stakes;
+        let locators: Vec<u8> = locators.iter().flat_map(|locator| locator.0).collect();
+        let mut replies = vec![0; locators.len() / 56 * 3];
+        // The slices are lent for the call alone, and the one that it writes is this function's own.
+        let word = unsafe {
+            calls::lomkhvide_answer_sorted(
+                stakes.as_ptr(),
+                stakes.len(),
+                store.as_ptr(),
+                store.len(),
+                index.as_ptr(),
+                index.len(),
+                locators.as_ptr(),
+                locators.len(),
+                replies.as_mut_ptr(),
+                replies.len(),
+            )
+        };
+        answer(word)?;
+        let reply = |words: &[u64]| Reply { is_final: words[0] == 1, authors: words[1] as u128 | (words[2] as u128) << 64 };
+        Ok(replies.chunks_exact(3).map(reply).collect())
     }
 
     /// The stake and the number of voters of a pending locator; or 5, 10, 11, 42.
@@ -1179,6 +1224,28 @@ mod tests {
         }
         let told = committee.whom_to_ring(&store[..15], &table, 6, &Locator::new(0, 1, digest, 0));
         assert_eq!(told, Err(Refused(10)));
+    }
+
+    #[test]
+    fn sorted_lists() {
+        // one owner: its second block shares, and has itself for a voter
+        let committee = Committee::new(&[1]).unwrap();
+        let first = record(0, 1, &[], &[]);
+        let second = record(1, 2, &first[..48], &[b"gain"]);
+        let store = store(&[first, second]);
+        let mut digest = [0; 32];
+        digest[3] = 2;
+        let index = [13, 0, 1, 0, 1, 2 << 24, 0, 0, 0, 0, 1, 1, 0, 7];
+        let (share, past) = (Locator::new(0, 1, digest, 0), Locator::new(0, 1, digest, 1));
+        let (yes, no) = (Reply { is_final: true, authors: 1 }, Reply { is_final: false, authors: 0 });
+        let ask = |locators: &[Locator]| committee.answer_sorted(&store, &index, locators);
+        assert_eq!(ask(&[]), Ok(vec![]));
+        assert_eq!(ask(&[share.clone(), share.clone(), past.clone()]), Ok(vec![yes, yes, no]));
+        assert_eq!(ask(&[past.clone(), share.clone()]), Err(Refused(62)));
+        for words in 0..13 {
+            assert_eq!(committee.answer_sorted(&store, &index[..words], &[past.clone(), share.clone()]), Err(Refused(54)));
+        }
+        assert_eq!(committee.answer_sorted(&store[..15], &index, &[share]), Err(Refused(10)));
     }
 
     #[test]

@@ -23,8 +23,8 @@ fn main() {
         Some("loadable") => loadable(),
         Some("index") => {
             feeding_indexed();
-            check_index(100);
-            check_index(1000);
+            sorted(&graphs::generated(1000), 10_000);
+            check_indexes();
         }
         _ => table(),
     }
@@ -65,11 +65,11 @@ fn table() {
     }
     loadable();
     feeding_indexed();
+    sorted(&graphs::generated(1000), 10_000);
     println!();
     check(100);
     check(1000);
-    check_index(100);
-    check_index(1000);
+    check_indexes();
     longest_listing();
     peak_memory();
 }
@@ -267,19 +267,43 @@ fn check(blocks: usize) {
     );
 }
 
-/// The check of an index of this many blocks, by a record that is refused right after it, beside one pass over its words.
-fn check_index(blocks: usize) {
-    let (mut memory, mut index) = fed_indexed(&graphs::generated(blocks));
-    let used = index[0] as usize;
-    let Memory { stakes, store, table, events } = &mut memory;
-    let check = least(|| engine::feed_indexed(stakes, store, table, &mut index, events, &[]));
-    let pass = least(|| index[..used].iter().fold(0u64, |h, &w| h.wrapping_mul(31).wrapping_add(w)));
+/// A sorted list of as many locators as told, the same number of offsets of each block, answered in one pass with the index.
+fn sorted(blocks: &[Block], count: usize) {
+    let (memory, index) = fed_indexed(blocks);
+    let each = (count / blocks.len()) as u64;
+    let of = |block: &Block| (0..each).map(|offset| Locator::new(block.reference, offset)).collect::<Vec<_>>();
+    let mut locators: Vec<Locator> = blocks.iter().flat_map(of).collect();
+    locators.sort();
+    let bytes: Vec<u8> = locators.iter().flat_map(Locator::bytes).collect();
+    let mut replies = vec![0; 3 * locators.len()];
+    let mut ask = || engine::answer_sorted(&memory.stakes, &memory.store, &index, &bytes, &mut replies).expect("a sorted list");
+    let asked = ask();
+    row(&format!("{asked} locators in one pass with the index, {} blocks", blocks.len()), least(ask), None);
+}
+
+/// The check of the index of each graph.
+fn check_indexes() {
+    check_index("the course run", &graphs::course_run());
+    check_index("100 blocks", &graphs::generated(100));
+    check_index("1,000 blocks", &graphs::generated(1000));
+}
+
+/// The check of the index of some blocks (54), by a list of one byte, which is refused right after it, beside the check of the store and one
+/// pass over the words.
+fn check_index(name: &str, blocks: &[Block]) {
+    let (memory, index) = fed_indexed(blocks);
+    let index = &index[..index[0] as usize];
+    let both = least(|| engine::answer_sorted(&memory.stakes, &memory.store, index, &[0], &mut []));
+    let store = least(|| engine::payload_length(&memory.stakes, &memory.store, &[0; 3]));
+    let pass = least(|| index.iter().fold(0u64, |h, &w| h.wrapping_mul(31).wrapping_add(w)));
     println!(
-        "check of store, table and index of {blocks} blocks, {used} words ({:.1} MB): {}; one pass of a multiply and add over each word: {}; ratio {:.1}",
-        used as f64 * 8e-6,
-        time(check),
+        "check of the index of {name}, {} words ({:.1} MB): {}, after that of the store, {}; one pass of a multiply and add over each word: {}; ratio {:.2}",
+        index.len(),
+        index.len() as f64 * 8e-6,
+        time(both - store),
+        time(store),
         time(pass),
-        check / pass
+        (both - store) / pass
     );
 }
 

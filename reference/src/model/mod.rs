@@ -14,6 +14,7 @@ pub mod mistake;
 pub mod record;
 pub mod ring;
 pub mod slip;
+pub mod sorted;
 pub mod stakes_file;
 pub mod store;
 pub mod table;
