@@ -78,7 +78,7 @@ module _ {f : Block → List TransactionLocatorRange} (round : Surrounding f) (b
           let z : x .range .start ≡ o + 1 = omega (arith, x .from) in
           absurd (gap (subst (λ (n : ℕ). n ∈ edgesBy f bs r) z (edge-start f bs r b (x .range) m (x .stands) (x .of ∙ e))))
 
-  same-share : isStoredShare bs (locator r (o + 1)) ≡ isStoredShare bs (locator r o)
+  pub same-share : isStoredShare bs (locator r (o + 1)) ≡ isStoredShare bs (locator r o)
   unfolding locator
   same-share =
       same-test (isStoredShare bs (locator r (o + 1))) (isStoredShare bs (locator r o))

@@ -50,7 +50,7 @@ module _ {f : Block → List TransactionLocatorRange} (told : Telling f) (bs : L
   not-edge : {e : ℕ} → e ∈ edgesBy f bs r → e ≡ o + 1 → ⊥
   not-edge {e} m h = gap (subst (λ (n : ℕ). n ∈ edgesBy f bs r) h m)
 
-  forth : (d : Block) → d ∈ bs → votesFor d (locator r o) ≡ true → votesFor d (locator r (o + 1)) ≡ true
+  pub forth : (d : Block) → d ∈ bs → votesFor d (locator r o) ≡ true → votesFor d (locator r (o + 1)) ≡ true
   unfolding locator
   forth d m h =
       let x = told .over d (locator r o) h in
@@ -65,7 +65,7 @@ module _ {f : Block → List TransactionLocatorRange} (told : Telling f) (bs : L
           go (yes q) = absurd (n q)
           go (no q) = omega arith
 
-  back : (d : Block) → d ∈ bs → votesFor d (locator r (o + 1)) ≡ true → votesFor d (locator r o) ≡ true
+  pub back : (d : Block) → d ∈ bs → votesFor d (locator r (o + 1)) ≡ true → votesFor d (locator r o) ≡ true
   unfolding locator
   back d m h =
       let x = told .over d (locator r (o + 1)) h in

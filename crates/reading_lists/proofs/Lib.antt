@@ -1,0 +1,7 @@
+pub mod Between
+pub mod Least
+pub mod Whole
+pub mod Orders
+pub mod Claimed
+pub mod Computing
+pub mod Worked

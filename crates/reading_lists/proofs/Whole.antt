@@ -1,0 +1,96 @@
+-- The whole of each list: exactly its locators, ascending, and what the question gives when it is asked on. Assumes nothing.
+use mathlib.Core.Path.{_≡_, refl, sym, ap, _∙_}
+use mathlib.Core.Logic.{_↔_}
+use mathlib.Core.Bool.{Bool, true, false}
+use mathlib.Core.List.{List}
+use mathlib.Core.Option.{Option, none}
+use Rattle.base.specs.Lists.{allOf, keep, _∈_}
+use Rattle.base.specs.Le.{Bytes}
+use Rattle.base.specs.Checks.{refusal, passes, Answer, answered, checked}
+use Rattle.base.proofs.Tests.{and-both, and-left, and-right, not-both}
+use Rattle.base.proofs.Members.{in-keep, keep-in}
+use Rattle.committee.specs.Committee.{Committee, broken}
+use Rattle.blocks.specs.Reference.{TransactionLocator}
+use Rattle.blocks.specs.Block.{Block}
+use Rattle.store_layout.specs.Store.{storeInOrder}
+use Rattle.store_layout.specs.Shares.{isStoredShare, StoredShare}
+use Rattle.store_layout.proofs.Shares.{stored-share, share-stored}
+use Rattle.store_layout.proofs.Stored.{WellStored}
+use Rattle.finality.specs.Finality.{blocksOf}
+use Rattle.finality.specs.NextFinal.{nextFinalChecks, AskedOf}
+use Rattle.finality.specs.NextFinal as asking
+use Rattle.finality.proofs.Asked.{asked-all}
+use Rattle.finality.proofs.FinalList.{Ascending, keep-ascending}
+use Rattle.stretches.specs.Claims.{Gives, done, onward}
+use Rattle.readings.specs.Readings.{Reading}
+use Rattle.readings.specs.Withdrawing.{FinalIn}
+use Rattle.readings.specs.NextFinal.{finalListIn}
+use Rattle.readings.proofs.FinalsIn.{final-in-iff}
+use Rattle.readings.proofs.ListsIn.{list-ascending, list-in}
+use Rattle.stored_finals.proofs.Orders.{ascending-pairwise, ascending-once}
+use Rattle.reading_lists.specs.Lists.{isListed, leastListed, listing, allListed, nextListed}
+use Rattle.reading_lists.specs.Claims.{Exactly}
+use Rattle.reading_lists.proofs.Least.{least-listed}
+
+pub all-ascending : (shared : Bool) (reading : Reading) (c : Committee) (bs : List Block) → Ascending (allListed shared reading c bs)
+unfolding allListed
+all-ascending true reading c bs = keep-ascending (isStoredShare bs) (list-ascending reading c bs)
+all-ascending false reading c bs = list-ascending reading c bs
+
+-- it holds the locators that the list shows and no others
+pub all-in : (shared : Bool) (reading : Reading) (c : Committee) (bs : List Block) (l : TransactionLocator) → (l ∈ allListed shared reading c bs) ↔ (isListed shared reading c bs l ≡ true)
+unfolding allListed isListed
+all-in true reading c bs l = (
+  λ m. let k = keep-in (isStoredShare bs) (finalListIn reading c bs) m in and-both _ _ (k .1) (list-in reading c bs l .0 (k .0)),
+  λ h. in-keep (isStoredShare bs) (finalListIn reading c bs) (list-in reading c bs l .1 (and-right (isStoredShare bs l) _ h)) (and-left _ _ h),
+)
+all-in false reading c bs l = list-in reading c bs l
+
+-- ---- asked on
+
+module _ (shared : Bool) (reading : Reading) (c : Committee) (s : Bytes) (b : broken c ≡ false) (h : storeInOrder c s ≡ true) where
+  -- a question that is not refused gives the least locator
+  next-answers : (after : Option TransactionLocator) → nextListed shared reading c s after ≡ answered (leastListed shared reading c (blocksOf s) after)
+  unfolding nextListed nextFinalChecks checked passes refusal allOf
+  next-answers after = rw (b, h)
+
+  pub asked-whole : AskedOf (nextListed shared reading c s) none (allListed shared reading c (blocksOf s))
+  asked-whole =
+      asked-all (isListed shared reading c (blocksOf s)) (nextListed shared reading c s) (leastListed shared reading c (blocksOf s)) next-answers
+      (λ after. least-listed shared reading c (blocksOf s) after) (all-ascending shared reading c (blocksOf s)) (λ l. all-in shared reading c (blocksOf s) l)
+
+  told-one : (o q : Option TransactionLocator) → _≡_ {A = Answer (Option TransactionLocator)} (answered o) (answered q) → o ≡ q
+  told-one o q e = cc
+
+  -- the list gives what the question gives
+  pub gives-asked : {x : Option TransactionLocator} {ms : List TransactionLocator} → Gives (listing shared reading c (blocksOf s)) x ms → AskedOf (nextListed shared reading c s) x ms
+  unfolding listing
+  gives-asked {x} (done e) = asking.done (next-answers x ∙ ap {B = Answer (Option TransactionLocator)} answered e)
+  gives-asked {x} (onward e g) = asking.onward (next-answers x ∙ ap {B = Answer (Option TransactionLocator)} answered e) (gives-asked g)
+
+  pub asked-gives : {x : Option TransactionLocator} {ms : List TransactionLocator} → AskedOf (nextListed shared reading c s) x ms → Gives (listing shared reading c (blocksOf s)) x ms
+  unfolding listing
+  asked-gives {x} (asking.done e) = done (told-one _ _ (sym (next-answers x) ∙ e))
+  asked-gives {x} (asking.onward e g) = onward (told-one _ _ (sym (next-answers x) ∙ e)) (asked-gives g)
+
+-- ---- exactly
+
+module _ (reading : Reading) (c : Committee) {bs : List Block} (w : WellStored bs) (l : TransactionLocator) where
+  exact : (shared : Bool) → (l ∈ allListed shared reading c bs) ↔ ((shared ≡ true → StoredShare bs l) × FinalIn reading c bs l)
+  unfolding isListed
+  exact true = (
+    λ m. let k = all-in true reading c bs l .0 m in (λ e. stored-share bs l (and-left _ _ k), final-in-iff reading c w l .0 (and-right (isStoredShare bs l) _ k)),
+    λ x. all-in true reading c bs l .1 (and-both _ _ (share-stored bs l (x .0 refl)) (final-in-iff reading c w l .1 (x .1))),
+  )
+  exact false = (
+    λ m. (λ e. absurd (not-both e refl), final-in-iff reading c w l .0 (all-in false reading c bs l .0 m)),
+    λ x. all-in false reading c bs l .1 (final-in-iff reading c w l .1 (x .1)),
+  )
+
+pub whole-exactly : (shared : Bool) (reading : Reading) (c : Committee) {bs : List Block} → WellStored bs → Exactly shared reading c bs
+whole-exactly shared reading c {bs} w =
+    record {
+      exactly = λ l. exact reading c w l shared;
+      ascending = ascending-pairwise (all-ascending shared reading c bs);
+      once = ascending-once (all-ascending shared reading c bs);
+    }
