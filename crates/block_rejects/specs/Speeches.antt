@@ -2,13 +2,18 @@
 use mathlib.Core.Bool.{Bool, true, false}
 use Rattle.base.specs.Lists.{anyOf}
 use Rattle.blocks.specs.Reference.{TransactionLocator, sameLocator}
-use Rattle.blocks.specs.Block.{Statement}
-use Rattle.finality.specs.Voters.{Speech, ownVote}
-use Rattle.readings.specs.Rejecting.{rejectedIn, ownReject}
+use Rattle.blocks.specs.Block.{Statement, Block}
+use Rattle.finality.specs.Voters.{votesFor, Speech, ownVote}
+use Rattle.readings.specs.Rejecting.{rejectedIn, rejects, ownReject}
 
 -- 02: "a reject by an owner for a locator (its first)", of one statement
 unfoldable pub statementRejects : Statement → TransactionLocator → Bool
 statementRejects s l = anyOf (sameLocator l) (rejectedIn s)
+
+-- whether a block rejects the locator, or votes for it
+abbrev pub says : Bool → Block → TransactionLocator → Bool
+says true b l = rejects b l
+says false b l = votesFor b l
 
 -- a block's rejects, or its votes
 abbrev pub speechOf : Bool → Speech

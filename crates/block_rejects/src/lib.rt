@@ -12,7 +12,7 @@ ghost use Rattle.types.specs.Values.{asLocator};
 ghost use Rattle.block_record.specs.Values.{asStatement};
 ghost use Rattle.store_layout.specs.Entry.{blockAt, isEntry};
 ghost use Rattle.readings.specs.Rejecting.{rejects, ownReject, without};
-ghost use Rattle.block_rejects.specs.Speeches.{statementRejects, speechOf};
+ghost use Rattle.block_rejects.specs.Speeches.{statementRejects, says, speechOf};
 
 // Who is in the first set and not in the second.
 pub fn less(a: AuthoritySet, b: AuthoritySet) -> AuthoritySet
@@ -65,14 +65,25 @@ fn rejects(rec: &[u8], locator: TransactionLocator) -> bool
     false
 }
 
+// Whether the block at a position rejects the locator, or votes for it.
+pub fn says_at(store: &[u8], at: usize, locator: TransactionLocator, rejecting: bool) -> bool
+    requires { ⌜ isEntry (now store) at ≡ true ⌝ }
+    ensures { λ r. ⌜ r ≡ says rejecting (blockAt (now (store .entry)) at) (asLocator locator) ⌝ }
+{
+    if !rejecting {
+        return block_votes::votes_at(store, at, locator);
+    }
+    let from = at + 8;
+    let end = store_order::record_end(store, at);
+    rejects(&store[from..end], locator)
+}
+
 // The author of the block at a position, if it rejects the locator; else nobody.
 fn own_reject_at(store: &[u8], at: usize, locator: TransactionLocator) -> AuthoritySet
     requires { ⌜ (isEntry (now store) at ≡ true) × (blockAt (now store) at .reference .authority < 128) ⌝ }
     ensures { λ r. ⌜ r ≡ ownReject (blockAt (now (store .entry)) at) (asLocator locator) ⌝ }
 {
-    let from = at + 8;
-    let end = store_order::record_end(store, at);
-    if !rejects(&store[from..end], locator) {
+    if !says_at(store, at, locator, true) {
         return AuthoritySet::new();
     }
     let block = store_order::reference_at(store, at);

@@ -28,7 +28,7 @@ use Rattle.store_layout.specs.Store.{recordsOf, storeInOrder}
 use Rattle.store_layout.specs.Accept.{blockChecks, allAccepted}
 use Rattle.store_layout.proofs.Store.{in-order, right-block, recordsOf-right, recordsOf-bytes}
 use Rattle.store_layout.proofs.Accepted.{blocks}
-use Rattle.finality.specs.Voters.{isFinal}
+use Rattle.finality.specs.Voters.{votesFor, isFinal}
 use Rattle.finality.specs.Finality.{blocksOf}
 use Rattle.finality.proofs.Votes.{spanned}
 use Rattle.finality.proofs.Growing.{final-votes}
@@ -90,11 +90,13 @@ module _ (c : Committee) (s : Bytes) (bytes : AllBytes s) (o : storeInOrder c s 
       go f (ofShare k h e) = rw e (omega (arith, share-index (b .statements) k h, f .fewStatements))
       go f (ofVote x n e) = vote-end b m x n (every-in (b .statements) x (f .statements) n) q e
 
+  pub vote-offset : (b : Block) → b ∈ blocksOf s → (l : TransactionLocator) → votesFor b l ≡ true → l .offset < 18446744073709551615
+  vote-offset b m l h =
+      let p = spanned b l h in
+      omega (arith, span-end b m (p .span) (p .stands), p .covering .below)
+
   pub final-offset : (l : TransactionLocator) → isFinal c (blocksOf s) l ≡ true → l .offset < 18446744073709551615
-  final-offset l h =
-      let v = final-votes c (blocksOf s) l h in
-      let p = spanned (v .block) l (v .votes) in
-      omega (arith, span-end (v .block) (v .stands) (p .span) (p .stands), p .covering .below)
+  final-offset l h = let v = final-votes c (blocksOf s) l h in vote-offset (v .block) (v .stands) l (v .votes)
 
 -- ---- a share's payload does not matter
 

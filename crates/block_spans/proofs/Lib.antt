@@ -1,2 +1,3 @@
 pub mod Joining
+pub mod Rejecting
 pub mod Fits

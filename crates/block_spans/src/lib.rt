@@ -1,7 +1,9 @@
-// The ranges for which the block of a record votes, one after the other: a run of neighbouring shares is one. Follows types.rs.
+// The ranges for which the block of a record votes, or those that it rejects, one after the other: a run of neighbouring shares is one. Follows types.rs; the
+// Rust asks for votes alone.
 use block_record::BaseStatement;
 use block_record::StatementCursor;
 use types::BlockReference;
+use types::TransactionLocator;
 use types::TransactionLocatorRange;
 ghost use mathlib.Core.Path.{_≡_};
 ghost use mathlib.Core.Bool.{true};
@@ -11,19 +13,20 @@ ghost use lib.ListN.{length};
 ghost use Rattle.base.specs.Le.{Bytes};
 ghost use Rattle.blocks.specs.Block.{votedRange};
 ghost use Rattle.blocks.specs.Record.{wellFormed, blockIn};
-ghost use Rattle.types.specs.Values.{asReference};
+ghost use Rattle.types.specs.Values.{asReference, asLocator};
 ghost use Rattle.block_record.specs.Values.{asStatement};
 ghost use Rattle.block_record.specs.Cursor.{cursorAt};
-ghost use Rattle.block_spans.specs.Joined.{VoteFits, VotesFit, joinedAt};
+ghost use Rattle.block_spans.specs.Joined.{VoteFits, VotesFit};
+ghost use Rattle.block_spans.specs.Ranges.{rejectedRange, rejectRanges, rangesAt};
 ghost use Rattle.block_spans.specs.Answers.{votedBy, OnwardIn};
 
-// A range that is voted for, or none.
+// A range that is voted for, or rejected, or none.
 pub enum Vote {
     Range(TransactionLocatorRange),
     Nothing,
 }
 
-// What the statements at a place vote for, and the place after them.
+// What the statements at a place vote for, or reject, and the place after them.
 pub struct NextSpan {
     pub vote: Vote,
     pub next: StatementCursor,
@@ -43,13 +46,47 @@ fn voted(statement: BaseStatement) -> Vote
     }
 }
 
-// What the statements at a place of the record of a block vote for: the shares in a row from there on, or an accept or a range.
-pub fn next_span(rec: &[u8], block: BlockReference, cursor: StatementCursor) -> NextSpan
+// A rejected locator as a range. No vote reaches the last offset, so a reject of it counts for nothing.
+fn rejected_range(locator: TransactionLocator) -> Vote
+    ensures { λ r. ⌜ votedBy r ≡ rejectedRange (asLocator locator) ⌝ }
+{
+    if locator.offset == 18446744073709551615 {
+        return Vote::Nothing;
+    }
+    Vote::Range(TransactionLocatorRange::one(locator))
+}
+
+// What a reject rejects: its first locator. Nothing else does.
+fn rejected(statement: BaseStatement) -> Vote
+    ensures { λ r. ⌜ ((s : Bytes) → votedBy r ≡ rejectRanges (asStatement s statement)) ⌝ }
+{
+    match statement {
+        BaseStatement::Share(_, _) => Vote::Nothing,
+        BaseStatement::Accept(_) => Vote::Nothing,
+        BaseStatement::Reject(l) => rejected_range(l),
+        BaseStatement::RejectFor(l, _) => rejected_range(l),
+        BaseStatement::VoteRange(_) => Vote::Nothing,
+    }
+}
+
+// What the statements at a place of the record of a block vote for: the shares in a row from there on, or an accept or a range. Or what the
+// statement there rejects.
+pub fn next_span(
+    rec: &[u8],
+    block: BlockReference,
+    cursor: StatementCursor,
+    rejecting: bool,
+) -> NextSpan
     requires { ⌜ ((wellFormed (now rec) ≡ true) × VotesFit (blockIn (now rec))) × ((asReference block ≡ blockIn (now rec) .reference) × ((cursor ≡ cursorAt (now rec) (cursor .index)) × (cursor .index < length (blockIn (now rec) .statements)))) ⌝ }
-    ensures { λ r. ⌜ (joinedAt (blockIn (now (rec .entry))) (cursor .index) ≡ votedBy (r .vote) ++ joinedAt (blockIn (now (rec .entry))) (r .next .index)) × OnwardIn (blockIn (now (rec .entry))) (now (rec .entry)) (cursor .index) (r .next) ⌝ }
+    ensures { λ r. ⌜ (rangesAt rejecting (blockIn (now (rec .entry))) (cursor .index) ≡ votedBy (r .vote) ++ rangesAt rejecting (blockIn (now (rec .entry))) (r .next .index)) × OnwardIn (blockIn (now (rec .entry))) (now (rec .entry)) (cursor .index) (r .next) ⌝ }
 {
     let found = block_record::next_statement(rec, cursor);
     let statement = found.statement;
+    if rejecting {
+        let vote = rejected(statement);
+        let next = found.next;
+        return NextSpan { vote, next };
+    }
     if shared_ranges::is_share(statement) {
         let next = shared_ranges::skip_statements(rec, cursor, true);
         let range = TransactionLocatorRange {

@@ -11,10 +11,16 @@ use Rattle.base.specs.Checks.{refusal, passes, Answer, refused, answered, check
 use Rattle.committee.specs.Committee.{Committee, broken}
 use Rattle.blocks.specs.Reference.{TransactionLocator}
 use Rattle.store_layout.specs.Store.{storeInOrder}
-use Rattle.finality.specs.NextFinal.{nextFinalChecks}
+use Rattle.finality.specs.Voters.{certifies, certifiers, isFinal}
+use Rattle.finality.specs.NextFinal.{leastFinal, nextFinalChecks}
 use Rattle.finality.specs.Finality.{blocksOf}
 use Rattle.stretches.specs.Stretches.{Listing, stretches}
-use Rattle.stretches.specs.Bulk.{Given, givenAfter, wordsAfter, listStretches}
+use Rattle.stretches.specs.Bulk.{Given, givenAfter, wordsAfter, listStretches, finalStretches}
+use Rattle.stored_finals.specs.FinalShares.{isFinalShare, leastFinalShare}
+use Rattle.stored_finals.specs.Ordinary.{shareStretches}
+use Rattle.readings.specs.Readings.{old, votersIn, certifiesIn, certifiersIn, isFinalIn}
+use Rattle.readings.specs.NextFinal.{candidatesIn, leastFinalIn}
+use Rattle.reading_lists.specs.Lists.{isListed, leastListed, listEdges, listing, listedStretches}
 
 module _ (c : Committee) (s : Bytes) (k : Listing) (out : List ℕ) (after : Option TransactionLocator) where
   pub bulk-broken : broken c ≡ true → record { answer = refused 5; out = out } ≡ listStretches c s k out after
@@ -30,3 +36,13 @@ module _ (c : Committee) (s : Bytes) (k : Listing) (out : List ℕ) (after : Opt
         → ws ≡ wordsAfter (stretches c (blocksOf s) k (length out / 10) after) out → record { answer = a; out = ws } ≡ listStretches c s k out after
     unfolding listStretches nextFinalChecks checked passes refusal allOf
     bulk-asked o a ws e f = rw (b, o, e, f)
+
+-- in the old reading these are the questions without one
+module _ (c : Committee) (s : Bytes) (out : List ℕ) (after : Option TransactionLocator) where
+  pub old-shares : listedStretches true old c s out after ≡ shareStretches c s out after
+  unfolding listing isListed leastListed listEdges isFinalIn certifiersIn certifiesIn votersIn isFinal certifiers certifies isFinalShare leastFinalShare
+  old-shares = refl
+
+  pub old-wide : listedStretches false old c s out after ≡ finalStretches c s out after
+  unfolding listing isListed leastListed listEdges leastFinalIn candidatesIn isFinalIn certifiersIn certifiesIn votersIn leastFinal isFinal certifiers certifies
+  old-wide = refl

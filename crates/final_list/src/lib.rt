@@ -5,7 +5,9 @@ use final_search::NextStretch;
 use types::BlockReference;
 use types::TransactionLocator;
 use vote_starts::MaybeLocator;
+use vote_table::TableSizes;
 ghost use mathlib.Core.Path.{_≡_};
+ghost use mathlib.Core.Bool.{true, false};
 ghost use Prim.Native.Nat.{_+_, _*_, _/_, _≤_, _<_};
 ghost use lib.ListN.{length};
 ghost use lib.Seq.{sets};
@@ -14,9 +16,10 @@ ghost use Rattle.types.specs.Values.{asReference, asLocator};
 ghost use Rattle.finality.specs.Finality.{blocksOf};
 ghost use Rattle.vote_starts.specs.Answers.{asMaybe};
 ghost use Rattle.stretches.specs.Stretches.{stretches};
-ghost use Rattle.stretches.specs.Bulk.{referenceWords, stretchWords, givenAfter, wordsAfter, listStretches, finalStretches};
+ghost use Rattle.stretches.specs.Bulk.{referenceWords, stretchWords, givenAfter, wordsAfter, finalStretches};
 ghost use Rattle.stored_finals.specs.Ordinary.{shareStretches};
-ghost use Rattle.listed.specs.Listed.{listed};
+ghost use Rattle.readings.specs.Readings.{withdrawing, readingOf};
+ghost use Rattle.reading_lists.specs.Lists.{listing, listedStretches};
 ghost use Rattle.final_search.specs.Search.{Ready, Tables};
 ghost use Rattle.final_list.specs.Answers.{asStretches};
 ghost use Rattle.final_list.specs.Step.{stretchOf};
@@ -81,18 +84,18 @@ fn fill(
     total: Stake,
     store: &[u8],
     order: &[u64],
-    votes: &[u64],
-    m: usize,
-    tabled: usize,
+    table: &[u64],
+    sizes: TableSizes,
     places: &[u64],
     noted: usize,
     ordinary: bool,
+    withdrawing: bool,
     out: &mut [u64],
     after: MaybeLocator,
 ) -> StretchesAnswer
-    requires { ⌜ Ready (now stakes) (total .0) (now store) (now order) × Tables (now store) (now order) (now votes) m tabled (now places) noted ⌝ }
-    ensures { λ r. ⌜ asStretches r ≡ answered (givenAfter (listed ordinary (now (stakes .entry)) (blocksOf (now (store .entry)))) (asMaybe after) (stretches (now (stakes .entry)) (blocksOf (now (store .entry))) (listed ordinary (now (stakes .entry)) (blocksOf (now (store .entry)))) (length (now (out .entry)) / 10) (asMaybe after))) ⌝ }
-    ensures { λ r. ⌜ now (out .exit) ≡ wordsAfter (stretches (now (stakes .entry)) (blocksOf (now (store .entry))) (listed ordinary (now (stakes .entry)) (blocksOf (now (store .entry)))) (length (now (out .entry)) / 10) (asMaybe after)) (now (out .entry)) ⌝ }
+    requires { ⌜ Ready (now stakes) (total .0) (now store) (now order) × Tables (now store) (now order) (now table) sizes (now places) noted ⌝ }
+    ensures { λ r. ⌜ asStretches r ≡ answered (givenAfter (listing ordinary (readingOf withdrawing) (now (stakes .entry)) (blocksOf (now (store .entry)))) (asMaybe after) (stretches (now (stakes .entry)) (blocksOf (now (store .entry))) (listing ordinary (readingOf withdrawing) (now (stakes .entry)) (blocksOf (now (store .entry)))) (length (now (out .entry)) / 10) (asMaybe after))) ⌝ }
+    ensures { λ r. ⌜ now (out .exit) ≡ wordsAfter (stretches (now (stakes .entry)) (blocksOf (now (store .entry))) (listing ordinary (readingOf withdrawing) (now (stakes .entry)) (blocksOf (now (store .entry)))) (length (now (out .entry)) / 10) (asMaybe after)) (now (out .entry)) ⌝ }
 {
     let room = out.len() / 10;
     let mut certified = [0u64; 1024];
@@ -104,12 +107,12 @@ fn fill(
             total,
             store,
             order,
-            votes,
-            m,
-            tabled,
+            table,
+            sizes,
             places,
             noted,
             ordinary,
+            withdrawing,
             last,
             &mut certified,
         );
@@ -127,12 +130,12 @@ fn fill(
             total,
             store,
             order,
-            votes,
-            m,
-            tabled,
+            table,
+            sizes,
             places,
             noted,
             ordinary,
+            withdrawing,
             locator,
             &certified,
         );
@@ -146,22 +149,23 @@ fn fill(
     }
 }
 
-// The same with tables of 4,096 votes and 8,192 includes.
+// The same with tables of 4,096 votes and rejects, and of 8,192 includes.
 fn fill_large(
     stakes: &[u64],
     total: Stake,
     store: &[u8],
     order: &[u64],
     ordinary: bool,
+    withdrawing: bool,
     out: &mut [u64],
     after: MaybeLocator,
 ) -> StretchesAnswer
     requires { ⌜ Ready (now stakes) (total .0) (now store) (now order) ⌝ }
-    ensures { λ r. ⌜ asStretches r ≡ answered (givenAfter (listed ordinary (now (stakes .entry)) (blocksOf (now (store .entry)))) (asMaybe after) (stretches (now (stakes .entry)) (blocksOf (now (store .entry))) (listed ordinary (now (stakes .entry)) (blocksOf (now (store .entry)))) (length (now (out .entry)) / 10) (asMaybe after))) ⌝ }
-    ensures { λ r. ⌜ now (out .exit) ≡ wordsAfter (stretches (now (stakes .entry)) (blocksOf (now (store .entry))) (listed ordinary (now (stakes .entry)) (blocksOf (now (store .entry)))) (length (now (out .entry)) / 10) (asMaybe after)) (now (out .entry)) ⌝ }
+    ensures { λ r. ⌜ asStretches r ≡ answered (givenAfter (listing ordinary (readingOf withdrawing) (now (stakes .entry)) (blocksOf (now (store .entry)))) (asMaybe after) (stretches (now (stakes .entry)) (blocksOf (now (store .entry))) (listing ordinary (readingOf withdrawing) (now (stakes .entry)) (blocksOf (now (store .entry)))) (length (now (out .entry)) / 10) (asMaybe after))) ⌝ }
+    ensures { λ r. ⌜ now (out .exit) ≡ wordsAfter (stretches (now (stakes .entry)) (blocksOf (now (store .entry))) (listing ordinary (readingOf withdrawing) (now (stakes .entry)) (blocksOf (now (store .entry)))) (length (now (out .entry)) / 10) (asMaybe after)) (now (out .entry)) ⌝ }
 {
-    let mut votes = [0u64; 36864];
-    let size = vote_table::table_votes(store, order, &mut votes);
+    let mut table = [0u64; 36864];
+    let sizes = vote_table::table_both(store, order, &mut table, withdrawing);
     let mut places = [0u64; 8192];
     let noted = include_places::note_places(store, order, &mut places);
     fill(
@@ -169,68 +173,99 @@ fn fill_large(
         total,
         store,
         order,
-        &votes,
-        size.votes,
-        size.blocks,
+        &table,
+        sizes,
         &places,
         noted,
         ordinary,
+        withdrawing,
         out,
         after,
     )
 }
 
-// The same with tables of 128 votes and 256 includes, where these reach: zeroing more would cost a small store more than the question.
+// Whether the table holds what all of n blocks vote for and, where owners may withdraw, reject.
+fn holds_all(sizes: TableSizes, n: usize, withdrawing: bool) -> bool {
+    if sizes.voting < n {
+        return false;
+    }
+    if !withdrawing {
+        return true;
+    }
+    n <= sizes.rejecting
+}
+
+// The same with tables of 128 votes and rejects and of 256 includes, where these reach: zeroing more would cost a small store more than the question.
 fn fill_small(
     stakes: &[u64],
     total: Stake,
     store: &[u8],
     order: &[u64],
     ordinary: bool,
+    withdrawing: bool,
     out: &mut [u64],
     after: MaybeLocator,
 ) -> StretchesAnswer
     requires { ⌜ Ready (now stakes) (total .0) (now store) (now order) ⌝ }
-    ensures { λ r. ⌜ asStretches r ≡ answered (givenAfter (listed ordinary (now (stakes .entry)) (blocksOf (now (store .entry)))) (asMaybe after) (stretches (now (stakes .entry)) (blocksOf (now (store .entry))) (listed ordinary (now (stakes .entry)) (blocksOf (now (store .entry)))) (length (now (out .entry)) / 10) (asMaybe after))) ⌝ }
-    ensures { λ r. ⌜ now (out .exit) ≡ wordsAfter (stretches (now (stakes .entry)) (blocksOf (now (store .entry))) (listed ordinary (now (stakes .entry)) (blocksOf (now (store .entry)))) (length (now (out .entry)) / 10) (asMaybe after)) (now (out .entry)) ⌝ }
+    ensures { λ r. ⌜ asStretches r ≡ answered (givenAfter (listing ordinary (readingOf withdrawing) (now (stakes .entry)) (blocksOf (now (store .entry)))) (asMaybe after) (stretches (now (stakes .entry)) (blocksOf (now (store .entry))) (listing ordinary (readingOf withdrawing) (now (stakes .entry)) (blocksOf (now (store .entry)))) (length (now (out .entry)) / 10) (asMaybe after))) ⌝ }
+    ensures { λ r. ⌜ now (out .exit) ≡ wordsAfter (stretches (now (stakes .entry)) (blocksOf (now (store .entry))) (listing ordinary (readingOf withdrawing) (now (stakes .entry)) (blocksOf (now (store .entry)))) (length (now (out .entry)) / 10) (asMaybe after)) (now (out .entry)) ⌝ }
 {
-    let mut votes = [0u64; 1152];
-    let size = vote_table::table_votes(store, order, &mut votes);
-    if size.blocks < order.len() {
-        return fill_large(stakes, total, store, order, ordinary, out, after);
+    let mut table = [0u64; 1152];
+    let sizes = vote_table::table_both(store, order, &mut table, withdrawing);
+    if !holds_all(sizes, order.len(), withdrawing) {
+        return fill_large(
+            stakes,
+            total,
+            store,
+            order,
+            ordinary,
+            withdrawing,
+            out,
+            after,
+        );
     }
     let mut places = [0u64; 256];
     let noted = include_places::note_places(store, order, &mut places);
     if noted < order.len() {
-        return fill_large(stakes, total, store, order, ordinary, out, after);
+        return fill_large(
+            stakes,
+            total,
+            store,
+            order,
+            ordinary,
+            withdrawing,
+            out,
+            after,
+        );
     }
     fill(
         stakes,
         total,
         store,
         order,
-        &votes,
-        size.votes,
-        size.blocks,
+        &table,
+        sizes,
         &places,
         noted,
         ordinary,
+        withdrawing,
         out,
         after,
     )
 }
 
-// The ordinary or the wide list from the start or after a given locator on, as many stretches as the slice holds. The store is checked once
-// for the call.
+// The ordinary or the wide list, where owners may withdraw or not, from the start or after a given locator on, as many stretches as the slice holds.
+// The store is checked once for the call.
 pub fn list_stretches(
     stakes: &[u64],
     store: &[u8],
     ordinary: bool,
+    withdrawing: bool,
     out: &mut [u64],
     after: MaybeLocator,
 ) -> StretchesAnswer
-    ensures { λ r. ⌜ asStretches r ≡ listStretches (now (stakes .entry)) (now (store .entry)) (listed ordinary (now (stakes .entry)) (blocksOf (now (store .entry)))) (now (out .entry)) (asMaybe after) .answer ⌝ }
-    ensures { λ r. ⌜ now (out .exit) ≡ listStretches (now (stakes .entry)) (now (store .entry)) (listed ordinary (now (stakes .entry)) (blocksOf (now (store .entry)))) (now (out .entry)) (asMaybe after) .out ⌝ }
+    ensures { λ r. ⌜ asStretches r ≡ listedStretches ordinary (readingOf withdrawing) (now (stakes .entry)) (now (store .entry)) (now (out .entry)) (asMaybe after) .answer ⌝ }
+    ensures { λ r. ⌜ now (out .exit) ≡ listedStretches ordinary (readingOf withdrawing) (now (stakes .entry)) (now (store .entry)) (now (out .entry)) (asMaybe after) .out ⌝ }
 {
     let NewCommittee::Taken(total) = committee::new_committee(stakes) else {
         return StretchesAnswer::Refused(5);
@@ -240,7 +275,16 @@ pub fn list_stretches(
     }
     let mut order = [0u64; 1024];
     let count = block_votes::sorted_positions(store, &mut order);
-    fill_small(stakes, total, store, &order[..count], ordinary, out, after)
+    fill_small(
+        stakes,
+        total,
+        store,
+        &order[..count],
+        ordinary,
+        withdrawing,
+        out,
+        after,
+    )
 }
 
 // The ordinary list, of the final stored shares, from the start or after a given locator on, as many stretches as the slice holds, ten words
@@ -255,7 +299,7 @@ pub fn final_stretches(
     ensures { λ r. ⌜ asStretches r ≡ shareStretches (now (stakes .entry)) (now (store .entry)) (now (out .entry)) (asMaybe after) .answer ⌝ }
     ensures { λ r. ⌜ now (out .exit) ≡ shareStretches (now (stakes .entry)) (now (store .entry)) (now (out .entry)) (asMaybe after) .out ⌝ }
 {
-    list_stretches(stakes, store, true, out, after)
+    list_stretches(stakes, store, true, false, out, after)
 }
 
 // The wide list, of every final locator, in the same form.
@@ -268,5 +312,31 @@ pub fn wide_stretches(
     ensures { λ r. ⌜ asStretches r ≡ finalStretches (now (stakes .entry)) (now (store .entry)) (now (out .entry)) (asMaybe after) .answer ⌝ }
     ensures { λ r. ⌜ now (out .exit) ≡ finalStretches (now (stakes .entry)) (now (store .entry)) (now (out .entry)) (asMaybe after) .out ⌝ }
 {
-    list_stretches(stakes, store, false, out, after)
+    list_stretches(stakes, store, false, false, out, after)
+}
+
+// The ordinary list where owners may withdraw, in the same form.
+pub fn final_stretches_withdrawing(
+    stakes: &[u64],
+    store: &[u8],
+    out: &mut [u64],
+    after: MaybeLocator,
+) -> StretchesAnswer
+    ensures { λ r. ⌜ asStretches r ≡ listedStretches true withdrawing (now (stakes .entry)) (now (store .entry)) (now (out .entry)) (asMaybe after) .answer ⌝ }
+    ensures { λ r. ⌜ now (out .exit) ≡ listedStretches true withdrawing (now (stakes .entry)) (now (store .entry)) (now (out .entry)) (asMaybe after) .out ⌝ }
+{
+    list_stretches(stakes, store, true, true, out, after)
+}
+
+// The wide list where owners may withdraw, in the same form.
+pub fn wide_stretches_withdrawing(
+    stakes: &[u64],
+    store: &[u8],
+    out: &mut [u64],
+    after: MaybeLocator,
+) -> StretchesAnswer
+    ensures { λ r. ⌜ asStretches r ≡ listedStretches false withdrawing (now (stakes .entry)) (now (store .entry)) (now (out .entry)) (asMaybe after) .answer ⌝ }
+    ensures { λ r. ⌜ now (out .exit) ≡ listedStretches false withdrawing (now (stakes .entry)) (now (store .entry)) (now (out .entry)) (asMaybe after) .out ⌝ }
+{
+    list_stretches(stakes, store, false, true, out, after)
 }

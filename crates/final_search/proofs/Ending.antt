@@ -8,48 +8,53 @@ use native.Mathlib.Decide.{decLe}
 use lib.ListN.{length, getD}
 use Rattle.base.specs.Lists.{pick, allOf, _∈_}
 use Rattle.base.specs.Le.{Bytes}
+use Rattle.base.proofs.Le.{AllBytes}
 use Rattle.base.proofs.Tests.{not-both, and-both, fails}
 use Rattle.committee.specs.Committee.{Committee}
 use Rattle.blocks.specs.Reference.{TransactionLocator, locator}
 use Rattle.blocks.specs.Block.{Block}
+use Rattle.store_layout.specs.Store.{storeInOrder}
 use Rattle.store_layout.specs.Entry.{blockAt}
-use Rattle.finality.specs.Voters.{certifies}
 use Rattle.finality.specs.Finality.{blocksOf}
 use Rattle.block_votes.specs.Walk.{Sorted, blockAtPlace}
 use Rattle.block_votes.proofs.Sorting.{some-committee, place-stored}
-use Rattle.finalization_interpreter.proofs.Certify.{block-position}
-use Rattle.block_spans.specs.Joined.{joinedSpans}
-use Rattle.stretches.specs.Stretches.{Listing, edgesBy, agree, certifiedAlike, goesOn, EndsAt, nearest, stretchEnd}
+use Rattle.finalization_interpreter.proofs.Finding.{block-position}
+use Rattle.readings.specs.Readings.{Reading, readingOf, certifiesIn}
+use Rattle.stretches.specs.Stretches.{Listing, agree, certifiedAlike, goesOn, EndsAt, nearest, stretchEnd}
 use Rattle.stretches.proofs.Ends.{all-in, in-all, agrees, goes-at, next-end, one-end, end-meant}
-use Rattle.listed.specs.Listed.{listed}
-use Rattle.listed.proofs.Listed.{listed-lawful, listed-edges, listed-alike}
+use Rattle.reading_lists.specs.Lists.{listing}
+use Rattle.reading_lists.proofs.Least.{lists-lawful}
 use Rattle.final_walk.specs.Walk.{Flags, SameWords}
 use Rattle.types.specs.Values.{asLocator}
-use Rattle.final_search.specs.Search.{whenShown, asNext, FoundRight}
+use Rattle.final_search.specs.Search.{cutsIn, whenShown, asNext, FoundRight}
 use Rattle.final_search.specs.declared.FoundFinal.{FoundFinal}
 use Rattle.final_search.specs.declared.NextStretch.{NextStretch}
 use Rattle.final_search.specs.declared.NextStretch.the-variants.{At}
 use Rattle.final_search.proofs.Onward.{when-shown}
-use Rattle.final_search.proofs.Spans.{place-in}
+use Rattle.final_walk.proofs.Counting.{place-in}
+use Rattle.final_search.proofs.Ways.{list-cuts}
 
 -- the stretch of a locator goes on up to there
 pub record Going (bs : List Block) (k : Listing) (l : TransactionLocator) (e : ℕ) : Type 0 where
   pub longer : l .offset < e
   pub on : (x : ℕ) → l .offset ≤ x → x < e → goesOn bs k l x ≡ true
 
-module _ (o : Bool) (c : Committee) (bs : List Block) (l : TransactionLocator) (shown : listed o c bs .shows l ≡ true) where
+module _ (o w : Bool) (c : Committee) (s : Bytes) (bytes : AllBytes s) (ordered : storeInOrder c s ≡ true) (l : TransactionLocator) (shown : listing o (readingOf w) c (blocksOf s) .shows l ≡ true) where
+  abbrev bs : List Block
+  bs = blocksOf s
+
   abbrev list : Listing
-  list = listed o c bs
+  list = listing o (readingOf w) c bs
 
   abbrev edges : List ℕ
-  edges = edgesBy joinedSpans bs (l .block)
+  edges = cutsIn w s (l .block)
 
   ends : EndsAt bs list l (stretchEnd bs list l)
-  ends = end-meant bs list l (listed-lawful o c bs) shown .ends
+  ends = end-meant bs list l (lists-lawful o (readingOf w) c bs) shown .ends
 
   onward : (i : ℕ) → l .offset ≤ i → ((x : ℕ) → l .offset ≤ x → x ≤ i → goesOn bs list l x ≡ true) → (i < nearest i 0 edges) × Going bs list l (nearest i 0 edges)
   onward i h f =
-      let x = next-end bs list l (listed-lawful o c bs) shown edges (listed-edges o c bs (l .block)) i h f in
+      let x = next-end bs list l (lists-lawful o (readingOf w) c bs) shown edges (list-cuts c s bytes ordered o w (l .block)) i h f in
       (x .0, record { longer = omega (arith, x .0); on = x .1 })
 
   pub going-first : (e : ℕ) → e ≡ nearest (l .offset) 0 edges → Going bs list l e
@@ -93,13 +98,13 @@ module _ (o : Bool) (c : Committee) (bs : List Block) (l : TransactionLocator) (
 
 -- ---- what was found at a locator: it is shown, and the words are its own
 
-pub found-here : (k : Listing) (c : Committee) (s : Bytes) (order flags : List ℕ) (l : TransactionLocator) (r : NextStretch) (f : FoundFinal) → asNext r ≡ whenShown k l → FoundRight c s order flags r → r ≡ At f
-    → (k .shows l ≡ true) × Flags c s order l flags
+pub found-here : (k : Listing) (reading : Reading) (c : Committee) (s : Bytes) (order flags : List ℕ) (l : TransactionLocator) (r : NextStretch) (f : FoundFinal) → asNext r ≡ whenShown k l → FoundRight reading c s order flags r → r ≡ At f
+    → (k .shows l ≡ true) × Flags reading c s order l flags
 unfolding asNext FoundRight
-found-here k c s order flags l r f e q t =
+found-here k reading c s order flags l r f e q t =
     let x = when-shown k l (asLocator (f .locator)) (ap asNext (sym t) ∙ e) in
-    let g : FoundRight c s order flags (At f) = subst (FoundRight c s order flags) t q in
-    (x .0, subst (λ (m : TransactionLocator). Flags c s order m flags) (x .1) (g .1))
+    let g : FoundRight reading c s order flags (At f) = subst (FoundRight reading c s order flags) t q in
+    (x .0, subst (λ (m : TransactionLocator). Flags reading c s order m flags) (x .1) (g .1))
 
 -- ---- the words say whether the certifying blocks are the same
 
@@ -115,26 +120,25 @@ agree-same true u h = h
 agree-same false true h = sym h
 agree-same false false h = refl
 
-module _ (ordinary : Bool) (c : Committee) (s : Bytes) (order : List ℕ) (o : Sorted c s order) (l m : TransactionLocator) (a b : List ℕ) (f : Flags c s order l a) (g : Flags c s order m b) where
-  same-there : (k : ℕ) → k < length order → getD a k 0 ≡ getD b k 0 → certifies c (blocksOf s) m (blockAtPlace s order k) ≡ certifies c (blocksOf s) l (blockAtPlace s order k)
+module _ (ordinary : Bool) (reading : Reading) (c : Committee) (s : Bytes) (order : List ℕ) (o : Sorted c s order) (l m : TransactionLocator) (a b : List ℕ) (f : Flags reading c s order l a) (g : Flags reading c s order m b) where
+  same-there : (k : ℕ) → k < length order → getD a k 0 ≡ getD b k 0 → certifiesIn reading c (blocksOf s) m (blockAtPlace s order k) ≡ certifiesIn reading c (blocksOf s) l (blockAtPlace s order k)
   unfolding Flags
   same-there k h e = one-word _ _ (sym (f k h) ∙ e ∙ g k h)
 
-  pub words-same : SameWords a b (length order) true → certifiedAlike (blocksOf s) (listed ordinary c (blocksOf s)) l m ≡ true
-  unfolding SameWords certifiedAlike blockAtPlace
-  words-same h = listed-alike ordinary c (blocksOf s) l m ∙ in-all (λ d. agree (certifies c (blocksOf s) l d) (certifies c (blocksOf s) m d)) (blocksOf s) each
+  pub words-same : SameWords a b (length order) true → certifiedAlike (blocksOf s) (listing ordinary reading c (blocksOf s)) l m ≡ true
+  unfolding SameWords certifiedAlike blockAtPlace listing
+  words-same h = in-all (λ d. agree (certifiesIn reading c (blocksOf s) l d) (certifiesIn reading c (blocksOf s) m d)) (blocksOf s) each
     where
-      each : (d : Block) → d ∈ blocksOf s → agree (certifies c (blocksOf s) l d) (certifies c (blocksOf s) m d) ≡ true
+      each : (d : Block) → d ∈ blocksOf s → agree (certifiesIn reading c (blocksOf s) l d) (certifiesIn reading c (blocksOf s) m d) ≡ true
       each d i =
-          let x = block-position c s l order o d i in
+          let x = block-position c s order o d i in
           let y = place-in order (x .0) (x .1) in
-          agree-same _ _ (subst (λ (z : Block). certifies c (blocksOf s) m z ≡ certifies c (blocksOf s) l z) (ap (blockAt s) (y .1 .1) ∙ x .2) (same-there (y .0) (y .1 .0) (h (y .0) (y .1 .0))))
+          agree-same _ _ (subst (λ (z : Block). certifiesIn reading c (blocksOf s) m z ≡ certifiesIn reading c (blocksOf s) l z) (ap (blockAt s) (y .1 .1) ∙ x .2) (same-there (y .0) (y .1 .0) (h (y .0) (y .1 .0))))
 
-  pub words-other : SameWords a b (length order) false → certifiedAlike (blocksOf s) (listed ordinary c (blocksOf s)) l m ≡ false
-  unfolding SameWords Flags certifiedAlike
+  pub words-other : SameWords a b (length order) false → certifiedAlike (blocksOf s) (listing ordinary reading c (blocksOf s)) l m ≡ false
+  unfolding SameWords Flags certifiedAlike listing
   words-other h =
       let k : ℕ = h .0 in
-      listed-alike ordinary c (blocksOf s) l m
-      ∙ fails (allOf (λ d. agree (certifies c (blocksOf s) l d) (certifies c (blocksOf s) m d)) (blocksOf s)) λ t.
-      let e = agrees _ _ (all-in (λ d. agree (certifies c (blocksOf s) l d) (certifies c (blocksOf s) m d)) (blocksOf s) t (blockAtPlace s order k) (place-stored s order (some-committee o) k (h .1 .0))) in
+      fails (allOf (λ d. agree (certifiesIn reading c (blocksOf s) l d) (certifiesIn reading c (blocksOf s) m d)) (blocksOf s)) λ t.
+      let e = agrees _ _ (all-in (λ d. agree (certifiesIn reading c (blocksOf s) l d) (certifiesIn reading c (blocksOf s) m d)) (blocksOf s) t (blockAtPlace s order k) (place-stored s order (some-committee o) k (h .1 .0))) in
       h .1 .1 (f k (h .1 .0) ∙ ap {B = ℕ} (λ (z : Bool). pick z 1 0) (sym e) ∙ sym (g k (h .1 .0)))

@@ -1,3 +1,4 @@
 pub mod Spans
-pub mod Ending
+pub mod Ways
 pub mod Onward
+pub mod Ending

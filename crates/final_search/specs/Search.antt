@@ -1,24 +1,26 @@
 -- Machinery for the contracts of inner functions: what the search stands on, and what it finds. Assumes nothing: these are definitions.
 use Prim.Native.Nat.{ℕ, _≤_}
 use mathlib.Core.Path.{_≡_}
-use mathlib.Core.Bool.{Bool, not, _&&_, _||_}
-use mathlib.Core.List.{List, map, flatten}
+use mathlib.Core.Bool.{Bool, true, false, not, _&&_, _||_}
+use mathlib.Core.List.{List, _++_, map, flatten}
 use mathlib.Core.Option.{Option, none, some}
 use lib.ListN.{length}
 use Rattle.base.specs.Lists.{pick, keep}
 use Rattle.base.specs.Le.{Bytes}
 use Rattle.committee.specs.Committee.{Committee, Stake, totalStake}
-use Rattle.blocks.specs.Reference.{TransactionLocator}
+use Rattle.blocks.specs.Reference.{BlockReference, TransactionLocator}
 use Rattle.blocks.specs.Block.{Block}
 use Rattle.types.specs.Values.{asLocator}
 use Rattle.store_layout.specs.Shares.{isStoredShare}
 use Rattle.finality.specs.Finality.{blocksOf}
 use Rattle.finality.specs.NextFinal.{isAfter, leastLocator}
 use Rattle.block_votes.specs.Walk.{Sorted}
-use Rattle.block_spans.specs.Joined.{joinedSpans}
+use Rattle.block_spans.specs.Ranges.{rangesOf}
 use Rattle.vote_starts.specs.Walk.{startOf}
-use Rattle.stretches.specs.Stretches.{Listing}
-use Rattle.vote_table.specs.Table.{Tabled}
+use Rattle.readings.specs.Readings.{Reading}
+use Rattle.stretches.specs.Stretches.{Listing, edgesBy}
+use Rattle.vote_table.specs.declared.TableSizes as sizes
+use Rattle.vote_table.specs.Table.{BothTabled}
 use Rattle.include_places.specs.Places.{Placed}
 use Rattle.final_walk.specs.Walk.{CertifyFlagged}
 use Rattle.final_search.specs.declared.NextStretch as next
@@ -28,17 +30,27 @@ use Rattle.final_search.specs.declared.NextStretch.the-variants.{At, Not
 abbrev pub Ready : Committee → Stake → Bytes → List ℕ → Type 0
 Ready c total s order = (Sorted c s order × (total ≡ totalStake c)) × (length order ≤ 1024)
 
--- the votes of the first blocks in a table, and the places of the includes of the first blocks
-abbrev pub Tables : Bytes → List ℕ → List ℕ → ℕ → ℕ → List ℕ → ℕ → Type 0
-Tables s order votes m tabled places noted = ((tabled ≤ length order) × Tabled s order votes tabled m) × Placed s order places noted
+-- the votes of the first blocks and behind them their rejects in a table, and the places of the includes of the first blocks
+abbrev pub Tables : Bytes → List ℕ → List ℕ → sizes.TableSizes → List ℕ → ℕ → Type 0
+Tables s order table a places noted = BothTabled s order table a × Placed s order places noted
 
--- where the votes of the stored blocks begin
-unfoldable pub votedStarts : Bytes → List TransactionLocator
-votedStarts s = flatten (map (λ b. map startOf (joinedSpans b)) (blocksOf s))
+-- where the votes of the stored blocks begin, or just after what they reject
+unfoldable pub spokenStarts : Bool → Bytes → List TransactionLocator
+spokenStarts rejecting s = flatten (map (λ b. map (startOf rejecting) (rangesOf rejecting b)) (blocksOf s))
 
--- the least of them after a locator that a list shows
-unfoldable pub leastStart : Listing → Bytes → Option TransactionLocator → Option TransactionLocator
-leastStart k s after = leastLocator (keep (λ l. isAfter after l && k .shows l) (votedStarts s))
+-- where a list can go on: where a vote begins and, where owners may withdraw, just after a rejected locator
+unfoldable pub startsIn : Bool → Bytes → List TransactionLocator
+startsIn true s = spokenStarts false s ++ spokenStarts true s
+startsIn false s = spokenStarts false s
+
+-- where it can change: where a vote begins and ends and, where owners may withdraw, where a reject does
+unfoldable pub cutsIn : Bool → Bytes → BlockReference → List ℕ
+cutsIn true s r = edgesBy (rangesOf false) (blocksOf s) r ++ edgesBy (rangesOf true) (blocksOf s) r
+cutsIn false s r = edgesBy (rangesOf false) (blocksOf s) r
+
+-- the least of some places after a locator that a list shows
+unfoldable pub leastStart : Listing → List TransactionLocator → Option TransactionLocator → Option TransactionLocator
+leastStart k starts after = leastLocator (keep (λ l. isAfter after l && k .shows l) starts)
 
 -- what a list asks of a locator besides being final: the ordinary one shows stored shares only
 unfoldable pub mayShow : Bool → List Block → TransactionLocator → Bool
@@ -54,6 +66,6 @@ asNext (At f) = some (asLocator (f .locator))
 asNext Nothing = none
 
 -- with its certifying blocks
-unfoldable pub FoundRight : Committee → Bytes → List ℕ → List ℕ → next.NextStretch → Type 0
-FoundRight c s order flags (At f) = CertifyFlagged c s order (asLocator (f .locator)) flags (f .found)
-FoundRight c s order flags Nothing = Unit {0}
+unfoldable pub FoundRight : Reading → Committee → Bytes → List ℕ → List ℕ → next.NextStretch → Type 0
+FoundRight reading c s order flags (At f) = CertifyFlagged reading c s order (asLocator (f .locator)) flags (f .found)
+FoundRight reading c s order flags Nothing = Unit {0}

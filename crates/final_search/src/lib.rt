@@ -1,10 +1,11 @@
-// The next stretch of a list of final locators, the ordinary or the wide one: the least locator that it shows after a given one, and where
-// its stretch ends.
+// The next stretch of a list of final locators, the ordinary or the wide one, in either reading of a reject: the least locator that it shows after a
+// given one, and where its stretch ends.
 use committee::Stake;
 use finalization_interpreter::Certifiers;
 use types::BlockReference;
 use types::TransactionLocator;
 use vote_starts::MaybeLocator;
+use vote_table::TableSizes;
 ghost use mathlib.Core.Path.{_≡_};
 ghost use mathlib.Core.Bool.{true};
 ghost use Prim.Native.Nat.{_≤_};
@@ -13,15 +14,17 @@ ghost use Rattle.base.specs.Lists.{keep};
 ghost use Rattle.types.specs.Values.{asReference, asLocator};
 ghost use Rattle.finality.specs.Finality.{blocksOf};
 ghost use Rattle.finality.specs.NextFinal.{isAfter, leastLocator};
+ghost use Rattle.readings.specs.Readings.{readingOf};
 ghost use Rattle.vote_starts.specs.Answers.{asMaybe};
+ghost use Rattle.vote_starts.specs.Walk.{lesserOf};
 ghost use Rattle.block_votes.specs.Walk.{SortedStore};
-ghost use Rattle.block_spans.specs.Joined.{joinedSpans};
+ghost use Rattle.block_spans.specs.Ranges.{rangesOf};
 ghost use Rattle.stretches.specs.Stretches.{edgesBy, nearest, stretchEnd};
 ghost use Rattle.stored_shares.specs.Stores.{Ordered};
-ghost use Rattle.listed.specs.Listed.{listed};
-ghost use Rattle.vote_table.specs.Table.{Tabled};
+ghost use Rattle.reading_lists.specs.Lists.{listing};
+ghost use Rattle.vote_table.specs.Table.{Tabled, BothTabled};
 ghost use Rattle.final_walk.specs.Walk.{Flags};
-ghost use Rattle.final_search.specs.Search.{Ready, Tables, votedStarts, leastStart, mayShow, whenShown, asNext, FoundRight};
+ghost use Rattle.final_search.specs.Search.{Ready, Tables, spokenStarts, startsIn, cutsIn, leastStart, mayShow, whenShown, asNext, FoundRight};
 
 // A final locator, and its certifying blocks.
 pub struct FoundFinal {
@@ -36,37 +39,121 @@ pub enum NextStretch {
 
 // ---- the table first, then the store
 
-// The least locator after the given one at which a vote begins.
-fn first_start(
+// The lesser of the least locator so far and the least one after the given one at which a vote begins, or just after a rejected one.
+fn spoken_start(
     store: &[u8],
     order: &[u64],
-    votes: &[u64],
+    table: &[u64],
     m: usize,
     tabled: usize,
     last: MaybeLocator,
+    best: MaybeLocator,
+    rejecting: bool,
 ) -> MaybeLocator
-    requires { ⌜ SortedStore (now store) (now order) × ((tabled ≤ length (now order)) × Tabled (now store) (now order) (now votes) tabled m) ⌝ }
-    ensures { λ r. ⌜ asMaybe r ≡ leastLocator (keep (isAfter (asMaybe last)) (votedStarts (now (store .entry)))) ⌝ }
+    requires { ⌜ SortedStore (now store) (now order) × ((tabled ≤ length (now order)) × Tabled rejecting (now store) (now order) (now table) tabled m) ⌝ }
+    ensures { λ r. ⌜ asMaybe r ≡ lesserOf (asMaybe best) (leastLocator (keep (isAfter (asMaybe last)) (spokenStarts rejecting (now (store .entry))))) ⌝ }
 {
-    let least = vote_table::table_start(votes, m, last);
-    vote_starts::least_start(store, order, tabled, last, least)
+    let least = vote_table::table_start(table, m, last, best, rejecting);
+    vote_starts::least_start(store, order, tabled, last, least, rejecting)
 }
 
-// The least offset of a block above a given one at which a vote begins or ends; 0 where there is none.
-pub fn next_edge(
+// The least locator after the given one at which a vote begins and, where owners may withdraw, just after a rejected one.
+fn first_start(
     store: &[u8],
     order: &[u64],
-    votes: &[u64],
+    table: &[u64],
+    sizes: TableSizes,
+    withdrawing: bool,
+    last: MaybeLocator,
+) -> MaybeLocator
+    requires { ⌜ SortedStore (now store) (now order) × BothTabled (now store) (now order) (now table) sizes ⌝ }
+    ensures { λ r. ⌜ asMaybe r ≡ leastLocator (keep (isAfter (asMaybe last)) (startsIn withdrawing (now (store .entry)))) ⌝ }
+{
+    let none = MaybeLocator::Nothing;
+    let least = spoken_start(
+        store,
+        order,
+        table,
+        sizes.votes,
+        sizes.voting,
+        last,
+        none,
+        false,
+    );
+    if !withdrawing {
+        return least;
+    }
+    let from = 9 * sizes.votes;
+    spoken_start(
+        store,
+        order,
+        &table[from..],
+        sizes.rejects,
+        sizes.rejecting,
+        last,
+        least,
+        true,
+    )
+}
+
+// The least of the best so far, 0 where there is none, and the offsets of a block above a given one at which a vote, or a reject, begins or ends.
+fn spoken_edge(
+    store: &[u8],
+    order: &[u64],
+    table: &[u64],
     m: usize,
     tabled: usize,
     block: BlockReference,
     offset: u64,
+    best: u64,
+    rejecting: bool,
 ) -> u64
-    requires { ⌜ SortedStore (now store) (now order) × ((tabled ≤ length (now order)) × Tabled (now store) (now order) (now votes) tabled m) ⌝ }
-    ensures { λ r. ⌜ r ≡ nearest offset 0 (edgesBy joinedSpans (blocksOf (now (store .entry))) (asReference block)) ⌝ }
+    requires { ⌜ SortedStore (now store) (now order) × ((tabled ≤ length (now order)) × Tabled rejecting (now store) (now order) (now table) tabled m) ⌝ }
+    ensures { λ r. ⌜ r ≡ nearest offset best (edgesBy (rangesOf rejecting) (blocksOf (now (store .entry))) (asReference block)) ⌝ }
 {
-    let near = vote_table::table_edge(votes, m, block, offset);
-    vote_edges::least_edge(store, order, tabled, block, offset, near)
+    let near = vote_table::table_edge(table, m, block, offset, best);
+    vote_edges::least_edge(store, order, tabled, block, offset, near, rejecting)
+}
+
+// The least offset of a block above a given one at which a vote begins or ends and, where owners may withdraw, a reject; 0 where there is none.
+pub fn next_edge(
+    store: &[u8],
+    order: &[u64],
+    table: &[u64],
+    sizes: TableSizes,
+    withdrawing: bool,
+    block: BlockReference,
+    offset: u64,
+) -> u64
+    requires { ⌜ SortedStore (now store) (now order) × BothTabled (now store) (now order) (now table) sizes ⌝ }
+    ensures { λ r. ⌜ r ≡ nearest offset 0 (cutsIn withdrawing (now (store .entry)) (asReference block)) ⌝ }
+{
+    let near = spoken_edge(
+        store,
+        order,
+        table,
+        sizes.votes,
+        sizes.voting,
+        block,
+        offset,
+        0,
+        false,
+    );
+    if !withdrawing {
+        return near;
+    }
+    let from = 9 * sizes.votes;
+    spoken_edge(
+        store,
+        order,
+        &table[from..],
+        sizes.rejects,
+        sizes.rejecting,
+        block,
+        offset,
+        near,
+        true,
+    )
 }
 
 // ---- a locator by itself
@@ -88,17 +175,17 @@ fn shown_at(
     total: Stake,
     store: &[u8],
     order: &[u64],
-    votes: &[u64],
-    m: usize,
-    tabled: usize,
+    table: &[u64],
+    sizes: TableSizes,
     places: &[u64],
     noted: usize,
     ordinary: bool,
+    withdrawing: bool,
     locator: TransactionLocator,
     certified: &mut [u64],
 ) -> NextStretch
-    requires { ⌜ (Ready (now stakes) (total .0) (now store) (now order) × (length (now certified) ≡ 1024)) × Tables (now store) (now order) (now votes) m tabled (now places) noted ⌝ }
-    ensures { λ r. ⌜ (asNext r ≡ whenShown (listed ordinary (now (stakes .entry)) (blocksOf (now (store .entry)))) (asLocator locator)) × FoundRight (now (stakes .entry)) (now (store .entry)) (now (order .entry)) (now (certified .exit)) r ⌝ }
+    requires { ⌜ (Ready (now stakes) (total .0) (now store) (now order) × (length (now certified) ≡ 1024)) × Tables (now store) (now order) (now table) sizes (now places) noted ⌝ }
+    ensures { λ r. ⌜ (asNext r ≡ whenShown (listing ordinary (readingOf withdrawing) (now (stakes .entry)) (blocksOf (now (store .entry)))) (asLocator locator)) × FoundRight (readingOf withdrawing) (now (stakes .entry)) (now (store .entry)) (now (order .entry)) (now (certified .exit)) r ⌝ }
 {
     if !may_show(store, ordinary, locator) {
         return NextStretch::Nothing;
@@ -108,11 +195,11 @@ fn shown_at(
         total,
         store,
         order,
-        votes,
-        m,
-        tabled,
+        table,
+        sizes,
         places,
         noted,
+        withdrawing,
         locator,
         certified,
     );
@@ -124,28 +211,28 @@ fn shown_at(
 
 // ---- the least locator of the list
 
-// The least locator that the list shows after the given one among those at which a vote begins. Where one is found, a word for each block
-// says whether it certifies it.
+// The least locator that the list shows after the given one among those at which it can go on. Where one is found, a word for each block says whether
+// it certifies it.
 fn shown_start(
     stakes: &[u64],
     total: Stake,
     store: &[u8],
     order: &[u64],
-    votes: &[u64],
-    m: usize,
-    tabled: usize,
+    table: &[u64],
+    sizes: TableSizes,
     places: &[u64],
     noted: usize,
     ordinary: bool,
+    withdrawing: bool,
     after: MaybeLocator,
     certified: &mut [u64],
 ) -> NextStretch
-    requires { ⌜ (Ready (now stakes) (total .0) (now store) (now order) × (length (now certified) ≡ 1024)) × Tables (now store) (now order) (now votes) m tabled (now places) noted ⌝ }
-    ensures { λ r. ⌜ (asNext r ≡ leastStart (listed ordinary (now (stakes .entry)) (blocksOf (now (store .entry)))) (now (store .entry)) (asMaybe after)) × FoundRight (now (stakes .entry)) (now (store .entry)) (now (order .entry)) (now (certified .exit)) r ⌝ }
+    requires { ⌜ (Ready (now stakes) (total .0) (now store) (now order) × (length (now certified) ≡ 1024)) × Tables (now store) (now order) (now table) sizes (now places) noted ⌝ }
+    ensures { λ r. ⌜ (asNext r ≡ leastStart (listing ordinary (readingOf withdrawing) (now (stakes .entry)) (blocksOf (now (store .entry)))) (startsIn withdrawing (now (store .entry))) (asMaybe after)) × FoundRight (readingOf withdrawing) (now (stakes .entry)) (now (store .entry)) (now (order .entry)) (now (certified .exit)) r ⌝ }
 {
     let mut last = after;
     loop {
-        let start = first_start(store, order, votes, m, tabled, last);
+        let start = first_start(store, order, table, sizes, withdrawing, last);
         let MaybeLocator::Locator(locator) = start else {
             return NextStretch::Nothing;
         };
@@ -154,12 +241,12 @@ fn shown_start(
             total,
             store,
             order,
-            votes,
-            m,
-            tabled,
+            table,
+            sizes,
             places,
             noted,
             ordinary,
+            withdrawing,
             locator,
             certified,
         );
@@ -176,17 +263,17 @@ pub fn final_after(
     total: Stake,
     store: &[u8],
     order: &[u64],
-    votes: &[u64],
-    m: usize,
-    tabled: usize,
+    table: &[u64],
+    sizes: TableSizes,
     places: &[u64],
     noted: usize,
     ordinary: bool,
+    withdrawing: bool,
     after: MaybeLocator,
     certified: &mut [u64],
 ) -> NextStretch
-    requires { ⌜ (Ready (now stakes) (total .0) (now store) (now order) × (length (now certified) ≡ 1024)) × Tables (now store) (now order) (now votes) m tabled (now places) noted ⌝ }
-    ensures { λ r. ⌜ (asNext r ≡ listed ordinary (now (stakes .entry)) (blocksOf (now (store .entry))) .next (asMaybe after)) × FoundRight (now (stakes .entry)) (now (store .entry)) (now (order .entry)) (now (certified .exit)) r ⌝ }
+    requires { ⌜ (Ready (now stakes) (total .0) (now store) (now order) × (length (now certified) ≡ 1024)) × Tables (now store) (now order) (now table) sizes (now places) noted ⌝ }
+    ensures { λ r. ⌜ (asNext r ≡ listing ordinary (readingOf withdrawing) (now (stakes .entry)) (blocksOf (now (store .entry))) .next (asMaybe after)) × FoundRight (readingOf withdrawing) (now (stakes .entry)) (now (store .entry)) (now (order .entry)) (now (certified .exit)) r ⌝ }
 {
     let MaybeLocator::Locator(given) = after else {
         return shown_start(
@@ -194,12 +281,12 @@ pub fn final_after(
             total,
             store,
             order,
-            votes,
-            m,
-            tabled,
+            table,
+            sizes,
             places,
             noted,
             ordinary,
+            withdrawing,
             after,
             certified,
         );
@@ -211,12 +298,12 @@ pub fn final_after(
             total,
             store,
             order,
-            votes,
-            m,
-            tabled,
+            table,
+            sizes,
             places,
             noted,
             ordinary,
+            withdrawing,
             after,
             certified,
         );
@@ -231,12 +318,12 @@ pub fn final_after(
         total,
         store,
         order,
-        votes,
-        m,
-        tabled,
+        table,
+        sizes,
         places,
         noted,
         ordinary,
+        withdrawing,
         locator,
         certified,
     );
@@ -248,12 +335,12 @@ pub fn final_after(
         total,
         store,
         order,
-        votes,
-        m,
-        tabled,
+        table,
+        sizes,
         places,
         noted,
         ordinary,
+        withdrawing,
         after,
         certified,
     )
@@ -268,25 +355,25 @@ pub fn stretch_end(
     total: Stake,
     store: &[u8],
     order: &[u64],
-    votes: &[u64],
-    m: usize,
-    tabled: usize,
+    table: &[u64],
+    sizes: TableSizes,
     places: &[u64],
     noted: usize,
     ordinary: bool,
+    withdrawing: bool,
     locator: TransactionLocator,
     certified: &[u64],
 ) -> u64
-    requires { ⌜ ((Ready (now stakes) (total .0) (now store) (now order) × (length (now certified) ≡ 1024)) × Tables (now store) (now order) (now votes) m tabled (now places) noted) × ((listed ordinary (now stakes) (blocksOf (now store)) .shows (asLocator locator) ≡ true) × Flags (now stakes) (now store) (now order) (asLocator locator) (now certified)) ⌝ }
-    ensures { λ r. ⌜ r ≡ stretchEnd (blocksOf (now (store .entry))) (listed ordinary (now (stakes .entry)) (blocksOf (now (store .entry)))) (asLocator locator) ⌝ }
+    requires { ⌜ ((Ready (now stakes) (total .0) (now store) (now order) × (length (now certified) ≡ 1024)) × Tables (now store) (now order) (now table) sizes (now places) noted) × ((listing ordinary (readingOf withdrawing) (now stakes) (blocksOf (now store)) .shows (asLocator locator) ≡ true) × Flags (readingOf withdrawing) (now stakes) (now store) (now order) (asLocator locator) (now certified)) ⌝ }
+    ensures { λ r. ⌜ r ≡ stretchEnd (blocksOf (now (store .entry))) (listing ordinary (readingOf withdrawing) (now (stakes .entry)) (blocksOf (now (store .entry)))) (asLocator locator) ⌝ }
 {
     let mut other = [0u64; 1024];
     let mut end = next_edge(
         store,
         order,
-        votes,
-        m,
-        tabled,
+        table,
+        sizes,
+        withdrawing,
         locator.block,
         locator.offset,
     );
@@ -298,12 +385,12 @@ pub fn stretch_end(
             total,
             store,
             order,
-            votes,
-            m,
-            tabled,
+            table,
+            sizes,
             places,
             noted,
             ordinary,
+            withdrawing,
             at,
             &mut other,
         );
@@ -313,6 +400,6 @@ pub fn stretch_end(
         if !final_walk::same_words(certified, &other, order.len()) {
             return end;
         }
-        end = next_edge(store, order, votes, m, tabled, block, end);
+        end = next_edge(store, order, table, sizes, withdrawing, block, end);
     }
 }

@@ -1,25 +1,26 @@
-// The blocks that certify a locator, by a walk over the stored blocks in ascending reference order.
+// The blocks that certify a locator in either reading of a reject, by walks over the stored blocks in ascending reference order.
 use authority_set::AuthoritySet;
 use committee::Stake;
 use finalization_interpreter::Certifiers;
 use types::TransactionLocator;
+use vote_table::TableSizes;
 ghost use mathlib.Core.Path.{_≡_};
 ghost use mathlib.Core.Bool.{true, false, not, _&&_};
 ghost use Prim.Native.Nat.{_+_, _*_, _≤_, _<_};
-ghost use lib.Dec.{eqb};
 ghost use lib.ListN.{length};
 ghost use Rattle.base.specs.Lists.{pick};
 ghost use Rattle.committee.specs.Committee.{broken, totalStake};
-ghost use Rattle.authority_set.specs.AuthoritySet.{nobody, inserted, united};
-ghost use Rattle.blocks.specs.Block.{author};
 ghost use Rattle.types.specs.Values.{asLocator};
 ghost use Rattle.store_layout.specs.Entry.{blockAt, isEntry};
-ghost use Rattle.block_votes.specs.Walk.{Sorted, SortedStore};
+ghost use Rattle.finality.specs.Voters.{ownVote};
+ghost use Rattle.readings.specs.Readings.{withdrawing, readingOf};
+ghost use Rattle.block_votes.specs.Walk.{Sorted};
 ghost use Rattle.include_places.specs.Places.{Placed};
-ghost use Rattle.vote_table.specs.Table.{Tabled};
-ghost use Rattle.final_walk.specs.Walk.{withVoters, Sure, Owned, OwnedBelow, SameWords, CertifyMarked, CertifyFlagged};
+ghost use Rattle.vote_table.specs.Table.{BothTabled};
+ghost use Rattle.speakers.specs.Heard.{HeardBelow};
+ghost use Rattle.final_walk.specs.Walk.{Sure, countedAt, SameWords, CertifyCounted, CertifyFlagged};
 
-// ---- the steps of the walk
+// ---- who certifies
 
 // A set of voters, and whether it holds quorum.
 struct Checked {
@@ -41,28 +42,6 @@ fn check(stakes: &[u64], total: Stake, last: Checked, voters: AuthoritySet) -> C
     Checked { voters, quorum }
 }
 
-// The voters below, and the author of the block at a position if its own vote is marked.
-fn with_own(store: &[u8], at: usize, mark: u64, below: AuthoritySet) -> AuthoritySet
-    requires { ⌜ (isEntry (now store) at ≡ true) × (author (blockAt (now store) at) < 128) ⌝ }
-    ensures { λ r. ⌜ r ≡ united (pick (eqb mark 1) (inserted nobody (author (blockAt (now (store .entry)) at))) nobody) below ⌝ }
-{
-    if mark != 1 {
-        return voters::union(AuthoritySet::new(), below);
-    }
-    let block = store_order::reference_at(store, at);
-    let own = AuthoritySet::new().insert(block.authority);
-    voters::union(own, below)
-}
-
-// Remembers the voters of the block at a place.
-fn note_voters(memo: &mut [u64], k: usize, voters: AuthoritySet)
-    requires { ⌜ 2 * k + 1 < length (now memo) ⌝ }
-    ensures { λ _. ⌜ now (memo .exit) ≡ withVoters (now (memo .entry)) k voters ⌝ }
-{
-    memo[2 * k] = voters.low;
-    memo[2 * k + 1] = voters.high;
-}
-
 // Whether the block at a position certifies, where its voters hold quorum or not.
 fn certifies_at(store: &[u8], at: usize, quorum: bool) -> bool
     requires { ⌜ isEntry (now store) at ≡ true ⌝ }
@@ -72,23 +51,6 @@ fn certifies_at(store: &[u8], at: usize, quorum: bool) -> bool
         return false;
     }
     quorum
-}
-
-// Marks the places, from one on, of the blocks that vote for a locator.
-fn mark_rest(store: &[u8], order: &[u64], from: usize, locator: TransactionLocator, own: &mut [u64])
-    requires { ⌜ (SortedStore (now store) (now order) × (from ≤ length (now order))) × ((length (now order) ≤ length (now own)) × OwnedBelow (now store) (now order) (asLocator locator) (now own) from) ⌝ }
-    ensures { λ _. ⌜ Owned (now (store .entry)) (now (order .entry)) (asLocator locator) (now (own .exit)) ⌝ }
-{
-    let mut k = from;
-    while k < order.len() {
-        let i = k;
-        let at = order[i] as usize;
-        k += 1;
-        if !block_votes::votes_at(store, at, locator) {
-            continue;
-        }
-        own[i] = 1;
-    }
 }
 
 // A word for a test.
@@ -101,39 +63,54 @@ fn flag(yes: bool) -> u64
     0
 }
 
-// Walks over the blocks in ascending reference order: an include stands at a lower place, so its voters are known. Writes 1 for each block
-// that certifies, and 0 for each other one.
-fn walk(
+// Who votes in the ancestry of the block at a place, less those who reject there where any block rejects.
+fn counted_at(voters: &[u64], rejecters: &[u64], rejected: bool, k: usize) -> AuthoritySet
+    requires { ⌜ (2 * k + 1 < length (now voters)) × (rejected ≡ true → 2 * k + 1 < length (now rejecters)) ⌝ }
+    ensures { λ r. ⌜ r ≡ countedAt rejected (now (voters .entry)) (now (rejecters .entry)) k ⌝ }
+{
+    let low = voters[2 * k];
+    let high = voters[2 * k + 1];
+    let all = AuthoritySet { low, high };
+    if !rejected {
+        return all;
+    }
+    let gone = AuthoritySet {
+        low: rejecters[2 * k],
+        high: rejecters[2 * k + 1],
+    };
+    block_rejects::less(all, gone)
+}
+
+// Goes over the blocks, of which it is known who votes and who rejects in their ancestry. Writes 1 for each block that certifies, and 0 for each
+// other one.
+fn certify(
     stakes: &[u64],
     total: Stake,
     store: &[u8],
     order: &[u64],
-    places: &[u64],
-    noted: usize,
-    own: &[u64],
+    voters: &[u64],
+    rejecters: &[u64],
+    rejected: bool,
     certified: &mut [u64],
 ) -> Certifiers
-    requires { ⌜ ((Sorted (now stakes) (now store) (now order) × (total .0 ≡ totalStake (now stakes))) × (length (now order) ≤ 1024)) × ((length (now own) ≡ 1024) × ((length (now certified) ≡ 1024) × Placed (now store) (now order) (now places) noted)) ⌝ }
-    ensures { λ r. ⌜ CertifyMarked (now (stakes .entry)) (now (store .entry)) (now (order .entry)) (now (own .entry)) (now (certified .exit)) r ⌝ }
+    requires { ⌜ ((Sorted (now stakes) (now store) (now order) × (total .0 ≡ totalStake (now stakes))) × (length (now order) ≤ 1024)) × ((length (now certified) ≡ 1024) × ((length (now voters) ≡ 2048) × (rejected ≡ true → length (now rejecters) ≡ 2048))) ⌝ }
+    ensures { λ r. ⌜ CertifyCounted rejected (now (stakes .entry)) (now (store .entry)) (now (order .entry)) (now (voters .entry)) (now (rejecters .entry)) (now (certified .exit)) r ⌝ }
 {
-    let mut memo = [0u64; 2048];
     let mut authors = AuthoritySet::new();
     let mut blocks: usize = 0;
-    let voters = AuthoritySet::new();
-    let quorum = committee::is_quorum(total, authority_set::stake_of(stakes, voters));
-    let mut checked = Checked { voters, quorum };
-    let mut i: usize = 0;
+    let none = AuthoritySet::new();
+    let quorum = committee::is_quorum(total, authority_set::stake_of(stakes, none));
+    let mut checked = Checked {
+        voters: none,
+        quorum,
+    };
     let mut k: usize = 0;
     while k < order.len() {
         let at = order[k] as usize;
-        let count = block_votes::include_count_at(store, at);
-        let below = include_places::gather_at(store, order, places, noted, k, i, &memo);
-        let voters = with_own(store, at, own[k], below);
-        note_voters(&mut memo, k, voters);
-        checked = check(stakes, total, checked, voters);
+        let counted = counted_at(voters, rejecters, rejected, k);
+        checked = check(stakes, total, checked, counted);
         let yes = certifies_at(store, at, checked.quorum);
         certified[k] = flag(yes);
-        i += count;
         k += 1;
         if !yes {
             continue;
@@ -145,28 +122,135 @@ fn walk(
     Certifiers { blocks, authors }
 }
 
-// The blocks that certify a locator: the votes of the blocks at the first places are those of a table, and the places of includes are noted
+// ---- in either reading
+
+// The blocks that certify a locator where owners may withdraw, of which it is known who votes in their ancestry. Where no block rejects the locator, they
+// are those of the old reading.
+fn withdrawn(
+    stakes: &[u64],
+    total: Stake,
+    store: &[u8],
+    order: &[u64],
+    table: &[u64],
+    sizes: TableSizes,
+    places: &[u64],
+    noted: usize,
+    locator: TransactionLocator,
+    voters: &[u64],
+    certified: &mut [u64],
+) -> Certifiers
+    requires { ⌜ ((((Sorted (now stakes) (now store) (now order) × (total .0 ≡ totalStake (now stakes))) × (length (now order) ≤ 1024)) × (length (now certified) ≡ 1024)) × (BothTabled (now store) (now order) (now table) sizes × Placed (now store) (now order) (now places) noted)) × ((locator .offset < 18446744073709551615) × ((length (now voters) ≡ 2048) × HeardBelow ownVote (now store) (now order) (asLocator locator) (now voters) (length (now order)))) ⌝ }
+    ensures { λ r. ⌜ CertifyFlagged withdrawing (now (stakes .entry)) (now (store .entry)) (now (order .entry)) (asLocator locator) (now (certified .exit)) r ⌝ }
+{
+    let mut own = [0u64; 1024];
+    let from = 9 * sizes.votes;
+    speakers::mark(
+        store,
+        order,
+        &table[from..],
+        sizes.rejects,
+        sizes.rejecting,
+        locator,
+        &mut own,
+        true,
+    );
+    let mut rejecters = [0u64; 2048];
+    let rejected = speakers::any_marked(&own, order.len());
+    if !rejected {
+        return certify(
+            stakes,
+            total,
+            store,
+            order,
+            voters,
+            &rejecters,
+            false,
+            certified,
+        );
+    }
+    speakers::spread(store, order, places, noted, &own, &mut rejecters);
+    certify(
+        stakes,
+        total,
+        store,
+        order,
+        voters,
+        &rejecters,
+        true,
+        certified,
+    )
+}
+
+// The blocks that certify a locator: what the blocks at the first places vote for and reject is that of a table, and the places of includes are noted
 // for the first blocks; the rest is read from the store. Writes 1 for each block that certifies, and 0 for each other one.
 pub fn certifiers_of(
     stakes: &[u64],
     total: Stake,
     store: &[u8],
     order: &[u64],
-    votes: &[u64],
-    m: usize,
-    tabled: usize,
+    table: &[u64],
+    sizes: TableSizes,
     places: &[u64],
     noted: usize,
+    withdrawing: bool,
     locator: TransactionLocator,
     certified: &mut [u64],
 ) -> Certifiers
-    requires { ⌜ (((Sorted (now stakes) (now store) (now order) × (total .0 ≡ totalStake (now stakes))) × (length (now order) ≤ 1024)) × (length (now certified) ≡ 1024)) × (((tabled ≤ length (now order)) × Tabled (now store) (now order) (now votes) tabled m) × Placed (now store) (now order) (now places) noted) ⌝ }
-    ensures { λ r. ⌜ CertifyFlagged (now (stakes .entry)) (now (store .entry)) (now (order .entry)) (asLocator locator) (now (certified .exit)) r ⌝ }
+    requires { ⌜ (((Sorted (now stakes) (now store) (now order) × (total .0 ≡ totalStake (now stakes))) × (length (now order) ≤ 1024)) × (length (now certified) ≡ 1024)) × (BothTabled (now store) (now order) (now table) sizes × Placed (now store) (now order) (now places) noted) ⌝ }
+    ensures { λ r. ⌜ CertifyFlagged (readingOf withdrawing) (now (stakes .entry)) (now (store .entry)) (now (order .entry)) (asLocator locator) (now (certified .exit)) r ⌝ }
 {
     let mut own = [0u64; 1024];
-    vote_table::mark_votes(votes, m, locator, &mut own);
-    mark_rest(store, order, tabled, locator, &mut own);
-    walk(stakes, total, store, order, places, noted, &own, certified)
+    speakers::mark(
+        store,
+        order,
+        table,
+        sizes.votes,
+        sizes.voting,
+        locator,
+        &mut own,
+        false,
+    );
+    let mut voters = [0u64; 2048];
+    speakers::spread(store, order, places, noted, &own, &mut voters);
+    let none = [0u64; 1];
+    if !withdrawing {
+        return certify(
+            stakes,
+            total,
+            store,
+            order,
+            &voters,
+            &none,
+            false,
+            certified,
+        );
+    }
+    if locator.offset == 18446744073709551615 {
+        // No vote reaches the last offset, so nothing is withdrawn there.
+        return certify(
+            stakes,
+            total,
+            store,
+            order,
+            &voters,
+            &none,
+            false,
+            certified,
+        );
+    }
+    withdrawn(
+        stakes,
+        total,
+        store,
+        order,
+        table,
+        sizes,
+        places,
+        noted,
+        locator,
+        &voters,
+        certified,
+    )
 }
 
 // Whether two lists have the same first n words.

@@ -1,4 +1,4 @@
--- Noting the places of includes, and gathering the voters at them. Assumes nothing.
+-- Noting the places of includes, and gathering who speaks in the ancestry of the blocks at them. Assumes nothing.
 use mathlib.Core.Path.{_≡_, refl, sym, ap, subst, _∙_}
 use mathlib.Core.List.{List, [], _∷_, _++_, map, map-append}
 use Prim.Native.Nat.{ℕ, zero, suc, _+_, _*_, _≤_, _<_}
@@ -13,11 +13,12 @@ use Rattle.authority_set.specs.AuthoritySet.{AuthoritySet, nobody, united}
 use Rattle.authority_set.proofs.Words.{united-assoc, united-nobody}
 use Rattle.blocks.specs.Reference.{BlockReference, TransactionLocator}
 use Rattle.blocks.specs.Record.{noReference}
-use Rattle.finality.specs.Voters.{unions, voters}
+use Rattle.finality.specs.Voters.{Speech, unions, spoken}
 use Rattle.finality.specs.Finality.{blocksOf}
-use Rattle.block_votes.specs.Walk.{SortedStore, blockAtPlace, votersAt}
+use Rattle.block_votes.specs.Walk.{SortedStore, blockAtPlace}
+use Rattle.voters.specs.Walk.{spokenAt}
 use Rattle.block_votes.proofs.Sorting.{include-lower}
-use Rattle.include_places.specs.Places.{IsPlace, includesBefore, Noted, Placed, votersIn, gathered}
+use Rattle.include_places.specs.Places.{IsPlace, includesBefore, Noted, Placed, setAt, gathered}
 
 -- ---- places of includes
 
@@ -86,9 +87,9 @@ module _ (s : Bytes) (order : List ℕ) where
   pub before-room : (k n : ℕ) → k < n → includesBefore s order k + length (blockAtPlace s order k .includes) ≤ includesBefore s order n
   before-room k n h = before-grows s order k n h
 
--- ---- voters of includes
+-- ---- who speaks below
 
-pub gathered-on : (memo ps : List ℕ) (from j : ℕ) (v : AuthoritySet) → v ≡ gathered memo ps from j → united v (votersIn memo (getD ps (from + j) 0)) ≡ gathered memo ps from (j + 1)
+pub gathered-on : (memo ps : List ℕ) (from j : ℕ) (v : AuthoritySet) → v ≡ gathered memo ps from j → united v (setAt memo (getD ps (from + j) 0)) ≡ gathered memo ps from (j + 1)
 unfolding gathered
 gathered-on memo ps from j v e = rw (add-one j, e)
 
@@ -101,42 +102,42 @@ unfolding unions
 unions-more [] v = united-nobody v ∙ sym (nobody-united v)
 unions-more (x ∷ vs) v = ap (united x) (unions-more vs v) ∙ sym (united-assoc x (unions vs) v)
 
--- the voters of the first n includes of the block at place k
-abbrev pub Upto : Bytes → List ℕ → TransactionLocator → ℕ → ℕ → AuthoritySet → Type 0
-Upto s order l k n v = v ≡ unions (map (voters (blocksOf s) l) (take n (blockAtPlace s order k .includes)))
+-- who speaks in the ancestry of the first n includes of the block at place k
+abbrev pub Upto : Speech → Bytes → List ℕ → TransactionLocator → ℕ → ℕ → AuthoritySet → Type 0
+Upto own s order l k n v = v ≡ unions (map (spoken own (blocksOf s) l) (take n (blockAtPlace s order k .includes)))
 
-abbrev pub Known : Bytes → List ℕ → TransactionLocator → List ℕ → ℕ → Type 0
-Known s order l memo k = (j : ℕ) → j < k → votersIn memo j ≡ votersAt s order l j
+abbrev pub Known : Speech → Bytes → List ℕ → TransactionLocator → List ℕ → ℕ → Type 0
+Known own s order l memo k = (j : ℕ) → j < k → setAt memo j ≡ spokenAt own s order l j
 
-pub upto-none : (s : Bytes) (order : List ℕ) (l : TransactionLocator) (k : ℕ) (v : AuthoritySet) → v ≡ nobody → Upto s order l k 0 v
+pub upto-none : (own : Speech) (s : Bytes) (order : List ℕ) (l : TransactionLocator) (k : ℕ) (v : AuthoritySet) → v ≡ nobody → Upto own s order l k 0 v
 unfolding unions
-upto-none s order l k v e = e
+upto-none own s order l k v e = e
 
-module _ (s : Bytes) (order : List ℕ) (o : SortedStore s order) (l : TransactionLocator) (memo : List ℕ) (k : ℕ) (h : k < length order)
-    (voted : (j : ℕ) → j < k → votersIn memo j ≡ votersAt s order l j) where
+module _ (s : Bytes) (order : List ℕ) (o : SortedStore s order) (own : Speech) (l : TransactionLocator) (memo : List ℕ) (k : ℕ) (h : k < length order)
+    (voted : (j : ℕ) → j < k → setAt memo j ≡ spokenAt own s order l j) where
   abbrev is : List BlockReference
   is = blockAtPlace s order k .includes
 
-  one-include : (n p : ℕ) → n < length is → IsPlace s order p (getD is n noReference) → votersIn memo p ≡ voters (blocksOf s) l (getD is n noReference)
-  unfolding IsPlace votersAt
-  one-include n p m x = voted p (include-lower s order o k h n m p (x .0) (x .1)) ∙ ap (voters (blocksOf s) l) (x .1)
+  one-include : (n p : ℕ) → n < length is → IsPlace s order p (getD is n noReference) → setAt memo p ≡ spoken own (blocksOf s) l (getD is n noReference)
+  unfolding IsPlace spokenAt
+  one-include n p m x = voted p (include-lower s order o k h n m p (x .0) (x .1)) ∙ ap (spoken own (blocksOf s) l) (x .1)
 
   -- one include more
-  pub include-more : (n p : ℕ) (v : AuthoritySet) → n < length is → IsPlace s order p (getD is n noReference) → v ≡ unions (map (voters (blocksOf s) l) (take n is))
-      → united v (votersIn memo p) ≡ unions (map (voters (blocksOf s) l) (take (n + 1) is))
+  pub include-more : (n p : ℕ) (v : AuthoritySet) → n < length is → IsPlace s order p (getD is n noReference) → v ≡ unions (map (spoken own (blocksOf s) l) (take n is))
+      → united v (setAt memo p) ≡ unions (map (spoken own (blocksOf s) l) (take (n + 1) is))
   include-more n p v m x e =
-      rw (e, one-include n p m x, add-one n, take-suc is n noReference m, map-append (voters (blocksOf s) l) (take n is) (getD is n noReference ∷ []))
-      (sym (unions-more (map (voters (blocksOf s) l) (take n is)) (voters (blocksOf s) l (getD is n noReference))))
+      rw (e, one-include n p m x, add-one n, take-suc is n noReference m, map-append (spoken own (blocksOf s) l) (take n is) (getD is n noReference ∷ []))
+      (sym (unions-more (map (spoken own (blocksOf s) l) (take n is)) (spoken own (blocksOf s) l (getD is n noReference))))
 
-  pub includes-all : (n : ℕ) → n ≡ length is → unions (map (voters (blocksOf s) l) (take n is)) ≡ unions (map (voters (blocksOf s) l) is)
-  includes-all n e = ap (λ (rs : List BlockReference). unions (map (voters (blocksOf s) l) rs)) (ap (λ (x : ℕ). take x is) e ∙ take-length is)
+  pub includes-all : (n : ℕ) → n ≡ length is → unions (map (spoken own (blocksOf s) l) (take n is)) ≡ unions (map (spoken own (blocksOf s) l) is)
+  includes-all n e = ap (λ (rs : List BlockReference). unions (map (spoken own (blocksOf s) l) rs)) (ap (λ (x : ℕ). take x is) e ∙ take-length is)
 
   gathered-first : (ps : List ℕ) (from n : ℕ) → ((j : ℕ) → j < length is → IsPlace s order (getD ps (from + j) 0) (getD is j noReference)) → n ≤ length is
-      → gathered memo ps from n ≡ unions (map (voters (blocksOf s) l) (take n is))
+      → gathered memo ps from n ≡ unions (map (spoken own (blocksOf s) l) (take n is))
   unfolding gathered unions
   gathered-first ps from zero x m = refl
-  gathered-first ps from (suc n) x m = include-more n (getD ps (from + n) 0) (gathered memo ps from n) (omega arith) (x n (omega arith)) (gathered-first ps from n x (omega arith)) ∙ ap (λ (j : ℕ). unions (map (voters (blocksOf s) l) (take j is))) (add-one n)
+  gathered-first ps from (suc n) x m = include-more n (getD ps (from + n) 0) (gathered memo ps from n) (omega arith) (x n (omega arith)) (gathered-first ps from n x (omega arith)) ∙ ap (λ (j : ℕ). unions (map (spoken own (blocksOf s) l) (take j is))) (add-one n)
 
   pub gathered-all : (ps : List ℕ) (from n : ℕ) → ((j : ℕ) → j < length is → IsPlace s order (getD ps (from + j) 0) (getD is j noReference)) → n ≡ length is
-      → gathered memo ps from n ≡ unions (map (voters (blocksOf s) l) is)
+      → gathered memo ps from n ≡ unions (map (spoken own (blocksOf s) l) is)
   gathered-all ps from n x e = gathered-first ps from n x (omega arith) ∙ includes-all n e

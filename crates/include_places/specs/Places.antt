@@ -1,4 +1,4 @@
--- Machinery for the contracts of inner functions: the places of includes, and the voters that stand at places. Assumes nothing: these are definitions.
+-- Machinery for the contracts of inner functions: the places of includes, and who speaks in the ancestry of the blocks at places. Assumes nothing: these are definitions.
 use Prim.Native.Nat.{ℕ, zero, suc, _+_, _*_, _≤_, _<_}
 use mathlib.Core.Path.{_≡_}
 use mathlib.Core.List.{List, map}
@@ -7,9 +7,10 @@ use Rattle.base.specs.Le.{Bytes}
 use Rattle.authority_set.specs.AuthoritySet.{AuthoritySet, nobody, united}
 use Rattle.blocks.specs.Reference.{BlockReference, TransactionLocator}
 use Rattle.blocks.specs.Record.{noReference}
-use Rattle.finality.specs.Voters.{unions, voters}
+use Rattle.finality.specs.Voters.{Speech, unions, spoken}
 use Rattle.finality.specs.Finality.{blocksOf}
-use Rattle.block_votes.specs.Walk.{blockAtPlace, votersAt}
+use Rattle.block_votes.specs.Walk.{blockAtPlace}
+use Rattle.voters.specs.Walk.{spokenAt}
 
 -- the place at which a block of that reference stands
 unfoldable pub IsPlace : Bytes → List ℕ → ℕ → BlockReference → Type 0
@@ -32,16 +33,16 @@ pub record Placed (s : Bytes) (order ps : List ℕ) (n : ℕ) : Type 0 where
   pub placed : (k : ℕ) → k < n → (j : ℕ) → j < length (blockAtPlace s order k .includes)
       → IsPlace s order (getD ps (includesBefore s order k + j) 0) (getD (blockAtPlace s order k .includes) j noReference)
 
--- two words for each place: the voters of its block
-unfoldable pub votersIn : List ℕ → ℕ → AuthoritySet
-votersIn memo p = record { low = getD memo (2 * p) 0; high = getD memo (2 * p + 1) 0 }
+-- two words for each place: who speaks in the ancestry of its block
+unfoldable pub setAt : List ℕ → ℕ → AuthoritySet
+setAt memo p = record { low = getD memo (2 * p) 0; high = getD memo (2 * p + 1) 0 }
 
--- the voters of n places, together
+-- the sets of n places, together
 unfoldable pub gathered : List ℕ → List ℕ → ℕ → ℕ → AuthoritySet
 gathered memo ps from zero = nobody
-gathered memo ps from (suc n) = united (gathered memo ps from n) (votersIn memo (getD ps (from + n) 0))
+gathered memo ps from (suc n) = united (gathered memo ps from n) (setAt memo (getD ps (from + n) 0))
 
--- the voters of the includes of the block at place k, where those of the blocks before it are known, of whatever locator they are
+-- who speaks in the ancestry of the includes of the block at place k, where it is known of the blocks before it, of whatever speech and locator
 unfoldable pub GatheredAt : Bytes → List ℕ → List ℕ → ℕ → AuthoritySet → Type 0
-GatheredAt s order memo k r = (l : TransactionLocator) → ((j : ℕ) → j < k → votersIn memo j ≡ votersAt s order l j)
-    → r ≡ unions (map (voters (blocksOf s) l) (blockAtPlace s order k .includes))
+GatheredAt s order memo k r = (own : Speech) (l : TransactionLocator) → ((j : ℕ) → j < k → setAt memo j ≡ spokenAt own s order l j)
+    → r ≡ unions (map (spoken own (blocksOf s) l) (blockAtPlace s order k .includes))

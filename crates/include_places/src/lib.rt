@@ -1,4 +1,4 @@
-// The places of the includes of the stored blocks, noted as far as a table reaches, and the voters of a block's includes.
+// The places of the includes of the stored blocks, noted as far as a table reaches, and who speaks in the ancestry of a block's includes.
 use authority_set::AuthoritySet;
 ghost use mathlib.Core.Path.{_≡_};
 ghost use Prim.Native.Nat.{ℕ, _+_, _*_, _≤_, _<_};
@@ -47,9 +47,9 @@ pub fn note_places(store: &[u8], order: &[u64], places: &mut [u64]) -> usize
     k
 }
 
-// ---- the voters of includes
+// ---- who speaks below
 
-// The voters of the includes of a block, whose places stand from a word on.
+// Who speaks in the ancestry of the includes of a block, whose places stand from a word on.
 fn gather(memo: &[u64], places: &[u64], from: usize, count: usize) -> AuthoritySet
     requires { ⌜ (from + count ≤ length (now places)) × ((j : ℕ) → j < count → 2 * getD (now places) (from + j) 0 + 1 < length (now memo)) ⌝ }
     ensures { λ r. ⌜ r ≡ gathered (now (memo .entry)) (now (places .entry)) from count ⌝ }
@@ -86,7 +86,7 @@ fn gather_read(store: &[u8], order: &[u64], k: usize, memo: &[u64]) -> Authority
     voters
 }
 
-// The voters of the includes of the block at a place, of which there are so many before; the places of those of the first blocks are noted.
+// Who speaks in the ancestry of the includes of the block at a place, of which there are so many before; the places of those of the first blocks are noted.
 pub fn gather_at(
     store: &[u8],
     order: &[u64],

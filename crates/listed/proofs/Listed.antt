@@ -29,7 +29,7 @@ use Rattle.listed.proofs.Runs.{around-run}
 -- ---- where the ordinary list begins
 
 -- a stored share at which no range begins has one just before it
-share-below : {f : Block → List TransactionLocatorRange} → Surrounding f → (bs : List Block) (l : TransactionLocator) → isStoredShare bs l ≡ true → (l ∈ startsBy f bs → ⊥)
+pub share-below : {f : Block → List TransactionLocatorRange} → Surrounding f → (bs : List Block) (l : TransactionLocator) → isStoredShare bs l ≡ true → (l ∈ startsBy f bs → ⊥)
     → (o : ℕ) → suc o ≡ l .offset → isStoredShare bs (locator (l .block) o) ≡ true
 unfolding startsBy locator
 share-below {f} round bs l h off o e = go (stored-share bs l h)

@@ -1,13 +1,15 @@
-// The next locator of a list of final ones: of the ordinary list, and of the wide one. Follows finalization_interpreter.rs.
+// The next locator of a list of final ones: of the ordinary list and of the wide one, in either reading of a reject. Follows finalization_interpreter.rs.
 use committee::NewCommittee;
 use final_search::NextStretch;
 use types::TransactionLocator;
 use vote_starts::MaybeLocator;
+use vote_table::TableSizes;
 ghost use mathlib.Core.Path.{_≡_};
-ghost use Rattle.finality.specs.Finality.{blocksOf};
+ghost use mathlib.Core.Bool.{true, false};
 ghost use Rattle.finality.specs.NextFinal.{nextFinal};
 ghost use Rattle.stored_finals.specs.FinalShares.{nextFinalShare};
-ghost use Rattle.listed.specs.Listed.{listed, nextListed};
+ghost use Rattle.readings.specs.Readings.{withdrawing, readingOf};
+ghost use Rattle.reading_lists.specs.Lists.{nextListed};
 ghost use Rattle.vote_starts.specs.Answers.{asMaybe};
 ghost use Rattle.next_final.specs.Answers.{asNextFinal};
 
@@ -18,14 +20,15 @@ pub enum NextFinalAnswer {
     Refused(u64),
 }
 
-// The least locator after a given one, or from the start, that the ordinary or the wide list shows.
+// The least locator after a given one, or from the start, that the ordinary or the wide list shows where owners may withdraw or not.
 pub fn next_listed(
     stakes: &[u64],
     store: &[u8],
     ordinary: bool,
+    withdrawing: bool,
     after: MaybeLocator,
 ) -> NextFinalAnswer
-    ensures { λ r. ⌜ asNextFinal r ≡ nextListed (now (stakes .entry)) (now (store .entry)) (listed ordinary (now (stakes .entry)) (blocksOf (now (store .entry)))) (asMaybe after) ⌝ }
+    ensures { λ r. ⌜ asNextFinal r ≡ nextListed ordinary (readingOf withdrawing) (now (stakes .entry)) (now (store .entry)) (asMaybe after) ⌝ }
 {
     let NewCommittee::Taken(total) = committee::new_committee(stakes) else {
         return NextFinalAnswer::Refused(5);
@@ -36,7 +39,13 @@ pub fn next_listed(
     let mut order = [0u64; 1024];
     let count = block_votes::sorted_positions(store, &mut order);
     // Nothing is put into tables for one locator: the blocks are read from the store.
-    let votes = [0u64; 1];
+    let table = [0u64; 1];
+    let sizes = TableSizes {
+        voting: 0,
+        votes: 0,
+        rejecting: 0,
+        rejects: 0,
+    };
     let places = [0u64; 1];
     let mut certified = [0u64; 1024];
     let next = final_search::final_after(
@@ -44,12 +53,12 @@ pub fn next_listed(
         total,
         store,
         &order[..count],
-        &votes,
-        0,
-        0,
+        &table,
+        sizes,
         &places,
         0,
         ordinary,
+        withdrawing,
         after,
         &mut certified,
     );
@@ -66,12 +75,26 @@ pub fn next_listed(
 pub fn next_final(stakes: &[u64], store: &[u8], after: MaybeLocator) -> NextFinalAnswer
     ensures { λ r. ⌜ asNextFinal r ≡ nextFinalShare (now (stakes .entry)) (now (store .entry)) (asMaybe after) ⌝ }
 {
-    next_listed(stakes, store, true, after)
+    next_listed(stakes, store, true, false, after)
 }
 
 // The least final locator after a given one, stored or not. Asked on until none it gives the wide list.
 pub fn next_wide(stakes: &[u64], store: &[u8], after: MaybeLocator) -> NextFinalAnswer
     ensures { λ r. ⌜ asNextFinal r ≡ nextFinal (now (stakes .entry)) (now (store .entry)) (asMaybe after) ⌝ }
 {
-    next_listed(stakes, store, false, after)
+    next_listed(stakes, store, false, false, after)
+}
+
+// The least final stored share after a given locator where owners may withdraw.
+pub fn next_final_withdrawing(stakes: &[u64], store: &[u8], after: MaybeLocator) -> NextFinalAnswer
+    ensures { λ r. ⌜ asNextFinal r ≡ nextListed true withdrawing (now (stakes .entry)) (now (store .entry)) (asMaybe after) ⌝ }
+{
+    next_listed(stakes, store, true, true, after)
+}
+
+// The least final locator after a given one, stored or not, where owners may withdraw.
+pub fn next_wide_withdrawing(stakes: &[u64], store: &[u8], after: MaybeLocator) -> NextFinalAnswer
+    ensures { λ r. ⌜ asNextFinal r ≡ nextListed false withdrawing (now (stakes .entry)) (now (store .entry)) (asMaybe after) ⌝ }
+{
+    next_listed(stakes, store, false, true, after)
 }

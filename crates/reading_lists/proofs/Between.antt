@@ -46,7 +46,7 @@ NoCut withdrawing bs r o =
     ⊎ ((d : Block) → d ∈ bs → votesFor d (locator r o) ≡ false)
 
 module _ {f : Block → List TransactionLocatorRange} (told : Telling f) (bs : List Block) (r : BlockReference) (o : ℕ) (gap : o + 1 ∈ edgesBy f bs r → ⊥) where
-  votes-same : (d : Block) → d ∈ bs → votesFor d (locator r (o + 1)) ≡ votesFor d (locator r o)
+  pub votes-same : (d : Block) → d ∈ bs → votesFor d (locator r (o + 1)) ≡ votesFor d (locator r o)
   votes-same d m = same-test _ _ (back told bs r o gap d m) (forth told bs r o gap d m)
 
   module _ (c : Committee) where

@@ -1,4 +1,4 @@
-// Where votes begin and end: the least offset of a block above a given one at which a vote of some stored blocks does.
+// Where votes, or rejects, begin and end: the least offset of a block above a given one at which one of some stored blocks does.
 use block_spans::Vote;
 use types::BlockReference;
 use types::TransactionLocatorRange;
@@ -9,7 +9,8 @@ ghost use lib.ListN.{length, drop};
 ghost use Rattle.blocks.specs.Record.{wellFormed, blockIn};
 ghost use Rattle.types.specs.Values.{asReference, asRange};
 ghost use Rattle.block_votes.specs.Walk.{SortedStore};
-ghost use Rattle.block_spans.specs.Joined.{VotesFit, joinedSpans};
+ghost use Rattle.block_spans.specs.Joined.{VotesFit};
+ghost use Rattle.block_spans.specs.Ranges.{rangesOf};
 ghost use Rattle.stretches.specs.Stretches.{edgesOf, nearer, nearest};
 ghost use Rattle.vote_edges.specs.Edges.{edgesIn, edgesAt};
 
@@ -45,17 +46,17 @@ pub fn range_edges(
     nearer(offset, near, range.offset_end_exclusive)
 }
 
-// The same for the block of a record.
-fn record_edges(rec: &[u8], block: BlockReference, offset: u64, best: u64) -> u64
+// The same for the votes, or the rejects, of the block of a record.
+fn record_edges(rec: &[u8], block: BlockReference, offset: u64, best: u64, rejecting: bool) -> u64
     requires { ⌜ (wellFormed (now rec) ≡ true) × VotesFit (blockIn (now rec)) ⌝ }
-    ensures { λ r. ⌜ r ≡ nearest offset best (edgesIn (asReference block) (joinedSpans (blockIn (now (rec .entry))))) ⌝ }
+    ensures { λ r. ⌜ r ≡ nearest offset best (edgesIn (asReference block) (rangesOf rejecting (blockIn (now (rec .entry))))) ⌝ }
 {
     let count = block_record::statement_count(rec);
     let of = block_record::reference(rec);
     let mut cursor = block_record::first_statement(rec);
     let mut near = best;
     while cursor.index < count {
-        let found = block_spans::next_span(rec, of, cursor);
+        let found = block_spans::next_span(rec, of, cursor, rejecting);
         let vote = found.vote;
         cursor = found.next;
         let Vote::Range(range) = vote else {
@@ -74,9 +75,10 @@ pub fn least_edge(
     block: BlockReference,
     offset: u64,
     best: u64,
+    rejecting: bool,
 ) -> u64
     requires { ⌜ SortedStore (now store) (now order) × (from ≤ length (now order)) ⌝ }
-    ensures { λ r. ⌜ r ≡ nearest offset best (edgesAt (now (store .entry)) (asReference block) (drop from (now (order .entry)))) ⌝ }
+    ensures { λ r. ⌜ r ≡ nearest offset best (edgesAt rejecting (now (store .entry)) (asReference block) (drop from (now (order .entry)))) ⌝ }
 {
     let mut near = best;
     let mut k = from;
@@ -84,7 +86,7 @@ pub fn least_edge(
         let at = order[k] as usize;
         let start = at + 8;
         let end = store_order::record_end(store, at);
-        near = record_edges(&store[start..end], block, offset, near);
+        near = record_edges(&store[start..end], block, offset, near, rejecting);
         k += 1;
     }
     near

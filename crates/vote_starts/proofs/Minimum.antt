@@ -13,8 +13,8 @@ use Rattle.blocks.specs.Reference.{TransactionLocator, TransactionLocatorRange,
 use Rattle.blocks.specs.Block.{Block}
 use Rattle.blocks.proofs.References.{locator-trans, locator-total}
 use Rattle.finality.specs.NextFinal.{lesserLocator, leastLocator}
-use Rattle.block_spans.specs.Joined.{joinedAt, joinedSpans}
-use Rattle.block_spans.proofs.Joining.{joined-first, joined-end}
+use Rattle.block_spans.specs.Ranges.{rangesAt, rangesOf}
+use Rattle.block_spans.proofs.Rejecting.{ranges-end}
 use Rattle.vote_starts.specs.Walk.{startOf, lesserOf}
 
 pub lesser-none : (o : Option TransactionLocator) → lesserOf o none ≡ o
@@ -50,25 +50,26 @@ least-append (x ∷ xs) ys = ap (lesserLocator x) (least-append xs ys) ∙ sym (
 
 -- ---- the starts of a block, span by span
 
-module _ (b : Block) (p : TransactionLocator → Bool) where
-  -- the least where a vote of the statements from index i on begins
+module _ (rejecting : Bool) (b : Block) (p : TransactionLocator → Bool) where
+  -- the least where a vote of the statements from index i on begins, or just after what they reject
   abbrev pub leastFrom : ℕ → Option TransactionLocator
-  leastFrom i = leastLocator (keep p (map startOf (joinedAt b i)))
+  leastFrom i = leastLocator (keep p (map (startOf rejecting) (rangesAt rejecting b i)))
 
-  pub least-start : leastLocator (keep p (map startOf (joinedSpans b))) ≡ leastFrom 0
-  least-start = ap (λ (qs : List TransactionLocatorRange). leastLocator (keep p (map startOf qs))) (joined-first b)
+  pub least-start : leastLocator (keep p (map (startOf rejecting) (rangesOf rejecting b))) ≡ leastFrom 0
+  unfolding rangesOf
+  least-start = refl
 
   pub least-end : (i : ℕ) (o : Option TransactionLocator) → length (b .statements) ≤ i → lesserOf o (leastFrom i) ≡ o
   unfolding leastLocator keep
-  least-end i o h = rw (joined-end b i h) (lesser-none o)
+  least-end i o h = rw (ranges-end rejecting b i h) (lesser-none o)
 
-  pub least-on : (i n : ℕ) (qs : List TransactionLocatorRange) (best next : Option TransactionLocator) → joinedAt b i ≡ qs ++ joinedAt b n
-      → next ≡ lesserOf best (leastLocator (keep p (map startOf qs)))
+  pub least-on : (i n : ℕ) (qs : List TransactionLocatorRange) (best next : Option TransactionLocator) → rangesAt rejecting b i ≡ qs ++ rangesAt rejecting b n
+      → next ≡ lesserOf best (leastLocator (keep p (map (startOf rejecting) qs)))
       → lesserOf best (leastFrom i) ≡ lesserOf next (leastFrom n)
   least-on i n qs best next e f =
-      let one : leastFrom i ≡ lesserOf (leastLocator (keep p (map startOf qs))) (leastFrom n) =
-      ap (λ (xs : List TransactionLocatorRange). leastLocator (keep p (map startOf xs))) e
-      ∙ ap (λ (ls : List TransactionLocator). leastLocator (keep p ls)) (map-append startOf qs (joinedAt b n))
-      ∙ ap leastLocator (keep-append p (map startOf qs) (map startOf (joinedAt b n)))
-      ∙ least-append (keep p (map startOf qs)) (keep p (map startOf (joinedAt b n))) in
-      ap (lesserOf best) one ∙ sym (lesser-assoc best (leastLocator (keep p (map startOf qs))) (leastFrom n)) ∙ ap (λ (o : Option TransactionLocator). lesserOf o (leastFrom n)) (sym f)
+      let one : leastFrom i ≡ lesserOf (leastLocator (keep p (map (startOf rejecting) qs))) (leastFrom n) =
+      ap (λ (xs : List TransactionLocatorRange). leastLocator (keep p (map (startOf rejecting) xs))) e
+      ∙ ap (λ (ls : List TransactionLocator). leastLocator (keep p ls)) (map-append (startOf rejecting) qs (rangesAt rejecting b n))
+      ∙ ap leastLocator (keep-append p (map (startOf rejecting) qs) (map (startOf rejecting) (rangesAt rejecting b n)))
+      ∙ least-append (keep p (map (startOf rejecting) qs)) (keep p (map (startOf rejecting) (rangesAt rejecting b n))) in
+      ap (lesserOf best) one ∙ sym (lesser-assoc best (leastLocator (keep p (map (startOf rejecting) qs))) (leastFrom n)) ∙ ap (λ (o : Option TransactionLocator). lesserOf o (leastFrom n)) (sym f)

@@ -23,7 +23,7 @@ use Rattle.finality.specs.Voters.{isFinal}
 use Rattle.finality.specs.Finality.{blocksOf}
 use Rattle.finality.specs.NextFinal.{isAfter, justAfter, candidates, leastLocator}
 use Rattle.block_votes.specs.Walk.{Sorted}
-use Rattle.block_spans.specs.Joined.{joinedSpans}
+use Rattle.block_spans.specs.Ranges.{rangesOf}
 use Rattle.vote_starts.specs.Walk.{startOf, lesserOf, startsAt}
 use Rattle.finality.proofs.Least.{Least, one-of, no-one, least-locator}
 use Rattle.vote_starts.proofs.Minimum.{lesser-none, lesser-assoc, least-append}
@@ -79,23 +79,23 @@ module _ {A : Type 0} (p q : A → Bool) (f : (x : A) → q x ≡ true → p x �
 
 -- ---- over the stored blocks
 
-module _ (s : Bytes) (p : TransactionLocator → Bool) where
+module _ (rejecting : Bool) (s : Bytes) (p : TransactionLocator → Bool) where
   -- the least start of the blocks at some positions
   abbrev pub leastOver : List ℕ → Option TransactionLocator
-  leastOver ps = leastLocator (keep p (startsAt s ps))
+  leastOver ps = leastLocator (keep p (startsAt rejecting s ps))
 
-  over-next : (order : List ℕ) (k : ℕ) → k < length order → leastOver (drop k order) ≡ lesserOf (leastLocator (keep p (map startOf (joinedSpans (blockAt s (getD order k 0)))))) (leastOver (drop (k + 1) order))
+  over-next : (order : List ℕ) (k : ℕ) → k < length order → leastOver (drop k order) ≡ lesserOf (leastLocator (keep p (map (startOf rejecting) (rangesOf rejecting (blockAt s (getD order k 0)))))) (leastOver (drop (k + 1) order))
   unfolding startsAt flatten
   over-next order k h =
-      let one : List TransactionLocator = map startOf (joinedSpans (blockAt s (getD order k 0))) in
-      let rest : List TransactionLocator = flatten (map (λ q. map startOf (joinedSpans (blockAt s q))) (drop (suc k) order)) in
+      let one : List TransactionLocator = map (startOf rejecting) (rangesOf rejecting (blockAt s (getD order k 0))) in
+      let rest : List TransactionLocator = flatten (map (λ q. map (startOf rejecting) (rangesOf rejecting (blockAt s q))) (drop (suc k) order)) in
       rw (drop-cons order k 0 h, add-one k) (ap leastLocator (keep-append p one rest) ∙ least-append (keep p one) (keep p rest))
 
   pub least-over-on : (order : List ℕ) (k : ℕ) (best next : Option TransactionLocator) → k < length order
-      → next ≡ lesserOf best (leastLocator (keep p (map startOf (joinedSpans (blockAt s (getD order k 0))))))
+      → next ≡ lesserOf best (leastLocator (keep p (map (startOf rejecting) (rangesOf rejecting (blockAt s (getD order k 0))))))
       → lesserOf best (leastOver (drop k order)) ≡ lesserOf next (leastOver (drop (k + 1) order))
   least-over-on order k best next h e =
-      rw (over-next order k h, e) (sym (lesser-assoc best (leastLocator (keep p (map startOf (joinedSpans (blockAt s (getD order k 0)))))) (leastOver (drop (k + 1) order))))
+      rw (over-next order k h, e) (sym (lesser-assoc best (leastLocator (keep p (map (startOf rejecting) (rangesOf rejecting (blockAt s (getD order k 0)))))) (leastOver (drop (k + 1) order))))
 
   pub least-over-end : (order : List ℕ) (k : ℕ) (best : Option TransactionLocator) → length order ≤ k → lesserOf best (leastOver (drop k order)) ≡ best
   unfolding leastLocator keep startsAt flatten

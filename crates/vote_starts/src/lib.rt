@@ -1,4 +1,5 @@
-// Where votes begin: the least locator after a given one at which a vote of some stored blocks begins. Follows finalization_interpreter.rs.
+// Where votes begin, or rejects end: the least locator after a given one at which a vote of some stored blocks begins, or just after one that they reject.
+// Follows finalization_interpreter.rs; the Rust asks for votes alone.
 use block_spans::Vote;
 use types::Ordering;
 use types::TransactionLocator;
@@ -14,7 +15,8 @@ ghost use Rattle.blocks.specs.Record.{wellFormed, blockIn};
 ghost use Rattle.types.specs.Values.{asLocator, asRange};
 ghost use Rattle.finality.specs.NextFinal.{isAfter, leastLocator};
 ghost use Rattle.block_votes.specs.Walk.{SortedStore};
-ghost use Rattle.block_spans.specs.Joined.{VotesFit, joinedSpans};
+ghost use Rattle.block_spans.specs.Joined.{VotesFit};
+ghost use Rattle.block_spans.specs.Ranges.{rangesOf};
 ghost use Rattle.vote_starts.specs.Answers.{asMaybe};
 ghost use Rattle.vote_starts.specs.Walk.{startOf, lesserOf, startsAt};
 
@@ -64,48 +66,60 @@ pub fn lesser(best: MaybeLocator, last: MaybeLocator, locator: TransactionLocato
     MaybeLocator::Locator(locator)
 }
 
-// Where a range begins.
-pub fn start_of(range: TransactionLocatorRange) -> TransactionLocator
-    ensures { λ r. ⌜ asLocator r ≡ startOf (asRange range) ⌝ }
+// Where a vote for a range begins, or just after a rejected one.
+pub fn start_of(range: TransactionLocatorRange, rejecting: bool) -> TransactionLocator
+    ensures { λ r. ⌜ asLocator r ≡ startOf rejecting (asRange range) ⌝ }
 {
     let block = range.block;
+    if rejecting {
+        return TransactionLocator {
+            block,
+            offset: range.offset_end_exclusive,
+        };
+    }
     TransactionLocator {
         block,
         offset: range.offset_start_inclusive,
     }
 }
 
-// The least of the best so far and where the votes of the block of a record begin, after the given locator.
-fn least_start_in(rec: &[u8], last: MaybeLocator, best: MaybeLocator) -> MaybeLocator
+// The least of the best so far and where the votes of the block of a record begin, or just after what it rejects, after the given locator.
+fn least_start_in(
+    rec: &[u8],
+    last: MaybeLocator,
+    best: MaybeLocator,
+    rejecting: bool,
+) -> MaybeLocator
     requires { ⌜ (wellFormed (now rec) ≡ true) × VotesFit (blockIn (now rec)) ⌝ }
-    ensures { λ r. ⌜ asMaybe r ≡ lesserOf (asMaybe best) (leastLocator (keep (isAfter (asMaybe last)) (map startOf (joinedSpans (blockIn (now (rec .entry))))))) ⌝ }
+    ensures { λ r. ⌜ asMaybe r ≡ lesserOf (asMaybe best) (leastLocator (keep (isAfter (asMaybe last)) (map (startOf rejecting) (rangesOf rejecting (blockIn (now (rec .entry))))))) ⌝ }
 {
     let count = block_record::statement_count(rec);
     let block = block_record::reference(rec);
     let mut cursor = block_record::first_statement(rec);
     let mut least = best;
     while cursor.index < count {
-        let found = block_spans::next_span(rec, block, cursor);
+        let found = block_spans::next_span(rec, block, cursor, rejecting);
         let vote = found.vote;
         cursor = found.next;
         let Vote::Range(range) = vote else {
             continue;
         };
-        least = lesser(least, last, start_of(range));
+        least = lesser(least, last, start_of(range, rejecting));
     }
     least
 }
 
-// The least of the best so far and where the votes of the blocks from a place on begin, after the given locator.
+// The same for the blocks from a place on.
 pub fn least_start(
     store: &[u8],
     order: &[u64],
     from: usize,
     last: MaybeLocator,
     best: MaybeLocator,
+    rejecting: bool,
 ) -> MaybeLocator
     requires { ⌜ SortedStore (now store) (now order) × (from ≤ length (now order)) ⌝ }
-    ensures { λ r. ⌜ asMaybe r ≡ lesserOf (asMaybe best) (leastLocator (keep (isAfter (asMaybe last)) (startsAt (now (store .entry)) (drop from (now (order .entry)))))) ⌝ }
+    ensures { λ r. ⌜ asMaybe r ≡ lesserOf (asMaybe best) (leastLocator (keep (isAfter (asMaybe last)) (startsAt rejecting (now (store .entry)) (drop from (now (order .entry)))))) ⌝ }
 {
     let mut least = best;
     let mut k = from;
@@ -113,7 +127,7 @@ pub fn least_start(
         let at = order[k] as usize;
         let start = at + 8;
         let end = store_order::record_end(store, at);
-        least = least_start_in(&store[start..end], last, least);
+        least = least_start_in(&store[start..end], last, least, rejecting);
         k += 1;
     }
     least

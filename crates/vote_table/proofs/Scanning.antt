@@ -41,16 +41,16 @@ module _ (r : BlockReference) (o : ℕ) (t : List ℕ) (m : ℕ) where
   unfolding edgesIn flatten nearest
   scan-end i near h = rw (last-range t i m h)
 
-module _ (p : TransactionLocator → Bool) (t : List ℕ) (m : ℕ) where
+module _ (rejecting : Bool) (p : TransactionLocator → Bool) (t : List ℕ) (m : ℕ) where
   abbrev pub startsFrom : ℕ → Option TransactionLocator
-  startsFrom i = leastLocator (keep p (map startOf (rangesFrom t i m)))
+  startsFrom i = leastLocator (keep p (map (startOf rejecting) (rangesFrom t i m)))
 
-  pub starts-on : (i : ℕ) (best next : Option TransactionLocator) → i < m → next ≡ lesserOf best (leastLocator (keep p (startOf (rangeAt t i) ∷ []))) → lesserOf best (startsFrom i) ≡ lesserOf next (startsFrom (i + 1))
+  pub starts-on : (i : ℕ) (best next : Option TransactionLocator) → i < m → next ≡ lesserOf best (leastLocator (keep p (startOf rejecting (rangeAt t i) ∷ []))) → lesserOf best (startsFrom i) ≡ lesserOf next (startsFrom (i + 1))
   starts-on i best next h e =
-      let one : List TransactionLocator = startOf (rangeAt t i) ∷ [] in
-      let rest : List TransactionLocator = map startOf (rangesFrom t (i + 1) m) in
+      let one : List TransactionLocator = startOf rejecting (rangeAt t i) ∷ [] in
+      let rest : List TransactionLocator = map (startOf rejecting) (rangesFrom t (i + 1) m) in
       let f : startsFrom i ≡ lesserOf (leastLocator (keep p one)) (startsFrom (i + 1)) =
-      ap (λ (qs : List TransactionLocatorRange). leastLocator (keep p (map startOf qs))) (next-range t i m h) ∙ ap leastLocator (keep-append p one rest) ∙ least-append (keep p one) (keep p rest) in
+      ap (λ (qs : List TransactionLocatorRange). leastLocator (keep p (map (startOf rejecting) qs))) (next-range t i m h) ∙ ap leastLocator (keep-append p one rest) ∙ least-append (keep p one) (keep p rest) in
       ap (lesserOf best) f ∙ sym (lesser-assoc best (leastLocator (keep p one)) (startsFrom (i + 1))) ∙ ap (λ (x : Option TransactionLocator). lesserOf x (startsFrom (i + 1))) (sym e)
 
   pub starts-end : (i : ℕ) (best : Option TransactionLocator) → m ≤ i → lesserOf best (startsFrom i) ≡ best

@@ -3,11 +3,11 @@ use borrow.Author.Needs.{needs}
 use Rattle.final_list.proofs.fill_large.Statement.{statement}
 use Rattle.final_list.proofs.fill_large.Tie as tie
 
-slice-aggregate-table-votes : tie.Need-slice-aggregate-table-votes
-slice-aggregate-table-votes c = search needs
+slice-aggregate-table-both : tie.Need-slice-aggregate-table-both
+slice-aggregate-table-both c = search needs
 
-table-votes-requires : tie.Need-table-votes-requires
-table-votes-requires c κs = some-committee (c .before .before .before .before .before .pre .0 .0)
+table-both-requires : tie.Need-table-both-requires
+table-both-requires c κs = some-committee (c .before .before .before .before .before .pre .0 .0)
 
 slice-aggregate-note-places : tie.Need-slice-aggregate-note-places
 slice-aggregate-note-places c = search needs
@@ -22,7 +22,7 @@ slice-aggregate-fill-2 : tie.Need-slice-aggregate-fill-2
 slice-aggregate-fill-2 c = search needs
 
 fill-requires : tie.Need-fill-requires
-fill-requires c κs = ((c .before .before .before .before .before .before .before .before .before .before .before .before .before .pre), (c .before .before .before .before .before .before .before .table-votes .ensures, c .before .before .before .before .note-places .ensures .1))
+fill-requires c κs = ((c .before .before .before .before .before .before .before .before .before .before .before .before .before .pre), (c .before .before .before .before .before .before .before .table-both .ensures, c .before .before .before .before .note-places .ensures .1))
 
 same-length : tie.Need-same-length
 same-length c = search needs
@@ -34,8 +34,8 @@ pub fill-large-spec : {M : Type 1} → statement M
 fill-large-spec =
     tie.close
     (tie.spec
-    slice-aggregate-table-votes
-    table-votes-requires
+    slice-aggregate-table-both
+    table-both-requires
     slice-aggregate-note-places
     note-places-requires
     slice-aggregate-fill

@@ -3,20 +3,23 @@ use borrow.Author.Needs.{needs}
 use Rattle.final_list.proofs.fill_small.Statement.{statement}
 use Rattle.final_list.proofs.fill_small.Tie as tie
 
-slice-aggregate-table-votes : tie.Need-slice-aggregate-table-votes
-slice-aggregate-table-votes c = search needs
+slice-aggregate-table-both : tie.Need-slice-aggregate-table-both
+slice-aggregate-table-both c = search needs
 
-table-votes-requires : tie.Need-table-votes-requires
-table-votes-requires c κs = some-committee (c .before .before .before .before .before .pre .0 .0)
+table-both-requires : tie.Need-table-both-requires
+table-both-requires c κs = some-committee (c .before .before .before .before .before .pre .0 .0)
+
+holds-all-requires : tie.Need-holds-all-requires
+holds-all-requires c κs = search needs
 
 fill-large-requires : tie.Need-fill-large-requires
-fill-large-requires c κs = (c .before .before .before .before .before .before .before .before .before .before .pre)
+fill-large-requires c κs = c .before .before .before .before .before .before .before .before .before .before .pre
 
 same-length : tie.Need-same-length
 same-length c = search needs
 
 returns : tie.Need-returns
-returns c = search needs
+returns c = c .before .before .fill-large .ensures
 
 slice-aggregate-note-places : tie.Need-slice-aggregate-note-places
 slice-aggregate-note-places c = search needs
@@ -25,13 +28,13 @@ note-places-requires : tie.Need-note-places-requires
 note-places-requires c κs = some-committee (c .before .before .before .before .before .before .before .before .before .before .pre .0 .0)
 
 fill-large-requires-2 : tie.Need-fill-large-requires-2
-fill-large-requires-2 c κs = (c .before .before .before .before .before .before .before .before .before .before .before .before .before .before .pre)
+fill-large-requires-2 c κs = c .before .before .before .before .before .before .before .before .before .before .before .before .before .before .pre
 
 same-length-2 : tie.Need-same-length-2
 same-length-2 c = search needs
 
 returns-2 : tie.Need-returns-2
-returns-2 c = search needs
+returns-2 c = c .before .before .fill-large2 .ensures
 
 slice-aggregate-fill : tie.Need-slice-aggregate-fill
 slice-aggregate-fill c = search needs
@@ -40,20 +43,21 @@ slice-aggregate-fill-2 : tie.Need-slice-aggregate-fill-2
 slice-aggregate-fill-2 c = search needs
 
 fill-requires : tie.Need-fill-requires
-fill-requires c κs = ((c .before .before .before .before .before .before .before .before .before .before .before .before .before .before .before .before .pre), (c .before .before .before .before .before .before .before .before .before .before .table-votes .ensures, c .before .before .before .before .before .note-places .ensures .1))
+fill-requires c κs = (c .before .before .before .before .before .before .before .before .before .before .before .before .before .before .before .before .pre, (c .before .before .before .before .before .before .before .before .before .before .table-both .ensures, c .before .before .before .before .before .note-places .ensures .1))
 
 same-length-3 : tie.Need-same-length-3
 same-length-3 c = search needs
 
 returns-3 : tie.Need-returns-3
-returns-3 c = search needs
+returns-3 c = c .before .before .fill .ensures
 
 pub fill-small-spec : {M : Type 1} → statement M
 fill-small-spec =
     tie.close
     (tie.spec
-    slice-aggregate-table-votes
-    table-votes-requires
+    slice-aggregate-table-both
+    table-both-requires
+    holds-all-requires
     fill-large-requires
     same-length
     returns

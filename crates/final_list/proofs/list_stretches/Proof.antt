@@ -1,7 +1,8 @@
 use Rattle.final_list.proofs.Asking.{bulk-broken, bulk-disordered, bulk-asked}
 use Rattle.final_list.specs.Answers.{asStretches}
 use Rattle.stretches.specs.Bulk.{AskedBulk}
-use Rattle.listed.specs.Listed.{listed}
+use Rattle.readings.specs.Readings.{readingOf}
+use Rattle.reading_lists.specs.Lists.{listing}
 use Rattle.block_votes.proofs.Along.{sorted-count}
 use Rattle.vote_starts.specs.Answers.{asMaybe}
 use Rattle.finality.specs.Finality.{blocksOf}
@@ -31,7 +32,7 @@ returns : tie.Need-returns
 unfolding asStretches
 returns c = let a = (c .before .before .before .before .before .before .args) in
     let told = c .enum-told .given in
-    let e = bulk-broken (a .stakes .now) (a .store .now) (listed (a .ordinary) (a .stakes .now) (blocksOf (a .store .now))) (a .out .now) (asMaybe (a .after)) (broken-sound (a .stakes .now) (told .0 .0) (ap asNewCommittee (sym (told .1)) ∙ c .before .before .new-committee .ensures)) in
+    let e = bulk-broken (a .stakes .now) (a .store .now) (listing (a .ordinary) (readingOf (a .withdrawing)) (a .stakes .now) (blocksOf (a .store .now))) (a .out .now) (asMaybe (a .after)) (broken-sound (a .stakes .now) (told .0 .0) (ap asNewCommittee (sym (told .1)) ∙ c .before .before .new-committee .ensures)) in
     (ap (λ (x : AskedBulk). x .answer) e, ap (λ (x : AskedBulk). x .out) e)
 
 in-order-requires : tie.Need-in-order-requires
@@ -40,7 +41,7 @@ in-order-requires c κs = let told = c .before .total .given in taken-sound (c .
 returns-2 : tie.Need-returns-2
 unfolding asStretches
 returns-2 c = let a = (c .before .before .before .before .before .before .before .before .before .args) in
-    let k = listed (a .ordinary) (a .stakes .now) (blocksOf (a .store .now)) in
+    let k = listing (a .ordinary) (readingOf (a .withdrawing)) (a .stakes .now) (blocksOf (a .store .now)) in
     let told = c .before .before .before .total .given in
     let t = taken-sound (a .stakes .now) (told .0 .0) (ap asNewCommittee (sym (told .1)) ∙ c .before .before .before .before .before .new-committee .ensures) in
     let e = bulk-disordered (a .stakes .now) (a .store .now) k (a .out .now) (asMaybe (a .after)) (t .0) (sym (c .before .in-order .ensures) ∙ not-true _ (c .if1 .taken)) in
@@ -63,7 +64,7 @@ slice-aggregate-fill-small c = let a = (c .before .before .before .before .befor
 
 fill-small-requires : tie.Need-fill-small-requires
 fill-small-requires c κs = let a = (c .before .before .before .before .before .before .before .before .before .before .before .before .before .before .args) in
-    let k = listed (a .ordinary) (a .stakes .now) (blocksOf (a .store .now)) in
+    let k = listing (a .ordinary) (readingOf (a .withdrawing)) (a .stakes .now) (blocksOf (a .store .now)) in
     let told = c .before .before .before .before .before .before .before .before .total .given in
     let t = taken-sound (a .stakes .now) (told .0 .0) (ap asNewCommittee (sym (told .1)) ∙ c .before .before .before .before .before .before .before .before .before .before .new-committee .ensures) in
     let o : storeInOrder (a .stakes .now) (a .store .now) ≡ true = sym (c .before .before .before .before .before .before .in-order .ensures) ∙ not-false _ (c .before .before .before .before .before .if1 .left) in
@@ -76,7 +77,7 @@ same-length c = search needs
 
 returns-3 : tie.Need-returns-3
 returns-3 c = let a = (c .before .before .before .before .before .before .before .before .before .before .before .before .before .before .before .before .before .args) in
-    let k = listed (a .ordinary) (a .stakes .now) (blocksOf (a .store .now)) in
+    let k = listing (a .ordinary) (readingOf (a .withdrawing)) (a .stakes .now) (blocksOf (a .store .now)) in
     let told = c .before .before .before .before .before .before .before .before .before .before .before .total .given in
     let t = taken-sound (a .stakes .now) (told .0 .0) (ap asNewCommittee (sym (told .1)) ∙ c .before .before .before .before .before .before .before .before .before .before .before .before .before .new-committee .ensures) in
     let o : storeInOrder (a .stakes .now) (a .store .now) ≡ true = sym (c .before .before .before .before .before .before .before .before .before .in-order .ensures) ∙ not-false _ (c .before .before .before .before .before .before .before .before .if1 .left) in

@@ -1,6 +1,7 @@
 use Rattle.final_search.proofs.Onward.{when-yes, when-shown, when-hidden, from-start, just-after, not-just-after, past-the-last}
 use Rattle.final_search.specs.Search.{asNext}
-use Rattle.listed.specs.Listed.{listed}
+use Rattle.readings.specs.Readings.{readingOf}
+use Rattle.reading_lists.specs.Lists.{listing}
 use Rattle.vote_starts.specs.Answers.{asMaybe}
 use Rattle.finality.specs.Finality.{blocksOf}
 use Rattle.types.specs.Values.{asLocator}
@@ -29,7 +30,9 @@ returns : tie.Need-returns
 unfolding asMaybe
 returns c =
     let a = c .before .before .before .before .before .before .before .before .before .before .before .before .args in
-    (c .before .before .shown-start .ensures .0 ∙ rw (c .before .before .before .before .enum-told .given .1) (from-start (a .ordinary) (a .stakes .now) (a .store .now)), c .before .before .shown-start .ensures .1)
+    let bytes = bytes-of (a .store .now) (λ j h. omega (arith, c .before .before .before .before .before .before .before .before .before .before .shared-slice-known2 .given j)) in
+    let ordered = c .before .before .before .before .before .before .before .before .before .before .before .before .pre .0 .0 .0 .0 .inOrder in
+    (c .before .before .shown-start .ensures .0 ∙ rw (c .before .before .before .before .enum-told .given .1) (from-start (a .ordinary) (a .withdrawing) (a .stakes .now) (a .store .now) bytes ordered), c .before .before .shown-start .ensures .1)
 
 shown-start-requires-2 : tie.Need-shown-start-requires-2
 shown-start-requires-2 c κs = search needs
@@ -41,8 +44,10 @@ returns-2 : tie.Need-returns-2
 unfolding asMaybe asLocator locator
 returns-2 c =
     let a = c .before .before .before .before .before .before .before .before .before .before .before .before .before .before .before .args in
+    let bytes = bytes-of (a .store .now) (λ j h. omega (arith, c .before .before .before .before .before .before .before .before .before .before .before .before .before .shared-slice-known2 .given j)) in
+    let ordered = c .before .before .before .before .before .before .before .before .before .before .before .before .before .before .before .pre .0 .0 .0 .0 .inOrder in
     let m = asLocator (c .before .before .before .before .before .before .before .after .given .0 .0) in
-    let e = past-the-last (a .ordinary) (a .stakes .now) (a .store .now) m (bytes-of (a .store .now) (λ j h. omega (arith, c .before .before .before .before .before .before .before .before .before .before .before .before .before .shared-slice-known2 .given j))) (c .before .before .before .before .before .before .before .before .before .before .before .before .before .before .before .pre .0 .0 .0 .0 .inOrder) (omega (arith, c .before .before .before .before .if1 .taken)) in
+    let e = past-the-last (a .ordinary) (a .withdrawing) (a .stakes .now) (a .store .now) bytes ordered m (omega (arith, c .before .before .before .before .if1 .taken)) in
     (rw (c .before .before .before .before .before .before .before .after .given .1) (c .before .before .shown-start2 .ensures .0 ∙ e), c .before .before .shown-start2 .ensures .1)
 
 add-t22 : tie.Need-add-t22
@@ -64,11 +69,13 @@ returns-3 : tie.Need-returns-3
 unfolding asMaybe asLocator locator asNext
 returns-3 c =
     let a = c .before .before .before .before .before .before .before .before .before .before .before .before .before .before .before .before .before .before .before .args in
-    let list = listed (a .ordinary) (a .stakes .now) (blocksOf (a .store .now)) in
+    let bytes = bytes-of (a .store .now) (λ j h. omega (arith, c .before .before .before .before .before .before .before .before .before .before .before .before .before .before .before .before .before .shared-slice-known2 .given j)) in
+    let ordered = c .before .before .before .before .before .before .before .before .before .before .before .before .before .before .before .before .before .before .before .pre .0 .0 .0 .0 .inOrder in
+    let list = listing (a .ordinary) (readingOf (a .withdrawing)) (a .stakes .now) (blocksOf (a .store .now)) in
     let m = asLocator (c .before .before .before .before .before .before .before .before .before .before .before .after .given .0 .0) in
     let l = locator (m .block) (m .offset + 1) in
     let f = when-shown list l (asLocator (c .enum-told3 .given .0 .0 .locator)) (ap asNext (sym (c .enum-told3 .given .1)) ∙ c .before .before .before .before .shown-at .ensures .0) in
-    (rw (c .before .before .before .before .before .before .before .before .before .before .before .after .given .1) (c .before .before .before .before .shown-at .ensures .0 ∙ sym (when-yes list l (f .0)) ∙ just-after (a .ordinary) (a .stakes .now) (a .store .now) m (f .0)), c .before .before .before .before .shown-at .ensures .1)
+    (rw (c .before .before .before .before .before .before .before .before .before .before .before .after .given .1) (c .before .before .before .before .shown-at .ensures .0 ∙ sym (when-yes list l (f .0)) ∙ just-after (a .ordinary) (a .withdrawing) (a .stakes .now) (a .store .now) bytes ordered m (f .0)), c .before .before .before .before .shown-at .ensures .1)
 
 shown-start-requires-3 : tie.Need-shown-start-requires-3
 shown-start-requires-3 c κs = ((c .before .before .before .before .before .before .before .before .before .before .before .before .before .before .before .before .before .before .before .before .pre .0 .0, c .before .before .before .before .before .shown-at .kept .1 .1 .1 .1 .1 .1 .1 .1 .1 .1 .1 .0 ∙ c .before .before .before .before .before .before .before .before .before .before .before .before .before .before .before .before .before .before .before .before .pre .0 .1), c .before .before .before .before .before .before .before .before .before .before .before .before .before .before .before .before .before .before .before .before .pre .1)
@@ -80,10 +87,12 @@ returns-4 : tie.Need-returns-4
 unfolding asMaybe asLocator locator asNext
 returns-4 c =
     let a = c .before .before .before .before .before .before .before .before .before .before .before .before .before .before .before .before .before .before .before .before .before .before .before .args in
-    let list = listed (a .ordinary) (a .stakes .now) (blocksOf (a .store .now)) in
+    let bytes = bytes-of (a .store .now) (λ j h. omega (arith, c .before .before .before .before .before .before .before .before .before .before .before .before .before .before .before .before .before .before .before .before .before .shared-slice-known2 .given j)) in
+    let ordered = c .before .before .before .before .before .before .before .before .before .before .before .before .before .before .before .before .before .before .before .before .before .before .before .pre .0 .0 .0 .0 .inOrder in
+    let list = listing (a .ordinary) (readingOf (a .withdrawing)) (a .stakes .now) (blocksOf (a .store .now)) in
     let m = asLocator (c .before .before .before .before .before .before .before .before .before .before .before .before .before .before .before .after .given .0 .0) in
     let f = when-hidden list (locator (m .block) (m .offset + 1)) (ap asNext (sym (c .before .before .before .before .enum-told2 .given .1)) ∙ c .before .before .before .before .before .before .before .before .shown-at .ensures .0) in
-    (rw (c .before .before .before .before .before .before .before .before .before .before .before .before .before .before .before .after .given .1) (c .before .before .shown-start3 .ensures .0 ∙ not-just-after (a .ordinary) (a .stakes .now) (a .store .now) m f), c .before .before .shown-start3 .ensures .1)
+    (rw (c .before .before .before .before .before .before .before .before .before .before .before .before .before .before .before .after .given .1) (c .before .before .shown-start3 .ensures .0 ∙ not-just-after (a .ordinary) (a .withdrawing) (a .stakes .now) (a .store .now) bytes ordered m f), c .before .before .shown-start3 .ensures .1)
 
 pub final-after-spec : {M : Type 1} → statement M
 final-after-spec =

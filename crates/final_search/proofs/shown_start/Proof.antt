@@ -1,6 +1,7 @@
 use Rattle.final_search.proofs.Onward.{when-yes, when-shown, when-hidden}
-use Rattle.final_search.specs.Search.{votedStarts, leastStart, asNext, FoundRight}
-use Rattle.listed.specs.Listed.{listed}
+use Rattle.final_search.specs.Search.{startsIn, leastStart, asNext, FoundRight}
+use Rattle.readings.specs.Readings.{readingOf}
+use Rattle.reading_lists.specs.Lists.{listing}
 use Rattle.vote_starts.proofs.Starts.{none-final, one-final, not-final, fewer}
 use Rattle.vote_starts.specs.Answers.{asMaybe}
 use Rattle.block_votes.proofs.Sorting.{some-committee}
@@ -15,11 +16,11 @@ use Rattle.final_search.proofs.shown_start.Statement.{statement}
 use Rattle.final_search.proofs.shown_start.Tie as tie
 
 abbrev Inv-loop : tie.InvT-loop
-Inv-loop stakes total store order votes m tabled places noted ordinary certified₀ last₀ certified last =
-    (length certified ≡ 1024) × (leastStart (listed ordinary stakes (blocksOf store)) store (asMaybe last) ≡ leastStart (listed ordinary stakes (blocksOf store)) store (asMaybe last₀))
+Inv-loop stakes total store order table sizes places noted ordinary withdrawing certified₀ last₀ certified last =
+    (length certified ≡ 1024) × (leastStart (listing ordinary (readingOf withdrawing) stakes (blocksOf store)) (startsIn withdrawing store) (asMaybe last) ≡ leastStart (listing ordinary (readingOf withdrawing) stakes (blocksOf store)) (startsIn withdrawing store) (asMaybe last₀))
 
 abbrev μ-loop : tie.MeasureT-loop
-μ-loop stakes total store order votes m tabled places noted ordinary certified₀ last₀ certified last = length (keep (isAfter (asMaybe last)) (votedStarts store))
+μ-loop stakes total store order table sizes places noted ordinary withdrawing certified₀ last₀ certified last = length (keep (isAfter (asMaybe last)) (startsIn withdrawing store))
 
 loop-holds : tie.Need-loop-holds Inv-loop μ-loop
 loop-holds c = (c .before .before .before .before .before .before .pre .0 .1, refl)
@@ -40,8 +41,8 @@ returns : tie.Need-returns Inv-loop μ-loop
 unfolding asMaybe asNext FoundRight leastStart
 returns c =
     let a = c .before .before .before .before .before .before .before .before .before .before .args in
-    let C = votedStarts (a .store .now) in
-    let shows = listed (a .ordinary) (a .stakes .now) (blocksOf (a .store .now)) .shows in
+    let C = startsIn (a .withdrawing) (a .store .now) in
+    let shows = listing (a .ordinary) (readingOf (a .withdrawing)) (a .stakes .now) (blocksOf (a .store .now)) .shows in
     let last = asMaybe (c .before .before .before .loop .last) in
     (none-final C shows last (sym (c .before .before .first-start .ensures) ∙ ap asMaybe (c .enum-told .given .1)) ∙ c .before .before .before .loop .inv .1, tt)
 
@@ -61,8 +62,8 @@ returns-2 : tie.Need-returns-2 Inv-loop μ-loop
 unfolding asMaybe asNext leastStart
 returns-2 c =
     let a = c .before .before .before .before .before .before .before .before .before .before .before .before .before .before .before .before .before .args in
-    let C = votedStarts (a .store .now) in
-    let list = listed (a .ordinary) (a .stakes .now) (blocksOf (a .store .now)) in
+    let C = startsIn (a .withdrawing) (a .store .now) in
+    let list = listing (a .ordinary) (readingOf (a .withdrawing)) (a .stakes .now) (blocksOf (a .store .now)) in
     let last = asMaybe (c .before .before .before .before .before .before .before .before .before .before .loop .last) in
     let l = asLocator (c .before .before .before .before .before .before .before .start .given .0 .0) in
     let first = sym (c .before .before .before .before .before .before .before .before .before .first-start .ensures) ∙ ap asMaybe (c .before .before .before .before .before .before .before .start .given .1) in
@@ -73,8 +74,8 @@ loop-less : tie.Need-loop-less Inv-loop μ-loop
 unfolding asMaybe
 loop-less c =
     let a = c .before .before .before .before .before .before .before .before .before .before .before .before .before .before .before .before .before .args in
-    let C = votedStarts (a .store .now) in
-    let list = listed (a .ordinary) (a .stakes .now) (blocksOf (a .store .now)) in
+    let C = startsIn (a .withdrawing) (a .store .now) in
+    let list = listing (a .ordinary) (readingOf (a .withdrawing)) (a .stakes .now) (blocksOf (a .store .now)) in
     let last = asMaybe (c .before .before .before .before .before .before .before .before .before .before .loop .last) in
     let l = asLocator (c .before .before .before .before .before .before .before .start .given .0 .0) in
     let first = sym (c .before .before .before .before .before .before .before .before .before .first-start .ensures) ∙ ap asMaybe (c .before .before .before .before .before .before .before .start .given .1) in
@@ -84,8 +85,8 @@ loop-again : tie.Need-loop-again Inv-loop μ-loop
 unfolding asMaybe asNext leastStart
 loop-again c =
     let a = c .before .before .before .before .before .before .before .before .before .before .before .before .before .before .before .before .before .args in
-    let C = votedStarts (a .store .now) in
-    let list = listed (a .ordinary) (a .stakes .now) (blocksOf (a .store .now)) in
+    let C = startsIn (a .withdrawing) (a .store .now) in
+    let list = listing (a .ordinary) (readingOf (a .withdrawing)) (a .stakes .now) (blocksOf (a .store .now)) in
     let last = asMaybe (c .before .before .before .before .before .before .before .before .before .before .loop .last) in
     let l = asLocator (c .before .before .before .before .before .before .before .start .given .0 .0) in
     let first = sym (c .before .before .before .before .before .before .before .before .before .first-start .ensures) ∙ ap asMaybe (c .before .before .before .before .before .before .before .start .given .1) in

@@ -1,47 +1,112 @@
-use Rattle.final_walk.proofs.Walking.{all-zero, marks-below}
-use Rattle.final_walk.specs.Walk.{CertifyMarked}
-use Rattle.block_votes.proofs.Sorting.{some-committee}
-use Rattle.types.specs.Values.{asLocator}
+use mathlib.Core.Path.{_≡_, refl, sym}
+use mathlib.Core.Bool.{false, true≢false}
 use native.Mathlib.Omega.{arith}
-use Prim.Native.Nat.{_<_, _≤_}
+use borrow.Author.Tests.{not-true, not-false}
+use Rattle.base.proofs.Le.{bytes-of}
+use Rattle.blocks.specs.Reference.{locator}
+use Rattle.types.specs.Values.{asLocator}
+use Rattle.readings.specs.Readings.{old, withdrawing}
+use Rattle.block_votes.proofs.Sorting.{some-committee}
+use Rattle.speakers.specs.Heard.{HeardMarked}
+use Rattle.final_walk.specs.Walk.{CertifyCounted}
+use Rattle.final_walk.proofs.Counting.{all-zero, counted-old, counted-none, last-unvoted}
 use borrow.Author.Needs.{needs}
 use Rattle.final_walk.proofs.certifiers_of.Statement.{statement}
 use Rattle.final_walk.proofs.certifiers_of.Tie as tie
 
-slice-aggregate-mark-votes : tie.Need-slice-aggregate-mark-votes
-slice-aggregate-mark-votes c = search needs
+slice-aggregate-mark : tie.Need-slice-aggregate-mark
+slice-aggregate-mark c = search needs
 
-mark-votes-requires : tie.Need-mark-votes-requires
-mark-votes-requires c κs = ((c .before .before .before .before .before .before .before .pre .1 .0 .1 .room, λ j h. omega (arith, c .before .before .before .before .before .before .before .pre .1 .0 .1 .sound j h .0, c .before .before .before .before .before .before .before .pre .1 .0 .0, c .before .before .before .before .before .before .before .pre .0 .0 .1)), λ k. all-zero 1024 k)
+mark-requires : tie.Need-mark-requires
+mark-requires c κs = let p = c .before .before .before .before .before .before .before .pre in
+    (((some-committee (p .0 .0 .0 .0), omega (arith, p .0 .0 .1)), (p .1 .0 .voting, p .1 .0 .votes)), ((λ k. all-zero 1024 k), λ e. absurd (true≢false (sym e))))
 
-slice-aggregate-mark-rest : tie.Need-slice-aggregate-mark-rest
-slice-aggregate-mark-rest c = search needs
+slice-aggregate-spread : tie.Need-slice-aggregate-spread
+slice-aggregate-spread c = search needs
 
-mark-rest-requires : tie.Need-mark-rest-requires
-mark-rest-requires c κs = let a = (c .before .before .before .before .before .before .before .before .before .before .args) in ((some-committee (c .before .before .before .before .before .before .before .before .before .before .pre .0 .0 .0 .0), c .before .before .before .before .before .before .before .before .before .before .pre .1 .0 .0), (omega (arith, c .before .before .mark-votes .kept .1 .1 .1 .0, c .before .before .before .before .before .before .before .before .before .before .pre .0 .0 .1), marks-below (a .store .now) (a .order .now) (a .votes .now) (a .tabled) (a .m) (asLocator (a .locator)) _ (c .before .before .before .before .before .before .before .before .before .before .pre .1 .0 .1) (c .before .before .mark-votes .ensures)))
+slice-aggregate-spread-2 : tie.Need-slice-aggregate-spread-2
+slice-aggregate-spread-2 c = search needs
 
-slice-aggregate-walk : tie.Need-slice-aggregate-walk
-slice-aggregate-walk c = search needs
+spread-requires : tie.Need-spread-requires
+spread-requires c κs = let p = c .before .before .before .before .before .before .before .before .before .before .before .pre in
+    ((some-committee (p .0 .0 .0 .0), p .0 .0 .1), (c .before .before .before .mark .kept .1 .1 .1 .1 .1 .1 .0, (refl, p .1 .1)))
 
-walk-requires : tie.Need-walk-requires
-walk-requires c κs = (c .before .before .before .before .before .before .before .before .before .before .before .before .before .before .pre .0 .0, (omega (arith, c .before .before .before .mark-rest .kept .1 .1 .1 .1 .0, c .before .before .before .before .before .before .mark-votes .kept .1 .1 .1 .0), (c .before .before .before .before .before .before .before .before .before .before .before .before .before .before .pre .0 .1, c .before .before .before .before .before .before .before .before .before .before .before .before .before .before .pre .1 .1)))
+slice-aggregate-certify : tie.Need-slice-aggregate-certify
+slice-aggregate-certify c = search needs
+
+slice-aggregate-certify-2 : tie.Need-slice-aggregate-certify-2
+slice-aggregate-certify-2 c = search needs
+
+certify-requires : tie.Need-certify-requires
+certify-requires c κs = let p = c .before .before .before .before .before .before .before .before .before .before .before .before .before .before .before .before .before .pre in
+    (p .0 .0, (p .0 .1, (c .before .before .before .before .before .spread .kept .1 .1 .1 .1 .1 .0, λ e. absurd (true≢false (sym e)))))
 
 same-length : tie.Need-same-length
 same-length c = search needs
 
 returns : tie.Need-returns
-unfolding CertifyMarked
-returns c = c .before .before .walk .ensures (asLocator (c .before .before .before .before .before .before .before .before .before .before .before .before .before .before .before .before .before .args .locator)) (c .before .before .before .before .before .before .mark-rest .ensures)
+unfolding CertifyCounted HeardMarked
+returns c = let a = c .before .before .before .before .before .before .before .before .before .before .before .before .before .before .before .before .before .before .before .before .args in
+    let l = asLocator (a .locator) in
+    rw (not-true (a .withdrawing) (c .before .before .before .before .before .before .if1 .taken)) (c .before .before .certify .ensures old l (counted-old (a .store .now) (a .order .now) l _ (c .before .before .before .before .before .before .before .before .spread .ensures false l (c .before .before .before .before .before .before .before .before .before .before .before .before .mark .ensures)) _))
+
+slice-aggregate-certify-3 : tie.Need-slice-aggregate-certify-3
+slice-aggregate-certify-3 c = search needs
+
+slice-aggregate-certify-4 : tie.Need-slice-aggregate-certify-4
+slice-aggregate-certify-4 c = search needs
+
+certify-requires-2 : tie.Need-certify-requires-2
+certify-requires-2 c κs = let p = c .before .before .before .before .before .before .before .before .before .before .before .before .before .before .before .before .before .before .before .pre in
+    (p .0 .0, (p .0 .1, (c .before .before .before .before .before .before .before .spread .kept .1 .1 .1 .1 .1 .0, λ e. absurd (true≢false (sym e)))))
+
+same-length-2 : tie.Need-same-length-2
+same-length-2 c = search needs
+
+returns-2 : tie.Need-returns-2
+unfolding CertifyCounted HeardMarked asLocator locator
+returns-2 c = let a = c .before .before .before .before .before .before .before .before .before .before .before .before .before .before .before .before .before .before .before .before .before .before .args in
+    let l = asLocator (a .locator) in
+    let bytes = bytes-of (a .store .now) (λ j h. omega (arith, c .before .before .before .before .before .before .before .before .before .before .before .before .before .before .before .before .before .before .before .before .shared-slice-known2 .given j)) in
+    let none = last-unvoted (a .store .now) (a .order .now) (some-committee (c .before .before .before .before .before .before .before .before .before .before .before .before .before .before .before .before .before .before .before .before .before .before .pre .0 .0 .0 .0)) bytes l (c .before .before .before .before .before .before .if2 .taken) in
+    rw (not-false (a .withdrawing) (c .before .before .before .before .before .before .before .before .if1 .left)) (c .before .before .certify2 .ensures withdrawing l (counted-none (a .store .now) (a .order .now) l _ (c .before .before .before .before .before .before .before .before .before .before .spread .ensures false l (c .before .before .before .before .before .before .before .before .before .before .before .before .before .before .mark .ensures)) withdrawing none _))
+
+slice-aggregate-withdrawn : tie.Need-slice-aggregate-withdrawn
+slice-aggregate-withdrawn c = search needs
+
+withdrawn-requires : tie.Need-withdrawn-requires
+unfolding HeardMarked
+withdrawn-requires c κs = let p = c .before .before .before .before .before .before .before .before .before .before .before .before .before .before .before .before .before .before .pre in
+    let a = c .before .before .before .before .before .before .before .before .before .before .before .before .before .before .before .before .before .before .args in
+    ((p .0, p .1), (omega (arith, c .before .before .if2 .left, c .before .before .before .struct-known .given), (c .before .before .before .before .before .before .spread .kept .1 .1 .1 .1 .1 .0, c .before .before .before .before .before .before .spread .ensures false (asLocator (a .locator)) (c .before .before .before .before .before .before .before .before .before .before .mark .ensures))))
+
+same-length-3 : tie.Need-same-length-3
+same-length-3 c = search needs
+
+returns-3 : tie.Need-returns-3
+returns-3 c = let a = c .before .before .before .before .before .before .before .before .before .before .before .before .before .before .before .before .before .before .before .before .before .args in
+    rw (not-false (a .withdrawing) (c .before .before .before .before .before .before .before .if1 .left)) (c .before .before .withdrawn .ensures)
 
 pub certifiers-of-spec : {M : Type 1} → statement M
 certifiers-of-spec =
     tie.close
     (tie.spec
-    slice-aggregate-mark-votes
-    mark-votes-requires
-    slice-aggregate-mark-rest
-    mark-rest-requires
-    slice-aggregate-walk
-    walk-requires
+    slice-aggregate-mark
+    mark-requires
+    slice-aggregate-spread
+    slice-aggregate-spread-2
+    spread-requires
+    slice-aggregate-certify
+    slice-aggregate-certify-2
+    certify-requires
     same-length
-    returns)
+    returns
+    slice-aggregate-certify-3
+    slice-aggregate-certify-4
+    certify-requires-2
+    same-length-2
+    returns-2
+    slice-aggregate-withdrawn
+    withdrawn-requires
+    same-length-3
+    returns-3)

@@ -2,7 +2,7 @@ use borrow.Author.Needs.{needs}
 use Prim.Native.Nat.{ℕ, _-_, _≤_, _<_, _+_, _*_}
 use mathlib.Core.Path.{_≡_, refl, ap, _∙_}
 use native.Mathlib.Omega.{arith}
-use Rattle.include_places.specs.Places.{votersIn, gathered}
+use Rattle.include_places.specs.Places.{setAt, gathered}
 use Rattle.include_places.proofs.Noting.{gathered-on}
 use Rattle.include_places.proofs.gather.Statement.{statement}
 use Rattle.include_places.proofs.gather.Tie as tie
@@ -60,7 +60,7 @@ loop-less : tie.Need-loop-less Inv-loop μ-loop
 loop-less c = search needs
 
 loop-again : tie.Need-loop-again Inv-loop μ-loop
-unfolding votersIn
+unfolding setAt
 loop-again c = let a = c .before .before .before .before .before .before .before .before .before .args in
     let g = c .before .before .before .before .before .loop in
     (omega (arith, c .before .before .before .before .loop-test .taken), c .union .ensures ∙ gathered-on (a .memo .now) (a .places .now) (a .from) (g .j) (g .voters) (g .inv .1))

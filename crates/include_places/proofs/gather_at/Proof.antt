@@ -33,7 +33,7 @@ returns : tie.Need-returns
 unfolding GatheredAt blockAtPlace
 returns c = let a = (c .before .before .before .before .before .before .before .before .args) in
     let p = c .before .before .before .before .before .before .before .before .pre .0 .1 in
-    λ l w. c .gather .ensures ∙ gathered-all (a .store .now) (a .order .now) (c .before .before .before .before .before .before .before .before .pre .0 .0) l (a .memo .now) (a .k) (c .before .before .before .before .before .before .before .before .pre .1 .0) w (a .places .now) (a .before) _ (λ j m. rw (c .before .before .before .before .before .before .before .before .pre .1 .1 .0) (p .placed (a .k) (c .before .before .before .if1 .taken) j m)) (c .before .include-count-at .ensures)
+    λ own l w. c .gather .ensures ∙ gathered-all (a .store .now) (a .order .now) (c .before .before .before .before .before .before .before .before .pre .0 .0) own l (a .memo .now) (a .k) (c .before .before .before .before .before .before .before .before .pre .1 .0) w (a .places .now) (a .before) _ (λ j m. rw (c .before .before .before .before .before .before .before .before .pre .1 .1 .0) (p .placed (a .k) (c .before .before .before .if1 .taken) j m)) (c .before .include-count-at .ensures)
 
 gather-read-requires : tie.Need-gather-read-requires
 gather-read-requires c κs = (c .before .before .before .before .before .pre .0 .0, (c .before .before .before .before .before .pre .1 .0, c .before .before .before .before .before .pre .1 .1 .1))

@@ -1,8 +1,9 @@
 use Rattle.include_places.proofs.Noting.{Upto, Known, upto-none, include-more, includes-all}
-use Rattle.include_places.specs.Places.{IsPlace, votersIn, GatheredAt}
+use Rattle.include_places.specs.Places.{IsPlace, setAt, GatheredAt}
 use Rattle.block_votes.proofs.Sorting.{place-entry, include-found, include-lower}
 use Rattle.block_votes.specs.Walk.{blockAtPlace}
 use Rattle.blocks.specs.Reference.{TransactionLocator}
+use Rattle.finality.specs.Voters.{Speech}
 use native.Mathlib.Omega.{arith}
 use mathlib.Core.Path.{_≡_, ap, _∙_}
 use Prim.Native.Nat.{ℕ, _-_, _≤_, _<_, _+_, _*_}
@@ -14,7 +15,7 @@ at-end : {j n m : ℕ} → n ≤ j → j ≤ n → n ≡ m → j ≡ m
 at-end h k e = omega arith
 
 abbrev Inv-loop : tie.InvT-loop
-Inv-loop store order k memo at count v₀ j₀ v j = (j ≤ count) × ((l : TransactionLocator) → Known store order l memo k → Upto store order l k j v)
+Inv-loop store order k memo at count v₀ j₀ v j = (j ≤ count) × ((own : Speech) (l : TransactionLocator) → Known own store order l memo k → Upto own store order l k j v)
 
 abbrev μ-loop : tie.MeasureT-loop
 μ-loop store order k memo at count voters₀ j₀ voters j = count - j
@@ -32,7 +33,7 @@ new-requires : tie.Need-new-requires Inv-loop μ-loop
 new-requires c κs = search needs
 
 loop-holds : tie.Need-loop-holds Inv-loop μ-loop
-loop-holds c = let a = (c .before .before .before .before .before .before .args) in (omega arith, λ l w. upto-none (a .store .now) (a .order .now) l (a .k) _ (c .new .ensures))
+loop-holds c = let a = (c .before .before .before .before .before .before .args) in (omega arith, λ own l w. upto-none own (a .store .now) (a .order .now) l (a .k) _ (c .new .ensures))
 
 include-at-requires : tie.Need-include-at-requires Inv-loop μ-loop
 include-at-requires c κs = (place-entry (c .before .before .before .before .before .before .before .before .args .store .now) (c .before .before .before .before .before .before .before .before .args .order .now) (c .before .before .before .before .before .before .before .before .pre .0) (c .before .before .before .before .before .before .before .before .args .k) (c .before .before .before .before .before .before .before .before .pre .1 .0), omega (arith, c .loop-test .taken, c .before .before .before .include-count-at .ensures))
@@ -79,17 +80,17 @@ loop-less : tie.Need-loop-less Inv-loop μ-loop
 loop-less c = omega (arith, c .before .before .before .before .before .loop-test .taken)
 
 loop-again : tie.Need-loop-again Inv-loop μ-loop
-unfolding votersIn IsPlace blockAtPlace
+unfolding setAt IsPlace blockAtPlace
 loop-again c = let a = (c .before .before .before .before .before .before .before .before .before .before .before .before .before .args) in
     let g = (c .before .before .before .before .before .before .loop) in
     let m = rw (c .before .before .before .before .before .before .before .before .include-count-at .ensures) at (c .before .before .before .before .before .loop-test .taken) in
-    (omega (arith, c .before .before .before .before .before .loop-test .taken), λ l w. c .union .ensures ∙ include-more (a .store .now) (a .order .now) (c .before .before .before .before .before .before .before .before .before .before .before .before .before .pre .0) l (a .memo .now) (a .k) (c .before .before .before .before .before .before .before .before .before .before .before .before .before .pre .1 .0) w (g .j) (c .before .before .before .place-of .result) (g .voters) m (c .before .before .before .place-of .ensures .0, c .before .before .before .place-of .ensures .1 ∙ c .before .before .before .before .include-at .ensures) (g .inv .1 l w))
+    (omega (arith, c .before .before .before .before .before .loop-test .taken), λ own l w. c .union .ensures ∙ include-more (a .store .now) (a .order .now) (c .before .before .before .before .before .before .before .before .before .before .before .before .before .pre .0) own l (a .memo .now) (a .k) (c .before .before .before .before .before .before .before .before .before .before .before .before .before .pre .1 .0) w (g .j) (c .before .before .before .place-of .result) (g .voters) m (c .before .before .before .place-of .ensures .0, c .before .before .before .place-of .ensures .1 ∙ c .before .before .before .before .include-at .ensures) (g .inv .1 own l w))
 
 returns : tie.Need-returns Inv-loop μ-loop
 unfolding GatheredAt blockAtPlace
 returns c = let a = (c .before .before .before .before .before .before .before .before .args) in
     let g = (c .before .loop) in
-    λ l w. g .inv .1 l w ∙ includes-all (a .store .now) (a .order .now) (c .before .before .before .before .before .before .before .before .pre .0) l (a .memo .now) (a .k) (c .before .before .before .before .before .before .before .before .pre .1 .0) w (g .j) (at-end (c .loop-test .left) (g .inv .0) (c .before .before .before .include-count-at .ensures))
+    λ own l w. g .inv .1 own l w ∙ includes-all (a .store .now) (a .order .now) (c .before .before .before .before .before .before .before .before .pre .0) own l (a .memo .now) (a .k) (c .before .before .before .before .before .before .before .before .pre .1 .0) w (g .j) (at-end (c .loop-test .left) (g .inv .0) (c .before .before .before .include-count-at .ensures))
 
 pub gather-read-spec : {M : Type 1} → statement M
 gather-read-spec =

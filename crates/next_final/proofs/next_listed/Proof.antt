@@ -1,8 +1,7 @@
 use Rattle.next_final.proofs.Asking.{next-broken, next-disordered, next-answered}
 use Rattle.next_final.specs.Answers.{asNextFinal}
 use Rattle.final_search.specs.Search.{asNext}
-use Rattle.listed.specs.Listed.{listed}
-use Rattle.finality.specs.Finality.{blocksOf}
+use Rattle.readings.specs.Readings.{readingOf}
 use Rattle.include_places.proofs.Noting.{placed-start}
 use Rattle.vote_table.proofs.Table.{table-start}
 use Rattle.block_votes.proofs.Along.{sorted-count}
@@ -14,7 +13,7 @@ use Rattle.committee.specs.Answers.{asNewCommittee}
 use borrow.Author.Tests.{not-true, not-false}
 use lib.ListN.{length}
 use native.Mathlib.Omega.{arith}
-use mathlib.Core.Bool.{true}
+use mathlib.Core.Bool.{true, false}
 use mathlib.Core.Path.{_≡_, refl, sym, ap, _∙_}
 use borrow.Author.Needs.{needs}
 use Rattle.next_final.proofs.next_listed.Statement.{statement}
@@ -33,7 +32,7 @@ returns : tie.Need-returns
 unfolding asNextFinal
 returns c = let a = (c .before .before .before .before .before .args) in
     let told = c .enum-told .given in
-    next-broken (a .stakes .now) (a .store .now) (listed (a .ordinary) (a .stakes .now) (blocksOf (a .store .now))) (asMaybe (a .after)) (broken-sound (a .stakes .now) (told .0 .0) (ap asNewCommittee (sym (told .1)) ∙ c .before .before .new-committee .ensures))
+    next-broken (a .ordinary) (readingOf (a .withdrawing)) (a .stakes .now) (a .store .now) (asMaybe (a .after)) (broken-sound (a .stakes .now) (told .0 .0) (ap asNewCommittee (sym (told .1)) ∙ c .before .before .new-committee .ensures))
 
 in-order-requires : tie.Need-in-order-requires
 in-order-requires c κs = let told = c .before .total .given in taken-sound (c .before .before .before .before .before .before .args .stakes .now) (told .0 .0) (ap asNewCommittee (sym (told .1)) ∙ c .before .before .before .new-committee .ensures) .0
@@ -43,7 +42,7 @@ unfolding asNextFinal
 returns-2 c = let a = (c .before .before .before .before .before .before .before .before .args) in
     let told = c .before .before .before .total .given in
     let t = taken-sound (a .stakes .now) (told .0 .0) (ap asNewCommittee (sym (told .1)) ∙ c .before .before .before .before .before .new-committee .ensures) in
-    next-disordered (a .stakes .now) (a .store .now) (listed (a .ordinary) (a .stakes .now) (blocksOf (a .store .now))) (asMaybe (a .after)) (t .0) (sym (c .before .in-order .ensures) ∙ not-true _ (c .if1 .taken))
+    next-disordered (a .ordinary) (readingOf (a .withdrawing)) (a .stakes .now) (a .store .now) (asMaybe (a .after)) (t .0) (sym (c .before .in-order .ensures) ∙ not-true _ (c .if1 .taken))
 
 slice-aggregate-sorted-positions : tie.Need-slice-aggregate-sorted-positions
 slice-aggregate-sorted-positions c = search needs
@@ -76,7 +75,7 @@ final-after-requires c κs = let a = (c .before .before .before .before .before 
     let o : storeInOrder (a .stakes .now) (a .store .now) ≡ true = sym (c .before .before .before .before .before .before .before .before .in-order .ensures) ∙ not-false _ (c .before .before .before .before .before .before .before .if1 .left) in
     let q = c .before .before .before .before .before .sorted-positions .ensures in
     let n = ap length (q .1 .1) ∙ sorted-count (a .store .now) (order-laid (a .stakes .now) (a .store .now) o) in
-    ((((record { sound = t .0; inOrder = o; laid = order-laid (a .stakes .now) (a .store .now) o; places = q .1 .1 }, t .1), omega (arith, q, n)), refl), ((omega arith, table-start (a .store .now) _ _), placed-start (a .store .now) _ _))
+    ((((record { sound = t .0; inOrder = o; laid = order-laid (a .stakes .now) (a .store .now) o; places = q .1 .1 }, t .1), omega (arith, q, n)), refl), (record { voting = omega arith; votes = table-start false (a .store .now) _ _; rejecting = omega arith; rejects = table-start true (a .store .now) _ _ }, placed-start (a .store .now) _ _))
 
 enum-known-next : tie.Need-enum-known-next
 enum-known-next c = search needs
@@ -90,7 +89,7 @@ returns-3 c = let a = (c .before .before .before .before .before .before .before
     let told = c .before .before .before .before .before .before .before .before .before .before .before .before .before .before .before .before .total .given in
     let t = taken-sound (a .stakes .now) (told .0 .0) (ap asNewCommittee (sym (told .1)) ∙ c .before .before .before .before .before .before .before .before .before .before .before .before .before .before .before .before .before .before .new-committee .ensures) in
     let e = ap asNext (sym (c .before .before .next .given .1)) ∙ c .before .before .before .before .before .final-after .ensures .0 in
-    next-answered (a .stakes .now) (a .store .now) (listed (a .ordinary) (a .stakes .now) (blocksOf (a .store .now))) (asMaybe (a .after)) (t .0) (sym (c .before .before .before .before .before .before .before .before .before .before .before .before .before .before .in-order .ensures) ∙ not-false _ (c .before .before .before .before .before .before .before .before .before .before .before .before .before .if1 .left)) _ e
+    next-answered (a .ordinary) (readingOf (a .withdrawing)) (a .stakes .now) (a .store .now) (asMaybe (a .after)) (t .0) (sym (c .before .before .before .before .before .before .before .before .before .before .before .before .before .before .in-order .ensures) ∙ not-false _ (c .before .before .before .before .before .before .before .before .before .before .before .before .before .if1 .left)) _ e
 
 returns-4 : tie.Need-returns-4
 unfolding asNextFinal asNext
@@ -98,7 +97,7 @@ returns-4 c = let a = (c .before .before .before .before .before .before .before
     let told = c .before .before .before .before .before .before .before .before .before .before .before .before .before .before .total .given in
     let t = taken-sound (a .stakes .now) (told .0 .0) (ap asNewCommittee (sym (told .1)) ∙ c .before .before .before .before .before .before .before .before .before .before .before .before .before .before .before .before .new-committee .ensures) in
     let e = ap asNext (sym (c .enum-told2 .given .1)) ∙ c .before .before .before .final-after .ensures .0 in
-    next-answered (a .stakes .now) (a .store .now) (listed (a .ordinary) (a .stakes .now) (blocksOf (a .store .now))) (asMaybe (a .after)) (t .0) (sym (c .before .before .before .before .before .before .before .before .before .before .before .before .in-order .ensures) ∙ not-false _ (c .before .before .before .before .before .before .before .before .before .before .before .if1 .left)) _ e
+    next-answered (a .ordinary) (readingOf (a .withdrawing)) (a .stakes .now) (a .store .now) (asMaybe (a .after)) (t .0) (sym (c .before .before .before .before .before .before .before .before .before .before .before .before .in-order .ensures) ∙ not-false _ (c .before .before .before .before .before .before .before .before .before .before .before .if1 .left)) _ e
 
 pub next-listed-spec : {M : Type 1} → statement M
 next-listed-spec =

@@ -2,7 +2,7 @@ use Rattle.vote_edges.proofs.Scanning.{over-on, over-end}
 use Rattle.vote_edges.specs.Edges.{edgesIn, edgesAt}
 use Rattle.stretches.specs.Stretches.{nearest}
 use Rattle.block_spans.proofs.Fits.{votes-fit}
-use Rattle.block_spans.specs.Joined.{joinedSpans}
+use Rattle.block_spans.specs.Ranges.{rangesOf}
 use Rattle.block_votes.proofs.Sorting.{place-entry, place-stored}
 use Rattle.block_votes.specs.Walk.{SortedStore, blockAtPlace}
 use Rattle.store_layout.proofs.Loops.{entry-room, record-part}
@@ -20,10 +20,10 @@ use Rattle.vote_edges.proofs.least_edge.Statement.{statement}
 use Rattle.vote_edges.proofs.least_edge.Tie as tie
 
 abbrev Inv-loop : tie.InvT-loop
-Inv-loop store order from block offset best near₀ k₀ near k = (k ≤ length order) × (nearest offset near (edgesAt store (asReference block) (drop k order)) ≡ nearest offset near₀ (edgesAt store (asReference block) (drop k₀ order)))
+Inv-loop store order from block offset best rejecting near₀ k₀ near k = (k ≤ length order) × (nearest offset near (edgesAt rejecting store (asReference block) (drop k order)) ≡ nearest offset near₀ (edgesAt rejecting store (asReference block) (drop k₀ order)))
 
 abbrev μ-loop : tie.MeasureT-loop
-μ-loop store order from block offset best near₀ k₀ near k = length order - k
+μ-loop store order from block offset best rejecting near₀ k₀ near k = length order - k
 
 loop-holds : tie.Need-loop-holds Inv-loop μ-loop
 loop-holds c = (c .before .before .pre .1, refl)
@@ -68,14 +68,14 @@ unfolding blockAt
 loop-again c = let a = c .before .before .before .before .before .before .before .before .args in
     let g = c .before .before .before .before .before .loop in
     let r = asReference (a .block) in
-    let e : c .record-edges .result ≡ nearest (a .offset) (g .near) (edgesIn r (joinedSpans (blockAt (a .store .now) (getD (a .order .now) (g .k) 0)))) =
-    c .record-edges .ensures ∙ ap (λ (x : Bytes). nearest (a .offset) (g .near) (edgesIn r (joinedSpans (blockIn x)))) (record-part (a .store .now) (getD (a .order .now) (g .k) 0) (c .before .before .record-end .result) (c .before .before .record-end .ensures)) in
-    (omega (arith, c .before .before .before .before .loop-test .taken), sym (over-on (a .store .now) r (a .offset) (a .order .now) (g .k) (g .near) (c .record-edges .result) (c .before .before .before .before .loop-test .taken) e) ∙ g .inv .1)
+    let e : c .record-edges .result ≡ nearest (a .offset) (g .near) (edgesIn r (rangesOf (a .rejecting) (blockAt (a .store .now) (getD (a .order .now) (g .k) 0)))) =
+    c .record-edges .ensures ∙ ap (λ (x : Bytes). nearest (a .offset) (g .near) (edgesIn r (rangesOf (a .rejecting) (blockIn x)))) (record-part (a .store .now) (getD (a .order .now) (g .k) 0) (c .before .before .record-end .result) (c .before .before .record-end .ensures)) in
+    (omega (arith, c .before .before .before .before .loop-test .taken), sym (over-on (a .rejecting) (a .store .now) r (a .offset) (a .order .now) (g .k) (g .near) (c .record-edges .result) (c .before .before .before .before .loop-test .taken) e) ∙ g .inv .1)
 
 returns : tie.Need-returns Inv-loop μ-loop
 returns c = let a = c .before .before .before .before .args in
     let g = c .before .loop in
-    sym (over-end (a .store .now) (asReference (a .block)) (a .offset) (a .order .now) (g .k) (g .near) (omega (arith, c .loop-test .left))) ∙ g .inv .1
+    sym (over-end (a .rejecting) (a .store .now) (asReference (a .block)) (a .offset) (a .order .now) (g .k) (g .near) (omega (arith, c .loop-test .left))) ∙ g .inv .1
 
 pub least-edge-spec : {M : Type 1} → statement M
 least-edge-spec =

@@ -2,7 +2,7 @@ use Rattle.vote_starts.proofs.Starts.{leastOver, least-over-on, least-o
 use Rattle.vote_starts.specs.Walk.{startOf, lesserOf}
 use Rattle.vote_starts.specs.Answers.{asMaybe}
 use Rattle.block_spans.proofs.Fits.{votes-fit}
-use Rattle.block_spans.specs.Joined.{joinedSpans}
+use Rattle.block_spans.specs.Ranges.{rangesOf}
 use Rattle.block_votes.proofs.Sorting.{place-entry, place-stored}
 use Rattle.block_votes.specs.Walk.{SortedStore, blockAtPlace}
 use Rattle.finality.specs.NextFinal.{isAfter, leastLocator}
@@ -22,10 +22,10 @@ use Rattle.vote_starts.proofs.least_start.Statement.{statement}
 use Rattle.vote_starts.proofs.least_start.Tie as tie
 
 abbrev Inv-loop : tie.InvT-loop
-Inv-loop store order from last least₀ k₀ least k = (k ≤ length order) × (lesserOf (asMaybe least) (leastOver store (isAfter (asMaybe last)) (drop k order)) ≡ lesserOf (asMaybe least₀) (leastOver store (isAfter (asMaybe last)) (drop k₀ order)))
+Inv-loop store order from last rejecting least₀ k₀ least k = (k ≤ length order) × (lesserOf (asMaybe least) (leastOver rejecting store (isAfter (asMaybe last)) (drop k order)) ≡ lesserOf (asMaybe least₀) (leastOver rejecting store (isAfter (asMaybe last)) (drop k₀ order)))
 
 abbrev μ-loop : tie.MeasureT-loop
-μ-loop store order from last least₀ k₀ least k = length order - k
+μ-loop store order from last rejecting least₀ k₀ least k = length order - k
 
 loop-holds : tie.Need-loop-holds Inv-loop μ-loop
 loop-holds c = (c .before .before .pre .1, refl)
@@ -70,14 +70,14 @@ unfolding blockAt
 loop-again c = let a = c .before .before .before .before .before .before .before .before .args in
     let g = c .before .before .before .before .before .loop in
     let p = isAfter (asMaybe (a .last)) in
-    let e : asMaybe (c .least-start-in .result) ≡ lesserOf (asMaybe (g .least)) (leastLocator (keep p (map startOf (joinedSpans (blockAt (a .store .now) (getD (a .order .now) (g .k) 0)))))) =
-    c .least-start-in .ensures ∙ ap (λ (x : Bytes). lesserOf (asMaybe (g .least)) (leastLocator (keep p (map startOf (joinedSpans (blockIn x)))))) (record-part (a .store .now) (getD (a .order .now) (g .k) 0) (c .before .before .record-end .result) (c .before .before .record-end .ensures)) in
-    (omega (arith, c .before .before .before .before .loop-test .taken), sym (least-over-on (a .store .now) p (a .order .now) (g .k) (asMaybe (g .least)) (asMaybe (c .least-start-in .result)) (c .before .before .before .before .loop-test .taken) e) ∙ g .inv .1)
+    let e : asMaybe (c .least-start-in .result) ≡ lesserOf (asMaybe (g .least)) (leastLocator (keep p (map (startOf (a .rejecting)) (rangesOf (a .rejecting) (blockAt (a .store .now) (getD (a .order .now) (g .k) 0)))))) =
+    c .least-start-in .ensures ∙ ap (λ (x : Bytes). lesserOf (asMaybe (g .least)) (leastLocator (keep p (map (startOf (a .rejecting)) (rangesOf (a .rejecting) (blockIn x)))))) (record-part (a .store .now) (getD (a .order .now) (g .k) 0) (c .before .before .record-end .result) (c .before .before .record-end .ensures)) in
+    (omega (arith, c .before .before .before .before .loop-test .taken), sym (least-over-on (a .rejecting) (a .store .now) p (a .order .now) (g .k) (asMaybe (g .least)) (asMaybe (c .least-start-in .result)) (c .before .before .before .before .loop-test .taken) e) ∙ g .inv .1)
 
 returns : tie.Need-returns Inv-loop μ-loop
 returns c = let a = c .before .before .before .before .args in
     let g = c .before .loop in
-    sym (least-over-end (a .store .now) (isAfter (asMaybe (a .last))) (a .order .now) (g .k) (asMaybe (g .least)) (omega (arith, c .loop-test .left))) ∙ g .inv .1
+    sym (least-over-end (a .rejecting) (a .store .now) (isAfter (asMaybe (a .last))) (a .order .now) (g .k) (asMaybe (g .least)) (omega (arith, c .loop-test .left))) ∙ g .inv .1
 
 pub least-start-spec : {M : Type 1} → statement M
 least-start-spec =

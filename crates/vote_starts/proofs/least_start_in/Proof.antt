@@ -2,7 +2,7 @@ use Rattle.vote_starts.proofs.Minimum.{lesser-none, leastFrom, least-st
 use Rattle.vote_starts.specs.Walk.{startOf, lesserOf}
 use Rattle.vote_starts.specs.Answers.{asMaybe}
 use Rattle.block_spans.specs.declared.Vote.{Vote}
-use Rattle.block_spans.specs.Joined.{joinedAt, joinedSpans}
+use Rattle.block_spans.specs.Ranges.{rangesAt, rangesOf}
 use Rattle.block_spans.specs.Answers.{votedBy, OnwardIn}
 use Rattle.finality.specs.NextFinal.{isAfter, leastLocator}
 use Rattle.block_record.specs.Cursor.{cursorAt}
@@ -20,10 +20,10 @@ use Rattle.vote_starts.proofs.least_start_in.Statement.{statement}
 use Rattle.vote_starts.proofs.least_start_in.Tie as tie
 
 abbrev Inv-loop : tie.InvT-loop
-Inv-loop rec last count block cursor₀ least₀ cursor least = (cursor ≡ cursorAt rec (cursor .index)) × ((cursor .index ≤ length (blockIn rec .statements)) × (lesserOf (asMaybe least₀) (leastLocator (keep (isAfter (asMaybe last)) (map startOf (joinedSpans (blockIn rec))))) ≡ lesserOf (asMaybe least) (leastFrom (blockIn rec) (isAfter (asMaybe last)) (cursor .index))))
+Inv-loop rec last rejecting count block cursor₀ least₀ cursor least = (cursor ≡ cursorAt rec (cursor .index)) × ((cursor .index ≤ length (blockIn rec .statements)) × (lesserOf (asMaybe least₀) (leastLocator (keep (isAfter (asMaybe last)) (map (startOf rejecting) (rangesOf rejecting (blockIn rec))))) ≡ lesserOf (asMaybe least) (leastFrom rejecting (blockIn rec) (isAfter (asMaybe last)) (cursor .index))))
 
 abbrev μ-loop : tie.MeasureT-loop
-μ-loop rec last count block cursor₀ least₀ cursor least = length (blockIn rec .statements) - cursor .index
+μ-loop rec last rejecting count block cursor₀ least₀ cursor least = length (blockIn rec .statements) - cursor .index
 
 statement-count-requires : tie.Need-statement-count-requires Inv-loop μ-loop
 statement-count-requires c κs = c .before .pre .0
@@ -37,7 +37,7 @@ first-statement-requires c κs = c .before .before .before .pre .0
 loop-holds : tie.Need-loop-holds Inv-loop μ-loop
 unfolding cursorAt
 loop-holds c = let a = c .before .before .before .before .args in
-    rw (c .first-statement .ensures) (refl, (omega arith, ap (lesserOf (asMaybe (a .best))) (least-start (blockIn (a .rec .now)) (isAfter (asMaybe (a .last))))))
+    rw (c .first-statement .ensures) (refl, (omega arith, ap (lesserOf (asMaybe (a .best))) (least-start (a .rejecting) (blockIn (a .rec .now)) (isAfter (asMaybe (a .last))))))
 
 next-span-requires : tie.Need-next-span-requires Inv-loop μ-loop
 next-span-requires c κs = (c .before .before .before .before .before .before .before .pre, (c .before .before .before .before .reference .ensures, (c .before .before .loop .inv .0, omega (arith, c .if1 .taken, c .before .before .before .before .before .statement-count .ensures))))
@@ -60,8 +60,8 @@ loop-again c = let a = c .before .before .before .before .before .before .before
     let g = c .before .before .before .before .before .before .loop in
     let i = g .cursor .index in
     let n = c .before .before .before .next-span .result .next .index in
-    let e : joinedAt b i ≡ [] ++ joinedAt b n = c .before .before .before .next-span .ensures .0 ∙ ap (λ (v : Vote). votedBy v ++ joinedAt b n) (c .enum-told .given .1) in
-    (c .before .before .before .next-span .ensures .1 .1 .1, (c .before .before .before .next-span .ensures .1 .1 .0, g .inv .1 .1 ∙ least-on b p i n [] (asMaybe (g .least)) (asMaybe (g .least)) e (sym (lesser-none (asMaybe (g .least))))))
+    let e : rangesAt (a .rejecting) b i ≡ [] ++ rangesAt (a .rejecting) b n = c .before .before .before .next-span .ensures .0 ∙ ap (λ (v : Vote). votedBy v ++ rangesAt (a .rejecting) b n) (c .enum-told .given .1) in
+    (c .before .before .before .next-span .ensures .1 .1 .1, (c .before .before .before .next-span .ensures .1 .1 .0, g .inv .1 .1 ∙ least-on (a .rejecting) b p i n [] (asMaybe (g .least)) (asMaybe (g .least)) e (sym (lesser-none (asMaybe (g .least))))))
 
 start-of-requires : tie.Need-start-of-requires Inv-loop μ-loop
 start-of-requires c κs = search needs
@@ -82,14 +82,14 @@ loop-again-2 c = let a = c .before .before .before .before .before .before .befo
     let i = g .cursor .index in
     let n = c .before .before .before .before .before .before .next-span .result .next .index in
     let q = c .before .before .before .vote .given .0 .0 in
-    let e : joinedAt b i ≡ (asRange q ∷ []) ++ joinedAt b n = c .before .before .before .before .before .before .next-span .ensures .0 ∙ ap (λ (v : Vote). votedBy v ++ joinedAt b n) (c .before .before .before .vote .given .1) in
+    let e : rangesAt (a .rejecting) b i ≡ (asRange q ∷ []) ++ rangesAt (a .rejecting) b n = c .before .before .before .before .before .before .next-span .ensures .0 ∙ ap (λ (v : Vote). votedBy v ++ rangesAt (a .rejecting) b n) (c .before .before .before .vote .given .1) in
     let f = c .lesser .ensures ∙ ap (λ (l : TransactionLocator). lesserOf (asMaybe (g .least)) (leastLocator (keep p (l ∷ [])))) (c .before .start-of .ensures) in
-    (c .before .before .before .before .before .before .next-span .ensures .1 .1 .1, (c .before .before .before .before .before .before .next-span .ensures .1 .1 .0, g .inv .1 .1 ∙ least-on b p i n (asRange q ∷ []) (asMaybe (g .least)) (asMaybe (c .lesser .result)) e f))
+    (c .before .before .before .before .before .before .next-span .ensures .1 .1 .1, (c .before .before .before .before .before .before .next-span .ensures .1 .1 .0, g .inv .1 .1 ∙ least-on (a .rejecting) b p i n (asRange q ∷ []) (asMaybe (g .least)) (asMaybe (c .lesser .result)) e f))
 
 returns : tie.Need-returns Inv-loop μ-loop
 returns c = let a = c .before .before .before .before .before .before .before .args in
     let g = c .before .before .loop in
-    sym (g .inv .1 .1 ∙ least-end (blockIn (a .rec .now)) (isAfter (asMaybe (a .last))) (g .cursor .index) (asMaybe (g .least)) (omega (arith, c .if1 .left, c .before .before .before .before .before .statement-count .ensures)))
+    sym (g .inv .1 .1 ∙ least-end (a .rejecting) (blockIn (a .rec .now)) (isAfter (asMaybe (a .last))) (g .cursor .index) (asMaybe (g .least)) (omega (arith, c .if1 .left, c .before .before .before .before .before .statement-count .ensures)))
 
 pub least-start-in-spec : {M : Type 1} → statement M
 least-start-in-spec =

@@ -7,7 +7,11 @@ use Rattle.vote_starts.proofs.start_of.Tie as tie
 
 returns : tie.Need-returns
 unfolding asLocator asRange startOf locator newRange
-returns c = refl
+returns c = rw (c .if1 .taken)
+
+returns-2 : tie.Need-returns-2
+unfolding asLocator asRange startOf locator newRange
+returns-2 c = rw (c .if1 .left)
 
 pub start-of-spec : {M : Type 1} → statement M
-start-of-spec = tie.close (tie.spec returns)
+start-of-spec = tie.close (tie.spec returns returns-2)

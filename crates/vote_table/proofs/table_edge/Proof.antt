@@ -13,14 +13,14 @@ use Rattle.vote_table.proofs.table_edge.Statement.{statement}
 use Rattle.vote_table.proofs.table_edge.Tie as tie
 
 abbrev Inv-loop : tie.InvT-loop
-Inv-loop votes m block offset near₀ i₀ near i = (i ≤ m) × (nearest offset near (edgesIn (asReference block) (rangesFrom votes i m)) ≡ nearest offset 0 (edgesIn (asReference block) (tableRanges votes m)))
+Inv-loop votes m block offset best near₀ i₀ near i = (i ≤ m) × (nearest offset near (edgesIn (asReference block) (rangesFrom votes i m)) ≡ nearest offset best (edgesIn (asReference block) (tableRanges votes m)))
 
 abbrev μ-loop : tie.MeasureT-loop
-μ-loop votes m block offset near₀ i₀ near i = m - i
+μ-loop votes m block offset best near₀ i₀ near i = m - i
 
 loop-holds : tie.Need-loop-holds Inv-loop μ-loop
 loop-holds c = let a = (c .before .args) in
-    (omega arith, ap (λ (qs : List TransactionLocatorRange). nearest (a .offset) 0 (edgesIn (asReference (a .block)) qs)) (first-range (a .votes .now) (a .m)))
+    (omega arith, ap (λ (qs : List TransactionLocatorRange). nearest (a .offset) (a .best) (edgesIn (asReference (a .block)) qs)) (first-range (a .votes .now) (a .m)))
 
 read-vote-requires : tie.Need-read-vote-requires Inv-loop μ-loop
 read-vote-requires c κs = omega (arith, c .loop-test .taken, (c .before .before .before .pre))

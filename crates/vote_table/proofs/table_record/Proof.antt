@@ -1,7 +1,7 @@
 use Rattle.vote_table.proofs.Table.{record-start, record-none, record-one}
 use Rattle.vote_table.specs.Table.{Recorded, RecordedBy}
 use Rattle.block_spans.specs.declared.Vote.{Vote}
-use Rattle.block_spans.specs.Joined.{joinedAt}
+use Rattle.block_spans.specs.Ranges.{rangesAt}
 use Rattle.block_spans.specs.Answers.{votedBy, OnwardIn}
 use Rattle.block_record.specs.Cursor.{cursorAt}
 use Rattle.types.specs.Values.{asRange}
@@ -16,10 +16,10 @@ use Rattle.vote_table.proofs.table_record.Statement.{statement}
 use Rattle.vote_table.proofs.table_record.Tie as tie
 
 abbrev Inv-loop : tie.InvT-loop
-Inv-loop rec k votes₀ m count block cursor₀ n₀ votes cursor n = (cursor ≡ cursorAt rec (cursor .index)) × ((cursor .index ≤ length (blockIn rec .statements)) × Recorded (blockIn rec) k votes₀ votes m n (cursor .index))
+Inv-loop rec k votes₀ m rejecting count block cursor₀ n₀ votes cursor n = (cursor ≡ cursorAt rec (cursor .index)) × ((cursor .index ≤ length (blockIn rec .statements)) × Recorded rejecting (blockIn rec) k votes₀ votes m n (cursor .index))
 
 abbrev μ-loop : tie.MeasureT-loop
-μ-loop rec k votes₀ m count block cursor₀ n₀ votes cursor n = length (blockIn rec .statements) - cursor .index
+μ-loop rec k votes₀ m rejecting count block cursor₀ n₀ votes cursor n = length (blockIn rec .statements) - cursor .index
 
 statement-count-requires : tie.Need-statement-count-requires Inv-loop μ-loop
 statement-count-requires c κs = c .before .before .pre .0 .0
@@ -33,7 +33,7 @@ first-statement-requires c κs = c .before .before .before .before .pre .0 .0
 loop-holds : tie.Need-loop-holds Inv-loop μ-loop
 unfolding cursorAt
 loop-holds c = let a = (c .before .before .before .before .before .args) in
-    rw (c .first-statement .ensures) (refl, (omega arith, record-start (blockIn (a .rec .now)) (a .k) (a .votes .now) (a .m) (c .before .before .before .before .before .pre .1)))
+    rw (c .first-statement .ensures) (refl, (omega arith, record-start (a .rejecting) (blockIn (a .rec .now)) (a .k) (a .votes .now) (a .m) (c .before .before .before .before .before .pre .1)))
 
 next-span-requires : tie.Need-next-span-requires Inv-loop μ-loop
 next-span-requires c κs = (c .before .before .before .before .before .before .before .before .pre .0, (c .before .before .before .before .reference .ensures, (c .before .before .loop .inv .0, omega (arith, c .if1 .taken, c .before .before .before .before .before .statement-count .ensures))))
@@ -55,8 +55,8 @@ loop-again c = let a = (c .before .before .before .before .before .before .befor
     let g = (c .before .before .before .before .before .before .loop) in
     let i = g .cursor .index in
     let n = c .before .before .before .next-span .result .next .index in
-    let e : joinedAt b i ≡ [] ++ joinedAt b n = c .before .before .before .next-span .ensures .0 ∙ ap (λ (v : Vote). votedBy v ++ joinedAt b n) (c .enum-told .given .1) in
-    (c .before .before .before .next-span .ensures .1 .1 .1, (c .before .before .before .next-span .ensures .1 .1 .0, record-none b (a .k) (a .votes .now) (a .m) (g .votes) (g .n) i n (g .inv .1 .1) e))
+    let e : rangesAt (a .rejecting) b i ≡ [] ++ rangesAt (a .rejecting) b n = c .before .before .before .next-span .ensures .0 ∙ ap (λ (v : Vote). votedBy v ++ rangesAt (a .rejecting) b n) (c .enum-told .given .1) in
+    (c .before .before .before .next-span .ensures .1 .1 .1, (c .before .before .before .next-span .ensures .1 .1 .0, record-none (a .rejecting) b (a .k) (a .votes .now) (a .m) (g .votes) (g .n) i n (g .inv .1 .1) e))
 
 mul-if2 : tie.Need-mul-if2 Inv-loop μ-loop
 mul-if2 c = omega (arith, c .before .before .before .before .before .before .before .loop .inv .1 .1 .room, c .before .before .before .before .before .before .before .loop .inv .1 .1 .stays .long, (c .before .before .before .before .before .before .before .before .before .before .before .before .before .good))
@@ -89,8 +89,8 @@ loop-again-2 c = let a = (c .before .before .before .before .before .before .bef
     let i = g .cursor .index in
     let n = c .before .before .before .before .before .before .before .before .before .next-span .result .next .index in
     let q = c .before .before .before .before .before .before .vote .given .0 .0 in
-    let e : joinedAt b i ≡ (asRange q ∷ []) ++ joinedAt b n = c .before .before .before .before .before .before .before .before .before .next-span .ensures .0 ∙ ap (λ (v : Vote). votedBy v ++ joinedAt b n) (c .before .before .before .before .before .before .vote .given .1) in
-    rw (c .before .before .write-vote .ensures) (c .before .before .before .before .before .before .before .before .before .next-span .ensures .1 .1 .1, (c .before .before .before .before .before .before .before .before .before .next-span .ensures .1 .1 .0, record-one b (a .k) (a .votes .now) (a .m) (g .votes) (g .n) i n (g .inv .1 .1) q e (omega (arith, c .before .before .before .before .if2 .left, g .inv .1 .1 .room))))
+    let e : rangesAt (a .rejecting) b i ≡ (asRange q ∷ []) ++ rangesAt (a .rejecting) b n = c .before .before .before .before .before .before .before .before .before .next-span .ensures .0 ∙ ap (λ (v : Vote). votedBy v ++ rangesAt (a .rejecting) b n) (c .before .before .before .before .before .before .vote .given .1) in
+    rw (c .before .before .write-vote .ensures) (c .before .before .before .before .before .before .before .before .before .next-span .ensures .1 .1 .1, (c .before .before .before .before .before .before .before .before .before .next-span .ensures .1 .1 .0, record-one (a .rejecting) b (a .k) (a .votes .now) (a .m) (g .votes) (g .n) i n (g .inv .1 .1) q e (omega (arith, c .before .before .before .before .if2 .left, g .inv .1 .1 .room))))
 
 same-length-2 : tie.Need-same-length-2 Inv-loop μ-loop
 same-length-2 c = c .before .before .loop .inv .1 .1 .stays .long
@@ -100,7 +100,7 @@ unfolding RecordedBy
 returns-2 c = let a = (c .before .before .before .before .before .before .before .before .args) in
     let g = (c .before .before .loop) in
     let e : g .cursor .index ≡ length (blockIn (a .rec .now) .statements) = omega (arith, c .if1 .left, c .before .before .before .before .before .statement-count .ensures, g .inv .1 .0) in
-    subst (λ (i : ℕ). Recorded (blockIn (a .rec .now)) (a .k) (a .votes .now) (g .votes) (a .m) (g .n) i) e (g .inv .1 .1)
+    subst (λ (i : ℕ). Recorded (a .rejecting) (blockIn (a .rec .now)) (a .k) (a .votes .now) (g .votes) (a .m) (g .n) i) e (g .inv .1 .1)
 
 pub table-record-spec : {M : Type 1} → statement M
 table-record-spec =

@@ -15,14 +15,14 @@ use Rattle.vote_table.proofs.table_votes.Statement.{statement}
 use Rattle.vote_table.proofs.table_votes.Tie as tie
 
 abbrev Inv-loop : tie.InvT-loop
-Inv-loop store order votes₀ m₀ k₀ votes m k = (length votes ≡ length votes₀) × ((k ≤ length order) × Tabled store order votes k m)
+Inv-loop store order votes₀ rejecting m₀ k₀ votes m k = (length votes ≡ length votes₀) × ((k ≤ length order) × Tabled rejecting store order votes k m)
 
 abbrev μ-loop : tie.MeasureT-loop
-μ-loop store order votes₀ m₀ k₀ votes m k = length order - k
+μ-loop store order votes₀ rejecting m₀ k₀ votes m k = length order - k
 
 loop-holds : tie.Need-loop-holds Inv-loop μ-loop
 loop-holds c = let a = (c .before .before .before .args) in
-    (refl, (omega arith, table-start (a .store .now) (a .order .now) (a .votes .now)))
+    (refl, (omega arith, table-start (a .rejecting) (a .store .now) (a .order .now) (a .votes .now)))
 
 mul-at : tie.Need-mul-at Inv-loop μ-loop
 mul-at c = search needs
@@ -70,7 +70,7 @@ unfolding RecordedBy
 returns c = let a = (c .before .before .before .before .before .before .before .before .before .before .before .before .before .before .args) in
     let g = (c .before .before .before .before .before .before .before .before .before .before .loop) in
     let r = rw (c .enum-told .given .1) at (c .before .before .before .before .table-record .ensures) in
-    (g .inv .1 .0, table-kept (a .store .now) (a .order .now) (g .votes) _ (g .k) (g .m) (g .inv .1 .1) r)
+    (g .inv .1 .0, table-kept (a .rejecting) (a .store .now) (a .order .now) (g .votes) _ (g .k) (g .m) (g .inv .1 .1) r)
 
 add-k : tie.Need-add-k Inv-loop μ-loop
 add-k c = search needs
@@ -83,7 +83,7 @@ unfolding RecordedBy blockAt blockAtPlace
 loop-again c = let a = (c .before .before .before .before .before .before .before .before .before .before .before .before .before .before .before .args) in
     let g = (c .before .before .before .before .before .before .before .before .before .before .before .loop) in
     let r = rw (record-part (a .store .now) (getD (a .order .now) (g .k) 0) (c .before .before .before .before .before .before .before .before .record-end .result) (c .before .before .before .before .before .before .before .before .record-end .ensures), c .before .tabled .given .1) at (c .before .before .before .before .before .table-record .ensures) in
-    (c .before .before .before .before .before .table-record .kept .1 .1 .0 ∙ g .inv .0, (omega (arith, c .before .before .before .before .before .before .before .before .before .before .loop-test .taken), table-more (a .store .now) (a .order .now) (g .votes) _ (g .k) (g .m) _ (g .inv .1 .1) r))
+    (c .before .before .before .before .before .table-record .kept .1 .1 .0 ∙ g .inv .0, (omega (arith, c .before .before .before .before .before .before .before .before .before .before .loop-test .taken), table-more (a .rejecting) (a .store .now) (a .order .now) (g .votes) _ (g .k) (g .m) _ (g .inv .1 .1) r))
 
 same-length-2 : tie.Need-same-length-2 Inv-loop μ-loop
 same-length-2 c = c .before .loop .inv .0

@@ -1,8 +1,8 @@
 use mathlib.Core.Path.{refl}
-use Rattle.final_walk.specs.Walk.{withVoters}
+use Rattle.speakers.specs.Heard.{withSet}
 use borrow.Author.Needs.{needs}
-use Rattle.final_walk.proofs.note_voters.Statement.{statement}
-use Rattle.final_walk.proofs.note_voters.Tie as tie
+use Rattle.speakers.proofs.note_set.Statement.{statement}
+use Rattle.speakers.proofs.note_set.Tie as tie
 
 mul-memo : tie.Need-mul-memo
 mul-memo c = search needs
@@ -29,11 +29,11 @@ same-length : tie.Need-same-length
 same-length c = search needs
 
 returns : tie.Need-returns
-unfolding withVoters
+unfolding withSet
 returns c = refl
 
-pub note-voters-spec : {M : Type 1} → statement M
-note-voters-spec =
+pub note-set-spec : {M : Type 1} → statement M
+note-set-spec =
     tie.close
     (tie.spec
     mul-memo

@@ -4,8 +4,8 @@ use Rattle.authority_set.specs.AuthoritySet.{AuthoritySet, united}
 use Rattle.blocks.specs.Reference.{BlockReference}
 use Rattle.types.specs.Values.{asReference}
 use borrow.Author.Needs.{needs}
-use Rattle.final_walk.proofs.with_own.Statement.{statement}
-use Rattle.final_walk.proofs.with_own.Tie as tie
+use Rattle.speakers.proofs.with_own.Statement.{statement}
+use Rattle.speakers.proofs.with_own.Tie as tie
 
 new-requires : tie.Need-new-requires
 new-requires c κs = search needs

@@ -1,0 +1,80 @@
+-- The voters that count, in either reading. Assumes nothing.
+use mathlib.Core.Path.{_≡_, refl, sym, ap, ap₂, subst, _∙_}
+use mathlib.Core.Bool.{Bool, true, false}
+use mathlib.Core.List.{List, _∷_}
+use Prim.Native.Nat.{ℕ, suc, _<_}
+use native.Mathlib.Omega.{arith}
+use native.Mathlib.Decide.{decLt}
+use lib.Dec.{eqb}
+use lib.ListN.{length, getD, replicate, length-replicate, getD-replicate, List·getD-eq-default}
+use Rattle.base.specs.Lists.{_∈_, here, there}
+use Rattle.base.specs.Le.{Bytes}
+use Rattle.base.proofs.Le.{AllBytes}
+use Rattle.base.proofs.Tests.{fails}
+use Rattle.authority_set.specs.AuthoritySet.{nobody}
+use Rattle.blocks.specs.Reference.{BlockReference, TransactionLocator}
+use Rattle.blocks.specs.Block.{Block}
+use Rattle.store_layout.specs.Entry.{blockAt}
+use Rattle.finality.specs.Voters.{votesFor, ownVote, voters}
+use Rattle.finality.specs.Finality.{blocksOf}
+use Rattle.finality.proofs.Spoken.{spoken-nobody}
+use Rattle.readings.specs.Rejecting.{rejects, ownReject, rejecters, without}
+use Rattle.readings.specs.Readings.{Reading, old, withdrawing, votersIn}
+use Rattle.readings.proofs.Words.{without-nobody}
+use Rattle.block_votes.specs.Walk.{SortedStore, blockAtPlace}
+use Rattle.block_spans.proofs.Fits.{vote-offset}
+use Rattle.voters.specs.Walk.{spokenAt}
+use Rattle.finalization_interpreter.proofs.Finding.{block-position}
+use Rattle.reading_lists.proofs.Between.{no-voters}
+use Rattle.speakers.specs.Heard.{Owned, HeardBelow}
+use Rattle.final_walk.specs.Walk.{countedAt, CountedRight}
+
+pub all-zero : (n k : ℕ) → getD (replicate {A = ℕ} n 0) k 0 ≡ 0
+all-zero n k = go (decLt k n)
+  where
+    go : Dec (k < n) → getD (replicate {A = ℕ} n 0) k 0 ≡ 0
+    go (yes h) = getD-replicate {A = ℕ} n k 0 0 h
+    go (no h) = List·getD-eq-default (replicate {A = ℕ} n 0) 0 (omega (arith, length-replicate {A = ℕ} n 0))
+
+-- a number stands at a place of a list
+pub place-in : (xs : List ℕ) (x : ℕ) → x ∈ xs → (k : ℕ) × ((k < length xs) × (getD xs k 0 ≡ x))
+place-in (y ∷ xs) x here = (0, (omega arith, refl))
+place-in (y ∷ xs) x (there m) = let r = place-in xs x m in (suc (r .0), (omega (arith, r .1 .0), r .1 .1))
+
+module _ (s : Bytes) (order : List ℕ) (l : TransactionLocator) (votes : List ℕ) (w : HeardBelow ownVote s order l votes (length order)) where
+  -- in the old reading every voter counts
+  pub counted-old : (gone : List ℕ) → CountedRight false old s order l votes gone
+  unfolding countedAt votersIn spokenAt
+  counted-old gone k h = w k h
+
+  -- with those who reject it is the new one
+  pub counted-new : (gone : List ℕ) → HeardBelow ownReject s order l gone (length order) → CountedRight true withdrawing s order l votes gone
+  unfolding countedAt votersIn spokenAt
+  counted-new gone x k h = ap₂ without (w k h) (x k h)
+
+  -- where nobody rejects, both are the same
+  pub counted-same : ((r : BlockReference) → rejecters (blocksOf s) l r ≡ nobody) → (gone : List ℕ) → CountedRight false withdrawing s order l votes gone
+  unfolding countedAt votersIn spokenAt
+  counted-same none gone k h = w k h ∙ sym (rw (none (blockAtPlace s order k .reference)) (without-nobody (voters (blocksOf s) l (blockAtPlace s order k .reference))))
+
+  -- where nobody votes, too
+  pub counted-none : (reading : Reading) → ((d : Block) → d ∈ blocksOf s → votesFor d l ≡ false) → (gone : List ℕ) → CountedRight false reading s order l votes gone
+  unfolding countedAt spokenAt votersIn
+  counted-none reading none gone k h = w k h ∙ no-voters old (blocksOf s) l none (blockAtPlace s order k .reference) ∙ sym (no-voters reading (blocksOf s) l none (blockAtPlace s order k .reference))
+
+-- no place is marked, so nobody rejects
+pub none-rejects : (s : Bytes) (order : List ℕ) → SortedStore s order → (l : TransactionLocator) (own : List ℕ) → Owned true s order l own → ((k : ℕ) → k < length order → eqb (getD own k 0) 1 ≡ false)
+    → (r : BlockReference) → rejecters (blocksOf s) l r ≡ nobody
+unfolding Owned ownReject SortedStore blockAtPlace
+none-rejects s order o l own w f r = spoken-nobody ownReject l (blocksOf s) (λ d m. rw (quiet d m)) r
+  where
+    quiet : (d : Block) → d ∈ blocksOf s → rejects d l ≡ false
+    quiet d m =
+        let p = block-position (o .0) s order (o .1) d m in
+        let y = place-in order (p .0) (p .1) in
+        subst (λ (x : Block). rejects x l ≡ false) (ap (blockAt s) (y .1 .1) ∙ p .2) (sym (w (y .0) (y .1 .0)) ∙ f (y .0) (y .1 .0))
+
+-- no vote reaches the last offset
+pub last-unvoted : (s : Bytes) (order : List ℕ) → SortedStore s order → AllBytes s → (l : TransactionLocator) → l .offset ≡ 18446744073709551615 → (d : Block) → d ∈ blocksOf s → votesFor d l ≡ false
+unfolding SortedStore
+last-unvoted s order o bytes l e d m = fails (votesFor d l) (λ h. let x = vote-offset (o .0) s bytes (o .1 .inOrder) d m l h in omega arith)

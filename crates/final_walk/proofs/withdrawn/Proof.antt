@@ -1,0 +1,117 @@
+use mathlib.Core.Path.{_≡_, refl, sym, subst}
+use mathlib.Core.Bool.{true}
+use mathlib.Core.List.{List}
+use Prim.Native.Nat.{ℕ, _-_, _*_}
+use lib.ListN.{length, drop, length-drop}
+use lib.Seq.{take-all}
+use Rattle.vote_table.specs.Table.{Tabled}
+use native.Mathlib.Omega.{arith}
+use borrow.Author.Tests.{not-true}
+use Rattle.types.specs.Values.{asLocator}
+use Rattle.readings.specs.Readings.{withdrawing}
+use Rattle.block_votes.proofs.Sorting.{some-committee}
+use Rattle.speakers.specs.Heard.{HeardMarked, AnyMarked}
+use Rattle.final_walk.specs.Walk.{CertifyCounted}
+use Rattle.final_walk.proofs.Counting.{all-zero, counted-new, counted-same, none-rejects}
+use borrow.Author.Needs.{needs}
+use Rattle.final_walk.proofs.withdrawn.Statement.{statement}
+use Rattle.final_walk.proofs.withdrawn.Tie as tie
+
+mul-from : tie.Need-mul-from
+mul-from c = search needs
+
+mul-mark : tie.Need-mul-mark
+mul-mark c = search needs
+
+sub-mark : tie.Need-sub-mark
+sub-mark c = search needs
+
+part-mark-start : tie.Need-part-mark-start
+part-mark-start c = search needs
+
+part-mark-end : tie.Need-part-mark-end
+part-mark-end c = search needs
+
+slice-aggregate-mark : tie.Need-slice-aggregate-mark
+slice-aggregate-mark c = search needs
+
+mark-requires : tie.Need-mark-requires
+mark-requires c κs = let a = c .before .before .before .before .before .before .before .before .before .before .args in
+    let p = c .before .before .before .before .before .before .before .before .before .before .pre in
+    (((some-committee (p .0 .0 .0 .0 .0), omega (arith, p .0 .0 .0 .1)), (p .0 .1 .0 .rejecting, subst (λ (t : List ℕ). Tabled true (a .store .now) (a .order .now) t (a .sizes .rejecting) (a .sizes .rejects)) (sym (take-all (length (a .table .now) - 9 * a .sizes .votes) (drop (9 * a .sizes .votes) (a .table .now)) (omega (arith, length-drop (9 * a .sizes .votes) (a .table .now))))) (p .0 .1 .0 .rejects))), ((λ k. all-zero 1024 k), λ e. p .1 .0))
+
+slice-aggregate-any-marked : tie.Need-slice-aggregate-any-marked
+slice-aggregate-any-marked c = search needs
+
+any-marked-requires : tie.Need-any-marked-requires
+any-marked-requires c κs = search needs
+
+slice-aggregate-certify : tie.Need-slice-aggregate-certify
+slice-aggregate-certify c = search needs
+
+certify-requires : tie.Need-certify-requires
+certify-requires c κs = search needs
+
+same-length : tie.Need-same-length
+same-length c = search needs
+
+returns : tie.Need-returns
+unfolding CertifyCounted AnyMarked
+returns c = let a = c .before .before .before .before .before .before .before .before .before .before .before .before .before .before .before .before .before .before .before .before .args in
+    let p = c .before .before .before .before .before .before .before .before .before .before .before .before .before .before .before .before .before .before .before .before .pre in
+    let l = asLocator (a .locator) in
+    let o = some-committee (p .0 .0 .0 .0 .0) in
+    let quiet = rw (not-true (c .before .before .before .before .before .before .any-marked .result) (c .before .before .before .before .before .if1 .taken)) at (c .before .before .before .before .before .before .any-marked .ensures) in
+    c .before .before .certify .ensures withdrawing l (counted-same (a .store .now) (a .order .now) l (a .voters .now) (p .1 .1 .1) (none-rejects (a .store .now) (a .order .now) o l _ (c .before .before .before .before .before .before .before .before .before .mark .ensures) quiet) _)
+
+slice-aggregate-spread : tie.Need-slice-aggregate-spread
+slice-aggregate-spread c = search needs
+
+slice-aggregate-spread-2 : tie.Need-slice-aggregate-spread-2
+slice-aggregate-spread-2 c = search needs
+
+spread-requires : tie.Need-spread-requires
+spread-requires c κs = let p = c .before .before .before .before .before .before .before .before .before .before .before .before .before .before .before .before .before .pre in
+    ((some-committee (p .0 .0 .0 .0 .0), p .0 .0 .0 .1), (c .before .before .before .before .before .before .mark .kept .1 .1 .1 .1 .1 .1 .0, (refl, p .0 .1 .1)))
+
+slice-aggregate-certify-2 : tie.Need-slice-aggregate-certify-2
+slice-aggregate-certify-2 c = search needs
+
+certify-requires-2 : tie.Need-certify-requires-2
+certify-requires-2 c κs = let p = c .before .before .before .before .before .before .before .before .before .before .before .before .before .before .before .before .before .before .before .before .before .pre in
+    (p .0 .0 .0, (p .0 .0 .1, (p .1 .1 .0, λ e. c .before .before .before .spread .kept .1 .1 .1 .1 .1 .0)))
+
+same-length-2 : tie.Need-same-length-2
+same-length-2 c = search needs
+
+returns-2 : tie.Need-returns-2
+unfolding CertifyCounted HeardMarked
+returns-2 c = let a = c .before .before .before .before .before .before .before .before .before .before .before .before .before .before .before .before .before .before .before .before .before .before .before .before .args in
+    let p = c .before .before .before .before .before .before .before .before .before .before .before .before .before .before .before .before .before .before .before .before .before .before .before .before .pre in
+    let l = asLocator (a .locator) in
+    c .before .before .certify2 .ensures withdrawing l (counted-new (a .store .now) (a .order .now) l (a .voters .now) (p .1 .1 .1) _ (c .before .before .before .before .before .before .spread .ensures true l (c .before .before .before .before .before .before .before .before .before .before .before .before .before .mark .ensures)))
+
+pub withdrawn-spec : {M : Type 1} → statement M
+withdrawn-spec =
+    tie.close
+    (tie.spec
+    mul-from
+    mul-mark
+    sub-mark
+    part-mark-start
+    part-mark-end
+    slice-aggregate-mark
+    mark-requires
+    slice-aggregate-any-marked
+    any-marked-requires
+    slice-aggregate-certify
+    certify-requires
+    same-length
+    returns
+    slice-aggregate-spread
+    slice-aggregate-spread-2
+    spread-requires
+    slice-aggregate-certify-2
+    certify-requires-2
+    same-length-2
+    returns-2)
