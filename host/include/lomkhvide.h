@@ -74,6 +74,12 @@ uint64_t lomkhvide_next_final(const uint8_t *stakes, size_t stakes_len, const ui
 uint64_t lomkhvide_next_wide(const uint8_t *stakes, size_t stakes_len, const uint8_t *store, size_t store_len, const uint8_t *after,
                              size_t after_len, uint8_t *found, size_t found_len);
 
+/* Both in the reading in which an owner may withdraw. They need at most 128 KB of stack. */
+uint64_t lomkhvide_next_final_withdrawing(const uint8_t *stakes, size_t stakes_len, const uint8_t *store, size_t store_len,
+                                          const uint8_t *after, size_t after_len, uint8_t *found, size_t found_len);
+uint64_t lomkhvide_next_wide_withdrawing(const uint8_t *stakes, size_t stakes_len, const uint8_t *store, size_t store_len,
+                                         const uint8_t *after, size_t after_len, uint8_t *found, size_t found_len);
+
 /* The ordinary list after a given locator, or from the start where `after` has no bytes, in stretches of neighbouring locators of one
  * block that have the same certifying blocks, each as long as can be: 2 * number of stretches, at most 128, and 1 more where locators of
  * the list follow them. Each is ten words: author, round, the digest in four words (each eight of its bytes, the first one highest), first offset, end offset
@@ -87,6 +93,12 @@ uint64_t lomkhvide_final_stretches(const uint8_t *stakes, size_t stakes_len, con
 /* The same of the wide list. Both need at most 480 KB of stack. */
 uint64_t lomkhvide_wide_stretches(const uint8_t *stakes, size_t stakes_len, const uint8_t *store, size_t store_len, const uint8_t *after,
                                   size_t after_len, uint8_t *stretches, size_t stretches_len);
+
+/* Both in the reading in which an owner may withdraw: a stretch ends before a withdrawn locator too. They need at most 480 KB of stack. */
+uint64_t lomkhvide_final_stretches_withdrawing(const uint8_t *stakes, size_t stakes_len, const uint8_t *store, size_t store_len,
+                                               const uint8_t *after, size_t after_len, uint8_t *stretches, size_t stretches_len);
+uint64_t lomkhvide_wide_stretches_withdrawing(const uint8_t *stakes, size_t stakes_len, const uint8_t *store, size_t store_len,
+                                              const uint8_t *after, size_t after_len, uint8_t *stretches, size_t stretches_len);
 
 /* Both lists with the index, which goes from feed to feed with the store: in words, 8-byte aligned, as many as there are. Certifying blocks and
  * voters come from it; what is answered and written is as without it.

@@ -158,7 +158,8 @@ static size_t put_record(uint8_t *to, uint64_t round, uint8_t k, const uint8_t *
 /* A sole owner shares twice and rejects the first share in the same block; a block above takes the second one back too late for that block. */
 static void withdrawn(void) {
     static uint8_t store[1024], table[LOMKHVIDE_TABLE_LEN], events[LOMKHVIDE_EVENTS_LEN], positions[LOMKHVIDE_POSITIONS_LEN];
-    uint8_t one[8], digest[32] = {0}, first[56] = {0}, record[512], given[128] = {0}, locator[56] = {0};
+    uint8_t one[8], digest[32] = {0}, first[56] = {0}, record[512], given[128] = {0}, locator[56] = {0}, found[56];
+    static uint8_t stretches[LOMKHVIDE_STRETCHES_LEN];
     put_word(one, 1);
     store[4] = 16;
     same("a block of round 0", lomkhvide_feed(one, 8, store, sizeof store, table, sizeof table, events, sizeof events, first, 56), 0);
@@ -172,6 +173,10 @@ static void withdrawn(void) {
     same("it was withdrawn", lomkhvide_finality_withdrawing(one, 8, store, sizeof store, positions, sizeof positions, locator, 56), 0);
     locator[48] = 1;
     same("the other share", lomkhvide_finality_withdrawing(one, 8, store, sizeof store, positions, sizeof positions, locator, 56), 3);
+    same("the list begins with it", lomkhvide_next_final_withdrawing(one, 8, store, sizeof store, found, 0, found, 56), 1);
+    same("it is the other share", memcmp(found, locator, 56), 0);
+    same("one stretch", lomkhvide_wide_stretches_withdrawing(one, 8, store, sizeof store, found, 0, stretches, sizeof stretches), 2);
+    same("from offset 1", stretches[48], 1);
     given[0] = 2;
     memcpy(given + 1, locator, 56);
     given[57] = 0;
@@ -266,8 +271,9 @@ static void payloads(void) {
 
     uint8_t found[58], room[58];
     memset(found, 9, sizeof found);
-    const list_call nexts[2] = {lomkhvide_next_final, lomkhvide_next_wide};
-    for (int k = 0; k < 2; k++) {
+    const list_call nexts[4] = {lomkhvide_next_final, lomkhvide_next_wide, lomkhvide_next_final_withdrawing,
+                                lomkhvide_next_wide_withdrawing};
+    for (int k = 0; k < 4; k++) {
         list_call next = nexts[k];
         memset(found, 9, sizeof found);
         memcpy(room, found, sizeof found);
@@ -290,8 +296,9 @@ static void payloads(void) {
     }
 
     static uint8_t stretches[LOMKHVIDE_STRETCHES_LEN + 8], blank[LOMKHVIDE_STRETCHES_LEN + 8];
-    const list_call bulks[2] = {lomkhvide_final_stretches, lomkhvide_wide_stretches};
-    for (int k = 0; k < 2; k++) {
+    const list_call bulks[4] = {lomkhvide_final_stretches, lomkhvide_wide_stretches, lomkhvide_final_stretches_withdrawing,
+                                lomkhvide_wide_stretches_withdrawing};
+    for (int k = 0; k < 4; k++) {
         list_call bulk = bulks[k];
         memset(stretches, 9, sizeof stretches);
         memcpy(blank, stretches, sizeof stretches);

@@ -192,6 +192,22 @@ static void wide_stretches_indexed(void) {
     answer = lomkhvide_wide_stretches_indexed(one, sizeof one, chain, sizeof chain, voters, sizeof voters / 8, next, 0, stretches, sizeof stretches);
 }
 
+static void next_final_withdrawing(void) {
+    answer = lomkhvide_next_final_withdrawing(one, sizeof one, chain, sizeof chain, next, 0, next, sizeof next);
+}
+
+static void next_wide_withdrawing(void) {
+    answer = lomkhvide_next_wide_withdrawing(one, sizeof one, chain, sizeof chain, next, 0, next, sizeof next);
+}
+
+static void final_stretches_withdrawing(void) {
+    answer = lomkhvide_final_stretches_withdrawing(one, sizeof one, chain, sizeof chain, next, 0, stretches, sizeof stretches);
+}
+
+static void wide_stretches_withdrawing(void) {
+    answer = lomkhvide_wide_stretches_withdrawing(one, sizeof one, chain, sizeof chain, next, 0, stretches, sizeof stretches);
+}
+
 static void grow(void) {
     uint8_t record[108] = {0};
     chain[4] = 16;
@@ -263,6 +279,10 @@ int main(void) {
     at_most("wide_stretches", wide_stretches, 2, 491520);
     at_most("final_stretches_indexed", final_stretches_indexed, 2, 131072);
     at_most("wide_stretches_indexed", wide_stretches_indexed, 2, 131072);
-    printf("%d passed, %d failed\n", 20 - failed, failed);
+    at_most("next_final_withdrawing", next_final_withdrawing, 1, 131072);
+    at_most("next_wide_withdrawing", next_wide_withdrawing, 1, 131072);
+    at_most("final_stretches_withdrawing", final_stretches_withdrawing, 2, 491520);
+    at_most("wide_stretches_withdrawing", wide_stretches_withdrawing, 2, 491520);
+    printf("%d passed, %d failed\n", 24 - failed, failed);
     return failed != 0;
 }

@@ -8,7 +8,7 @@ use crate::list::List;
 use crate::model::calendar;
 use crate::model::committee::{Committee, COURSE};
 use crate::model::feed::{State, EVENT_BYTES};
-use crate::model::finality::Reading;
+use crate::model::finality::{Listed, Reading};
 use crate::model::lent;
 use crate::model::loading;
 use crate::model::record::{given_bytes, includes_bytes, number, Block, Locator, Reference, Statement};
@@ -272,9 +272,23 @@ fn cases() -> Vec<Case> {
         },
         Case {
             name: "next_wide",
-            slices: vec![stakes.clone(), store.clone(), after(&[]), found],
+            slices: vec![stakes.clone(), store.clone(), after(&[]), found.clone()],
             engine: over!(|stakes, store, after, out| engine::next_wide(stakes, store, after, out)),
             model: over!(|stakes, store, after, out| lent::next_wide(stakes, store, after, out)),
+        },
+        Case {
+            name: "next_final_withdrawing",
+            slices: vec![stakes.clone(), store.clone(), after(&[]), found.clone()],
+            engine: over!(|stakes, store, after, out| engine::next_final_withdrawing(stakes, store, after, out)),
+            model: over!(|stakes, store, after, out| {
+                lent::next_listed(Reading::Withdrawing, Listed::Ordinary, stakes, store, after, out)
+            }),
+        },
+        Case {
+            name: "next_wide_withdrawing",
+            slices: vec![stakes.clone(), store.clone(), after(&[]), found],
+            engine: over!(|stakes, store, after, out| engine::next_wide_withdrawing(stakes, store, after, out)),
+            model: over!(|stakes, store, after, out| lent::next_listed(Reading::Withdrawing, Listed::Wide, stakes, store, after, out)),
         },
         Case {
             name: "write_record",
@@ -314,9 +328,25 @@ fn cases() -> Vec<Case> {
         },
         Case {
             name: "wide_stretches",
-            slices: vec![stakes, store, after(&[]), stretches],
+            slices: vec![stakes.clone(), store.clone(), after(&[]), stretches.clone()],
             engine: over!(|stakes, store, after, out| engine::wide_stretches(stakes, store, after, out)),
             model: over!(|stakes, store, after, out| lent::wide_stretches(stakes, store, after, out)),
+        },
+        Case {
+            name: "final_stretches_withdrawing",
+            slices: vec![stakes.clone(), store.clone(), after(&[]), stretches.clone()],
+            engine: over!(|stakes, store, after, out| engine::final_stretches_withdrawing(stakes, store, after, out)),
+            model: over!(|stakes, store, after, out| {
+                lent::list_stretches(Reading::Withdrawing, Listed::Ordinary, stakes, store, after, out)
+            }),
+        },
+        Case {
+            name: "wide_stretches_withdrawing",
+            slices: vec![stakes, store, after(&[]), stretches],
+            engine: over!(|stakes, store, after, out| engine::wide_stretches_withdrawing(stakes, store, after, out)),
+            model: over!(|stakes, store, after, out| {
+                lent::list_stretches(Reading::Withdrawing, Listed::Wide, stakes, store, after, out)
+            }),
         },
         Case {
             name: "is_open",

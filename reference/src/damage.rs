@@ -3,8 +3,9 @@
 
 use crate::compare::{same, same_bytes, Memory, Outcome};
 use crate::engine;
-use crate::model::finality::Reading;
+use crate::model::finality::{Listed, Reading};
 use crate::model::lent;
+use crate::questions::ListCall;
 use crate::model::loading;
 use crate::rng::Rng;
 use crate::tally::Tally;
@@ -125,5 +126,18 @@ fn questions_of_store(stakes: &[u8], store: &[u8], locator: &[u8]) -> Outcome {
     let told = engine::wide_stretches(stakes, store, locator, &mut got);
     same("wide_stretches over damaged memory", "engine", told, answer)?;
     same_bytes("wide stretches over damaged memory", &got, &right)?;
+    for (list, next, bulk) in [
+        (Listed::Ordinary, engine::next_final_withdrawing as ListCall, engine::final_stretches_withdrawing as ListCall),
+        (Listed::Wide, engine::next_wide_withdrawing, engine::wide_stretches_withdrawing),
+    ] {
+        let (mut right, mut got) = (vec![0x3c; 56], vec![0x3c; 56]);
+        let answer = lent::next_listed(Reading::Withdrawing, list, stakes, store, locator, &mut right);
+        same("the next locator in the second reading over damaged memory", "engine", next(stakes, store, locator, &mut got), answer)?;
+        same_bytes("that locator over damaged memory", &got, &right)?;
+        let (mut right, mut got) = (vec![0x3c; lent::STRETCHES_BYTES], vec![0x3c; lent::STRETCHES_BYTES]);
+        let answer = lent::list_stretches(Reading::Withdrawing, list, stakes, store, locator, &mut right);
+        same("a list of the second reading over damaged memory", "engine", bulk(stakes, store, locator, &mut got), answer)?;
+        same_bytes("its stretches over damaged memory", &got, &right)?;
+    }
     Ok(())
 }

@@ -71,6 +71,8 @@ call!(finality = lomkhvide_finality(stakes: &[u8], store: &[u8], positions: &mut
 call!(finality_withdrawing = lomkhvide_finality_withdrawing(stakes: &[u8], store: &[u8], positions: &mut [u8], locator: &[u8]));
 call!(next_final = lomkhvide_next_final(stakes: &[u8], store: &[u8], after: &[u8], found: &mut [u8]));
 call!(next_wide = lomkhvide_next_wide(stakes: &[u8], store: &[u8], after: &[u8], found: &mut [u8]));
+call!(next_final_withdrawing = lomkhvide_next_final_withdrawing(stakes: &[u8], store: &[u8], after: &[u8], found: &mut [u8]));
+call!(next_wide_withdrawing = lomkhvide_next_wide_withdrawing(stakes: &[u8], store: &[u8], after: &[u8], found: &mut [u8]));
 call!(read_slip = lomkhvide_read_slip(stakes: &[u8], slip: &[u8], records: &[u8]));
 call!(final_stretches = lomkhvide_final_stretches(stakes: &[u8], store: &[u8], after: &[u8], stretches: &mut [u8]));
 call!(is_loadable = lomkhvide_is_loadable(stakes: &[u8], store: &[u8], locator: &[u8]));
@@ -78,6 +80,8 @@ call!(loadable = lomkhvide_loadable(stakes: &[u8], store: &[u8], places: &mut [u
 call!(wide_stretches = lomkhvide_wide_stretches(stakes: &[u8], store: &[u8], after: &[u8], stretches: &mut [u8]));
 call!(final_stretches_indexed = lomkhvide_final_stretches_indexed(stakes: &[u8], store: &[u8], index: &[u64], after: &[u8], stretches: &mut [u8]));
 call!(wide_stretches_indexed = lomkhvide_wide_stretches_indexed(stakes: &[u8], store: &[u8], index: &[u64], after: &[u8], stretches: &mut [u8]));
+call!(final_stretches_withdrawing = lomkhvide_final_stretches_withdrawing(stakes: &[u8], store: &[u8], after: &[u8], stretches: &mut [u8]));
+call!(wide_stretches_withdrawing = lomkhvide_wide_stretches_withdrawing(stakes: &[u8], store: &[u8], after: &[u8], stretches: &mut [u8]));
 call!(write_slip = lomkhvide_write_slip(stakes: &[u8], store: &[u8], locator: &[u8], out: &mut [u8]));
 
 pub fn add(stakes: &[u8], aggregator: &mut [u8], voter: u64) -> Answer {

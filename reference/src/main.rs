@@ -182,8 +182,9 @@ fn withdrawing(count: u64, seed: u64) {
             println!("graph {n} of seed {seed} failed: {text}");
         }
     }
-    let Withdrawn { questions, both, old_alone } = withdrawn;
+    let Withdrawn { questions, both, old_alone, listed, shares } = withdrawn;
     println!("{questions} questions; {both} final in both readings, {old_alone} in the old one alone");
+    println!("{listed} locators on the wide lists of the second reading, {shares} on the ordinary ones");
     end(count, failed);
 }
 

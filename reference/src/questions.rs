@@ -34,13 +34,16 @@ pub fn ask(sides: &Sides, rng: &mut Rng, tally: &mut Tally) -> Outcome {
         tally.rings(&rung(sides, locator, rng.word() as u128 | (rng.word() as u128) << 64)?);
     }
     times(sides, rng, tally)?;
-    asked_on(sides, Listed::Wide, &list, rng)?;
-    in_bulk(sides, Listed::Wide, &list, rng)?;
+    asked_on(sides, &(engine::next_wide, "next_wide"), &list, rng)?;
+    in_bulk(sides, &(engine::wide_stretches, "wide_stretches"), &list, rng)?;
     let shares = graph.listed(Listed::Ordinary);
     tally.shares += shares.len() as u64;
-    asked_on(sides, Listed::Ordinary, &shares, rng)?;
-    in_bulk(sides, Listed::Ordinary, &shares, rng)
+    asked_on(sides, &(engine::next_final, "next_final"), &shares, rng)?;
+    in_bulk(sides, &(engine::final_stretches, "final_stretches"), &shares, rng)
 }
+
+/// A call about a list: stakes, store, after what, and what it writes.
+pub type ListCall = fn(&[u8], &[u8], &[u8], &mut [u8]) -> Answer;
 
 /// The times of some stored blocks, as the Rust's blocks have them, and of one that is not stored.
 fn times(sides: &Sides, rng: &mut Rng, tally: &mut Tally) -> Outcome {
@@ -141,11 +144,8 @@ fn rung(sides: &Sides, locator: &Locator, reachable: u128) -> Result<Answer, Str
 }
 
 /// The next locator of a list, asked on until none (or a few times, from a random place, where the list is long).
-fn asked_on(sides: &Sides, listed: Listed, list: &[(Locator, Finality)], rng: &mut Rng) -> Outcome {
-    let (next, name) = match listed {
-        Listed::Ordinary => (engine::next_final as fn(&[u8], &[u8], &[u8], &mut [u8]) -> Answer, "next_final"),
-        Listed::Wide => (engine::next_wide as _, "next_wide"),
-    };
+pub fn asked_on(sides: &Sides, call: &(ListCall, &str), list: &[(Locator, Finality)], rng: &mut Rng) -> Outcome {
+    let (next, name) = *call;
     let lent = &sides.engine;
     let most = if list.len() > 100 { 1 } else { most_asked(sides) };
     let long = list.len() > 3 * most;
@@ -164,11 +164,8 @@ fn asked_on(sides: &Sides, listed: Listed, list: &[(Locator, Finality)], rng: &m
 }
 
 /// A list in bulk, from the start and asked on until no more follow; and once from the middle of a stretch.
-fn in_bulk(sides: &Sides, listed: Listed, list: &[(Locator, Finality)], rng: &mut Rng) -> Outcome {
-    let (bulk, name) = match listed {
-        Listed::Ordinary => (engine::final_stretches as fn(&[u8], &[u8], &[u8], &mut [u8]) -> Answer, "final_stretches"),
-        Listed::Wide => (engine::wide_stretches as _, "wide_stretches"),
-    };
+pub fn in_bulk(sides: &Sides, call: &(ListCall, &str), list: &[(Locator, Finality)], rng: &mut Rng) -> Outcome {
+    let (bulk, name) = *call;
     let lent = &sides.engine;
     let all = stretches(list, None);
     let mut after = None;

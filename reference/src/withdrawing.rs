@@ -5,9 +5,10 @@ use std::collections::BTreeSet;
 use crate::compare::{same, same_bytes, set, Outcome, Sides};
 use crate::engine;
 use crate::generate;
-use crate::model::finality::{Graph, Reading};
+use crate::model::finality::{Graph, Listed, Reading};
 use crate::model::lent::{write_finality, POSITION_BYTES};
 use crate::model::record::Locator;
+use crate::questions::{asked_on, in_bulk};
 use crate::rng::Rng;
 use crate::tally::Tally;
 
@@ -18,6 +19,9 @@ pub struct Withdrawn {
     /// Locators that are final in both readings, and in the old one alone.
     pub both: u64,
     pub old_alone: u64,
+    /// Locators of the wide lists of the second reading, and of the ordinary ones.
+    pub listed: u64,
+    pub shares: u64,
 }
 
 /// List n: questions after some of its records, and after all of them.
@@ -28,14 +32,14 @@ pub fn compare(seed: u64, n: u64, withdrawn: &mut Withdrawn) -> Outcome {
     let asked = rng.below(list.records.len() as u64 + 1) as usize;
     for (i, record) in list.records.iter().enumerate() {
         if i == asked {
-            ask(&sides, withdrawn).map_err(|text| format!("after {i} records: {text}"))?;
+            ask(&sides, &mut rng, withdrawn).map_err(|text| format!("after {i} records: {text}"))?;
         }
         sides.feed(record, &mut Tally::default()).map_err(|text| format!("record {}: {text}", i + 1))?;
     }
-    ask(&sides, withdrawn).map_err(|text| format!("at the end: {text}"))
+    ask(&sides, &mut rng, withdrawn).map_err(|text| format!("at the end: {text}"))
 }
 
-fn ask(sides: &Sides, withdrawn: &mut Withdrawn) -> Outcome {
+fn ask(sides: &Sides, rng: &mut Rng, withdrawn: &mut Withdrawn) -> Outcome {
     let graph = Graph::new(&sides.committee, &sides.state.stores);
     for locator in locators(&graph) {
         withdrawn.questions += 1;
@@ -48,7 +52,14 @@ fn ask(sides: &Sides, withdrawn: &mut Withdrawn) -> Outcome {
     if graph.rejected().is_empty() {
         same("no rejects", "model", graph.final_list_in(Reading::Withdrawing), graph.final_list())?;
     }
-    Ok(())
+    let wide = graph.listed_in(Reading::Withdrawing, Listed::Wide);
+    asked_on(sides, &(engine::next_wide_withdrawing, "next_wide_withdrawing"), &wide, rng)?;
+    in_bulk(sides, &(engine::wide_stretches_withdrawing, "wide_stretches_withdrawing"), &wide, rng)?;
+    let shares = graph.listed_in(Reading::Withdrawing, Listed::Ordinary);
+    withdrawn.listed += wide.len() as u64;
+    withdrawn.shares += shares.len() as u64;
+    asked_on(sides, &(engine::next_final_withdrawing, "next_final_withdrawing"), &shares, rng)?;
+    in_bulk(sides, &(engine::final_stretches_withdrawing, "final_stretches_withdrawing"), &shares, rng)
 }
 
 /// Those that are voted for or rejected, and their neighbours.

@@ -6,12 +6,12 @@ ghost use Rattle.host_calls.specs.Calls.{encoded, flag, committeeOf, newCommitt
 ghost use Rattle.host_add.specs.Add.{addCall};
 ghost use Rattle.host_lib.specs.Pending.{pendingStakeCall, pendingVotersCall};
 ghost use Rattle.host_lib.specs.Feed.{feedCall};
-ghost use Rattle.host_finals.specs.NextFinal.{nextFinalCall, nextWideCall};
+ghost use Rattle.host_finals.specs.NextFinal.{nextFinalCall, nextWideCall, nextFinalWithdrawingCall, nextWideWithdrawingCall};
 ghost use Rattle.host_feed_indexed.specs.IndexedFeed.{feedIndexedCall};
 ghost use Rattle.host_lib.specs.Payload.{payloadLengthCall, payloadStartCall};
 ghost use Rattle.host_finality.specs.Finality.{finalityCall};
 ghost use Rattle.readings.specs.Readings.{old, withdrawing};
-ghost use Rattle.host_finals.specs.Stretches.{stretchesCall, wideStretchesCall};
+ghost use Rattle.host_finals.specs.Stretches.{stretchesCall, wideStretchesCall, stretchesWithdrawingCall, wideStretchesWithdrawingCall};
 ghost use Rattle.host_index_finals.specs.Indexed.{stretchesIndexedCall, wideStretchesIndexedCall};
 ghost use Rattle.host_calendar.specs.Calendar.{isOpenCall, nextOpenCall};
 ghost use Rattle.host_stakes.specs.LoadStakes.{loadStakesCall};
@@ -141,7 +141,7 @@ pub extern "C" fn lomkhvide_next_final(
 {
     let mut held = [0u64; 128];
     let n = host_calls::stakes_of(stakes, &mut held);
-    host_finals::next_final_of(&held[..n], store, true, after, found)
+    host_finals::next_final_of(&held[..n], store, true, false, after, found)
 }
 
 // The ordinary list after a given locator, or from the start, in stretches of ten words: twice their number, and 1 more where a locator of
@@ -158,7 +158,7 @@ pub extern "C" fn lomkhvide_final_stretches(
 {
     let mut held = [0u64; 128];
     let n = host_calls::stakes_of(stakes, &mut held);
-    host_finals::stretches_of(&held[..n], store, true, after, out)
+    host_finals::stretches_of(&held[..n], store, true, false, after, out)
 }
 
 // The least final locator after a given one, stored or not, in the same form.
@@ -174,7 +174,7 @@ pub extern "C" fn lomkhvide_next_wide(
 {
     let mut held = [0u64; 128];
     let n = host_calls::stakes_of(stakes, &mut held);
-    host_finals::next_final_of(&held[..n], store, false, after, found)
+    host_finals::next_final_of(&held[..n], store, false, false, after, found)
 }
 
 // The wide list in stretches, in the same form.
@@ -190,7 +190,71 @@ pub extern "C" fn lomkhvide_wide_stretches(
 {
     let mut held = [0u64; 128];
     let n = host_calls::stakes_of(stakes, &mut held);
-    host_finals::stretches_of(&held[..n], store, false, after, out)
+    host_finals::stretches_of(&held[..n], store, false, false, after, out)
+}
+
+// The least final stored share after a given locator where owners may withdraw, in the same form.
+#[no_mangle]
+pub extern "C" fn lomkhvide_next_final_withdrawing(
+    stakes: &[u8],
+    store: &[u8],
+    after: &[u8],
+    found: &mut [u8],
+) -> u64
+    ensures { λ r. ⌜ r ≡ encoded (nextFinalWithdrawingCall (now (stakes .entry)) (now (store .entry)) (now (after .entry)) (now (found .entry)) .answer) ⌝ }
+    ensures { λ r. ⌜ now (found .exit) ≡ nextFinalWithdrawingCall (now (stakes .entry)) (now (store .entry)) (now (after .entry)) (now (found .entry)) .found ⌝ }
+{
+    let mut held = [0u64; 128];
+    let n = host_calls::stakes_of(stakes, &mut held);
+    host_finals::next_final_of(&held[..n], store, true, true, after, found)
+}
+
+// The ordinary list where owners may withdraw in stretches, in the same form.
+#[no_mangle]
+pub extern "C" fn lomkhvide_final_stretches_withdrawing(
+    stakes: &[u8],
+    store: &[u8],
+    after: &[u8],
+    out: &mut [u8],
+) -> u64
+    ensures { λ r. ⌜ r ≡ encoded (stretchesWithdrawingCall (now (stakes .entry)) (now (store .entry)) (now (after .entry)) (now (out .entry)) .answer) ⌝ }
+    ensures { λ r. ⌜ now (out .exit) ≡ stretchesWithdrawingCall (now (stakes .entry)) (now (store .entry)) (now (after .entry)) (now (out .entry)) .stretches ⌝ }
+{
+    let mut held = [0u64; 128];
+    let n = host_calls::stakes_of(stakes, &mut held);
+    host_finals::stretches_of(&held[..n], store, true, true, after, out)
+}
+
+// The least final locator after a given one, stored or not, where owners may withdraw, in the same form.
+#[no_mangle]
+pub extern "C" fn lomkhvide_next_wide_withdrawing(
+    stakes: &[u8],
+    store: &[u8],
+    after: &[u8],
+    found: &mut [u8],
+) -> u64
+    ensures { λ r. ⌜ r ≡ encoded (nextWideWithdrawingCall (now (stakes .entry)) (now (store .entry)) (now (after .entry)) (now (found .entry)) .answer) ⌝ }
+    ensures { λ r. ⌜ now (found .exit) ≡ nextWideWithdrawingCall (now (stakes .entry)) (now (store .entry)) (now (after .entry)) (now (found .entry)) .found ⌝ }
+{
+    let mut held = [0u64; 128];
+    let n = host_calls::stakes_of(stakes, &mut held);
+    host_finals::next_final_of(&held[..n], store, false, true, after, found)
+}
+
+// The wide list where owners may withdraw in stretches, in the same form.
+#[no_mangle]
+pub extern "C" fn lomkhvide_wide_stretches_withdrawing(
+    stakes: &[u8],
+    store: &[u8],
+    after: &[u8],
+    out: &mut [u8],
+) -> u64
+    ensures { λ r. ⌜ r ≡ encoded (wideStretchesWithdrawingCall (now (stakes .entry)) (now (store .entry)) (now (after .entry)) (now (out .entry)) .answer) ⌝ }
+    ensures { λ r. ⌜ now (out .exit) ≡ wideStretchesWithdrawingCall (now (stakes .entry)) (now (store .entry)) (now (after .entry)) (now (out .entry)) .stretches ⌝ }
+{
+    let mut held = [0u64; 128];
+    let n = host_calls::stakes_of(stakes, &mut held);
+    host_finals::stretches_of(&held[..n], store, false, true, after, out)
 }
 
 // The ordinary list with the index, in the same form.

@@ -1,5 +1,6 @@
 -- The next locator of a list of final ones, asked for by a host. Assumes nothing: these are definitions.
 use Prim.Native.Nat.{ℕ}
+use mathlib.Core.Bool.{true, false}
 use mathlib.Core.Option.{Option, none, some}
 use lib.Dec.{eqb}
 use lib.ListN.{length}
@@ -13,6 +14,8 @@ use Rattle.vote_starts.specs.Answers.{asMaybe}
 use Rattle.finality.specs.Finality.{blocksOf}
 use Rattle.stretches.specs.Stretches.{Listing, wide}
 use Rattle.stored_finals.specs.Ordinary.{ordinary}
+use Rattle.readings.specs.Readings.{withdrawing}
+use Rattle.reading_lists.specs.Lists.{listing}
 use Rattle.listed.specs.Listed.{nextListed}
 use Rattle.host_finals.specs.declared.After.{After}
 use Rattle.host_finals.specs.declared.After.the-variants.{Place, Malformed}
@@ -56,3 +59,11 @@ nextFinalCall stakes s after out = askedNextFinal (committeeOf stakes) s (ordina
 -- of the wide list
 unfoldable pub nextWideCall : Bytes → Bytes → Bytes → Bytes → NextFinalCall
 nextWideCall stakes s after out = askedNextFinal (committeeOf stakes) s (wide (committeeOf stakes) (blocksOf s)) (afterOf after) out
+
+-- 02: "calls of its own for finality, both lists and slips": of the ordinary list where owners may withdraw
+unfoldable pub nextFinalWithdrawingCall : Bytes → Bytes → Bytes → Bytes → NextFinalCall
+nextFinalWithdrawingCall stakes s after out = askedNextFinal (committeeOf stakes) s (listing true withdrawing (committeeOf stakes) (blocksOf s)) (afterOf after) out
+
+-- of the wide list where owners may withdraw
+unfoldable pub nextWideWithdrawingCall : Bytes → Bytes → Bytes → Bytes → NextFinalCall
+nextWideWithdrawingCall stakes s after out = askedNextFinal (committeeOf stakes) s (listing false withdrawing (committeeOf stakes) (blocksOf s)) (afterOf after) out

@@ -1,5 +1,6 @@
 -- The lists in bulk, asked for by a host. Assumes nothing: these are definitions.
 use Prim.Native.Nat.{ℕ, _+_, _*_, _≤_}
+use mathlib.Core.Bool.{true, false}
 use mathlib.Core.Option.{Option, none, some}
 use lib.Dec.{eqb}
 use lib.ListN.{length}
@@ -15,6 +16,8 @@ use Rattle.finality.specs.Finality.{blocksOf}
 use Rattle.stretches.specs.Stretches.{Listing, wide}
 use Rattle.stretches.specs.Bulk.{Given, listStretches}
 use Rattle.stored_finals.specs.Ordinary.{ordinary}
+use Rattle.readings.specs.Readings.{withdrawing}
+use Rattle.reading_lists.specs.Lists.{listing}
 use Rattle.host_calls.specs.Calls.{flag, committeeOf}
 use Rattle.host_lib.specs.Payload.{refusalBefore}
 use Rattle.host_finals.specs.NextFinal.{afterOf}
@@ -50,6 +53,14 @@ stretchesCall stakes s after out = askedStretches (committeeOf stakes) s (ordina
 -- of the wide list
 unfoldable pub wideStretchesCall : Bytes → Bytes → Bytes → Bytes → StretchesCall
 wideStretchesCall stakes s after out = askedStretches (committeeOf stakes) s (wide (committeeOf stakes) (blocksOf s)) (afterOf after) out
+
+-- 02: "calls of its own for finality, both lists and slips": of the ordinary list where owners may withdraw
+unfoldable pub stretchesWithdrawingCall : Bytes → Bytes → Bytes → Bytes → StretchesCall
+stretchesWithdrawingCall stakes s after out = askedStretches (committeeOf stakes) s (listing true withdrawing (committeeOf stakes) (blocksOf s)) (afterOf after) out
+
+-- of the wide list where owners may withdraw
+unfoldable pub wideStretchesWithdrawingCall : Bytes → Bytes → Bytes → Bytes → StretchesCall
+wideStretchesWithdrawingCall stakes s after out = askedStretches (committeeOf stakes) s (listing false withdrawing (committeeOf stakes) (blocksOf s)) (afterOf after) out
 
 -- machinery for the contracts of private functions: counts and numbers that leave room for the answer's word
 abbrev pub countsFit : StretchesAnswer → Type 0

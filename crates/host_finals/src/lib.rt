@@ -1,4 +1,4 @@
-// What the host's calls about the ordinary and the wide list are made of, over byte slices.
+// What the host's calls about the ordinary and the wide list, in either reading of a reject, are made of, over byte slices.
 ghost use mathlib.Core.Path.{_≡_};
 ghost use Prim.Native.Nat.{_+_, _≤_};
 ghost use lib.ListN.{length};
@@ -6,7 +6,8 @@ ghost use lib.Seq.{sets};
 ghost use Rattle.types.specs.Values.{beBytes, digestBytes, asLocator};
 ghost use Rattle.blocks.specs.Record.{locatorBytes};
 ghost use Rattle.finality.specs.Finality.{blocksOf};
-ghost use Rattle.listed.specs.Listed.{listed};
+ghost use Rattle.readings.specs.Readings.{readingOf};
+ghost use Rattle.reading_lists.specs.Lists.{listing};
 ghost use Rattle.host_calls.specs.Calls.{encoded};
 ghost use Rattle.host_finals.specs.NextFinal.{afterOf, asAfter, askedNextFinal};
 ghost use Rattle.vote_starts.specs.Answers.{asMaybe};
@@ -42,10 +43,11 @@ pub fn next_final_of(
     stakes: &[u64],
     store: &[u8],
     ordinary: bool,
+    withdrawing: bool,
     after: &[u8],
     found: &mut [u8],
 ) -> u64
-    ensures { λ r. ⌜ (r ≡ encoded (askedNextFinal (now (stakes .entry)) (now (store .entry)) (listed ordinary (now (stakes .entry)) (blocksOf (now (store .entry)))) (afterOf (now (after .entry))) (now (found .entry)) .answer)) × (now (found .exit) ≡ askedNextFinal (now (stakes .entry)) (now (store .entry)) (listed ordinary (now (stakes .entry)) (blocksOf (now (store .entry)))) (afterOf (now (after .entry))) (now (found .entry)) .found) ⌝ }
+    ensures { λ r. ⌜ (r ≡ encoded (askedNextFinal (now (stakes .entry)) (now (store .entry)) (listing ordinary (readingOf withdrawing) (now (stakes .entry)) (blocksOf (now (store .entry)))) (afterOf (now (after .entry))) (now (found .entry)) .answer)) × (now (found .exit) ≡ askedNextFinal (now (stakes .entry)) (now (store .entry)) (listing ordinary (readingOf withdrawing) (now (stakes .entry)) (blocksOf (now (store .entry)))) (afterOf (now (after .entry))) (now (found .entry)) .found) ⌝ }
 {
     let After::Place(place) = after_of(after) else {
         return REFUSED + host_lib::refusal_before(20, stakes, store);
@@ -53,7 +55,7 @@ pub fn next_final_of(
     if found.len() != 56 {
         return REFUSED + host_lib::refusal_before(40, stakes, store);
     }
-    match next_final::next_listed(stakes, store, ordinary, place) {
+    match next_final::next_listed(stakes, store, ordinary, withdrawing, place) {
         NextFinalAnswer::Found(locator) => {
             types::write_locator(found, 0, locator);
             1
@@ -70,16 +72,24 @@ fn stretches_words(
     stakes: &[u64],
     store: &[u8],
     ordinary: bool,
+    withdrawing: bool,
     after: MaybeLocator,
     out: &mut [u8],
 ) -> StretchesAnswer
     requires { ⌜ length (now out) ≡ 10240 ⌝ }
-    ensures asked { λ r. ⌜ (stretchesNumber (asStretches r) ≡ stretchesIn (now (stakes .entry)) (now (store .entry)) (listed ordinary (now (stakes .entry)) (blocksOf (now (store .entry)))) (asMaybe after) (now (out .entry)) .answer) × (now (out .exit) ≡ stretchesIn (now (stakes .entry)) (now (store .entry)) (listed ordinary (now (stakes .entry)) (blocksOf (now (store .entry)))) (asMaybe after) (now (out .entry)) .stretches) ⌝ }
+    ensures asked { λ r. ⌜ (stretchesNumber (asStretches r) ≡ stretchesIn (now (stakes .entry)) (now (store .entry)) (listing ordinary (readingOf withdrawing) (now (stakes .entry)) (blocksOf (now (store .entry)))) (asMaybe after) (now (out .entry)) .answer) × (now (out .exit) ≡ stretchesIn (now (stakes .entry)) (now (store .entry)) (listing ordinary (readingOf withdrawing) (now (stakes .entry)) (blocksOf (now (store .entry)))) (asMaybe after) (now (out .entry)) .stretches) ⌝ }
     ensures bounded { λ r. ⌜ countsFit r ⌝ }
 {
     let mut words = [0u64; 1280];
     words::words_of(out, &mut words);
-    let answer = final_list::list_stretches(stakes, store, ordinary, &mut words, after);
+    let answer = final_list::list_stretches(
+        stakes,
+        store,
+        ordinary,
+        withdrawing,
+        &mut words,
+        after,
+    );
     words::bytes_of(&words, out);
     answer
 }
@@ -88,10 +98,11 @@ pub fn stretches_of(
     stakes: &[u64],
     store: &[u8],
     ordinary: bool,
+    withdrawing: bool,
     after: &[u8],
     out: &mut [u8],
 ) -> u64
-    ensures { λ r. ⌜ (r ≡ encoded (askedStretches (now (stakes .entry)) (now (store .entry)) (listed ordinary (now (stakes .entry)) (blocksOf (now (store .entry)))) (afterOf (now (after .entry))) (now (out .entry)) .answer)) × (now (out .exit) ≡ askedStretches (now (stakes .entry)) (now (store .entry)) (listed ordinary (now (stakes .entry)) (blocksOf (now (store .entry)))) (afterOf (now (after .entry))) (now (out .entry)) .stretches) ⌝ }
+    ensures { λ r. ⌜ (r ≡ encoded (askedStretches (now (stakes .entry)) (now (store .entry)) (listing ordinary (readingOf withdrawing) (now (stakes .entry)) (blocksOf (now (store .entry)))) (afterOf (now (after .entry))) (now (out .entry)) .answer)) × (now (out .exit) ≡ askedStretches (now (stakes .entry)) (now (store .entry)) (listing ordinary (readingOf withdrawing) (now (stakes .entry)) (blocksOf (now (store .entry)))) (afterOf (now (after .entry))) (now (out .entry)) .stretches) ⌝ }
 {
     let After::Place(place) = after_of(after) else {
         return REFUSED + host_lib::refusal_before(20, stakes, store);
@@ -99,7 +110,7 @@ pub fn stretches_of(
     if out.len() != 10240 {
         return REFUSED + host_lib::refusal_before(40, stakes, store);
     }
-    match stretches_words(stakes, store, ordinary, place, out) {
+    match stretches_words(stakes, store, ordinary, withdrawing, place, out) {
         StretchesAnswer::Last(count) => 2 * count,
         StretchesAnswer::More(count) => 2 * count + 1,
         StretchesAnswer::Refused(number) => REFUSED + number,

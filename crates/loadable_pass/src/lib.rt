@@ -4,6 +4,7 @@ use committee::Stake;
 use loadable_runs::FinalRun;
 use payload::SharePlace;
 use types::TransactionLocator;
+use vote_table::TableSizes;
 ghost use mathlib.Core.Path.{_≡_};
 ghost use Prim.Native.Nat.{_+_, _*_, _≤_, _<_};
 ghost use lib.ListN.{length, getD};
@@ -35,9 +36,8 @@ fn list_record(
     total: Stake,
     store: &[u8],
     order: &[u64],
-    votes: &[u64],
-    m: usize,
-    tabled: usize,
+    table: &[u64],
+    sizes: TableSizes,
     includes: &[u64],
     noted: usize,
     places: &mut [u64],
@@ -45,7 +45,7 @@ fn list_record(
     k: usize,
     rec: &[u8],
 ) -> usize
-    requires { ⌜ ((Ready (now stakes) (total .0) (now store) (now order) × Tables (now store) (now order) (now votes) m tabled (now includes) noted) × ((k < length (now order)) × (now rec ≡ recordAt (now store) (getD (now order) k 0)))) × Holding (now stakes) (now store) (sharesThrough (now store) (now order) k) (now places) n ⌝ }
+    requires { ⌜ ((Ready (now stakes) (total .0) (now store) (now order) × Tables (now store) (now order) (now table) sizes (now includes) noted) × ((k < length (now order)) × (now rec ≡ recordAt (now store) (getD (now order) k 0)))) × Holding (now stakes) (now store) (sharesThrough (now store) (now order) k) (now places) n ⌝ }
     ensures { λ r. ⌜ Holding (now (stakes .entry)) (now (store .entry)) (sharesThrough (now (store .entry)) (now (order .entry)) (k + 1)) (now (places .exit)) r × (Past (now (places .entry)) (now (places .exit)) r × (n ≤ r)) ⌝ }
 {
     let at = order[k] as usize;
@@ -71,9 +71,8 @@ fn list_record(
             total,
             store,
             order,
-            votes,
-            m,
-            tabled,
+            table,
+            sizes,
             includes,
             noted,
             run,
@@ -94,14 +93,13 @@ pub fn list_all(
     total: Stake,
     store: &[u8],
     order: &[u64],
-    votes: &[u64],
-    m: usize,
-    tabled: usize,
+    table: &[u64],
+    sizes: TableSizes,
     includes: &[u64],
     noted: usize,
     places: &mut [u64],
 ) -> usize
-    requires { ⌜ (Ready (now stakes) (total .0) (now store) (now order) × Tables (now store) (now order) (now votes) m tabled (now includes) noted) × (2 * length (storedShares (blocksOf (now store))) ≤ length (now places)) ⌝ }
+    requires { ⌜ (Ready (now stakes) (total .0) (now store) (now order) × Tables (now store) (now order) (now table) sizes (now includes) noted) × (2 * length (storedShares (blocksOf (now store))) ≤ length (now places)) ⌝ }
     ensures { λ r. ⌜ Holding (now (stakes .entry)) (now (store .entry)) (storedShares (blocksOf (now (store .entry)))) (now (places .exit)) r × Past (now (places .entry)) (now (places .exit)) r ⌝ }
 {
     let mut n: usize = 0;
@@ -115,9 +113,8 @@ pub fn list_all(
             total,
             store,
             order,
-            votes,
-            m,
-            tabled,
+            table,
+            sizes,
             includes,
             noted,
             places,

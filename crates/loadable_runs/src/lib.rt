@@ -1,6 +1,7 @@
 // Finality of shares, taken for many neighbours at once: it changes only where a vote begins or ends.
 use committee::Stake;
 use types::TransactionLocator;
+use vote_table::TableSizes;
 ghost use mathlib.Core.Path.{_≡_};
 ghost use Prim.Native.Nat.{_<_};
 ghost use Rattle.types.specs.Values.{asReference, asLocator};
@@ -21,14 +22,13 @@ fn final_run(
     total: Stake,
     store: &[u8],
     order: &[u64],
-    votes: &[u64],
-    m: usize,
-    tabled: usize,
+    table: &[u64],
+    sizes: TableSizes,
     includes: &[u64],
     noted: usize,
     share: TransactionLocator,
 ) -> FinalRun
-    requires { ⌜ (Ready (now stakes) (total .0) (now store) (now order) × Tables (now store) (now order) (now votes) m tabled (now includes) noted) × (share .offset < 18446744073709551615) ⌝ }
+    requires { ⌜ (Ready (now stakes) (total .0) (now store) (now order) × Tables (now store) (now order) (now table) sizes (now includes) noted) × (share .offset < 18446744073709551615) ⌝ }
     ensures { λ r. ⌜ (share .offset < r .end) × Told (now (stakes .entry)) (now (store .entry)) (asReference (share .block)) (share .offset) r ⌝ }
 {
     let mut certified = [0u64; 1024];
@@ -37,16 +37,16 @@ fn final_run(
         total,
         store,
         order,
-        votes,
-        m,
-        tabled,
+        table,
+        sizes,
         includes,
         noted,
+        false,
         share,
         &mut certified,
     );
     let finals = committee::is_quorum(total, authority_set::stake_of(stakes, found.authors));
-    let end = final_search::next_edge(store, order, votes, m, tabled, share.block, share.offset);
+    let end = final_search::next_edge(store, order, table, sizes, false, share.block, share.offset);
     if end == 0 {
         // No edge follows a locator that nobody votes for.
         return FinalRun {
@@ -63,15 +63,14 @@ pub fn run_at(
     total: Stake,
     store: &[u8],
     order: &[u64],
-    votes: &[u64],
-    m: usize,
-    tabled: usize,
+    table: &[u64],
+    sizes: TableSizes,
     includes: &[u64],
     noted: usize,
     run: FinalRun,
     share: TransactionLocator,
 ) -> FinalRun
-    requires { ⌜ ((Ready (now stakes) (total .0) (now store) (now order) × Tables (now store) (now order) (now votes) m tabled (now includes) noted) × (share .offset < 18446744073709551615)) × Told (now stakes) (now store) (asReference (share .block)) (share .offset) run ⌝ }
+    requires { ⌜ ((Ready (now stakes) (total .0) (now store) (now order) × Tables (now store) (now order) (now table) sizes (now includes) noted) × (share .offset < 18446744073709551615)) × Told (now stakes) (now store) (asReference (share .block)) (share .offset) run ⌝ }
     ensures { λ r. ⌜ (isFinal (now (stakes .entry)) (blocksOf (now (store .entry))) (asLocator share) ≡ r .finals) × Told (now (stakes .entry)) (now (store .entry)) (asReference (share .block)) (share .offset) r ⌝ }
 {
     if share.offset < run.end {
@@ -82,9 +81,8 @@ pub fn run_at(
         total,
         store,
         order,
-        votes,
-        m,
-        tabled,
+        table,
+        sizes,
         includes,
         noted,
         share,

@@ -29,8 +29,8 @@ fn list_tabled(
     requires { ⌜ Ready (now stakes) (total .0) (now store) (now order) × (2 * length (storedShares (blocksOf (now store))) ≤ length (now places)) ⌝ }
     ensures { λ r. ⌜ Holding (now (stakes .entry)) (now (store .entry)) (storedShares (blocksOf (now (store .entry)))) (now (places .exit)) r × Past (now (places .entry)) (now (places .exit)) r ⌝ }
 {
-    let mut votes = [0u64; 52992];
-    let size = vote_table::table_votes(store, order, &mut votes);
+    let mut table = [0u64; 52992];
+    let sizes = vote_table::table_both(store, order, &mut table, false);
     let mut includes = [0u64; 4096];
     let noted = include_places::note_places(store, order, &mut includes);
     loadable_pass::list_all(
@@ -38,9 +38,8 @@ fn list_tabled(
         total,
         store,
         order,
-        &votes,
-        size.votes,
-        size.blocks,
+        &table,
+        sizes,
         &includes,
         noted,
         places,

@@ -89,6 +89,46 @@ mod calls {
             replies: *mut u64,
             replies_len: usize,
         ) -> u64;
+        pub fn lomkhvide_next_final_withdrawing(
+            stakes: *const u8,
+            stakes_len: usize,
+            store: *const u8,
+            store_len: usize,
+            after: *const u8,
+            after_len: usize,
+            found: *mut u8,
+            found_len: usize,
+        ) -> u64;
+        pub fn lomkhvide_next_wide_withdrawing(
+            stakes: *const u8,
+            stakes_len: usize,
+            store: *const u8,
+            store_len: usize,
+            after: *const u8,
+            after_len: usize,
+            found: *mut u8,
+            found_len: usize,
+        ) -> u64;
+        pub fn lomkhvide_final_stretches_withdrawing(
+            stakes: *const u8,
+            stakes_len: usize,
+            store: *const u8,
+            store_len: usize,
+            after: *const u8,
+            after_len: usize,
+            stretches: *mut u8,
+            stretches_len: usize,
+        ) -> u64;
+        pub fn lomkhvide_wide_stretches_withdrawing(
+            stakes: *const u8,
+            stakes_len: usize,
+            store: *const u8,
+            store_len: usize,
+            after: *const u8,
+            after_len: usize,
+            stretches: *mut u8,
+            stretches_len: usize,
+        ) -> u64;
         pub fn lomkhvide_pending_stake(
             stakes: *const u8,
             stakes_len: usize,
@@ -591,6 +631,16 @@ impl Committee {
         self.next_of(calls::lomkhvide_next_wide, store, after)
     }
 
+    /// The least final stored share after a given locator in the reading in which an owner may withdraw.
+    pub fn next_final_withdrawing(&self, store: &[u8], after: Option<&Locator>) -> Result<Option<Locator>, Refused> {
+        self.next_of(calls::lomkhvide_next_final_withdrawing, store, after)
+    }
+
+    /// The least final locator after a given one, stored or not, in that reading.
+    pub fn next_wide_withdrawing(&self, store: &[u8], after: Option<&Locator>) -> Result<Option<Locator>, Refused> {
+        self.next_of(calls::lomkhvide_next_wide_withdrawing, store, after)
+    }
+
     fn next_of(&self, call: ListCall, store: &[u8], after: Option<&Locator>) -> Result<Option<Locator>, Refused> {
         let mut found = [0; 56];
         let stakes = &self.stakes;
@@ -619,6 +669,16 @@ impl Committee {
     /// The wide list, of every final locator, likewise.
     pub fn wide_stretches(&self, store: &[u8], after: Option<&Locator>) -> Result<Stretches, Refused> {
         self.stretches_of(calls::lomkhvide_wide_stretches, store, after)
+    }
+
+    /// The ordinary list in the reading in which an owner may withdraw.
+    pub fn final_stretches_withdrawing(&self, store: &[u8], after: Option<&Locator>) -> Result<Stretches, Refused> {
+        self.stretches_of(calls::lomkhvide_final_stretches_withdrawing, store, after)
+    }
+
+    /// The wide list in that reading.
+    pub fn wide_stretches_withdrawing(&self, store: &[u8], after: Option<&Locator>) -> Result<Stretches, Refused> {
+        self.stretches_of(calls::lomkhvide_wide_stretches_withdrawing, store, after)
     }
 
     fn stretches_of(&self, call: ListCall, store: &[u8], after: Option<&Locator>) -> Result<Stretches, Refused> {
@@ -1384,6 +1444,8 @@ mod tests {
         let last = Stretches { stretches: vec![stretch(2)], more: false };
         assert_eq!(committee.final_stretches(&store, Some(&shares[1])), Ok(last));
         assert_eq!(committee.wide_stretches(&store, None), committee.final_stretches(&store, None), "every final locator is a share");
+        assert_eq!(committee.final_stretches_withdrawing(&store, None), committee.final_stretches(&store, None), "nobody withdraws");
+        assert_eq!(committee.wide_stretches_withdrawing(&store, None), committee.wide_stretches(&store, None), "nobody withdraws");
         let mut table = fresh_table();
         let pending = |table: &[u8], offset| committee.pending(&store, table, &Locator::new(0, 1, digest, offset));
         assert_eq!(pending(&table, 0), Err(Refused(42)));
@@ -1444,6 +1506,31 @@ mod tests {
             other[at] += 1;
             assert_eq!(committee.final_stretches_indexed(&store, &other, None), Err(Refused(54)), "another word {at}");
         }
+    }
+
+    #[test]
+    fn a_withdrawn_share() {
+        let committee = Committee::new(&[1]).unwrap();
+        let first = record(0, 1, &[], &[]);
+        let mut second = record(1, 2, &first[..48], &[b"gain", b"more", b"last"]);
+        let block = second[..48].to_vec();
+        second[51] = 4;
+        second.push(2);
+        second.extend(&block);
+        second.extend(bytes_of(&[1]));
+        second.push(0);
+        let store = store(&[first, second.clone()]);
+        let shares: Vec<Locator> = (0..3).map(|offset| Locator::new(0, 1, second[16..48].try_into().unwrap(), offset)).collect();
+        for next in [Committee::next_final_withdrawing, Committee::next_wide_withdrawing] {
+            assert_eq!(next(&committee, &store, None), Ok(Some(shares[0])));
+            assert_eq!(next(&committee, &store, Some(&shares[0])), Ok(Some(shares[2])), "the second was withdrawn");
+            assert_eq!(next(&committee, &store, Some(&shares[2])), Ok(None));
+        }
+        let runs = |list: Result<Stretches, Refused>| list.unwrap().stretches.iter().map(|one| (one.first, one.end)).collect::<Vec<_>>();
+        let apart = [(shares[0], 1), (shares[2], 3)];
+        assert_eq!(runs(committee.final_stretches_withdrawing(&store, None)), apart);
+        assert_eq!(runs(committee.wide_stretches_withdrawing(&store, None)), apart);
+        assert_eq!(runs(committee.final_stretches(&store, None)), [(shares[0], 3)]);
     }
 
     #[test]

@@ -10,7 +10,7 @@ use reference::engine;
 use reference::graphs;
 use reference::list::List;
 use reference::model::lent::STRETCH_BYTES;
-use reference::model::record::{number, Block, Locator, Reference};
+use reference::model::record::{number, Block, Locator, Reference, Statement};
 #[cfg(has_rust)]
 use reference::rust::{Prepared, RustSide};
 
@@ -26,6 +26,7 @@ fn main() {
             sorted(&graphs::generated(1000), 10_000);
             check_indexes();
         }
+        Some("withdrawing") => withdrawing(),
         _ => table(),
     }
 }
@@ -67,11 +68,35 @@ fn table() {
     feeding_indexed();
     sorted(&graphs::generated(1000), 10_000);
     println!();
+    withdrawing();
     check(100);
     check(1000);
     check_indexes();
     longest_listing();
     peak_memory();
+}
+
+/// The wide list in both readings, with no rejects and with three in each block: of its first include the share, where owner 3 speaks, else offsets
+/// that nobody votes for.
+fn withdrawing() {
+    for rejects in [0, 3] {
+        let mut blocks = graphs::generated(1000);
+        for block in &mut blocks {
+            let owner = block.reference.author;
+            let first = block.includes.first().copied();
+            let rejected = first.into_iter().flat_map(|block| (0..rejects).map(move |i| (block, if owner == 3 { i } else { i + 5 })));
+            block.statements.extend(rejected.map(|(block, offset)| Statement::Reject(Locator::new(block, offset), None)));
+        }
+        let memory = fed(&blocks);
+        let withdrawn = || in_bulk(|after, out| engine::wide_stretches_withdrawing(&memory.stakes, &memory.store, after, out));
+        let (old, new) = (least(|| wide_list(&memory)), least(withdrawn));
+        println!(
+            "wide list in bulk, 1,000 blocks with {rejects} rejects each: {}; where owners may withdraw {}, {:.2} times as long",
+            time(old),
+            time(new),
+            new / old
+        );
+    }
 }
 
 /// A time as it is read best.

@@ -113,10 +113,16 @@ impl<'a> Graph<'a> {
 
     /// The list that is asked for: of every final locator, or of those that name a stored share.
     pub fn listed(&self, list: Listed) -> Vec<(Locator, Finality)> {
+        self.listed_in(Reading::Old, list)
+    }
+
+    /// The same in a reading of a reject.
+    pub fn listed_in(&self, reading: Reading, list: Listed) -> Vec<(Locator, Finality)> {
         let names_share = |locator: &Locator| {
             self.blocks.iter().any(|block| block.reference == locator.block && block.shares(locator.offset))
         };
-        self.final_list().into_iter().filter(|(locator, _)| list == Listed::Wide || names_share(locator)).collect()
+        let finals = self.final_list_in(reading).into_iter();
+        finals.filter(|(locator, _)| list == Listed::Wide || names_share(locator)).collect()
     }
 
     /// Every locator that a stored block rejects.

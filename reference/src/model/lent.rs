@@ -145,23 +145,23 @@ fn after_of(bytes: &[u8]) -> Result<Option<Locator>, u64> {
 
 /// The least final stored share after a given locator, or from the start.
 pub fn next_final(stakes: &[u8], store: &[u8], after: &[u8], out: &mut [u8]) -> Answer {
-    next_listed(Listed::Ordinary, stakes, store, after, out)
+    next_listed(Reading::Old, Listed::Ordinary, stakes, store, after, out)
 }
 
 /// The least final locator likewise.
 pub fn next_wide(stakes: &[u8], store: &[u8], after: &[u8], out: &mut [u8]) -> Answer {
-    next_listed(Listed::Wide, stakes, store, after, out)
+    next_listed(Reading::Old, Listed::Wide, stakes, store, after, out)
 }
 
-/// 5, 10, 20, 40 for an answer not of 56 bytes.
-fn next_listed(list: Listed, stakes: &[u8], store: &[u8], after: &[u8], out: &mut [u8]) -> Answer {
+/// The same of a list in a reading of a reject: 5, 10, 20, 40 for an answer not of 56 bytes.
+pub fn next_listed(reading: Reading, list: Listed, stakes: &[u8], store: &[u8], after: &[u8], out: &mut [u8]) -> Answer {
     let committee = Committee::lent(stakes)?;
     let stores = Stores::read(&committee, store)?;
     let after = after_of(after)?;
     if out.len() != 56 {
         return Err(40);
     }
-    let list = Graph::new(&committee, &stores).listed(list);
+    let list = Graph::new(&committee, &stores).listed_in(reading, list);
     match list.iter().find(|(locator, _)| Some(*locator) > after) {
         Some((locator, _)) => {
             out.copy_from_slice(&locator.bytes());
@@ -173,23 +173,23 @@ fn next_listed(list: Listed, stakes: &[u8], store: &[u8], after: &[u8], out: &mu
 
 /// The ordinary list in bulk.
 pub fn final_stretches(stakes: &[u8], store: &[u8], after: &[u8], out: &mut [u8]) -> Answer {
-    list_stretches(Listed::Ordinary, stakes, store, after, out)
+    list_stretches(Reading::Old, Listed::Ordinary, stakes, store, after, out)
 }
 
 /// The wide list in bulk.
 pub fn wide_stretches(stakes: &[u8], store: &[u8], after: &[u8], out: &mut [u8]) -> Answer {
-    list_stretches(Listed::Wide, stakes, store, after, out)
+    list_stretches(Reading::Old, Listed::Wide, stakes, store, after, out)
 }
 
-/// 5, 10, 20, 40 for a slice not of 128 stretches.
-fn list_stretches(list: Listed, stakes: &[u8], store: &[u8], after: &[u8], out: &mut [u8]) -> Answer {
+/// The same of a list in a reading of a reject: 5, 10, 20, 40 for a slice not of 128 stretches.
+pub fn list_stretches(reading: Reading, list: Listed, stakes: &[u8], store: &[u8], after: &[u8], out: &mut [u8]) -> Answer {
     let committee = Committee::lent(stakes)?;
     let stores = Stores::read(&committee, store)?;
     let after = after_of(after)?;
     if out.len() != STRETCHES_BYTES {
         return Err(40);
     }
-    Ok(write_stretches(&stretches(&Graph::new(&committee, &stores).listed(list), after), out))
+    Ok(write_stretches(&stretches(&Graph::new(&committee, &stores).listed_in(reading, list), after), out))
 }
 
 /// Writes as many stretches as fit: twice their number, and 1 more where more follow.

@@ -1,4 +1,5 @@
-use Rattle.listed.specs.Listed.{listed}
+use Rattle.readings.specs.Readings.{readingOf}
+use Rattle.reading_lists.specs.Lists.{listing}
 use Rattle.finality.specs.Finality.{blocksOf}
 use Rattle.host_finals.proofs.NextFinals.{next-malformed, next-unsized, next-asked, next-most}
 use Rattle.host_lib.proofs.Locators.{before-most}
@@ -36,7 +37,7 @@ unfolding encoded asAfter
 returns c =
     let start = c .before .before .before .before .before .before .before .before .args in
     let place = sym (c .before .before .before .after-of .ensures) ∙ ap asAfter (c .before .enum-told .given .1) in
-    let e = next-malformed (start .stakes .now) (start .store .now) (listed (start .ordinary) (start .stakes .now) (blocksOf (start .store .now))) (afterOf (start .after .now)) (start .found .now) place in
+    let e = next-malformed (start .stakes .now) (start .store .now) (listing (start .ordinary) (readingOf (start .withdrawing)) (start .stakes .now) (blocksOf (start .store .now))) (afterOf (start .after .now)) (start .found .now) place in
     (rw (c .refusal-before .ensures) (sym (ap (λ (x : NextFinalCall). encoded (x .answer)) e)), sym (ap (λ (x : NextFinalCall). x .found) e))
 
 refusal-before-requires-2 : tie.Need-refusal-before-requires-2
@@ -50,7 +51,7 @@ unfolding encoded asAfter
 returns-2 c =
     let start = c .before .before .before .before .before .before .before .before .before .before .args in
     let place = sym (c .before .before .before .before .before .after-of .ensures) ∙ ap asAfter (c .before .before .before .place .given .1) in
-    let e = next-unsized (start .stakes .now) (start .store .now) (listed (start .ordinary) (start .stakes .now) (blocksOf (start .store .now))) (afterOf (start .after .now)) (start .found .now) _ place (c .before .if1 .taken) in
+    let e = next-unsized (start .stakes .now) (start .store .now) (listing (start .ordinary) (readingOf (start .withdrawing)) (start .stakes .now) (blocksOf (start .store .now))) (afterOf (start .after .now)) (start .found .now) _ place (c .before .if1 .taken) in
     (rw (c .refusal-before2 .ensures) (sym (ap (λ (x : NextFinalCall). encoded (x .answer)) e)), sym (ap (λ (x : NextFinalCall). x .found) e))
 
 next-listed-requires : tie.Need-next-listed-requires
@@ -72,7 +73,7 @@ add-result-3 : tie.Need-add-result-3
 unfolding asNextFinal
 add-result-3 c =
     let start = c .before .before .before .before .before .before .before .before .before .before .before .before .before .args in
-    omega (arith, next-most (start .stakes .now) (start .store .now) (listed (start .ordinary) (start .stakes .now) (blocksOf (start .store .now))) (asMaybe (c .before .before .before .before .before .before .place .given .0 .0)) (c .before .number .given .0 .0) (sym (c .before .before .before .next-listed .ensures) ∙ ap asNextFinal (c .before .number .given .1)))
+    omega (arith, next-most (start .stakes .now) (start .store .now) (listing (start .ordinary) (readingOf (start .withdrawing)) (start .stakes .now) (blocksOf (start .store .now))) (asMaybe (c .before .before .before .before .before .before .place .given .0 .0)) (c .before .number .given .0 .0) (sym (c .before .before .before .next-listed .ensures) ∙ ap asNextFinal (c .before .number .given .1)))
 
 same-length : tie.Need-same-length
 same-length c = search needs
@@ -83,7 +84,7 @@ returns-3 c =
     let start = c .before .before .before .before .before .before .before .before .before .before .before .before .before .before .before .before .before .args in
     let place = sym (c .before .before .before .before .before .before .before .before .before .before .before .before .after-of .ensures) ∙ ap asAfter (c .before .before .before .before .before .before .before .before .before .before .place .given .1) in
     let told = sym (c .before .before .before .before .before .before .before .next-listed .ensures) ∙ ap asNextFinal (c .before .before .before .before .before .locator .given .1) in
-    let e = next-asked (start .stakes .now) (start .store .now) (listed (start .ordinary) (start .stakes .now) (blocksOf (start .store .now))) (afterOf (start .after .now)) (start .found .now) _ _ place (c .before .before .before .before .before .before .before .before .if1 .left) told in
+    let e = next-asked (start .stakes .now) (start .store .now) (listing (start .ordinary) (readingOf (start .withdrawing)) (start .stakes .now) (blocksOf (start .store .now))) (afterOf (start .after .now)) (start .found .now) _ _ place (c .before .before .before .before .before .before .before .before .if1 .left) told in
     let l = c .before .before .before .before .before .locator .given .0 .0 in
     let whole = sets-complete (start .found .now) (locatorBytes (asLocator l)) (omega (arith, length-locatorBytes l, c .before .before .before .before .before .before .before .before .if1 .left)) in
     (sym (ap (λ (x : NextFinalCall). encoded (x .answer)) e), c .before .before .write-locator .ensures ∙ whole ∙ sym (ap (λ (x : NextFinalCall). x .found) e))
@@ -94,7 +95,7 @@ returns-4 c =
     let start = c .before .before .before .before .before .before .before .before .before .before .before .before .args in
     let place = sym (c .before .before .before .before .before .before .before .after-of .ensures) ∙ ap asAfter (c .before .before .before .before .before .place .given .1) in
     let told = sym (c .before .before .next-listed .ensures) ∙ ap asNextFinal (c .enum-told2 .given .1) in
-    let e = next-asked (start .stakes .now) (start .store .now) (listed (start .ordinary) (start .stakes .now) (blocksOf (start .store .now))) (afterOf (start .after .now)) (start .found .now) _ _ place (c .before .before .before .if1 .left) told in
+    let e = next-asked (start .stakes .now) (start .store .now) (listing (start .ordinary) (readingOf (start .withdrawing)) (start .stakes .now) (blocksOf (start .store .now))) (afterOf (start .after .now)) (start .found .now) _ _ place (c .before .before .before .if1 .left) told in
     (sym (ap (λ (x : NextFinalCall). encoded (x .answer)) e), sym (ap (λ (x : NextFinalCall). x .found) e))
 
 returns-5 : tie.Need-returns-5
@@ -103,7 +104,7 @@ returns-5 c =
     let start = c .before .before .before .before .before .before .before .before .before .before .before .before .before .args in
     let place = sym (c .before .before .before .before .before .before .before .before .after-of .ensures) ∙ ap asAfter (c .before .before .before .before .before .before .place .given .1) in
     let told = sym (c .before .before .before .next-listed .ensures) ∙ ap asNextFinal (c .before .number .given .1) in
-    let e = next-asked (start .stakes .now) (start .store .now) (listed (start .ordinary) (start .stakes .now) (blocksOf (start .store .now))) (afterOf (start .after .now)) (start .found .now) _ _ place (c .before .before .before .before .if1 .left) told in
+    let e = next-asked (start .stakes .now) (start .store .now) (listing (start .ordinary) (readingOf (start .withdrawing)) (start .stakes .now) (blocksOf (start .store .now))) (afterOf (start .after .now)) (start .found .now) _ _ place (c .before .before .before .before .if1 .left) told in
     (sym (ap (λ (x : NextFinalCall). encoded (x .answer)) e), sym (ap (λ (x : NextFinalCall). x .found) e))
 
 pub next-final-of-spec : {M : Type 1} → statement M

@@ -1,4 +1,5 @@
-use Rattle.listed.specs.Listed.{listed}
+use Rattle.readings.specs.Readings.{readingOf}
+use Rattle.reading_lists.specs.Lists.{listing}
 use Rattle.finality.specs.Finality.{blocksOf}
 use mathlib.Core.Path.{sym, ap, _∙_}
 use native.Mathlib.Omega.{arith}
@@ -32,7 +33,7 @@ unfolding encoded asAfter
 returns c =
     let start = c .before .before .before .before .before .before .before .before .args in
     let place = sym (c .before .before .before .after-of .ensures) ∙ ap asAfter (c .before .enum-told .given .1) in
-    let e = stretches-malformed (start .stakes .now) (start .store .now) (listed (start .ordinary) (start .stakes .now) (blocksOf (start .store .now))) (afterOf (start .after .now)) (start .out .now) place in
+    let e = stretches-malformed (start .stakes .now) (start .store .now) (listing (start .ordinary) (readingOf (start .withdrawing)) (start .stakes .now) (blocksOf (start .store .now))) (afterOf (start .after .now)) (start .out .now) place in
     (rw (c .refusal-before .ensures) (sym (ap (λ (x : StretchesCall). encoded (x .answer)) e)), sym (ap (λ (x : StretchesCall). x .stretches) e))
 
 refusal-before-requires-2 : tie.Need-refusal-before-requires-2
@@ -46,7 +47,7 @@ unfolding encoded asAfter
 returns-2 c =
     let start = c .before .before .before .before .before .before .before .before .before .before .args in
     let place = sym (c .before .before .before .before .before .after-of .ensures) ∙ ap asAfter (c .before .before .before .place .given .1) in
-    let e = stretches-unsized (start .stakes .now) (start .store .now) (listed (start .ordinary) (start .stakes .now) (blocksOf (start .store .now))) (afterOf (start .after .now)) (start .out .now) _ place (c .before .if1 .taken) in
+    let e = stretches-unsized (start .stakes .now) (start .store .now) (listing (start .ordinary) (readingOf (start .withdrawing)) (start .stakes .now) (blocksOf (start .store .now))) (afterOf (start .after .now)) (start .out .now) _ place (c .before .if1 .taken) in
     (rw (c .refusal-before2 .ensures) (sym (ap (λ (x : StretchesCall). encoded (x .answer)) e)), sym (ap (λ (x : StretchesCall). x .stretches) e))
 
 stretches-words-requires : tie.Need-stretches-words-requires
@@ -81,7 +82,7 @@ unfolding encoded asAfter asStretches stretchesNumber flag
 returns-3 c =
     let start = c .before .before .before .before .before .before .before .before .before .before .before .before .before .before .before .before .args in
     let place = sym (c .before .before .before .before .before .before .before .before .before .before .before .after-of .ensures) ∙ ap asAfter (c .before .before .before .before .before .before .before .before .before .place .given .1) in
-    let e = stretches-asked (start .stakes .now) (start .store .now) (listed (start .ordinary) (start .stakes .now) (blocksOf (start .store .now))) (afterOf (start .after .now)) (start .out .now) _ place (c .before .before .before .before .before .before .before .if1 .left) in
+    let e = stretches-asked (start .stakes .now) (start .store .now) (listing (start .ordinary) (readingOf (start .withdrawing)) (start .stakes .now) (blocksOf (start .store .now))) (afterOf (start .after .now)) (start .out .now) _ place (c .before .before .before .before .before .before .before .if1 .left) in
     let told = c .before .before .before .before .before .stretches-words .ensures .0 in
     (rw (e, ← told .0, c .before .count .given .1) (omega arith), told .1 ∙ sym (ap (λ (x : StretchesCall). x .stretches) e))
 
@@ -93,7 +94,7 @@ unfolding encoded asAfter asStretches stretchesNumber flag
 returns-4 c =
     let start = c .before .before .before .before .before .before .before .before .before .before .before .before .before .before .before .before .args in
     let place = sym (c .before .before .before .before .before .before .before .before .before .before .before .after-of .ensures) ∙ ap asAfter (c .before .before .before .before .before .before .before .before .before .place .given .1) in
-    let e = stretches-asked (start .stakes .now) (start .store .now) (listed (start .ordinary) (start .stakes .now) (blocksOf (start .store .now))) (afterOf (start .after .now)) (start .out .now) _ place (c .before .before .before .before .before .before .before .if1 .left) in
+    let e = stretches-asked (start .stakes .now) (start .store .now) (listing (start .ordinary) (readingOf (start .withdrawing)) (start .stakes .now) (blocksOf (start .store .now))) (afterOf (start .after .now)) (start .out .now) _ place (c .before .before .before .before .before .before .before .if1 .left) in
     let told = c .before .before .before .before .before .stretches-words .ensures .0 in
     (rw (e, ← told .0, c .before .count2 .given .1), told .1 ∙ sym (ap (λ (x : StretchesCall). x .stretches) e))
 
@@ -105,7 +106,7 @@ unfolding encoded asAfter asStretches stretchesNumber flag
 returns-5 c =
     let start = c .before .before .before .before .before .before .before .before .before .before .before .before .before .before .before .before .args in
     let place = sym (c .before .before .before .before .before .before .before .before .before .before .before .after-of .ensures) ∙ ap asAfter (c .before .before .before .before .before .before .before .before .before .place .given .1) in
-    let e = stretches-asked (start .stakes .now) (start .store .now) (listed (start .ordinary) (start .stakes .now) (blocksOf (start .store .now))) (afterOf (start .after .now)) (start .out .now) _ place (c .before .before .before .before .before .before .before .if1 .left) in
+    let e = stretches-asked (start .stakes .now) (start .store .now) (listing (start .ordinary) (readingOf (start .withdrawing)) (start .stakes .now) (blocksOf (start .store .now))) (afterOf (start .after .now)) (start .out .now) _ place (c .before .before .before .before .before .before .before .if1 .left) in
     let told = c .before .before .before .before .before .stretches-words .ensures .0 in
     (rw (e, ← told .0, c .before .number .given .1), told .1 ∙ sym (ap (λ (x : StretchesCall). x .stretches) e))
 

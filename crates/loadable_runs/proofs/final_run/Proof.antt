@@ -4,7 +4,12 @@ use Rattle.authority_set.specs.AuthoritySet.{stakeOf}
 use Rattle.types.specs.Values.{asReference, asLocator}
 use Rattle.block_votes.proofs.Sorting.{some-committee}
 use Rattle.finalization_interpreter.proofs.Asking.{final-by}
+use Rattle.finality.specs.Voters.{certifies, certifiers}
+use Rattle.readings.specs.Readings.{votersIn, certifiesIn, certifiersIn}
+use Rattle.block_spans.specs.Joined.{joinedAt, joinedSpans}
+use Rattle.block_spans.specs.Ranges.{rangesAt, rangesOf}
 use Rattle.final_walk.specs.Walk.{Certify}
+use Rattle.final_search.specs.Search.{cutsIn}
 use Rattle.loadable_runs.proofs.Edges.{told-one, told-on}
 use borrow.Author.Needs.{needs}
 use Rattle.loadable_runs.proofs.final_run.Statement.{statement}
@@ -27,11 +32,11 @@ next-edge-requires c κs =
     let q = c .before .before .before .before .before .before .before .before .before .before .pre .0 in
     (some-committee (q .0 .0 .0), q .1 .0)
 
-add-t19 : tie.Need-add-t19
-add-t19 c = search needs
+add-t18 : tie.Need-add-t18
+add-t18 c = search needs
 
 returns : tie.Need-returns
-unfolding Certify asLocator
+unfolding Certify asLocator certifiersIn certifiesIn votersIn certifiers certifies
 returns c =
     let a = c .before .before .before .before .before .before .before .before .before .before .before .before .before .args in
     let found = c .before .before .before .before .before .before .certifiers-of in
@@ -40,7 +45,7 @@ returns c =
     told-one (a .stakes .now) (a .store .now) (asReference (a .share .block)) (a .share .offset) _ final
 
 returns-2 : tie.Need-returns-2
-unfolding Certify asLocator
+unfolding Certify asLocator certifiersIn certifiesIn votersIn certifiers certifies cutsIn rangesOf rangesAt joinedAt joinedSpans
 returns-2 c =
     let a = c .before .before .before .before .before .before .before .before .before .before .before .before .args in
     let found = c .before .before .before .before .before .certifiers-of in
@@ -57,6 +62,6 @@ final-run-spec =
     stake-of-requires
     is-quorum-requires
     next-edge-requires
-    add-t19
+    add-t18
     returns
     returns-2)

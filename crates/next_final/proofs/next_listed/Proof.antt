@@ -2,6 +2,8 @@ use Rattle.next_final.proofs.Asking.{next-broken, next-disordered, next
 use Rattle.next_final.specs.Answers.{asNextFinal}
 use Rattle.final_search.specs.Search.{asNext}
 use Rattle.readings.specs.Readings.{readingOf}
+use Rattle.reading_lists.specs.Lists.{listing}
+use Rattle.finality.specs.Finality.{blocksOf}
 use Rattle.include_places.proofs.Noting.{placed-start}
 use Rattle.vote_table.proofs.Table.{table-start}
 use Rattle.block_votes.proofs.Along.{sorted-count}
@@ -32,7 +34,7 @@ returns : tie.Need-returns
 unfolding asNextFinal
 returns c = let a = (c .before .before .before .before .before .args) in
     let told = c .enum-told .given in
-    next-broken (a .ordinary) (readingOf (a .withdrawing)) (a .stakes .now) (a .store .now) (asMaybe (a .after)) (broken-sound (a .stakes .now) (told .0 .0) (ap asNewCommittee (sym (told .1)) ∙ c .before .before .new-committee .ensures))
+    next-broken (a .stakes .now) (a .store .now) (listing (a .ordinary) (readingOf (a .withdrawing)) (a .stakes .now) (blocksOf (a .store .now))) (asMaybe (a .after)) (broken-sound (a .stakes .now) (told .0 .0) (ap asNewCommittee (sym (told .1)) ∙ c .before .before .new-committee .ensures))
 
 in-order-requires : tie.Need-in-order-requires
 in-order-requires c κs = let told = c .before .total .given in taken-sound (c .before .before .before .before .before .before .args .stakes .now) (told .0 .0) (ap asNewCommittee (sym (told .1)) ∙ c .before .before .before .new-committee .ensures) .0
@@ -42,7 +44,7 @@ unfolding asNextFinal
 returns-2 c = let a = (c .before .before .before .before .before .before .before .before .args) in
     let told = c .before .before .before .total .given in
     let t = taken-sound (a .stakes .now) (told .0 .0) (ap asNewCommittee (sym (told .1)) ∙ c .before .before .before .before .before .new-committee .ensures) in
-    next-disordered (a .ordinary) (readingOf (a .withdrawing)) (a .stakes .now) (a .store .now) (asMaybe (a .after)) (t .0) (sym (c .before .in-order .ensures) ∙ not-true _ (c .if1 .taken))
+    next-disordered (a .stakes .now) (a .store .now) (listing (a .ordinary) (readingOf (a .withdrawing)) (a .stakes .now) (blocksOf (a .store .now))) (asMaybe (a .after)) (t .0) (sym (c .before .in-order .ensures) ∙ not-true _ (c .if1 .taken))
 
 slice-aggregate-sorted-positions : tie.Need-slice-aggregate-sorted-positions
 slice-aggregate-sorted-positions c = search needs
@@ -89,7 +91,7 @@ returns-3 c = let a = (c .before .before .before .before .before .before .before
     let told = c .before .before .before .before .before .before .before .before .before .before .before .before .before .before .before .before .total .given in
     let t = taken-sound (a .stakes .now) (told .0 .0) (ap asNewCommittee (sym (told .1)) ∙ c .before .before .before .before .before .before .before .before .before .before .before .before .before .before .before .before .before .before .new-committee .ensures) in
     let e = ap asNext (sym (c .before .before .next .given .1)) ∙ c .before .before .before .before .before .final-after .ensures .0 in
-    next-answered (a .ordinary) (readingOf (a .withdrawing)) (a .stakes .now) (a .store .now) (asMaybe (a .after)) (t .0) (sym (c .before .before .before .before .before .before .before .before .before .before .before .before .before .before .in-order .ensures) ∙ not-false _ (c .before .before .before .before .before .before .before .before .before .before .before .before .before .if1 .left)) _ e
+    next-answered (a .stakes .now) (a .store .now) (listing (a .ordinary) (readingOf (a .withdrawing)) (a .stakes .now) (blocksOf (a .store .now))) (asMaybe (a .after)) (t .0) (sym (c .before .before .before .before .before .before .before .before .before .before .before .before .before .before .in-order .ensures) ∙ not-false _ (c .before .before .before .before .before .before .before .before .before .before .before .before .before .if1 .left)) _ e
 
 returns-4 : tie.Need-returns-4
 unfolding asNextFinal asNext
@@ -97,7 +99,7 @@ returns-4 c = let a = (c .before .before .before .before .before .before .before
     let told = c .before .before .before .before .before .before .before .before .before .before .before .before .before .before .total .given in
     let t = taken-sound (a .stakes .now) (told .0 .0) (ap asNewCommittee (sym (told .1)) ∙ c .before .before .before .before .before .before .before .before .before .before .before .before .before .before .before .before .new-committee .ensures) in
     let e = ap asNext (sym (c .enum-told2 .given .1)) ∙ c .before .before .before .final-after .ensures .0 in
-    next-answered (a .ordinary) (readingOf (a .withdrawing)) (a .stakes .now) (a .store .now) (asMaybe (a .after)) (t .0) (sym (c .before .before .before .before .before .before .before .before .before .before .before .before .in-order .ensures) ∙ not-false _ (c .before .before .before .before .before .before .before .before .before .before .before .if1 .left)) _ e
+    next-answered (a .stakes .now) (a .store .now) (listing (a .ordinary) (readingOf (a .withdrawing)) (a .stakes .now) (blocksOf (a .store .now))) (asMaybe (a .after)) (t .0) (sym (c .before .before .before .before .before .before .before .before .before .before .before .before .in-order .ensures) ∙ not-false _ (c .before .before .before .before .before .before .before .before .before .before .before .if1 .left)) _ e
 
 pub next-listed-spec : {M : Type 1} → statement M
 next-listed-spec =
