@@ -48,7 +48,7 @@ fn statement_rejects(statement: BaseStatement, locator: TransactionLocator) -> b
 }
 
 // Whether the block of a record rejects the locator.
-fn rejects(rec: &[u8], locator: TransactionLocator) -> bool
+pub fn rejects(rec: &[u8], locator: TransactionLocator) -> bool
     requires { ⌜ wellFormed (now rec) ≡ true ⌝ }
     ensures { λ r. ⌜ r ≡ rejects (blockIn (now (rec .entry))) (asLocator locator) ⌝ }
 {

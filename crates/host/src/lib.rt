@@ -434,7 +434,7 @@ pub extern "C" fn lomkhvide_whom_to_ring(
 
 // ---- finality slips
 
-// Reads a finality slip with the records that come with it: the number of its certifying blocks.
+// Reads a finality slip of either reading with the records that come with it: the number of its certifying blocks.
 #[no_mangle]
 pub extern "C" fn lomkhvide_read_slip(stakes: &[u8], slip: &[u8], records: &[u8]) -> u64
     ensures { λ r. ⌜ r ≡ encoded (readAnswer (committeeOf (now (stakes .entry))) (now (slip .entry)) (now (records .entry))) ⌝ }
@@ -450,10 +450,24 @@ pub extern "C" fn lomkhvide_write_slip(
     locator: &[u8],
     out: &mut [u8],
 ) -> u64
-    ensures { λ r. ⌜ r ≡ encoded (writeSlipCall (now (stakes .entry)) (now (store .entry)) (now (locator .entry)) (now (out .entry)) .answer) ⌝ }
-    ensures { λ r. ⌜ now (out .exit) ≡ writeSlipCall (now (stakes .entry)) (now (store .entry)) (now (locator .entry)) (now (out .entry)) .out ⌝ }
+    ensures { λ r. ⌜ r ≡ encoded (writeSlipCall old (now (stakes .entry)) (now (store .entry)) (now (locator .entry)) (now (out .entry)) .answer) ⌝ }
+    ensures { λ r. ⌜ now (out .exit) ≡ writeSlipCall old (now (stakes .entry)) (now (store .entry)) (now (locator .entry)) (now (out .entry)) .out ⌝ }
 {
-    host_slip_writer::write_slip(stakes, store, locator, out)
+    host_slip_writer::write_slip(stakes, store, locator, false, out)
+}
+
+// The same in the reading in which an owner may withdraw.
+#[no_mangle]
+pub extern "C" fn lomkhvide_write_slip_withdrawing(
+    stakes: &[u8],
+    store: &[u8],
+    locator: &[u8],
+    out: &mut [u8],
+) -> u64
+    ensures { λ r. ⌜ r ≡ encoded (writeSlipCall withdrawing (now (stakes .entry)) (now (store .entry)) (now (locator .entry)) (now (out .entry)) .answer) ⌝ }
+    ensures { λ r. ⌜ now (out .exit) ≡ writeSlipCall withdrawing (now (stakes .entry)) (now (store .entry)) (now (locator .entry)) (now (out .entry)) .out ⌝ }
+{
+    host_slip_writer::write_slip(stakes, store, locator, true, out)
 }
 
 // ---- loadable shares

@@ -10,6 +10,7 @@ use Rattle.base.specs.Checks.{refused}
 use Rattle.committee.specs.Committee.{Committee}
 use Rattle.blocks.specs.Reference.{TransactionLocator}
 use Rattle.finality.specs.Finality.{blocksOf}
+use Rattle.readings.specs.Readings.{Reading}
 use Rattle.slips.specs.Slip.{slipBytes}
 use Rattle.slips.specs.Writing.{slipFor, writeChecks, writeSlip}
 use Rattle.slip_writer.specs.Answers.{asSlipAnswer}
@@ -21,25 +22,25 @@ use Rattle.host_lib.specs.Payload.{locatorOf, refusalBefore}
 use Rattle.host_lib.proofs.Locators.{before-most}
 use Rattle.host_slip_writer.specs.WriteSlip.{askedSlip, writeSlipCall}
 
-asked-most : (c : Committee) (s : Bytes) (o : Option TransactionLocator) (out : Bytes) (n : ℕ) → askedSlip c s o out .answer ≡ refused n → n ≤ 52
+asked-most : (reading : Reading) (c : Committee) (s : Bytes) (o : Option TransactionLocator) (out : Bytes) (n : ℕ) → askedSlip reading c s o out .answer ≡ refused n → n ≤ 52
 unfolding askedSlip writeSlip writeChecks allOf
-asked-most c s none out n e =
+asked-most reading c s none out n e =
     let z : refusalBefore 20 c s ≡ n = cc in
     omega (arith, before-most 20 c s (omega arith))
-asked-most c s (some l) out n e = checked-most 52 (writeChecks c s out l) (length (slipBytes (slipFor c (blocksOf s) l))) n refl e
+asked-most reading c s (some l) out n e = checked-most 52 (writeChecks reading c s out l) (length (slipBytes (slipFor reading c (blocksOf s) l))) n refl e
 
 -- the call, by the stakes that it holds
-pub call-same : (stakes s b out : Bytes) (c : Committee) → c ≡ committeeOf stakes → askedSlip c s (locatorOf b) out ≡ writeSlipCall stakes s b out
+pub call-same : (reading : Reading) (stakes s b out : Bytes) (c : Committee) → c ≡ committeeOf stakes → askedSlip reading c s (locatorOf b) out ≡ writeSlipCall reading stakes s b out
 unfolding writeSlipCall
-call-same stakes s b out c h = rw h
+call-same reading stakes s b out c h = rw h
 
-module _ (stakes s b out : Bytes) (r : SlipAnswer) (e : asSlipAnswer r ≡ writeSlipCall stakes s b out .answer) (n : ℕ) where
-  pub told-length : r ≡ Length n → n ≡ encoded (writeSlipCall stakes s b out .answer)
+module _ (reading : Reading) (stakes s b out : Bytes) (r : SlipAnswer) (e : asSlipAnswer r ≡ writeSlipCall reading stakes s b out .answer) (n : ℕ) where
+  pub told-length : r ≡ Length n → n ≡ encoded (writeSlipCall reading stakes s b out .answer)
   unfolding asSlipAnswer encoded
   told-length h = rw (← e, h)
 
-  pub told-refusal : r ≡ Refused n → (n ≤ 52) × (9223372036854775808 + n ≡ encoded (writeSlipCall stakes s b out .answer))
+  pub told-refusal : r ≡ Refused n → (n ≤ 52) × (9223372036854775808 + n ≡ encoded (writeSlipCall reading stakes s b out .answer))
   unfolding asSlipAnswer encoded writeSlipCall
   told-refusal h =
-      let k : askedSlip (committeeOf stakes) s (locatorOf b) out .answer ≡ refused n = sym e ∙ ap asSlipAnswer h in
-      (asked-most (committeeOf stakes) s (locatorOf b) out n k, rw k)
+      let k : askedSlip reading (committeeOf stakes) s (locatorOf b) out .answer ≡ refused n = sym e ∙ ap asSlipAnswer h in
+      (asked-most reading (committeeOf stakes) s (locatorOf b) out n k, rw k)

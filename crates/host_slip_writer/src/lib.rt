@@ -1,6 +1,7 @@
 // The writer of slips, for a host: stakes and locator as bytes.
 use slip_writer::SlipAnswer;
 ghost use mathlib.Core.Path.{_≡_};
+ghost use Rattle.readings.specs.Readings.{readingOf};
 ghost use Rattle.slip_writer.specs.Answers.{asSlipAnswer};
 ghost use Rattle.host_calls.specs.Calls.{encoded};
 ghost use Rattle.host_lib.specs.Payload.{locatorOf};
@@ -9,24 +10,42 @@ ghost use Rattle.host_slip_writer.specs.WriteSlip.{askedSlip, writeSlipC
 const REFUSED: u64 = 9223372036854775808;
 
 // 20 for bytes that are no locator, after 5 and 10.
-fn write_slip_of(stakes: &[u64], store: &[u8], locator: &[u8], out: &mut [u8]) -> SlipAnswer
-    ensures { λ r. ⌜ asSlipAnswer r ≡ askedSlip (now (stakes .entry)) (now (store .entry)) (locatorOf (now (locator .entry))) (now (out .entry)) .answer ⌝ }
-    ensures { λ r. ⌜ now (out .exit) ≡ askedSlip (now (stakes .entry)) (now (store .entry)) (locatorOf (now (locator .entry))) (now (out .entry)) .out ⌝ }
+fn write_slip_of(
+    stakes: &[u64],
+    store: &[u8],
+    locator: &[u8],
+    withdrawing: bool,
+    out: &mut [u8],
+) -> SlipAnswer
+    ensures { λ r. ⌜ asSlipAnswer r ≡ askedSlip (readingOf withdrawing) (now (stakes .entry)) (now (store .entry)) (locatorOf (now (locator .entry))) (now (out .entry)) .answer ⌝ }
+    ensures { λ r. ⌜ now (out .exit) ≡ askedSlip (readingOf withdrawing) (now (stakes .entry)) (now (store .entry)) (locatorOf (now (locator .entry))) (now (out .entry)) .out ⌝ }
 {
     if locator.len() != 56 {
         return SlipAnswer::Refused(host_lib::refusal_before(20, stakes, store));
     }
-    slip_writer::write_slip(stakes, store, types::read_locator(locator, 0), out)
+    slip_writer::write_slip_in(
+        stakes,
+        store,
+        types::read_locator(locator, 0),
+        withdrawing,
+        out,
+    )
 }
 
-// The length of the slip, which stands in front of `out`.
-pub fn write_slip(stakes: &[u8], store: &[u8], locator: &[u8], out: &mut [u8]) -> u64
-    ensures { λ r. ⌜ r ≡ encoded (writeSlipCall (now (stakes .entry)) (now (store .entry)) (now (locator .entry)) (now (out .entry)) .answer) ⌝ }
-    ensures { λ r. ⌜ now (out .exit) ≡ writeSlipCall (now (stakes .entry)) (now (store .entry)) (now (locator .entry)) (now (out .entry)) .out ⌝ }
+// The length of the slip in the reading that is asked for, which stands in front of `out`.
+pub fn write_slip(
+    stakes: &[u8],
+    store: &[u8],
+    locator: &[u8],
+    withdrawing: bool,
+    out: &mut [u8],
+) -> u64
+    ensures { λ r. ⌜ r ≡ encoded (writeSlipCall (readingOf withdrawing) (now (stakes .entry)) (now (store .entry)) (now (locator .entry)) (now (out .entry)) .answer) ⌝ }
+    ensures { λ r. ⌜ now (out .exit) ≡ writeSlipCall (readingOf withdrawing) (now (stakes .entry)) (now (store .entry)) (now (locator .entry)) (now (out .entry)) .out ⌝ }
 {
     let mut held = [0u64; 128];
     let n = host_calls::stakes_of(stakes, &mut held);
-    match write_slip_of(&held[..n], store, locator, out) {
+    match write_slip_of(&held[..n], store, locator, withdrawing, out) {
         SlipAnswer::Written(length) => length as u64,
         SlipAnswer::Refused(number) => REFUSED + number,
     }

@@ -15,16 +15,16 @@ use Rattle.host_calls.specs.Calls.{encoded}
 use Rattle.host_calls.proofs.Numbers.{checked-most}
 
 module _ (c : Committee) (s q : Bytes) where
-  read-most : (n : ℕ) → readAnswer c s q ≡ refused n → n ≤ 53
+  read-most : (n : ℕ) → readAnswer c s q ≡ refused n → n ≤ 61
   unfolding readAnswer readChecks allOf
-  read-most n h = checked-most 53 (readChecks c s q) (length (slipIn s .certifiers)) n refl h
+  read-most n h = checked-most 61 (readChecks c s q) (length (slipIn s .certifiers)) n refl h
 
   module _ (r : SlipAnswer) (e : asSlipAnswer r ≡ readAnswer c s q) (n : ℕ) where
     pub told-number : r ≡ Accepted n → n ≡ encoded (readAnswer c s q)
     unfolding asSlipAnswer encoded
     told-number h = rw (← e, h)
 
-    pub told-refusal : r ≡ Refused n → (n ≤ 53) × (9223372036854775808 + n ≡ encoded (readAnswer c s q))
+    pub told-refusal : r ≡ Refused n → (n ≤ 61) × (9223372036854775808 + n ≡ encoded (readAnswer c s q))
     unfolding asSlipAnswer encoded
     told-refusal h =
         let k : readAnswer c s q ≡ refused n = sym e ∙ ap asSlipAnswer h in

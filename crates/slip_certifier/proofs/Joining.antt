@@ -1,6 +1,6 @@
 -- What a certifier shows, with the quorum of its voters. Assumes nothing.
 use mathlib.Core.Path.{_≡_, refl, sym, ap, _∙_}
-use mathlib.Core.Bool.{Bool, true, false, not, _&&_}
+use mathlib.Core.Bool.{Bool, true, false, not, _&&_, _||_}
 use mathlib.Core.List.{List, map}
 use mathlib.Core.Option.{Option, none, some}
 use Prim.Native.Nat.{ℕ, _<_}
@@ -14,14 +14,15 @@ use Rattle.authority_set.proofs.Votes.{member-setOf}
 use Rattle.authority_set.proofs.Quorums.{stake-same}
 use Rattle.blocks.specs.Reference.{TransactionLocator}
 use Rattle.blocks.specs.Block.{Block}
-use Rattle.finality.specs.Voters.{votesFor}
+use Rattle.readings.specs.Readings.{Reading}
+use Rattle.slips.specs.Ancestry.{lacksAncestor, hasRejected}
 use Rattle.slips.specs.Slip.{SlipVoter}
 use Rattle.slips.specs.Paths.{onFrom, leads}
 use Rattle.slips.specs.Reading.{isNotGiven, missingFrom, endsAtVote, certifierHolds}
-use Rattle.slip_paths.specs.Verdict.{verdict, worse, certifierVerdict}
+use Rattle.slip_paths.specs.Verdict.{verdict, worse}
 use Rattle.slip_paths.proofs.Verdicts.{worse-both}
 use Rattle.slip_voters.specs.Step.{Speak, votersVerdict}
-use Rattle.slip_certifier.specs.Step.{ownVerdict}
+use Rattle.slip_certifier.specs.Verdict.{ownVerdict, standingVerdict, certifierVerdict}
 
 -- ---- the quorum of authors
 
@@ -57,37 +58,51 @@ and-both-sides : (a b c : Bool) → (a && b) && c ≡ a && (b && c)
 and-both-sides true b c = refl
 and-both-sides false b c = refl
 
-module _ (c : Committee) (bs : List Block) (l : TransactionLocator) (vs : List SlipVoter) where
+module _ (reading : Reading) (c : Committee) (bs : List Block) (l : TransactionLocator) (vs : List SlipVoter) where
   abbrev lost : Option Block → SlipVoter → Bool
   lost o v = isNotGiven (onFrom (leads bs (v .path)) o)
 
   abbrev right : Option Block → SlipVoter → Bool
-  right o v = endsAtVote votesFor l (v .author) (onFrom (leads bs (v .path)) o)
+  right o v = endsAtVote l (v .author) (onFrom (leads bs (v .path)) o)
+
+  abbrev keeps : Block → SlipVoter → Bool
+  keeps b v = not (hasRejected reading bs l b (v .author))
 
   abbrev quorum : Bool
   quorum = isQuorum c (stakeOf c (setOf (map (λ v. v .author) vs)))
 
-  shown-some : (b : Block) → worse (ownVerdict (some b)) (votersVerdict bs l (some b) vs) ≡ verdict (anyOf (lost (some b)) vs) (not (b .marked) && allOf (right (some b)) vs)
-  unfolding ownVerdict votersVerdict isNone holds
-  shown-some b = worse-both false (anyOf (lost (some b)) vs) (not (b .marked)) (allOf (right (some b)) vs)
+  abbrev unspoilt : Block → Bool
+  unspoilt b = (not (b .marked) && allOf (right (some b)) vs) && allOf (keeps b) vs
 
-  shown-none : worse (ownVerdict none) (votersVerdict bs l none vs) ≡ verdict true false
-  unfolding ownVerdict votersVerdict isNone holds
-  shown-none = worse-both true (anyOf (lost none) vs) false (allOf (right none) vs)
+  abbrev pub shownOf : Option Block → ℕ
+  shownOf o = worse (worse (ownVerdict o) (votersVerdict bs l o vs)) (standingVerdict reading bs l vs o)
 
-  whole-some : (b : Block) → certifierVerdict c bs l vs (some b) ≡ verdict (anyOf (lost (some b)) vs) ((not (b .marked) && allOf (right (some b)) vs) && quorum)
+  shown-some : (b : Block) → shownOf (some b) ≡ verdict (anyOf (lost (some b)) vs || lacksAncestor reading bs b) (unspoilt b)
+  unfolding ownVerdict votersVerdict standingVerdict isNone holds
+  shown-some b =
+      ap (λ (x : ℕ). worse x (standingVerdict reading bs l vs (some b))) (worse-both false (anyOf (lost (some b)) vs) (not (b .marked)) (allOf (right (some b)) vs))
+      ∙ worse-both (anyOf (lost (some b)) vs) (lacksAncestor reading bs b) (not (b .marked) && allOf (right (some b)) vs) (allOf (keeps b) vs)
+
+  shown-none : shownOf none ≡ verdict true false
+  unfolding ownVerdict votersVerdict standingVerdict verdict isNone holds
+  shown-none = ap (λ (x : ℕ). worse x 0) (worse-both true (anyOf (lost none) vs) false (allOf (right none) vs)) ∙ worse-both true false false true
+
+  whole-some : (b : Block) → certifierVerdict reading c bs l vs (some b) ≡ verdict (anyOf (lost (some b)) vs || lacksAncestor reading bs b) (unspoilt b && quorum)
   unfolding certifierVerdict missingFrom certifierHolds holds onFrom
-  whole-some b = ap (verdict (anyOf (lost (some b)) vs)) (sym (and-both-sides (not (b .marked)) (allOf (right (some b)) vs) quorum))
+  whole-some b =
+      ap (verdict (anyOf (lost (some b)) vs || lacksAncestor reading bs b))
+      (sym (and-both-sides (not (b .marked) && allOf (right (some b)) vs) (allOf (keeps b) vs) quorum
+      ∙ and-both-sides (not (b .marked)) (allOf (right (some b)) vs) (allOf (keeps b) vs && quorum)))
 
-  pub certifier-found : (o : Option Block) (v : ℕ) → v ≡ worse (ownVerdict o) (votersVerdict bs l o vs) → (v ≡ 0 → ⊥) → v ≡ certifierVerdict c bs l vs o
+  pub certifier-found : (o : Option Block) (v : ℕ) → v ≡ shownOf o → (v ≡ 0 → ⊥) → v ≡ certifierVerdict reading c bs l vs o
   unfolding certifierVerdict missingFrom holds
   certifier-found none v e f = e ∙ shown-none
   certifier-found (some b) v e f =
       let shown = e ∙ shown-some b in
-      shown ∙ join-found (anyOf (lost (some b)) vs) (not (b .marked) && allOf (right (some b)) vs) quorum (λ z. f (shown ∙ z)) ∙ sym (whole-some b)
+      shown ∙ join-found (anyOf (lost (some b)) vs || lacksAncestor reading bs b) (unspoilt b) quorum (λ z. f (shown ∙ z)) ∙ sym (whole-some b)
 
-  pub certifier-quorum : (o : Option Block) (v : ℕ) (t : Bool) → v ≡ worse (ownVerdict o) (votersVerdict bs l o vs) → v ≡ 0 → t ≡ quorum → pick t 0 1 ≡ certifierVerdict c bs l vs o
+  pub certifier-quorum : (o : Option Block) (v : ℕ) (t : Bool) → v ≡ shownOf o → v ≡ 0 → t ≡ quorum → pick t 0 1 ≡ certifierVerdict reading c bs l vs o
   unfolding verdict
   certifier-quorum none v t e z q = absurd (two-not-zero (sym (e ∙ shown-none) ∙ z))
   certifier-quorum (some b) v t e z q =
-      rw q (join-quorum (anyOf (lost (some b)) vs) (not (b .marked) && allOf (right (some b)) vs) quorum (sym (e ∙ shown-some b) ∙ z) ∙ sym (whole-some b))
+      rw q (join-quorum (anyOf (lost (some b)) vs || lacksAncestor reading bs b) (unspoilt b) quorum (sym (e ∙ shown-some b) ∙ z) ∙ sym (whole-some b))

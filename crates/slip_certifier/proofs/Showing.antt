@@ -11,26 +11,34 @@ use Rattle.committee.specs.Committee.{Committee, broken, isQuorum}
 use Rattle.authority_set.specs.AuthoritySet.{AuthoritySet, stakeOf}
 use Rattle.blocks.specs.Reference.{TransactionLocator}
 use Rattle.blocks.specs.Block.{Block}
+use Rattle.readings.specs.Readings.{Reading}
 use Rattle.types.specs.Step.{referenceAt}
 use Rattle.slips.specs.Supplied.{suppliedBlocks}
 use Rattle.slips.specs.Paths.{named, toBlock, onFrom}
+use Rattle.slip_records.specs.Places.{Places}
 use Rattle.slip_paths.specs.declared.Led as code
-use Rattle.slip_paths.specs.Verdict.{worse, certifierVerdict}
-use Rattle.slip_paths.specs.Walk.{Noted, LedTo}
-use Rattle.slip_voters.specs.Step.{votersVerdict}
+use Rattle.slip_paths.specs.Verdict.{worse}
+use Rattle.slip_paths.specs.Walk.{LedTo}
+use Rattle.slip_ancestry.specs.Lacking.{Right}
 use Rattle.slip_voters.specs.Step as voters
-use Rattle.slip_certifier.specs.Step.{ownVerdict, ReadOne}
-use Rattle.slip_certifier.proofs.Joining.{quorum-same, certifier-found, certifier-quorum}
+use Rattle.slip_certifier.specs.Verdict.{ownVerdict, certifierVerdict}
+use Rattle.slip_certifier.specs.Step.{Stands, Known, ReadOne}
+use Rattle.slip_certifier.proofs.Joining.{quorum-same, shownOf, certifier-found, certifier-quorum}
 use Rattle.slip_certifier.proofs.Certifying.{certifier-reads}
 
--- ---- one certifier, with what its voters show
+-- ---- one certifier, with what its voters and its ancestry show
 
-module _ (c : Committee) (s : Bytes) (p : ℕ) (q : Bytes) (order votes : List ℕ) (certifier : code.Led) (end : ℕ) (authors : AuthoritySet) (shown own : ℕ) (sound : broken c ≡ false)
+module _ (c : Committee) (s : Bytes) (p : ℕ) (q : Bytes) (order votes lacking rejecting : List ℕ) (certifier : code.Led) (end : ℕ) (authors : AuthoritySet) (shown own standing : ℕ)
+    (sound : broken c ≡ false) (fit : Right q) (places : Places q (suppliedBlocks q) order)
     (h : p + 49 ≤ length s) (r : voters.Read s (p + 49) (getD s (p + 48) 0) q order votes certifier end authors shown)
-    (led : LedTo q order certifier (onFrom toBlock (named (suppliedBlocks q) (referenceAt s p)))) (alone : (o : Option Block) → LedTo q order certifier (onFrom toBlock o) → own ≡ ownVerdict o) where
+    (led : LedTo q order certifier (onFrom toBlock (named (suppliedBlocks q) (referenceAt s p)))) (alone : (o : Option Block) → LedTo q order certifier (onFrom toBlock o) → own ≡ ownVerdict o)
+    (stands : Stands lacking rejecting certifier authors standing) where
+  abbrev given : Option Block
+  given = named (suppliedBlocks q) (referenceAt s p)
+
   reads-one : (v : ℕ)
-      → ((l : TransactionLocator) → Noted q order l (length order) votes → v ≡ certifierVerdict c (suppliedBlocks q) l (r .voters) (named (suppliedBlocks q) (referenceAt s p)))
-      → ReadOne c s p q order votes end v
+      → ((reading : Reading) (l : TransactionLocator) → Known reading q order l votes lacking rejecting → v ≡ certifierVerdict reading c (suppliedBlocks q) l (r .voters) given)
+      → ReadOne c s p q order votes lacking rejecting end v
   reads-one v f =
       record {
         certifier = record { reference = referenceAt s p; voters = r .voters };
@@ -41,14 +49,16 @@ module _ (c : Committee) (s : Bytes) (p : ℕ) (q : Bytes) (order votes : List �
         shows = f;
       }
 
-  shown-with : (l : TransactionLocator) → Noted q order l (length order) votes
-      → worse own shown ≡ worse (ownVerdict (named (suppliedBlocks q) (referenceAt s p))) (votersVerdict (suppliedBlocks q) l (named (suppliedBlocks q) (referenceAt s p)) (r .voters))
-  shown-with l m = rw (alone (named (suppliedBlocks q) (referenceAt s p)) led, r .shows l m (named (suppliedBlocks q) (referenceAt s p)) led)
+  shown-with : (reading : Reading) (l : TransactionLocator) → Known reading q order l votes lacking rejecting
+      → worse (worse own shown) standing ≡ shownOf reading c (suppliedBlocks q) l (r .voters) given
+  unfolding Stands
+  shown-with reading l m =
+      rw (alone given led, r .shows l (m .noted) given led, stands reading q order l (r .voters) given fit places (m .lacks) (m .rejects) (r .speak) led)
 
-  pub one-found : (v : ℕ) → v ≡ worse own shown → (v ≡ 0 → ⊥) → ReadOne c s p q order votes end v
-  one-found v e f = reads-one v (λ l m. certifier-found c (suppliedBlocks q) l (r .voters) (named (suppliedBlocks q) (referenceAt s p)) v (e ∙ shown-with l m) f)
+  pub one-found : (v : ℕ) → v ≡ worse (worse own shown) standing → (v ≡ 0 → ⊥) → ReadOne c s p q order votes lacking rejecting end v
+  one-found v e f = reads-one v (λ reading l m. certifier-found reading c (suppliedBlocks q) l (r .voters) given v (e ∙ shown-with reading l m) f)
 
-  pub one-quorum : (v : ℕ) (t : Bool) → v ≡ worse own shown → v ≡ 0 → t ≡ isQuorum c (stakeOf c authors) → ReadOne c s p q order votes end (pick t 0 1)
+  pub one-quorum : (v : ℕ) (t : Bool) → v ≡ worse (worse own shown) standing → v ≡ 0 → t ≡ isQuorum c (stakeOf c authors) → ReadOne c s p q order votes lacking rejecting end (pick t 0 1)
   one-quorum v t e z f =
       reads-one (pick t 0 1)
-      (λ l m. certifier-quorum c (suppliedBlocks q) l (r .voters) (named (suppliedBlocks q) (referenceAt s p)) v t (e ∙ shown-with l m) z (f ∙ quorum-same c authors _ sound (r .speak)))
+      (λ reading l m. certifier-quorum reading c (suppliedBlocks q) l (r .voters) given v t (e ∙ shown-with reading l m) z (f ∙ quorum-same c authors _ sound (r .speak)))

@@ -15,7 +15,9 @@ ghost use Rattle.slips.specs.Paths.{toBlock, onFrom};
 ghost use Rattle.slips.specs.Supplied.{suppliedBlocks};
 ghost use Rattle.slip_records.specs.Places.{Places};
 ghost use Rattle.slip_paths.specs.Walk.{InPlace, LedTo};
-ghost use Rattle.slip_certifier.specs.Step.{ownVerdict, Ready, TookCertifier};
+ghost use Rattle.slip_rejecters.specs.Rejecting.{InTable};
+ghost use Rattle.slip_certifier.specs.Verdict.{ownVerdict};
+ghost use Rattle.slip_certifier.specs.Step.{Stands, Ready, TookCertifier};
 
 // A certifying block that was read: where it ends, and what it shows (0 that it holds, 1 that it does not, 2 that a record is missing).
 pub enum TakenCertifier {
@@ -49,6 +51,26 @@ fn own_verdict(records: &[u8], order: &[u64], certifier: Led) -> u64
     }
 }
 
+// What the ancestry of a certifying block shows: that it is whole, and that none of the listed voters rejects there.
+fn standing_verdict(lacking: &[u8], rejecting: &[u64], certifier: Led, voters: AuthoritySet) -> u64
+    requires { ⌜ InPlace (now lacking) certifier × InTable (now rejecting) certifier ⌝ }
+    ensures { λ r. ⌜ Stands (now (lacking .entry)) (now (rejecting .entry)) certifier voters r ⌝ }
+{
+    match certifier {
+        Led::To(place) => {
+            if lacking[place] == 1 {
+                return 2;
+            }
+            if slip_rejecters::meet(voters, slip_rejecters::set_at(rejecting, place)) {
+                return 1;
+            }
+            0
+        }
+        Led::Nowhere => 0,
+        Led::NotGiven => 0,
+    }
+}
+
 // The certifying block at a position, with its voters.
 pub fn take_certifier(
     stakes: &[u64],
@@ -58,9 +80,11 @@ pub fn take_certifier(
     records: &[u8],
     order: &[u64],
     votes: &[u8],
+    lacking: &[u8],
+    rejecting: &[u64],
 ) -> TakenCertifier
-    requires { ⌜ (at ≤ length (now slip)) × Ready (now stakes) (total .0) (now records) (now order) (now votes) ⌝ }
-    ensures { λ r. ⌜ TookCertifier (now (stakes .entry)) (now (slip .entry)) at (now (records .entry)) (now (order .entry)) (now (votes .entry)) r ⌝ }
+    requires { ⌜ (at ≤ length (now slip)) × Ready (now stakes) (total .0) (now records) (now order) (now votes) (now lacking) (now rejecting) ⌝ }
+    ensures { λ r. ⌜ TookCertifier (now (stakes .entry)) (now (slip .entry)) at (now (records .entry)) (now (order .entry)) (now (votes .entry)) (now (lacking .entry)) (now (rejecting .entry)) r ⌝ }
 {
     if slip.len() - at < 49 {
         return TakenCertifier::Malformed;
@@ -78,7 +102,9 @@ pub fn take_certifier(
     ) else {
         return TakenCertifier::Malformed;
     };
-    let shows = slip_paths::worse(own_verdict(records, order, certifier), shown);
+    let given = slip_paths::worse(own_verdict(records, order, certifier), shown);
+    let standing = standing_verdict(lacking, rejecting, certifier, voters);
+    let shows = slip_paths::worse(given, standing);
     if shows != 0 {
         return TakenCertifier::Certifier(end, shows);
     }

@@ -18,7 +18,7 @@ use Rattle.store_layout.specs.Store.{recordsOf}
 use Rattle.store_layout.specs.Accept.{isStored}
 use Rattle.store_layout.specs.Entry.{blockAt, isEntry}
 use Rattle.store_layout.proofs.Stored.{one-reference}
-use Rattle.finality.specs.Voters.{voters}
+use Rattle.readings.specs.Readings as readings
 use Rattle.finality.specs.Finality.{blocksOf}
 use Rattle.block_votes.specs.Walk.{SortedStore, blockAtPlace}
 use Rattle.block_votes.proofs.Sorting.{sorted-well, place-entry, place-stored}
@@ -96,8 +96,8 @@ module _ (s : Bytes) (order : List ℕ) (o : SortedStore s order) (p : ℕ) (m :
 
 -- ---- one after the other
 
-module _ (s : Bytes) (order : List ℕ) (l : TransactionLocator) (positions : List ℕ) where
-  pub listed-start : (t : List ℕ) → Listed s order l positions t 0
+module _ (reading : readings.Reading) (s : Bytes) (order : List ℕ) (l : TransactionLocator) (positions : List ℕ) where
+  pub listed-start : (t : List ℕ) → Listed reading s order l positions t 0
   listed-start t =
       record {
         places = λ i (h : i < 0). absurd (omega arith);
@@ -105,8 +105,8 @@ module _ (s : Bytes) (order : List ℕ) (l : TransactionLocator) (positions : Li
         voted = λ i (h : i < 0). absurd (omega arith);
       }
 
-  pub listed-more : (t : List ℕ) (n : ℕ) → Listed s order l positions t n → 3 * n + 3 ≤ length t → (k : ℕ) → k < length order
-      → blockAtPlace s order k ≡ blockAt s (getD positions n 0) → (v : AuthoritySet) → v ≡ voters (blocksOf s) l (blockAtPlace s order k .reference) → Listed s order l positions (noted t n k v) (n + 1)
+  pub listed-more : (t : List ℕ) (n : ℕ) → Listed reading s order l positions t n → 3 * n + 3 ≤ length t → (k : ℕ) → k < length order
+      → blockAtPlace s order k ≡ blockAt s (getD positions n 0) → (v : AuthoritySet) → v ≡ readings.votersIn reading (blocksOf s) l (blockAtPlace s order k .reference) → Listed reading s order l positions (noted t n k v) (n + 1)
   listed-more t n w room k h e v f =
       record {
         places = λ i q. places i q (ℕ-discrete i n);
@@ -123,6 +123,6 @@ module _ (s : Bytes) (order : List ℕ) (l : TransactionLocator) (positions : Li
       blocks i q (no z) = rw (noted-place-other t n k v i z) (w .blocks i (omega arith))
 
       voted : (i : ℕ) → i < n + 1 → Dec (i ≡ n)
-          → votersIn (noted t n k v) i ≡ voters (blocksOf s) l (blockAtPlace s order (placeIn (noted t n k v) i) .reference)
+          → votersIn (noted t n k v) i ≡ readings.votersIn reading (blocksOf s) l (blockAtPlace s order (placeIn (noted t n k v) i) .reference)
       voted i q (yes z) = rw (z, noted-place t n k v room, noted-voters t n k v room) f
       voted i q (no z) = rw (noted-place-other t n k v i z, noted-voters-other t n k v i z) (w .voted i (omega arith))

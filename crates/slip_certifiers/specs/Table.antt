@@ -9,7 +9,7 @@ use Rattle.authority_set.specs.AuthoritySet.{AuthoritySet, numberOfVoters}
 use Rattle.blocks.specs.Reference.{TransactionLocator}
 use Rattle.blocks.specs.Record.{referenceBytes}
 use Rattle.store_layout.specs.Entry.{blockAt}
-use Rattle.finality.specs.Voters.{voters}
+use Rattle.readings.specs.Readings as readings
 use Rattle.finality.specs.Finality.{blocksOf}
 use Rattle.block_votes.specs.Walk.{blockAtPlace}
 use Rattle.slip_routes.specs.Reached.{votersAt, Reached, votersSize}
@@ -24,11 +24,11 @@ votersIn t i = record { low = getD t (3 * i + 1) 0; high = getD t (3 * i + 2) 0 
 unfoldable pub noted : List ℕ → ℕ → ℕ → AuthoritySet → List ℕ
 noted t i k v = set (set (set t (3 * i) k) (3 * i + 1) (v .low)) (3 * i + 2) (v .high)
 
--- the first n of the table are the blocks at the first n of some positions, with their voters
-pub record Listed (s : Bytes) (order : List ℕ) (l : TransactionLocator) (positions t : List ℕ) (n : ℕ) : Type 0 where
+-- the first n of the table are the blocks at the first n of some positions, with their voters in a reading
+pub record Listed (reading : readings.Reading) (s : Bytes) (order : List ℕ) (l : TransactionLocator) (positions t : List ℕ) (n : ℕ) : Type 0 where
   pub places : (i : ℕ) → i < n → placeIn t i < length order
   pub blocks : (i : ℕ) → i < n → blockAtPlace s order (placeIn t i) ≡ blockAt s (getD positions i 0)
-  pub voted : (i : ℕ) → i < n → votersIn t i ≡ voters (blocksOf s) l (blockAtPlace s order (placeIn t i) .reference)
+  pub voted : (i : ℕ) → i < n → votersIn t i ≡ readings.votersIn reading (blocksOf s) l (blockAtPlace s order (placeIn t i) .reference)
 
 -- each stands at a place, and comes to a vote of each of its voters
 unfoldable pub Ready : List ℕ → List ℕ → List ℕ → ℕ → Type 0

@@ -104,16 +104,16 @@ module _ (s : Bytes) (order : List ℕ) (l : TransactionLocator) where
       all-least : (a : ℕ) → leastOf k (length is) a ≡ leastDistance (map (away s l a) is)
       all-least a = ap (λ (rs : List BlockReference). leastDistance (map (away s l a) rs)) (take-length is)
 
-      step : (a : ℕ) → away s l a (b .reference) ≡ pick (votesAs votesFor l a b) (some 0) (Option·map suc (leastOf k (length is) a))
+      step : (a : ℕ) → away s l a (b .reference) ≡ pick (votesAs l a b) (some 0) (Option·map suc (leastOf k (length is) a))
       unfolding away
       step a =
-          distance-step (votesAs votesFor l a) (sorted-well s order o) b (place-stored s order o k h)
-          ∙ ap (λ (x : Option ℕ). pick (votesAs votesFor l a b) (some 0) (Option·map suc x)) (sym (all-least a))
+          distance-step (votesAs l a) (sorted-well s order o) b (place-stored s order o k h)
+          ∙ ap (λ (x : Option ℕ). pick (votesAs l a b) (some 0) (Option·map suc x)) (sym (all-least a))
 
-      other : (a : ℕ) → votesAs votesFor l a b ≡ false → away s l a (b .reference) ≡ Option·map suc (leastOf k (length is) a)
+      other : (a : ℕ) → votesAs l a b ≡ false → away s l a (b .reference) ≡ Option·map suc (leastOf k (length is) a)
       other a e = step a ∙ rw e
 
-      own-votes : votesFor b l ≡ true → votesAs votesFor l (author b) b ≡ true
+      own-votes : votesFor b l ≡ true → votesAs l (author b) b ≡ true
       unfolding votesAs
       own-votes e = rw (eq-eqb (author b) (author b) refl, e)
 
@@ -125,13 +125,13 @@ module _ (s : Bytes) (order : List ℕ) (l : TransactionLocator) where
 
       -- the index of the first include that is one nearer
       led-here : (a : ℕ) → a < 128 → (m : ℕ) → away s l a (b .reference) ≡ some (suc m) → getD steps (128 * k + a) 0 ≡ firstPlace (λ i. isAway m (away s l a i)) is
-      led-here a n m e = go (votesAs votesFor l a b) refl
+      led-here a n m e = go (votesAs l a b) refl
         where
           least : (x : Option ℕ) → Option·map suc x ≡ some (suc m) → x ≡ some m
           least none q = absurd (Option·none-ne-some (suc m) q)
           least (some y) q = let z : suc y ≡ suc m = Option·some-injective _ _ q in let u : y ≡ m = omega arith in ap some u
 
-          go : (t : Bool) → votesAs votesFor l a b ≡ t → getD steps (128 * k + a) 0 ≡ firstPlace (λ i. isAway m (away s l a i)) is
+          go : (t : Bool) → votesAs l a b ≡ t → getD steps (128 * k + a) 0 ≡ firstPlace (λ i. isAway m (away s l a i)) is
           go true q =
               let z : 0 ≡ suc m = Option·some-injective _ _ (sym (step a ∙ rw q) ∙ e) in
               absurd (omega arith)
@@ -156,7 +156,7 @@ module _ (s : Bytes) (order : List ℕ) (l : TransactionLocator) where
             fresh = λ x n. r .words .beside .above x (omega arith) ∙ d .fresh x (omega arith);
           }
         where
-          nobody : (a : ℕ) → votesAs votesFor l a b ≡ false
+          nobody : (a : ℕ) → votesAs l a b ≡ false
           nobody a = unfold votesAs in rw e (none-and (eqb (author b) a))
             where
               none-and : (t : Bool) → t && false ≡ false
@@ -181,7 +181,7 @@ module _ (s : Bytes) (order : List ℕ) (l : TransactionLocator) where
           here a w (yes z) =
               rw z (getD-set-same near (128 * k + author b) 1 0 (omega (arith, small, r .words .beside .long, d .long)) ∙ unfold word in ap word (sym (own e)))
           here a w (no z) =
-              let f : votesAs votesFor l a b ≡ false = unfold votesAs in rw (ne-eqb (author b) a (λ (u : author b ≡ a). z (sym u))) in
+              let f : votesAs l a b ≡ false = unfold votesAs in rw (ne-eqb (author b) a (λ (u : author b ≡ a). z (sym u))) in
               getD-set-other near (128 * k + author b) (128 * k + a) 1 0 (λ (u : 128 * k + a ≡ 128 * k + author b). z (omega arith)) ∙ r .words .are a w ∙ ap word (sym (other a f))
 
           known : (q : ℕ) → q < k + 1 → (a : ℕ) → a < 128 → Dec (q ≡ k) → getD (set near (128 * k + author b) 1) (128 * q + a) 0 ≡ word (away s l a (blockAtPlace s order q .reference))
@@ -205,11 +205,11 @@ module _ (s : Bytes) (order : List ℕ) (l : TransactionLocator) where
 
   pub few-steps : SortedStore s order → (a : AuthorityIndex) (r : BlockReference) → word (away s l a r) ≤ length order
   unfolding away word
-  few-steps o a r = go (distance (votesAs votesFor l a) (blocksOf s) r) refl
+  few-steps o a r = go (distance (votesAs l a) (blocksOf s) r) refl
     where
-      go : (x : Option ℕ) → distance (votesAs votesFor l a) (blocksOf s) r ≡ x → word x ≤ length order
+      go : (x : Option ℕ) → distance (votesAs l a) (blocksOf s) r ≡ x → word x ≤ length order
       go none e = omega arith
-      go (some n) e = omega (arith, distance-below (votesAs votesFor l a) (blocksOf s) r n e, few-blocks o)
+      go (some n) e = omega (arith, distance-below (votesAs l a) (blocksOf s) r n e, few-blocks o)
 
   -- the index of an include is a byte
   pub few-includes : SortedStore s order → AllBytes s → (k : ℕ) → k < length order → length (blockAtPlace s order k .includes) ≤ 256

@@ -10,7 +10,6 @@ use Rattle.base.specs.Lists.{pick}
 use Rattle.base.specs.Le.{Bytes}
 use Rattle.committee.specs.Committee.{AuthorityIndex}
 use Rattle.blocks.specs.Reference.{BlockReference, TransactionLocator}
-use Rattle.finality.specs.Voters.{votesFor}
 use Rattle.finality.specs.Finality.{blocksOf}
 use Rattle.block_votes.specs.Walk.{blockAtPlace}
 use Rattle.slips.specs.Paths.{distance, isAway, firstPlace}
@@ -18,7 +17,7 @@ use Rattle.slips.specs.Reading.{votesAs}
 
 -- how far a stored block is from the nearest vote of an author
 unfoldable pub away : Bytes → TransactionLocator → AuthorityIndex → BlockReference → Option ℕ
-away s l a r = distance (votesAs votesFor l a) (blocksOf s) r
+away s l a r = distance (votesAs l a) (blocksOf s) r
 
 -- a distance as a word: 0 where there is none
 unfoldable pub word : Option ℕ → ℕ

@@ -38,7 +38,7 @@ byte-of false u e = rw (← e)
 
 -- what is noted, with the author
 pub vote-noted : (q : Bytes) (order votes : List ℕ) (l : TransactionLocator) (n j : ℕ) (a : AuthorityIndex) → Noted q order l n votes → j < n → author (blockAtPlace q order j) ≡ a
-    → eqb (getD votes j 0) 1 ≡ votesAs votesFor l a (blockAtPlace q order j)
+    → eqb (getD votes j 0) 1 ≡ votesAs l a (blockAtPlace q order j)
 unfolding votesAs
 vote-noted q order votes l n j a k h e = rw (k .at j h, eq-eqb _ _ e) (go (votesFor (blockAtPlace q order j) l))
   where
@@ -46,6 +46,6 @@ vote-noted q order votes l n j a k h e = rw (k .at j h, eq-eqb _ _ e) (go (votes
     go true = refl
     go false = refl
 
-pub other-author : (l : TransactionLocator) (a : AuthorityIndex) (b : Block) → (author b ≡ a → ⊥) → false ≡ votesAs votesFor l a b
+pub other-author : (l : TransactionLocator) (a : AuthorityIndex) (b : Block) → (author b ≡ a → ⊥) → false ≡ votesAs l a b
 unfolding votesAs
 other-author l a b f = rw (ne-eqb (author b) a f)

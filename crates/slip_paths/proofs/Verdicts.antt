@@ -8,7 +8,6 @@ use Rattle.base.specs.Lists.{pick}
 use Rattle.committee.specs.Committee.{AuthorityIndex}
 use Rattle.blocks.specs.Reference.{TransactionLocator}
 use Rattle.blocks.specs.Block.{Block}
-use Rattle.finality.specs.Voters.{votesFor}
 use Rattle.slips.specs.Paths.{toBlock, nowhere, notGiven, onFrom, leads}
 use Rattle.slips.specs.Reading.{isNotGiven, votesAs, endsAtVote}
 use Rattle.slip_paths.specs.Verdict.{verdict, worse, voterVerdict}
@@ -37,7 +36,7 @@ worse-both false false false false = refl
 
 module _ (bs : List Block) (l : TransactionLocator) (a : AuthorityIndex) (ps : List ℕ) where
   module _ (b : Block) where
-    pub shows-block : (d : Block) (t : Bool) → leads bs ps b ≡ toBlock d → t ≡ votesAs votesFor l a d → pick t 0 1 ≡ voterVerdict bs l a ps (some b)
+    pub shows-block : (d : Block) (t : Bool) → leads bs ps b ≡ toBlock d → t ≡ votesAs l a d → pick t 0 1 ≡ voterVerdict bs l a ps (some b)
     unfolding voterVerdict verdict onFrom isNotGiven endsAtVote
     shows-block d t e h = rw (e, h)
 

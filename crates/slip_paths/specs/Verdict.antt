@@ -4,14 +4,12 @@ use mathlib.Core.Bool.{Bool}
 use mathlib.Core.List.{List}
 use mathlib.Core.Option.{Option}
 use lib.Dec.{ltb}
-use Rattle.base.specs.Lists.{pick, holds}
-use Rattle.committee.specs.Committee.{AuthorityIndex, Committee}
+use Rattle.base.specs.Lists.{pick}
+use Rattle.committee.specs.Committee.{AuthorityIndex}
 use Rattle.blocks.specs.Reference.{TransactionLocator}
 use Rattle.blocks.specs.Block.{Block}
-use Rattle.finality.specs.Voters.{votesFor}
-use Rattle.slips.specs.Slip.{SlipVoter}
 use Rattle.slips.specs.Paths.{onFrom, leads}
-use Rattle.slips.specs.Reading.{isNotGiven, missingFrom, endsAtVote, certifierHolds}
+use Rattle.slips.specs.Reading.{isNotGiven, endsAtVote}
 
 -- 02: "53 for one named, also by path, but not supplied; then 52 for a slip that does not hold"
 unfoldable pub verdict : Bool → Bool → ℕ
@@ -22,8 +20,4 @@ worse a b = pick (ltb a b) b a
 
 -- of a voter, by its path from the certifier, if that is given
 unfoldable pub voterVerdict : List Block → TransactionLocator → AuthorityIndex → List ℕ → Option Block → ℕ
-voterVerdict bs l a ps o = verdict (isNotGiven (onFrom (leads bs ps) o)) (endsAtVote votesFor l a (onFrom (leads bs ps) o))
-
--- of a certifier with its voters
-unfoldable pub certifierVerdict : Committee → List Block → TransactionLocator → List SlipVoter → Option Block → ℕ
-certifierVerdict c bs l vs o = verdict (missingFrom bs vs o) (holds (certifierHolds votesFor c bs l vs) o)
+voterVerdict bs l a ps o = verdict (isNotGiven (onFrom (leads bs ps) o)) (endsAtVote l a (onFrom (leads bs ps) o))

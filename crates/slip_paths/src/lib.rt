@@ -8,7 +8,6 @@ ghost use mathlib.Core.Option.{Option, some};
 ghost use lib.ListN.{length, getElem?};
 ghost use Rattle.blocks.specs.Reference.{TransactionLocator as Locator};
 ghost use Rattle.blocks.specs.Block.{Block};
-ghost use Rattle.finality.specs.Voters.{votesFor};
 ghost use Rattle.types.specs.Values.{asReference, asLocator};
 ghost use Rattle.slips.specs.Supplied.{suppliedBlocks};
 ghost use Rattle.slips.specs.Paths.{named, toBlock, onFrom, onBy, leads};
@@ -68,7 +67,7 @@ pub fn find(records: &[u8], order: &[u64], block: BlockReference) -> Led
 }
 
 // One include on from the block at a place.
-fn step(records: &[u8], order: &[u64], place: usize, k: usize) -> Led
+pub fn step(records: &[u8], order: &[u64], place: usize, k: usize) -> Led
     requires { ⌜ Places (now records) (suppliedBlocks (now records)) (now order) × (place < length (now order)) ⌝ }
     ensures { λ r. ⌜ LedTo (now (records .entry)) (now (order .entry)) r (onBy (suppliedBlocks (now (records .entry))) toBlock (getElem? (blockAtPlace (now (records .entry)) (now (order .entry)) place .includes) k)) ⌝ }
 {
@@ -122,7 +121,7 @@ pub fn worse(a: u64, b: u64) -> u64
 // Whether the block at a place is its author's and votes.
 fn is_vote(records: &[u8], order: &[u64], votes: &[u8], place: usize, author: u64) -> bool
     requires { ⌜ Sorted (now records) (now order) × ((place < length (now order)) × (length (now order) ≤ length (now votes))) ⌝ }
-    ensures { λ r. ⌜ ((l : Locator) → Noted (now (records .entry)) (now (order .entry)) l (length (now (order .entry))) (now (votes .entry)) → r ≡ votesAs votesFor l author (blockAtPlace (now (records .entry)) (now (order .entry)) place)) ⌝ }
+    ensures { λ r. ⌜ ((l : Locator) → Noted (now (records .entry)) (now (order .entry)) l (length (now (order .entry))) (now (votes .entry)) → r ≡ votesAs l author (blockAtPlace (now (records .entry)) (now (order .entry)) place)) ⌝ }
 {
     let reference = slip_records::reference_at(records, order[place] as usize);
     if reference.authority.0 != author {

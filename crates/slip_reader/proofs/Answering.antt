@@ -1,43 +1,57 @@
 -- The reader's answer, by what was found. Assumes nothing.
-use mathlib.Core.Path.{_≡_, refl, sym, subst, _∙_}
+use mathlib.Core.Path.{_≡_, refl, sym, _∙_}
 use mathlib.Core.Bool.{Bool, true, false, not, _&&_}
 use mathlib.Core.List.{List}
 use mathlib.Core.Option.{none, some}
-use Prim.Native.Nat.{ℕ}
+use Prim.Native.Nat.{ℕ, _≤_, _<_}
 use native.Mathlib.Omega.{arith}
-use lib.ListN.{length}
-use borrow.Author.Tests.{not-true}
+use native.Mathlib.Decide.{decLt}
+use lib.Dec.{eqb}
+use lib.ListN.{length, getD, replicate, length-replicate, getD-replicate, List·getD-eq-default}
+use borrow.Author.Tests.{not-true, le-leb}
 use Rattle.base.specs.Lists.{pick, isNone, allOf}
 use Rattle.base.specs.Le.{Bytes}
 use Rattle.base.specs.Checks.{refusal, passes, refused, answered, checked}
-use Rattle.base.proofs.Tests.{and-left, and-right}
+use Rattle.base.proofs.Tests.{and-both, and-left, and-right}
 use Rattle.committee.specs.Committee.{Committee, broken}
 use Rattle.blocks.specs.Reference.{TransactionLocator}
-use Rattle.finality.specs.Voters.{votesFor}
-use Rattle.slips.specs.Slip.{Slip, readSlip, slipIn}
+use Rattle.readings.specs.Readings.{readingOf}
+use Rattle.types.specs.Step.{locatorAt}
+use Rattle.slips.specs.Slip.{Slip, namesReading, readSlip, slipIn}
 use Rattle.slips.specs.Supplied.{suppliedRecords, suppliedBlocks, rightBlocks}
 use Rattle.slips.specs.Reading.{missing, slipHolds, readChecks, readAnswer}
 use Rattle.slip_records.specs.Places.{rightRecords}
 use Rattle.slip_paths.specs.Verdict.{verdict}
 use Rattle.slip_paths.specs.Walk.{Noted}
+use Rattle.slip_ancestry.specs.Lacking.{Right, LackingIn}
+use Rattle.slip_rejecters.specs.Rejecting.{RejectingIn}
+use Rattle.slip_certifier.specs.Step.{Known}
+use Rattle.slip_body.specs.declared.TakenSlip.{TakenSlip}
+use Rattle.slip_body.specs.declared.TakenSlip.the-variants.{Shows, Malformed}
+use Rattle.slip_body.specs.Step.{headRight, readingAt, TookSlip}
+use Rattle.slip_reader.specs.Step.{Showed}
 
 module _ (c : Committee) (s q : Bytes) where
   pub answer-broken : broken c ≡ true → refused 5 ≡ readAnswer c s q
   unfolding readAnswer readChecks checked passes allOf refusal
   answer-broken h = rw h
 
-  module _ (sound : broken c ≡ false) where
+  pub answer-reading : broken c ≡ false → namesReading s ≡ false → refused 61 ≡ readAnswer c s q
+  unfolding readAnswer readChecks checked passes allOf refusal
+  answer-reading sound h = rw (sound, h)
+
+  module _ (sound : broken c ≡ false) (names : namesReading s ≡ true) where
     pub answer-form : readSlip s ≡ none → refused 52 ≡ readAnswer c s q
     unfolding readAnswer readChecks checked passes allOf refusal isNone
-    answer-form h = rw (sound, h)
+    answer-form h = rw (sound, names, h)
 
     pub answer-records : rightRecords c q ≡ false → refused 52 ≡ readAnswer c s q
     unfolding readAnswer readChecks checked passes allOf refusal rightRecords
-    answer-records h = rw sound (go (isNone (readSlip s)) (isNone (suppliedRecords q)) (rightBlocks c (suppliedBlocks q)) h)
+    answer-records h = rw (sound, names) (go (isNone (readSlip s)) (isNone (suppliedRecords q)) (rightBlocks c (suppliedBlocks q)) h)
       where
         go : (a b r : Bool) → not b && r ≡ false → refused 52
-            ≡ pick (not a && (not b && (not (not r) && (not (missing (suppliedBlocks q) (slipIn s)) && (not (not (slipHolds votesFor c (suppliedBlocks q) (slipIn s))) && true))))) (answered (length (slipIn s .certifiers)))
-            (refused (pick a 52 (pick b 52 (pick (not r) 52 (pick (missing (suppliedBlocks q) (slipIn s)) 53 (pick (not (slipHolds votesFor c (suppliedBlocks q) (slipIn s))) 52 0))))))
+            ≡ pick (not a && (not b && (not (not r) && (not (missing (suppliedBlocks q) (slipIn s)) && (not (not (slipHolds c (suppliedBlocks q) (slipIn s))) && true))))) (answered (length (slipIn s .certifiers)))
+            (refused (pick a 52 (pick b 52 (pick (not r) 52 (pick (missing (suppliedBlocks q) (slipIn s)) 53 (pick (not (slipHolds c (suppliedBlocks q) (slipIn s))) 52 0))))))
         go true b r k = refl
         go false true r k = refl
         go false false true k = absurd (let z : _≡_ {A = ℕ} 0 1 = cc in omega arith)
@@ -56,11 +70,11 @@ module _ (c : Committee) (s q : Bytes) where
       lost = missing (suppliedBlocks q) x
 
       held : Bool
-      held = slipHolds votesFor c (suppliedBlocks q) x
+      held = slipHolds c (suppliedBlocks q) x
 
       whole : readAnswer c s q ≡ pick lost (refused 53) (pick held (answered (length (x .certifiers))) (refused 52))
       unfolding readAnswer readChecks checked passes allOf refusal isNone slipIn lost held
-      whole = rw (sound, reads, supplied-some, blocks-right) (go (missing (suppliedBlocks q) x) (slipHolds votesFor c (suppliedBlocks q) x))
+      whole = rw (sound, names, reads, supplied-some, blocks-right) (go (missing (suppliedBlocks q) x) (slipHolds c (suppliedBlocks q) x))
         where
           go : (m h : Bool) → pick (not m && (not (not h) && true)) (answered (length (x .certifiers))) (refused (pick m 53 (pick (not h) 52 0)))
               ≡ pick m (refused 53) (pick h (answered (length (x .certifiers))) (refused 52))
@@ -68,10 +82,10 @@ module _ (c : Committee) (s q : Bytes) where
           go false true = refl
           go false false = refl
 
-      module _ (v : ℕ) (shows : v ≡ verdict (missing (suppliedBlocks q) x) (slipHolds votesFor c (suppliedBlocks q) x)) where
+      module _ (v : ℕ) (shows : v ≡ verdict (missing (suppliedBlocks q) x) (slipHolds c (suppliedBlocks q) x)) where
         pub answer-missing : v ≡ 2 → refused 53 ≡ readAnswer c s q
         unfolding verdict lost held
-        answer-missing e = go (missing (suppliedBlocks q) x) (slipHolds votesFor c (suppliedBlocks q) x) (sym shows ∙ e) ∙ sym whole
+        answer-missing e = go (missing (suppliedBlocks q) x) (slipHolds c (suppliedBlocks q) x) (sym shows ∙ e) ∙ sym whole
           where
             go : (m h : Bool) → _≡_ {A = ℕ} (pick m 2 (pick h 0 1)) 2 → refused 53 ≡ pick m (refused 53) (pick h (answered (length (x .certifiers))) (refused 52))
             go true h k = refl
@@ -80,7 +94,7 @@ module _ (c : Committee) (s q : Bytes) where
 
         pub answer-fails : v ≡ 1 → refused 52 ≡ readAnswer c s q
         unfolding verdict lost held
-        answer-fails e = go (missing (suppliedBlocks q) x) (slipHolds votesFor c (suppliedBlocks q) x) (sym shows ∙ e) ∙ sym whole
+        answer-fails e = go (missing (suppliedBlocks q) x) (slipHolds c (suppliedBlocks q) x) (sym shows ∙ e) ∙ sym whole
           where
             go : (m h : Bool) → _≡_ {A = ℕ} (pick m 2 (pick h 0 1)) 1 → refused 52 ≡ pick m (refused 53) (pick h (answered (length (x .certifiers))) (refused 52))
             go true h k = absurd (omega arith)
@@ -89,13 +103,40 @@ module _ (c : Committee) (s q : Bytes) where
 
         pub answer-holds : (n : ℕ) → (v ≡ 2 → ⊥) → (v ≡ 1 → ⊥) → length (x .certifiers) ≡ n → answered n ≡ readAnswer c s q
         unfolding verdict lost held
-        answer-holds n f g e = rw (← e) (go (missing (suppliedBlocks q) x) (slipHolds votesFor c (suppliedBlocks q) x) shows ∙ sym whole)
+        answer-holds n f g e = rw (← e) (go (missing (suppliedBlocks q) x) (slipHolds c (suppliedBlocks q) x) shows ∙ sym whole)
           where
             go : (m h : Bool) → v ≡ pick m 2 (pick h 0 1) → answered (length (x .certifiers)) ≡ pick m (refused 53) (pick h (answered (length (x .certifiers))) (refused 52))
             go true h k = absurd (f k)
             go false true k = refl
             go false false k = absurd (g k)
 
--- votes noted for a locator
-pub noted-same : (q : Bytes) (order : List ℕ) (l m : TransactionLocator) (n : ℕ) (votes : List ℕ) → l ≡ m → Noted q order l n votes → Noted q order m n votes
-noted-same q order l m n votes e h = subst (λ (x : TransactionLocator). Noted q order x n votes) e h
+-- ---- what is noted of the records
+
+pub named-head : (s : Bytes) → namesReading s ≡ true → 59 ≤ length s → headRight s ≡ true
+unfolding headRight
+named-head s h k = and-both _ _ h (le-leb 59 (length s) k)
+
+pub right-of : (c : Committee) (q : Bytes) → broken c ≡ false → rightRecords c q ≡ true → Right q
+unfolding Right rightRecords
+right-of c q h r = (c, (h, and-right (not (isNone (suppliedRecords q))) _ r))
+
+-- the slip's reading is the one that a test of its first byte finds
+pub known-all : (s q : Bytes) (order votes lacking rejecting : List ℕ) (l : TransactionLocator) (w : Bool) → w ≡ eqb (getD s 0 0) 1 → l ≡ locatorAt s 1
+    → Noted q order l (length order) votes → LackingIn (readingOf w) q order lacking → RejectingIn (readingOf w) q order l rejecting
+    → Known (readingAt s) q order (locatorAt s 1) votes lacking rejecting
+unfolding readingAt
+known-all s q order votes lacking rejecting l w e f n k r = rw (← e, ← f) (record { noted = n; lacks = k; rejects = r })
+
+pub shown-slip : (c : Committee) (s q : Bytes) (order votes lacking rejecting : List ℕ) (r : TakenSlip) → Known (readingAt s) q order (locatorAt s 1) votes lacking rejecting
+    → TookSlip c s q order votes lacking rejecting r → Showed c s q r
+unfolding TookSlip Showed
+shown-slip c s q order votes lacking rejecting (Shows v) k t = record { slip = t .slip; reads = t .reads; many = t .many; shows = t .shows k }
+shown-slip c s q order votes lacking rejecting Malformed k t = t
+
+-- a fresh table
+pub no-words : (n x : ℕ) → getD (replicate {A = ℕ} n 0) x 0 ≡ 0
+no-words n x = go (decLt x n)
+  where
+    go : Dec (x < n) → getD (replicate {A = ℕ} n 0) x 0 ≡ 0
+    go (yes h) = getD-replicate {A = ℕ} n x 0 0 h
+    go (no h) = List·getD-eq-default (replicate {A = ℕ} n 0) 0 (omega (arith, length-replicate {A = ℕ} n 0))

@@ -1,4 +1,1 @@
-pub mod Joining
-pub mod Certifying
-pub mod Gathering
 pub mod Answering

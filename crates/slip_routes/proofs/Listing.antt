@@ -12,7 +12,6 @@ use Rattle.base.proofs.Le.{length-leBytes, sets-append}
 use Rattle.committee.specs.Committee.{AuthorityIndex}
 use Rattle.authority_set.specs.AuthoritySet.{AuthoritySet, member, members}
 use Rattle.blocks.specs.Reference.{TransactionLocator}
-use Rattle.finality.specs.Voters.{votesFor}
 use Rattle.finality.specs.Finality.{blocksOf}
 use Rattle.block_votes.specs.Walk.{SortedStore, blockAtPlace}
 use Rattle.slips.specs.Slip.{voterBytes}
@@ -99,16 +98,16 @@ lengths f g (x ∷ xs) h = length-append (f x) (flatten (map f xs)) ∙ ap₂ (�
 
 module _ (s : Bytes) (order : List ℕ) (l : TransactionLocator) (near steps : List ℕ) (o : SortedStore s order) (d : Distances s order l near steps (length order))
     (k : ℕ) (h : k < length order) where
-  path-length : (a : ℕ) → a < 128 → 0 < getD near (128 * k + a) 0 → length (pathTo (votesAs votesFor l a) (blocksOf s) (blockAtPlace s order k)) ≡ getD near (128 * k + a) 0 - 1
+  path-length : (a : ℕ) → a < 128 → 0 < getD near (128 * k + a) 0 → length (pathTo (votesAs l a) (blocksOf s) (blockAtPlace s order k)) ≡ getD near (128 * k + a) 0 - 1
   path-length a w m =
       let n : ℕ = getD near (128 * k + a) 0 - 1 in
       let e : getD near (128 * k + a) 0 ≡ n + 1 = omega arith in
-      ap length (path-starts s order l near steps o d k h a w n e) ∙ length-steps (votesAs votesFor l a) (blocksOf s) n (blockAtPlace s order k)
+      ap length (path-starts s order l near steps o d k h a w n e) ∙ length-steps (votesAs l a) (blocksOf s) n (blockAtPlace s order k)
 
   voter-length : (a : ℕ) → a < 128 → 0 < getD near (128 * k + a) 0 → length (voterAt s order l k a) ≡ 9 + getD near (128 * k + a) 0
   unfolding voterAt voterBytes voterOf
   voter-length a w m =
-      let p : List ℕ = pathTo (votesAs votesFor l a) (blocksOf s) (blockAtPlace s order k) in
+      let p : List ℕ = pathTo (votesAs l a) (blocksOf s) (blockAtPlace s order k) in
       omega (
         arith,
         length-append (leBytes 8 a) (leBytes 2 (length p) ++ p),
@@ -120,11 +119,11 @@ module _ (s : Bytes) (order : List ℕ) (l : TransactionLocator) (near steps : L
 
   -- author, length of the path, path
   pub voter-written : (a : ℕ) → a < 128 → 0 < getD near (128 * k + a) 0 → (out : List ℕ) (at : ℕ)
-      → sets (sets (sets out at (leBytes 8 a)) (at + 8) (leBytes 2 (getD near (128 * k + a) 0 - 1))) (at + 10) (pathTo (votesAs votesFor l a) (blocksOf s) (blockAtPlace s order k))
+      → sets (sets (sets out at (leBytes 8 a)) (at + 8) (leBytes 2 (getD near (128 * k + a) 0 - 1))) (at + 10) (pathTo (votesAs l a) (blocksOf s) (blockAtPlace s order k))
       ≡ sets out at (voterAt s order l k a)
   unfolding voterAt voterBytes voterOf
   voter-written a w m out at =
-      let p : List ℕ = pathTo (votesAs votesFor l a) (blocksOf s) (blockAtPlace s order k) in
+      let p : List ℕ = pathTo (votesAs l a) (blocksOf s) (blockAtPlace s order k) in
       let q : List ℕ = leBytes 2 (length p) in
       let e : at + 8 + 2 ≡ at + 10 = omega arith in
       sym (rw (

@@ -16,7 +16,6 @@ use Rattle.committee.specs.Committee.{AuthorityIndex}
 use Rattle.blocks.specs.Reference.{BlockReference, TransactionLocator}
 use Rattle.blocks.specs.Block.{Block}
 use Rattle.blocks.specs.Record.{noReference}
-use Rattle.finality.specs.Voters.{votesFor}
 use Rattle.finality.specs.Finality.{blocksOf}
 use Rattle.block_votes.specs.Walk.{SortedStore, blockAtPlace}
 use Rattle.block_votes.proofs.Sorting.{sorted-well, place-stored}
@@ -58,7 +57,7 @@ module _ (s : Bytes) (order : List ℕ) (l : TransactionLocator) (near steps : L
   b = blockAtPlace s order p
 
   abbrev votes : Block → Bool
-  votes = votesAs votesFor l a
+  votes = votesAs l a
 
   away-is : (n : ℕ) → getD near (128 * p + a) 0 ≡ n + 1 → away s l a (b .reference) ≡ some n
   away-is n e = word-some (away s l a (b .reference)) n (sym (d .known p h a w) ∙ e)

@@ -7,7 +7,6 @@ ghost use lib.ListN.{length, getD};
 ghost use lib.Seq.{sets};
 ghost use Rattle.blocks.specs.Reference.{TransactionLocator};
 ghost use Rattle.finality.specs.Finality.{blocksOf};
-ghost use Rattle.finality.specs.Voters.{votesFor};
 ghost use Rattle.slips.specs.Paths.{pathTo};
 ghost use Rattle.slips.specs.Reading.{votesAs};
 ghost use Rattle.block_votes.specs.Walk.{SortedStore, blockAtPlace};
@@ -26,7 +25,7 @@ fn write_path(
     at: usize,
 )
     requires { ⌜ ((SortedStore (now store) (now order) × Found (now store) (now order) (now near) (now steps)) × ((k < length (now order)) × (length (now order) ≤ 1024))) × ((a < 128) × ((0 < getD (now near) (128 * k + a) 0) × (at + getD (now near) (128 * k + a) 0 ≤ length (now out) + 1))) ⌝ }
-    ensures { λ _. ⌜ ((l : TransactionLocator) → Distances (now (store .entry)) (now (order .entry)) l (now (near .entry)) (now (steps .entry)) (length (now (order .entry))) → now (out .exit) ≡ sets (now (out .entry)) at (pathTo (votesAs votesFor l a) (blocksOf (now (store .entry))) (blockAtPlace (now (store .entry)) (now (order .entry)) k))) ⌝ }
+    ensures { λ _. ⌜ ((l : TransactionLocator) → Distances (now (store .entry)) (now (order .entry)) l (now (near .entry)) (now (steps .entry)) (length (now (order .entry))) → now (out .exit) ≡ sets (now (out .entry)) at (pathTo (votesAs l a) (blocksOf (now (store .entry))) (blockAtPlace (now (store .entry)) (now (order .entry)) k))) ⌝ }
 {
     let mut p = k;
     let mut left = near[128 * k + a] - 1;

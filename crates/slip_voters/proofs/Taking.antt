@@ -23,7 +23,6 @@ use Rattle.authority_set.specs.AuthoritySet.{AuthoritySet, nobody, member, inse
 use Rattle.authority_set.proofs.Votes.{member-nobody, member-inserted}
 use Rattle.blocks.specs.Reference.{TransactionLocator}
 use Rattle.blocks.specs.Block.{Block}
-use Rattle.finality.specs.Voters.{votesFor}
 use Rattle.slips.specs.Slip.{SlipVoter, votersAscend, readVoter}
 use Rattle.slips.specs.Supplied.{suppliedBlocks}
 use Rattle.slips.specs.Paths.{toBlock, onFrom, leads}
@@ -96,7 +95,7 @@ module _ (bs : List Block) (l : TransactionLocator) (o : Option Block) where
   unfolding votersVerdict voterVerdict anyOf allOf
   shows-more vs v =
       let lost : SlipVoter → Bool = λ w. isNotGiven (onFrom (leads bs (w .path)) o) in
-      let right : SlipVoter → Bool = λ w. endsAtVote votesFor l (w .author) (onFrom (leads bs (w .path)) o) in
+      let right : SlipVoter → Bool = λ w. endsAtVote l (w .author) (onFrom (leads bs (w .path)) o) in
       rw (any-append lost vs (v ∷ []), all-append right vs (v ∷ []), or-none (lost v), and-none (right v)) (sym (worse-both (anyOf lost vs) (lost v) (allOf right vs) (right v)))
 
 -- ---- the loop

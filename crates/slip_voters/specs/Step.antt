@@ -13,7 +13,6 @@ use Rattle.committee.specs.Committee.{AuthorityIndex}
 use Rattle.authority_set.specs.AuthoritySet.{AuthoritySet, member}
 use Rattle.blocks.specs.Reference.{TransactionLocator}
 use Rattle.blocks.specs.Block.{Block}
-use Rattle.finality.specs.Voters.{votesFor}
 use Rattle.slips.specs.Slip.{SlipVoter, votersAscend, readVoter}
 use Rattle.slips.specs.Supplied.{suppliedBlocks}
 use Rattle.slips.specs.Paths.{toBlock, onFrom, leads}
@@ -44,7 +43,7 @@ Speak v as′ = (a : AuthorityIndex) → a < 128 → member v a ≡ anyOf (eqb a
 -- what the voters of a certifier show together
 unfoldable pub votersVerdict : List Block → TransactionLocator → Option Block → List SlipVoter → ℕ
 votersVerdict bs l o vs =
-    verdict (anyOf (λ v. isNotGiven (onFrom (leads bs (v .path)) o)) vs) (allOf (λ v. endsAtVote votesFor l (v .author) (onFrom (leads bs (v .path)) o)) vs)
+    verdict (anyOf (λ v. isNotGiven (onFrom (leads bs (v .path)) o)) vs) (allOf (λ v. endsAtVote l (v .author) (onFrom (leads bs (v .path)) o)) vs)
 
 -- the voters that were read, with their authors and what they show
 pub record Read (s : Bytes) (p n : ℕ) (q : Bytes) (order votes : List ℕ) (certifier : code.Led) (end : ℕ) (authors : AuthoritySet) (shown : ℕ) : Type 0 where

@@ -13,6 +13,7 @@ use Rattle.blocks.specs.Reference.{TransactionLocator}
 use Rattle.blocks.specs.Record.{locatorBytes}
 use Rattle.store_layout.specs.Entry.{blockAt}
 use Rattle.finality.specs.Finality.{blocksOf}
+use Rattle.readings.specs.Readings.{Reading}
 use Rattle.block_votes.specs.Walk.{blockAtPlace}
 use Rattle.slips.specs.Slip.{Slip}
 use Rattle.slips.specs.Writing.{certifierOf, Written}
@@ -32,9 +33,9 @@ headBytes first l n = first ∷ (locatorBytes l ++ leBytes 2 n)
 unfoldable pub listedBytes : Bytes → List ℕ → TransactionLocator → ℕ → List ℕ → ℕ → Bytes
 listedBytes s order l first t n = headBytes first l n ++ certifiersBytes s order l t n
 
--- the slip of the certifying blocks at some positions
-unfoldable pub slipAt : Bytes → TransactionLocator → List ℕ → Slip
-slipAt s l ps = record { locator = l; certifiers = map (certifierOf (blocksOf s) l) (map (blockAt s) ps) }
+-- the slip of the certifying blocks at some positions, in a reading
+unfoldable pub slipAt : Reading → Bytes → TransactionLocator → List ℕ → Slip
+slipAt reading s l ps = record { reading = reading; locator = l; certifiers = map (certifierOf reading (blocksOf s) l) (map (blockAt s) ps) }
 
 -- 02: "50 for a short slice"; else the bytes in front, and bytes past them stay
 unfoldable pub writtenOver : Bytes → Bytes → Written

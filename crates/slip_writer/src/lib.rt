@@ -8,6 +8,7 @@ ghost use lib.Seq.{sets};
 ghost use Rattle.base.specs.Lists.{_∈_};
 ghost use Rattle.types.specs.Values.{asLocator};
 ghost use Rattle.block_votes.specs.Walk.{SortedStore};
+ghost use Rattle.readings.specs.Readings.{old, withdrawing, readingOf};
 ghost use Rattle.slips.specs.Slip.{slipBytes};
 ghost use Rattle.slips.specs.Writing.{writeSlip};
 ghost use Rattle.slip_writer.specs.Answers.{asSlipAnswer};
@@ -55,32 +56,50 @@ fn write_listed(
     SlipAnswer::Written(size)
 }
 
-// Writes the slip of the certifying blocks at some positions, or answers 50.
+// Writes the slip of the certifying blocks at some positions, in the reading that is asked for, or answers 50.
 fn write_certified(
     store: &[u8],
     order: &[u64],
     locator: TransactionLocator,
+    withdrawing: bool,
     positions: &[u64],
     out: &mut [u8],
 ) -> SlipAnswer
     requires { ⌜ (SortedStore (now store) (now order) × (length (now order) ≤ 1024)) × (((i : ℕ) → i < length (now positions) → getD (now positions) i 0 ∈ now order) × (length (now positions) ≤ 1024)) ⌝ }
-    ensures { λ r. ⌜ asSlipAnswer r ≡ writtenOver (slipBytes (slipAt (now (store .entry)) (asLocator locator) (now (positions .entry)))) (now (out .entry)) .answer ⌝ }
-    ensures { λ r. ⌜ now (out .exit) ≡ writtenOver (slipBytes (slipAt (now (store .entry)) (asLocator locator) (now (positions .entry)))) (now (out .entry)) .out ⌝ }
+    ensures { λ r. ⌜ asSlipAnswer r ≡ writtenOver (slipBytes (slipAt (readingOf withdrawing) (now (store .entry)) (asLocator locator) (now (positions .entry)))) (now (out .entry)) .answer ⌝ }
+    ensures { λ r. ⌜ now (out .exit) ≡ writtenOver (slipBytes (slipAt (readingOf withdrawing) (now (store .entry)) (asLocator locator) (now (positions .entry)))) (now (out .entry)) .out ⌝ }
 {
     let mut certifiers = [0u64; 3072];
-    slip_certifiers::list_certifiers(store, order, locator, positions, &mut certifiers);
-    write_listed(store, order, locator, 0, &certifiers, positions.len(), out)
+    slip_certifiers::list_certifiers(
+        store,
+        order,
+        locator,
+        withdrawing,
+        positions,
+        &mut certifiers,
+    );
+    let first = withdrawing as u8;
+    write_listed(
+        store,
+        order,
+        locator,
+        first,
+        &certifiers,
+        positions.len(),
+        out,
+    )
 }
 
-// Writes the slip of a final locator into `out` and answers its length; bytes past it stay. 5, 10, 52 for a locator that is not final, 50.
-pub fn write_slip(
+// Writes the slip of a locator that is final in the reading that is asked for, and answers its length; bytes past it stay.
+pub fn write_slip_in(
     stakes: &[u64],
     store: &[u8],
     locator: TransactionLocator,
+    withdrawing: bool,
     out: &mut [u8],
 ) -> SlipAnswer
-    ensures { λ r. ⌜ asSlipAnswer r ≡ writeSlip (now (stakes .entry)) (now (store .entry)) (now (out .entry)) (asLocator locator) .answer ⌝ }
-    ensures { λ r. ⌜ now (out .exit) ≡ writeSlip (now (stakes .entry)) (now (store .entry)) (now (out .entry)) (asLocator locator) .out ⌝ }
+    ensures { λ r. ⌜ asSlipAnswer r ≡ writeSlip (readingOf withdrawing) (now (stakes .entry)) (now (store .entry)) (now (out .entry)) (asLocator locator) .answer ⌝ }
+    ensures { λ r. ⌜ now (out .exit) ≡ writeSlip (readingOf withdrawing) (now (stakes .entry)) (now (store .entry)) (now (out .entry)) (asLocator locator) .out ⌝ }
 {
     let NewCommittee::Taken(total) = committee::new_committee(stakes) else {
         return SlipAnswer::Refused(5);
@@ -91,12 +110,13 @@ pub fn write_slip(
     let mut order = [0u64; 1024];
     let count = block_votes::sorted_positions(store, &mut order);
     let mut positions = [0u64; 1024];
-    let found = finalization_interpreter::certifying_blocks(
+    let found = finalization_interpreter::certifying_blocks_in(
         stakes,
         total,
         store,
         &order[..count],
         locator,
+        withdrawing,
         &mut positions,
     );
     if !committee::is_quorum(total, authority_set::stake_of(stakes, found.authors)) {
@@ -106,7 +126,34 @@ pub fn write_slip(
         store,
         &order[..count],
         locator,
+        withdrawing,
         &positions[..found.blocks],
         out,
     )
+}
+
+// Writes the slip of a final locator into `out` and answers its length; bytes past it stay. 5, 10, 52 for a locator that is not final, 50.
+pub fn write_slip(
+    stakes: &[u64],
+    store: &[u8],
+    locator: TransactionLocator,
+    out: &mut [u8],
+) -> SlipAnswer
+    ensures { λ r. ⌜ asSlipAnswer r ≡ writeSlip old (now (stakes .entry)) (now (store .entry)) (now (out .entry)) (asLocator locator) .answer ⌝ }
+    ensures { λ r. ⌜ now (out .exit) ≡ writeSlip old (now (stakes .entry)) (now (store .entry)) (now (out .entry)) (asLocator locator) .out ⌝ }
+{
+    write_slip_in(stakes, store, locator, false, out)
+}
+
+// The same in the reading in which an owner may withdraw.
+pub fn write_slip_withdrawing(
+    stakes: &[u64],
+    store: &[u8],
+    locator: TransactionLocator,
+    out: &mut [u8],
+) -> SlipAnswer
+    ensures { λ r. ⌜ asSlipAnswer r ≡ writeSlip withdrawing (now (stakes .entry)) (now (store .entry)) (now (out .entry)) (asLocator locator) .answer ⌝ }
+    ensures { λ r. ⌜ now (out .exit) ≡ writeSlip withdrawing (now (stakes .entry)) (now (store .entry)) (now (out .entry)) (asLocator locator) .out ⌝ }
+{
+    write_slip_in(stakes, store, locator, true, out)
 }

@@ -19,22 +19,25 @@ use Rattle.store_layout.specs.Layout.{Record}
 use Rattle.store_layout.specs.Store.{recordsOf, storeInOrder}
 use Rattle.store_layout.proofs.Stored.{WellStored}
 use Rattle.store_layout.proofs.Store.{in-order}
-use Rattle.finality.specs.Voters.{votesFor}
-use Rattle.finality.specs.Ancestry.{Voter, Certificate}
+use Rattle.finality.specs.Ancestry.{Ancestor, Voter}
 use Rattle.finality.specs.Finality.{blocksOf}
 use Rattle.finality.specs.Claims.{Stored}
 use Rattle.finality.proofs.Votes.{votes-for}
-use Rattle.finality.proofs.Finals.{true-certifies, is-final}
+use Rattle.finality.proofs.Ancestors.{ancestor-stored}
 use Rattle.finality.proofs.Claimed.{well-stored}
-use Rattle.slips.specs.Slip.{SlipCertifier, Slip, slipIn}
+use Rattle.readings.specs.Readings.{Reading, old, withdrawing}
+use Rattle.readings.specs.Withdrawing.{VoterIn, CertificateIn}
+use Rattle.readings.proofs.Records.{whole-ancestor}
+use Rattle.readings.proofs.FinalsIn.{true-certifies-in, final-in-iff}
+use Rattle.slips.specs.Slip.{SlipVoter, SlipCertifier, Slip, slipIn}
 use Rattle.slips.specs.Supplied.{suppliedIn, suppliedBlocks}
 use Rattle.slips.specs.Reading.{votesAs, readAnswer}
-use Rattle.slips.specs.Meaning.{OnPath, LeadsToVote, RightCertifier, RightSlip, NamedBy, asCertifier, byPath, Certifies, ReallyFinal}
+use Rattle.slips.specs.Meaning.{OnPath, LeadsToVote, StandingIn, RightCertifier, RightSlip, NamedBy, asCertifier, byPath, inAncestry, Certifies, ReallyFinal}
 use Rattle.slips.proofs.Paths.{named-reference, named-in, path-ancestor, on-path-in}
 use Rattle.slips.proofs.Reading.{accepted-sound, accepted-right}
 
 -- a path over bs to an author's vote makes it a voter among blocks that contain those on the path
-pub path-voter : (bs cs : List Block) (l : TransactionLocator) (a : AuthorityIndex) (b : Block) (ps : List ℕ) → LeadsToVote (votesAs votesFor l a) bs ps b
+pub path-voter : (bs cs : List Block) (l : TransactionLocator) (a : AuthorityIndex) (b : Block) (ps : List ℕ) → LeadsToVote (votesAs l a) bs ps b
     → ((x : Block) → OnPath bs x ps b → x ∈ cs) → Voter cs b l a
 unfolding votesAs
 path-voter bs cs l a b ps h f =
@@ -47,19 +50,29 @@ path-voter bs cs l a b ps h f =
 
 -- ---- a slip that holds over bs, among stored blocks cs that contain what it names
 
-module _ (c : Committee) (bs cs : List Block) (w : WellStored cs) (s : Slip) (right : RightSlip votesFor c bs s) (f : (d : Block) → NamedBy bs s d → d ∈ cs) where
+module _ (c : Committee) (bs cs : List Block) (w : WellStored cs) (s : Slip) (right : RightSlip c bs s) (f : (d : Block) → NamedBy bs s d → d ∈ cs) where
   module _ (k : SlipCertifier) (m : k ∈ s .certifiers) where
-    own : RightCertifier votesFor c bs (s .locator) k
+    own : RightCertifier (s .reading) c bs (s .locator) k
     own = right .certifiers k m
 
     own-stored : own .block ∈ cs
     own-stored = f (own .block) (asCertifier k m (own .given))
 
-    voters-quorum : HoldQuorum c (Voter cs (own .block) (s .locator))
+    -- a listed voter votes, and in the new reading it does not reject: the ancestry is the one that was given
+    still-votes : (reading : Reading) → s .reading ≡ reading → StandingIn reading bs (s .locator) (k .voters) (own .block) → (v : SlipVoter) → v ∈ k .voters
+        → Voter cs (own .block) (s .locator) (v .author) → VoterIn reading cs (own .block) (s .locator) (v .author)
+    still-votes old e h v n x = x
+    still-votes withdrawing e h v n x = (x, λ r. h .kept v n (record { rejecting = r .rejecting; ancestor = given-too (r .ancestor); rejects = r .rejects; authored = r .authored }))
+      where
+        given-too : {d : Block} → Ancestor cs d (own .block) → Ancestor bs d (own .block)
+        given-too a = whole-ancestor w (named-in bs (k .reference) (own .block) (own .given)) (h .whole) (λ d y. f d (inAncestry e k (own .block) m (own .given) y)) a
+
+    voters-quorum : HoldQuorum c (VoterIn (s .reading) cs (own .block) (s .locator))
     voters-quorum =
-        quorum-mono c _ (Voter cs (own .block) (s .locator))
-        (λ a x. subst (Voter cs (own .block) (s .locator)) (x .2)
-        (path-voter bs cs (s .locator) (x .0 .author) (own .block) (x .0 .path) (own .ends (x .0) (x .1)) (λ d y. f d (byPath k (x .0) (own .block) m (x .1) (own .given) y))))
+        quorum-mono c _ (VoterIn (s .reading) cs (own .block) (s .locator))
+        (λ a x. subst (VoterIn (s .reading) cs (own .block) (s .locator)) (x .2)
+        (still-votes (s .reading) refl (own .standing) (x .0) (x .1)
+        (path-voter bs cs (s .locator) (x .0 .author) (own .block) (x .0 .path) (own .ends (x .0) (x .1)) (λ d y. f d (byPath k (x .0) (own .block) m (x .1) (own .given) y)))))
         (own .quorum)
 
     own-certifies : Certifies c cs s k
@@ -68,10 +81,10 @@ module _ (c : Committee) (bs cs : List Block) (w : WellStored cs) (s : Slip) (ri
           block = own .block;
           stored = own-stored;
           listed = named-reference bs (k .reference) (own .block) (own .given);
-          certifying = true-certifies c w (s .locator) (own .block) own-stored (own .unmarked) voters-quorum;
+          certifying = true-certifies-in (s .reading) c w (s .locator) (own .block) own-stored (own .unmarked) voters-quorum;
         }
 
-    certificate : Certificate c cs (s .locator) (k .reference .authority)
+    certificate : CertificateIn (s .reading) c cs (s .locator) (k .reference .authority)
     certificate =
         record {
           block = own .block;
@@ -85,7 +98,9 @@ module _ (c : Committee) (bs cs : List Block) (w : WellStored cs) (s : Slip) (ri
   really-final =
       record {
         certifying = own-certifies;
-        final = is-final c w (s .locator) (quorum-mono c _ (Certificate c cs (s .locator)) (λ a x. subst (Certificate c cs (s .locator)) (x .2) (certificate (x .0) (x .1))) (right .quorum));
+        final =
+            final-in-iff (s .reading) c w (s .locator) .1
+            (quorum-mono c _ (CertificateIn (s .reading) c cs (s .locator)) (λ a x. subst (CertificateIn (s .reading) c cs (s .locator)) (x .2) (certificate (x .0) (x .1))) (right .quorum));
       }
 
 -- ---- the claims
@@ -97,6 +112,7 @@ accepted-certifies c r q n h bs k f = really-final c (suppliedBlocks q) bs (well
 -- what is named is one of the blocks given
 named-by-in : (bs : List Block) (s : Slip) (d : Block) → NamedBy bs s d → d ∈ bs
 named-by-in bs s d (asCertifier k m e) = named-in bs (k .reference) d e
+named-by-in bs s d (inAncestry r k b m e y) = ancestor-stored y
 named-by-in bs s d (byPath k v b m n e y) = on-path-in bs (v .path) b d (named-in bs (k .reference) b e) y
 
 pub accepted-in-store : (c : Committee) (r q : Bytes) (n : ℕ) → readAnswer c r q ≡ answered n → (t : Bytes) → storeInOrder c t ≡ true

@@ -4,6 +4,7 @@ use Rattle.finality.proofs.Claimed.{well-stored}
 use Rattle.slips.specs.Claims.{SlipReadsBack, SlipWritesBack, ReadingMeant, MissingMeant, AcceptedCertifies, AcceptedInStore, PathsMeant, WrittenNamesAll, WrittenAccepted, WrittenReads, Claims}
 use Rattle.slips.proofs.Slips.{readSlip-slipBytes, slipBytes-readSlip, slip-fits}
 use Rattle.slips.proofs.Reading.{answer-iff}
+use Rattle.slips.proofs.Ancestry.{right-falling}
 use Rattle.slips.proofs.Missing.{missing-iff}
 use Rattle.slips.proofs.Accepted.{accepted-certifies, accepted-in-store}
 use Rattle.slips.proofs.Distances.{shortest-first}
@@ -24,7 +25,7 @@ reading-meant = answer-iff
 
 missing-meant : MissingMeant
 unfolding MissingMeant
-missing-meant = missing-iff
+missing-meant c bs h = missing-iff bs (right-falling c bs h)
 
 certifies-meant : AcceptedCertifies
 unfolding AcceptedCertifies
@@ -44,11 +45,11 @@ written-names-all = names-all
 
 written-accepted : WrittenAccepted
 unfolding WrittenAccepted
-written-accepted c t b h o l f = slip-accepted c t b (bytes-fit t h) o l f
+written-accepted reading c t b h o l f = slip-accepted reading c t b (bytes-fit t h) o l f
 
 written-reads : WrittenReads
 unfolding WrittenReads
-written-reads c t out l n h = slice-accepted c t out l n (bytes-fit t h)
+written-reads reading c t out l n h = slice-accepted reading c t out l n (bytes-fit t h)
 
 pub claimed : Claims
 claimed =

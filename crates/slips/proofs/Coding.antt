@@ -25,9 +25,11 @@ use Rattle.store_layout.proofs.Loops.{block-of-entry}
 use Rattle.store_layout.proofs.Search.{laid-out}
 use Rattle.store_layout.proofs.Check.{order-laid}
 use Rattle.store_layout.proofs.Visit.{ascending-in}
-use Rattle.finality.specs.Voters.{votesFor, voters, certifies}
-use Rattle.finality.specs.Finality.{blocksOf, certifyingPositions}
+use Rattle.finality.specs.Voters.{voters}
+use Rattle.finality.specs.Finality.{blocksOf}
 use Rattle.finality.proofs.Voters.{voter-counted, counted-voter}
+use Rattle.readings.specs.Readings.{Reading, certifiesIn}
+use Rattle.readings.specs.Finality.{certifyingPositionsIn}
 use Rattle.slips.specs.Paths.{lesserDistance, leastDistance, distance, firstPlace, stepsFrom}
 use Rattle.slips.specs.Reading.{votesAs}
 use Rattle.slips.specs.Writing.{placedBlock, ascendingBlocks, orderedCertifiers}
@@ -86,22 +88,22 @@ module _ {A : Type 0} (p : A → Bool) where
 
 -- a stored block's voters are the authors whose votes are some distance away
 pub voter-distance : {bs : List Block} → WellStored bs → (l : TransactionLocator) (a : AuthorityIndex) (b : Block) → b ∈ bs
-    → member (voters bs l (b .reference)) a ≡ not (isNone (distance (votesAs votesFor l a) bs (b .reference)))
+    → member (voters bs l (b .reference)) a ≡ not (isNone (distance (votesAs l a) bs (b .reference)))
 voter-distance {bs} w l a b m = same-test _ _ there-is is-there
   where
     away : Option ℕ
-    away = distance (votesAs votesFor l a) bs (b .reference)
+    away = distance (votesAs l a) bs (b .reference)
 
     there-is : member (voters bs l (b .reference)) a ≡ true → not (isNone away) ≡ true
     there-is h =
         let p = voter-path w l a b (counted-voter w l a b m h) in
-        ap (λ (o : Option ℕ). not (isNone o)) (path-least (votesAs votesFor l a) bs w (p .0) b m (p .1) .is) ∙ unfold isNone in refl
+        ap (λ (o : Option ℕ). not (isNone o)) (path-least (votesAs l a) bs w (p .0) b m (p .1) .is) ∙ unfold isNone in refl
 
     some-away : (o : Option ℕ) → away ≡ o → not (isNone o) ≡ true → member (voters bs l (b .reference)) a ≡ true
     some-away none e h = absurd (not-both h (unfold isNone in refl))
     some-away (some n) e h =
         voter-counted w l a b m
-        (path-voter bs bs l a b (stepsFrom (votesAs votesFor l a) bs n b) (steps-lead (votesAs votesFor l a) bs w n b m e) (λ x y. on-path-in bs (stepsFrom (votesAs votesFor l a) bs n b) b x m y))
+        (path-voter bs bs l a b (stepsFrom (votesAs l a) bs n b) (steps-lead (votesAs l a) bs w n b m e) (λ x y. on-path-in bs (stepsFrom (votesAs l a) bs n b) b x m y))
 
     is-there : not (isNone away) ≡ true → member (voters bs l (b .reference)) a ≡ true
     is-there h = some-away away refl h
@@ -149,14 +151,15 @@ unfolding blocksOf
 stored-blocks s = sym (entries-blocks (recordsOf s))
 
 -- they are the blocks at the positions that the finality question answers
-pub certifiers-at : (c : Committee) (s : Bytes) (l : TransactionLocator) → storeInOrder c s ≡ true → orderedCertifiers c (blocksOf s) l ≡ map (blockAt s) (certifyingPositions c s l)
-unfolding orderedCertifiers certifyingPositions
-certifiers-at c s l o =
+pub certifiers-at : (reading : Reading) (c : Committee) (s : Bytes) (l : TransactionLocator) → storeInOrder c s ≡ true
+    → orderedCertifiers reading c (blocksOf s) l ≡ map (blockAt s) (certifyingPositionsIn reading c s l)
+unfolding orderedCertifiers certifyingPositionsIn
+certifiers-at reading c s l o =
     ap (keep test) sorted ∙ keep-map blockOf test (ascending (entries (recordsOf s)))
     ∙ at-positions s kept (λ e m. block-of-entry s (laid-out s (order-laid c s o) .reads) e (ascending-in (entries (recordsOf s)) e (keep-in _ (ascending (entries (recordsOf s))) m .0)))
   where
     test : Block → Bool
-    test b = certifies c (blocksOf s) l b
+    test b = certifiesIn reading c (blocksOf s) l b
 
     kept : List Entry
     kept = keep (λ e. test (e .block)) (ascending (entries (recordsOf s)))

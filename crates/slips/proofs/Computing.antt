@@ -1,12 +1,13 @@
 -- Every definition of the crate and of those below it at once, for evaluated examples: `unfolding computing`. Assumes nothing.
-use Rattle.finality.proofs.Computing.{computing as computing-finality}
-use Rattle.slips.specs.Slip.{votersAscend, certifiersAscend, readVoter, readCertifier, readBody, readFirst, readSlip, noSlip, slipIn, voterBytes, certifierBytes, slipBytes, fitsVoter, fitsCertifier, fitsSlip}
+use Rattle.readings.proofs.Computing.{computing as computing-readings}
+use Rattle.slips.specs.Slip.{votersAscend, certifiersAscend, readVoter, readCertifier, readBody, readFirst, namesReading, readSlip, noSlip, slipIn, voterBytes, certifierBytes, readingByte, slipBytes, fitsVoter, fitsCertifier, fitsSlip}
 use Rattle.slips.specs.Supplied.{readSupplied, suppliedRecords, suppliedIn, suppliedBlocks, rightBlocks, suppliedBytes}
 use Rattle.slips.specs.Paths.{named, onFrom, onBy, leads, lesserDistance, leastDistance, distance, isAway, firstPlace, stepsFrom, pathTo}
+use Rattle.slips.specs.Ancestry.{passesWithin, inAncestry, lacks, lacksAncestor, rejectsAs, hasRejected}
 use Rattle.slips.specs.Reading.{isNotGiven, missingFrom, missing, votesAs, endsAtVote, certifierHolds, slipHolds, readChecks, readAnswer}
 use Rattle.slips.specs.Writing.{placedBlock, ascendingBlocks, voterOf, certifierOf, orderedCertifiers, slipFor, writeChecks, writeSlip}
 use Rattle.slips.specs.Claims.{SlipReadsBack, SlipWritesBack, ReadingMeant, MissingMeant, AcceptedCertifies, AcceptedInStore, PathsMeant, WrittenNamesAll, WrittenAccepted, WrittenReads}
 
 unfoldable pub computing : Unit {0}
-unfolding computing-finality votersAscend certifiersAscend readVoter readCertifier readBody readFirst readSlip noSlip slipIn voterBytes certifierBytes slipBytes fitsVoter fitsCertifier fitsSlip readSupplied suppliedRecords suppliedIn suppliedBlocks rightBlocks suppliedBytes named onFrom onBy leads lesserDistance leastDistance distance isAway firstPlace stepsFrom pathTo isNotGiven missingFrom missing votesAs endsAtVote certifierHolds slipHolds readChecks readAnswer placedBlock ascendingBlocks voterOf certifierOf orderedCertifiers slipFor writeChecks writeSlip SlipReadsBack SlipWritesBack ReadingMeant MissingMeant AcceptedCertifies AcceptedInStore PathsMeant WrittenNamesAll WrittenAccepted WrittenReads
+unfolding computing-readings votersAscend certifiersAscend readVoter readCertifier readBody readFirst namesReading readSlip noSlip slipIn voterBytes certifierBytes readingByte slipBytes fitsVoter fitsCertifier fitsSlip readSupplied suppliedRecords suppliedIn suppliedBlocks rightBlocks suppliedBytes named onFrom onBy leads lesserDistance leastDistance distance isAway firstPlace stepsFrom pathTo passesWithin inAncestry lacks lacksAncestor rejectsAs hasRejected isNotGiven missingFrom missing votesAs endsAtVote certifierHolds slipHolds readChecks readAnswer placedBlock ascendingBlocks voterOf certifierOf orderedCertifiers slipFor writeChecks writeSlip SlipReadsBack SlipWritesBack ReadingMeant MissingMeant AcceptedCertifies AcceptedInStore PathsMeant WrittenNamesAll WrittenAccepted WrittenReads
 computing = tt

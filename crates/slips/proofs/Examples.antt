@@ -3,13 +3,15 @@ use Prim.Native.Nat.{ℕ, suc}
 use mathlib.Core.Path.{_≡_, refl}
 use mathlib.Core.Bool.{false}
 use mathlib.Core.List.{List, [], _∷_, _++_, map}
+use mathlib.Core.Option.{none, some}
 use lib.ListN.{length, replicate, set, drop}
 use Rattle.base.specs.Le.{Bytes}
 use Rattle.base.specs.Checks.{refused, answered}
 use Rattle.committee.specs.Committee.{Committee}
 use Rattle.blocks.specs.Reference.{BlockReference, TransactionLocator}
-use Rattle.blocks.specs.Block.{Statement, share, accept, Block}
+use Rattle.blocks.specs.Block.{Statement, share, accept, reject, Block}
 use Rattle.blocks.specs.Record.{blockBytes}
+use Rattle.readings.specs.Readings.{old, withdrawing}
 use Rattle.slips.specs.Slip.{SlipVoter, SlipCertifier, Slip, slipBytes}
 use Rattle.slips.specs.Supplied.{suppliedBytes}
 use Rattle.slips.specs.Reading.{readAnswer}
@@ -48,11 +50,14 @@ b10 = block (ref 2 2 10) (round 1 5) (accept the ∷ [])
 abbrev top : ℕ → ℕ → Block
 top a k = block (ref a 3 k) (round 2 8) []
 
-abbrev course : List Block
-course =
-    top 2 13 ∷ top 1 12 ∷ top 0 11 ∷ b10 ∷ b9 ∷ b8
+abbrev course-with : List Statement → List Block
+course-with ss =
+    top 2 13 ∷ top 1 12 ∷ top 0 11 ∷ b10 ∷ b9 ∷ block (ref 0 2 8) (round 1 5) ss
     ∷ block (ref 2 1 7) (round 0 1) [] ∷ block (ref 1 1 6) (round 0 1) [] ∷ b5
     ∷ block (ref 3 0 4) [] [] ∷ block (ref 2 0 3) [] [] ∷ block (ref 1 0 2) [] [] ∷ block (ref 0 0 1) [] [] ∷ []
+
+abbrev course : List Block
+course = course-with []
 
 abbrev voter : ℕ → List ℕ → SlipVoter
 voter a ps = record { author = a; path = ps }
@@ -64,10 +69,10 @@ abbrev right-voters : List SlipVoter
 right-voters = voter 0 (0 ∷ 0 ∷ []) ∷ voter 1 (1 ∷ []) ∷ voter 2 (2 ∷ []) ∷ []
 
 abbrev slip : List SlipVoter → Slip
-slip vs = record { locator = the; certifiers = certifier 0 11 vs ∷ certifier 1 12 right-voters ∷ certifier 2 13 right-voters ∷ [] }
+slip vs = record { reading = old; locator = the; certifiers = certifier 0 11 vs ∷ certifier 1 12 right-voters ∷ certifier 2 13 right-voters ∷ [] }
 
 -- three certifiers; author 0 by its share over its own block, not over 9 or 10
-written : slipFor four course the ≡ slip right-voters
+written : slipFor old four course the ≡ slip right-voters
 unfolding computing
 written = refl
 
@@ -96,10 +101,19 @@ unsound : readAnswer [] (slipBytes (slip right-voters)) (records enough) ≡ ref
 unfolding computing
 unsound = refl
 
--- 52: another first byte; a byte after the slip; voters that do not ascend
-first-byte : readAnswer four (set (slipBytes (slip right-voters)) 0 1) (records enough) ≡ refused 52
+-- 61: another first byte; none
+first-byte : readAnswer four (set (slipBytes (slip right-voters)) 0 2) (records enough) ≡ refused 61
 unfolding computing
 first-byte = refl
+
+no-byte : readAnswer four [] [] ≡ refused 61
+unfolding computing
+no-byte = refl
+
+-- 52: nothing but a first byte; a byte after the slip; voters that do not ascend
+byte-alone : readAnswer four (1 ∷ []) (records enough) ≡ refused 52
+unfolding computing
+byte-alone = refl
 
 byte-after : readAnswer four (slipBytes (slip right-voters) ++ (0 ∷ [])) (records enough) ≡ refused 52
 unfolding computing
@@ -152,7 +166,7 @@ few-voters : readAnswer four (slipBytes (slip (voter 1 (1 ∷ []) ∷ voter 2 (2
 unfolding computing
 few-voters = refl
 
-few-certifiers : readAnswer four (slipBytes (record { locator = the; certifiers = certifier 1 12 right-voters ∷ certifier 2 13 right-voters ∷ [] })) (records enough) ≡ refused 52
+few-certifiers : readAnswer four (slipBytes (record { reading = old; locator = the; certifiers = certifier 1 12 right-voters ∷ certifier 2 13 right-voters ∷ [] })) (records enough) ≡ refused 52
 unfolding computing
 few-certifiers = refl
 
@@ -160,6 +174,41 @@ few-certifiers = refl
 missing-first : readAnswer four (slipBytes (slip (voter 1 (3 ∷ []) ∷ []))) (records (b5 ∷ b8 ∷ b9 ∷ b10 ∷ top 0 11 ∷ top 1 12 ∷ [])) ≡ refused 53
 unfolding computing
 missing-first = refl
+
+-- ---- the new reading
+
+-- the course run's slip names its reading, and comes with every block below its certifiers
+abbrev new-slip : List SlipVoter → Slip
+new-slip vs = record { reading = withdrawing; locator = the; certifiers = certifier 0 11 vs ∷ certifier 1 12 right-voters ∷ certifier 2 13 right-voters ∷ [] }
+
+new-written : slipFor withdrawing four course the ≡ new-slip right-voters
+unfolding computing
+new-written = refl
+
+new-taken : readAnswer four (slipBytes (new-slip right-voters)) (records course) ≡ answered 3
+unfolding computing
+new-taken = refl
+
+-- 53: the records named by certifiers and paths alone are too few
+not-whole : readAnswer four (slipBytes (new-slip right-voters)) (records enough) ≡ refused 53
+unfolding computing
+not-whole = refl
+
+-- 52: the share's author rejects it below all three, and is listed; not where it is the second locator of his reject; the old slip holds
+abbrev the-other : TransactionLocator
+the-other = record { block = ref 0 1 5; offset = 7 }
+
+withdrawn : readAnswer four (slipBytes (new-slip right-voters)) (records (course-with (reject the none ∷ []))) ≡ refused 52
+unfolding computing
+withdrawn = refl
+
+its-second : readAnswer four (slipBytes (new-slip right-voters)) (records (course-with (reject the-other (some the) ∷ []))) ≡ answered 3
+unfolding computing
+its-second = refl
+
+old-holds : readAnswer four (slipBytes (slip right-voters)) (records (course-with (reject the none ∷ []))) ≡ answered 3
+unfolding computing
+old-holds = refl
 
 -- ---- the slice that the writer is lent
 

@@ -23,11 +23,11 @@ use Rattle.store_layout.specs.Store.{recordsOf}
 use Rattle.store_layout.proofs.Store.{right-block, recordsOf-right, recordsOf-bytes}
 use Rattle.store_layout.proofs.Stored.{WellStored, fresh, stored}
 use Rattle.store_layout.proofs.Check.{in-every}
-use Rattle.finality.specs.Voters.{votesFor, voters, certifies, certifiers}
 use Rattle.finality.specs.Finality.{blocksOf}
 use Rattle.finality.specs.Ancestry.{byAccept, byRange, VotesFor, byShare, byVote}
 use Rattle.finality.specs.Claims.{Stored}
 use Rattle.finality.proofs.Claimed.{well-stored}
+use Rattle.readings.specs.Readings.{Reading, votersIn, certifiesIn, certifiersIn}
 use Rattle.slips.specs.Slip.{votersAscend, certifiersAscend}
 use Rattle.slips.specs.Paths.{toBlock, leads, leastDistance, distance, stepsFrom, pathTo}
 use Rattle.slips.specs.Reading.{votesAs}
@@ -109,10 +109,10 @@ pub distinct-stored : {bs : List Block} → WellStored bs → Distinct bs
 distinct-stored fresh = no-pairs
 distinct-stored (stored {b = b} {older = older} new found w) = with-later (in-every older (λ d m. other-reference (b .reference) (d .reference) (λ e. new d m (sym e)))) (distinct-stored w)
 
-module _ (c : Committee) (bs : List Block) (h : Stored c bs) (l : TransactionLocator) (few : length bs ≤ 1024) (fits : (b : Block) → b ∈ bs → BlockFits b) (target : LocatorFits l) where
+module _ (reading : Reading) (c : Committee) (bs : List Block) (h : Stored c bs) (l : TransactionLocator) (few : length bs ≤ 1024) (fits : (b : Block) → b ∈ bs → BlockFits b) (target : LocatorFits l) where
   module _ (b : Block) (m : b ∈ bs) where
     abbrev own : AuthoritySet
-    own = voters bs l (b .reference)
+    own = votersIn reading bs l (b .reference)
 
     few-voters : length (map (voterOf bs l b) (members own)) ≤ 128
     unfolding members
@@ -121,11 +121,11 @@ module _ (c : Committee) (bs : List Block) (h : Stored c bs) (l : TransactionLoc
     voter-fits : (a : AuthorityIndex) → a ∈ members own → VoterFits (voterOf bs l b a)
     unfolding voterOf
     voter-fits a k =
-        let p = own-path c bs h l b m a k .leading in
+        let p = own-path reading c bs h l b m a k .leading in
         record {
           author = omega (arith, listed-member own a k .0);
-          short = omega (arith, length-path (votesAs votesFor l a) bs b);
-          bytes = path-bytes bs (λ x n. fits x n .fewIncludes) (pathTo (votesAs votesFor l a) bs b) b (p .vote) m (p .leading);
+          short = omega (arith, length-path (votesAs l a) bs b);
+          bytes = path-bytes bs (λ x n. fits x n .fewIncludes) (pathTo (votesAs l a) bs b) b (p .vote) m (p .leading);
         }
 
     voters-ascend : votersAscend (map (voterOf bs l b) (members own)) ≡ true
@@ -134,7 +134,7 @@ module _ (c : Committee) (bs : List Block) (h : Stored c bs) (l : TransactionLoc
         pairs-pairwise (λ v w. ltb (v .author) (w .author)) (map (voterOf bs l b) (members own))
         (pairs-map (voterOf bs l b) (λ x y e. e) (members own) (pairs-keep (member own) (countFrom 0 128) (rising 0 128)))
 
-    certifier-fits : CertifierFits (certifierOf bs l b)
+    certifier-fits : CertifierFits (certifierOf reading bs l b)
     unfolding certifierOf
     certifier-fits =
         record {
@@ -145,28 +145,28 @@ module _ (c : Committee) (bs : List Block) (h : Stored c bs) (l : TransactionLoc
         }
 
   abbrev ordered : List Block
-  ordered = orderedCertifiers c bs l
+  ordered = orderedCertifiers reading c bs l
 
-  pub length-certifiers : length (map (certifierOf bs l) ordered) ≡ length (certifiers c bs l)
-  unfolding orderedCertifiers certifiers
-  length-certifiers = length-map ordered (certifierOf bs l) ∙ length-ascending (certifies c bs l) bs
+  pub length-certifiers : length (map (certifierOf reading bs l) ordered) ≡ length (certifiersIn reading c bs l)
+  unfolding orderedCertifiers certifiersIn
+  length-certifiers = length-map ordered (certifierOf reading bs l) ∙ length-ascending (certifiesIn reading c bs l) bs
 
-  few-certifiers : length (certifiers c bs l) ≤ length bs
-  unfolding certifiers
-  few-certifiers = length-keep (certifies c bs l) bs
+  few-certifiers : length (certifiersIn reading c bs l) ≤ length bs
+  unfolding certifiersIn
+  few-certifiers = length-keep (certifiesIn reading c bs l) bs
 
-  certifiers-ascend : certifiersAscend (map (certifierOf bs l) ordered) ≡ true
+  certifiers-ascend : certifiersAscend (map (certifierOf reading bs l) ordered) ≡ true
   unfolding certifiersAscend certifierOf orderedCertifiers
   certifiers-ascend =
-      pairs-pairwise _ (map (certifierOf bs l) ordered)
-      (pairs-map (certifierOf bs l) (λ x y e. e) ordered (pairs-keep (certifies c bs l) (ascendingBlocks bs) (ascending-ascends bs (distinct-stored (well-stored c bs h)))))
+      pairs-pairwise _ (map (certifierOf reading bs l) ordered)
+      (pairs-map (certifierOf reading bs l) (λ x y e. e) ordered (pairs-keep (certifiesIn reading c bs l) (ascendingBlocks bs) (ascending-ascends bs (distinct-stored (well-stored c bs h)))))
 
-  pub slip-fits : SlipFits (slipFor c bs l)
+  pub slip-fits : SlipFits (slipFor reading c bs l)
   unfolding slipFor
   slip-fits =
       record {
         locator = target;
         few = omega (arith, length-certifiers, few-certifiers);
-        certifiers = in-every (map (certifierOf bs l) ordered) (λ k m. let x = map-in (certifierOf bs l) ordered m in subst CertifierFits (x .2) (certifier-fits (x .0) (certifier-in c bs h l (x .0) (x .1) .0)));
+        certifiers = in-every (map (certifierOf reading bs l) ordered) (λ k m. let x = map-in (certifierOf reading bs l) ordered m in subst CertifierFits (x .2) (certifier-fits (x .0) (certifier-in reading c bs h l (x .0) (x .1) .0)));
         ascend = certifiers-ascend;
       }

@@ -15,13 +15,14 @@ use Rattle.authority_set.specs.AuthoritySet.{AuthoritySet, member, members}
 use Rattle.blocks.specs.Reference.{TransactionLocator}
 use Rattle.blocks.specs.Block.{Block, author}
 use Rattle.store_layout.proofs.Stored.{WellStored}
-use Rattle.finality.specs.Voters.{votesFor, voters, certifies, certifiers}
 use Rattle.finality.specs.Ancestry.{Ancestor, itself, included, Voter}
 use Rattle.finality.specs.Claims.{Stored}
 use Rattle.finality.proofs.Ancestors.{ancestor-stored, descendant-stored}
 use Rattle.finality.proofs.Votes.{for-votes}
-use Rattle.finality.proofs.Voters.{voter-counted, counted-voter}
 use Rattle.finality.proofs.Claimed.{well-stored, small-authors}
+use Rattle.readings.specs.Readings.{Reading, old, withdrawing, votersIn, certifiesIn, certifiersIn}
+use Rattle.readings.specs.Withdrawing.{VoterIn}
+use Rattle.readings.proofs.VotersIn.{voter-in-counted, counted-voter-in}
 use Rattle.slips.specs.Slip.{SlipVoter}
 use Rattle.slips.specs.Paths.{toBlock, leads, pathTo}
 use Rattle.slips.specs.Reading.{votesAs}
@@ -47,7 +48,7 @@ ancestor-path {bs} w {d = d} (included {b = b} {i = i} m k a) =
     (p .0 ∷ r .0, step-leads bs (p .0) (r .0) b d (record { include = i .reference; next = i; at = p .1; given = named-stored w i (descendant-stored a); onward = r .1 }))
 
 -- to the vote of every voter
-pub voter-path : {bs : List Block} → WellStored bs → (l : TransactionLocator) (a : AuthorityIndex) (b : Block) → Voter bs b l a → (ps : List ℕ) × LeadsToVote (votesAs votesFor l a) bs ps b
+pub voter-path : {bs : List Block} → WellStored bs → (l : TransactionLocator) (a : AuthorityIndex) (b : Block) → Voter bs b l a → (ps : List ℕ) × LeadsToVote (votesAs l a) bs ps b
 unfolding votesAs
 voter-path w l a b v =
     let p = ancestor-path w (v .ancestor) in
@@ -63,53 +64,61 @@ pub listed-member : (v : AuthoritySet) (a : AuthorityIndex) → a ∈ members v 
 unfolding members
 listed-member v a m = let k = keep-in (member v) (countFrom 0 128) m in (let q = countFrom-in 0 128 (k .0) in omega (arith, q .1), k .1)
 
-module _ (c : Committee) (bs : List Block) (h : Stored c bs) (l : TransactionLocator) where
+-- whoever votes in a reading votes in the old one
+pub in-voter : (reading : Reading) {bs : List Block} {b : Block} {l : TransactionLocator} {a : AuthorityIndex} → VoterIn reading bs b l a → Voter bs b l a
+in-voter old v = v
+in-voter withdrawing v = v .0
+
+module _ (reading : Reading) (c : Committee) (bs : List Block) (h : Stored c bs) (l : TransactionLocator) where
   well : WellStored bs
   well = well-stored c bs h
 
   module _ (b : Block) (m : b ∈ bs) where
     abbrev own : AuthoritySet
-    own = voters bs l (b .reference)
+    own = votersIn reading bs l (b .reference)
 
-    own-voter : (a : AuthorityIndex) → a ∈ members own → Voter bs b l a
-    own-voter a k = counted-voter well l a b m (listed-member own a k .1)
+    pub own-voter : (a : AuthorityIndex) → a ∈ members own → VoterIn reading bs b l a
+    own-voter a k = counted-voter-in reading well l a b m (listed-member own a k .1)
 
-    pub own-path : (a : AuthorityIndex) → a ∈ members own → ShortestThenFirst (votesAs votesFor l a) bs b (pathTo (votesAs votesFor l a) bs b)
-    own-path a k = let p = voter-path well l a b (own-voter a k) in shortest-first (votesAs votesFor l a) bs well b m (p .0) (p .1)
+    pub own-path : (a : AuthorityIndex) → a ∈ members own → ShortestThenFirst (votesAs l a) bs b (pathTo (votesAs l a) bs b)
+    own-path a k = let p = voter-path well l a b (in-voter reading (own-voter a k)) in shortest-first (votesAs l a) bs well b m (p .0) (p .1)
 
-    names-voters : NamesVoters bs l b (map (voterOf bs l b) (members own))
+    names-voters : NamesVoters reading bs l b (map (voterOf bs l b) (members own))
     unfolding voterOf
     names-voters =
         record {
           every = λ a v. (
             voterOf bs l b a,
-            in-map (voterOf bs l b) (member-listed own a (rw (← v .authored) (small-authors c bs h (v .voting) (ancestor-stored (v .ancestor)))) (voter-counted well l a b m v)),
+            in-map (voterOf bs l b) (member-listed own a (small (in-voter reading v)) (voter-in-counted reading well l a b m v)),
             refl,
           );
-          only = λ v k. let x = map-in (voterOf bs l b) (members own) k in subst (λ (y : SlipVoter). Voter bs b l (y .author)) (x .2) (own-voter (x .0) (x .1));
-          paths = λ v k. let x = map-in (voterOf bs l b) (members own) k in subst (λ (y : SlipVoter). ShortestThenFirst (votesAs votesFor l (y .author)) bs b (y .path)) (x .2) (own-path (x .0) (x .1));
+          only = λ v k. let x = map-in (voterOf bs l b) (members own) k in subst (λ (y : SlipVoter). VoterIn reading bs b l (y .author)) (x .2) (own-voter (x .0) (x .1));
+          paths = λ v k. let x = map-in (voterOf bs l b) (members own) k in subst (λ (y : SlipVoter). ShortestThenFirst (votesAs l (y .author)) bs b (y .path)) (x .2) (own-path (x .0) (x .1));
         }
+      where
+        small : {a : AuthorityIndex} → Voter bs b l a → a < 128
+        small v = rw (← v .authored) (small-authors c bs h (v .voting) (ancestor-stored (v .ancestor)))
 
   -- the certifiers, in ascending order
-  pub certifier-in : (b : Block) → b ∈ orderedCertifiers c bs l → (b ∈ bs) × (certifies c bs l b ≡ true)
+  pub certifier-in : (b : Block) → b ∈ orderedCertifiers reading c bs l → (b ∈ bs) × (certifiesIn reading c bs l b ≡ true)
   unfolding orderedCertifiers
-  certifier-in b m = let k = keep-in (certifies c bs l) (ascendingBlocks bs) m in (ascending-in bs b (k .0), k .1)
+  certifier-in b m = let k = keep-in (certifiesIn reading c bs l) (ascendingBlocks bs) m in (ascending-in bs b (k .0), k .1)
 
-  pub in-certifiers : (b : Block) → b ∈ bs → certifies c bs l b ≡ true → b ∈ orderedCertifiers c bs l
+  pub in-certifiers : (b : Block) → b ∈ bs → certifiesIn reading c bs l b ≡ true → b ∈ orderedCertifiers reading c bs l
   unfolding orderedCertifiers
-  in-certifiers b m e = in-keep (certifies c bs l) (ascendingBlocks bs) (in-ascending bs b m) e
+  in-certifiers b m e = in-keep (certifiesIn reading c bs l) (ascendingBlocks bs) (in-ascending bs b m) e
 
-  pub certifiers-in : (b : Block) → b ∈ certifiers c bs l → b ∈ orderedCertifiers c bs l
-  unfolding certifiers
-  certifiers-in b m = let k = keep-in (certifies c bs l) bs m in in-certifiers b (k .0) (k .1)
+  pub certifiers-in : (b : Block) → b ∈ certifiersIn reading c bs l → b ∈ orderedCertifiers reading c bs l
+  unfolding certifiersIn
+  certifiers-in b m = let k = keep-in (certifiesIn reading c bs l) bs m in in-certifiers b (k .0) (k .1)
 
-  pub names-all : NamesAll c bs (slipFor c bs l)
+  pub names-all : NamesAll c bs (slipFor reading c bs l)
   unfolding slipFor certifierOf
   names-all =
       record {
-        every = λ b m e. (certifierOf bs l b, in-map (certifierOf bs l) (in-certifiers b m e), refl);
+        every = λ b m e. (certifierOf reading bs l b, in-map (certifierOf reading bs l) (in-certifiers b m e), refl);
         only = λ k m.
-            let x = map-in (certifierOf bs l) (orderedCertifiers c bs l) m in
+            let x = map-in (certifierOf reading bs l) (orderedCertifiers reading c bs l) m in
             let i = certifier-in (x .0) (x .1) in
-            subst (NamesCertifier c bs l) (x .2) (record { block = x .0; stored = i .0; listed = refl; certifying = i .1; voters = names-voters (x .0) (i .0) });
+            subst (NamesCertifier reading c bs l) (x .2) (record { block = x .0; stored = i .0; listed = refl; certifying = i .1; voters = names-voters (x .0) (i .0) });
       }

@@ -1,7 +1,7 @@
 -- A slip is accepted exactly where it says what the relations ask. Assumes nothing.
 use mathlib.Core.Path.{_≡_, refl, sym, ap, _∙_, subst}
 use mathlib.Core.Logic.{_↔_}
-use mathlib.Core.Bool.{Bool, true, false, not}
+use mathlib.Core.Bool.{Bool, true, false, not, _||_}
 use mathlib.Core.List.{List, map}
 use mathlib.Core.Option.{Option, none, some}
 use Prim.Native.Nat.{ℕ}
@@ -9,10 +9,10 @@ use native.Mathlib.Omega.{arith}
 use lib.Dec.{eqb}
 use lib.ListN.{length}
 use borrow.Author.Tests.{eqb-true, eq-eqb, not-true, not-false}
-use Rattle.base.specs.Lists.{pick, allOf, isNone, holds, _∈_, here, there}
+use Rattle.base.specs.Lists.{pick, anyOf, allOf, isNone, holds, _∈_, here, there}
 use Rattle.base.specs.Le.{Bytes}
 use Rattle.base.specs.Checks.{Check, _⇒_, refusal, passes, Answer, refused, answered, checked}
-use Rattle.base.proofs.Tests.{and-both, and-left, and-right, fails, not-both}
+use Rattle.base.proofs.Tests.{and-both, and-left, and-right, neither-right, fails, not-both}
 use Rattle.base.proofs.Members.{any-in, in-any, all-in, in-all, map-in, in-map}
 use Rattle.base.proofs.Lists.{holds-some}
 use Rattle.base.proofs.Checks.{passes-none}
@@ -25,12 +25,16 @@ use Rattle.blocks.specs.Reference.{TransactionLocator}
 use Rattle.blocks.specs.Block.{Block}
 use Rattle.store_layout.specs.Layout.{Record}
 use Rattle.store_layout.specs.Layout.{blocks}
-use Rattle.finality.specs.Voters.{votesFor}
+use Rattle.readings.specs.Readings.{Reading, old, withdrawing}
 use Rattle.slips.specs.Slip.{SlipVoter, SlipCertifier, Slip, readSlip, slipIn}
 use Rattle.slips.specs.Supplied.{suppliedRecords, suppliedIn, suppliedBlocks, rightBlocks}
 use Rattle.slips.specs.Paths.{named, Led, toBlock, nowhere, notGiven, leads}
+use Rattle.slips.specs.Ancestry.{lacksAncestor, hasRejected}
 use Rattle.slips.specs.Reading.{isNotGiven, missingFrom, missing, votesAs, endsAtVote, certifierHolds, slipHolds, readChecks, readAnswer}
-use Rattle.slips.specs.Meaning.{LeadsToVote, RightCertifier, RightSlip, AcceptedSlip}
+use Rattle.slips.specs.Meaning.{LeadsToVote, StandingIn, RightCertifier, RightSlip, AcceptedSlip}
+use Rattle.slips.proofs.Paths.{named-in}
+use Rattle.slips.proofs.Ancestry.{Falling, whole-lacks, lacks-whole, rejecter-found, found-rejecter, right-falling}
+use Rattle.slips.proofs.Slips.{read-names}
 
 -- ---- answers
 
@@ -74,79 +78,125 @@ module _ {A : Type 0} (f : A → AuthorityIndex) (xs : List A) where
 
 -- ---- a slip that holds
 
-module _ (votes : Block → TransactionLocator → Bool) (c : Committee) (bs : List Block) (l : TransactionLocator) where
-  at-vote : (a : AuthorityIndex) (ps : List ℕ) (b : Block) → endsAtVote votes l a (leads bs ps b) ≡ true → LeadsToVote (votesAs votes l a) bs ps b
+module _ (bs : List Block) (l : TransactionLocator) where
+  at-vote : (a : AuthorityIndex) (ps : List ℕ) (b : Block) → endsAtVote l a (leads bs ps b) ≡ true → LeadsToVote (votesAs l a) bs ps b
   unfolding endsAtVote
   at-vote a ps b h = go (leads bs ps b) refl h
     where
-      go : (o : Led) → leads bs ps b ≡ o → endsAtVote votes l a o ≡ true → LeadsToVote (votesAs votes l a) bs ps b
+      go : (o : Led) → leads bs ps b ≡ o → endsAtVote l a o ≡ true → LeadsToVote (votesAs l a) bs ps b
       go (toBlock d) e k = record { vote = d; leading = e; voting = k }
       go nowhere e k = absurd (not-both k refl)
       go notGiven e k = absurd (not-both k refl)
 
-  vote-at : (a : AuthorityIndex) (ps : List ℕ) (b : Block) → LeadsToVote (votesAs votes l a) bs ps b → endsAtVote votes l a (leads bs ps b) ≡ true
+  vote-at : (a : AuthorityIndex) (ps : List ℕ) (b : Block) → LeadsToVote (votesAs l a) bs ps b → endsAtVote l a (leads bs ps b) ≡ true
   unfolding endsAtVote
-  vote-at a ps b h = ap (endsAtVote votes l a) (h .leading) ∙ h .voting
+  vote-at a ps b h = ap (endsAtVote l a) (h .leading) ∙ h .voting
 
-  module _ (k : SlipCertifier) where
-    abbrev ends-right : Block → SlipVoter → Bool
-    ends-right b v = endsAtVote votes l (v .author) (leads bs (v .path) b)
+  -- ---- the ancestry of a certifier, in the new reading
 
-    certifier-right : holds (certifierHolds votes c bs l (k .voters)) (named bs (k .reference)) ≡ true → RightCertifier votes c bs l k
-    unfolding certifierHolds
-    certifier-right h =
-        let x = holds-some (certifierHolds votes c bs l (k .voters)) (named bs (k .reference)) h in
-        let b : Block = x .0 in
-        let t = and-right (not (b .marked)) _ (x .2) in
+  module _ (f : Falling bs) (vs : List SlipVoter) (b : Block) (m : b ∈ bs) where
+    abbrev keeps : Reading → SlipVoter → Bool
+    keeps reading v = not (hasRejected reading bs l b (v .author))
+
+    kept-standing : (reading : Reading) → lacksAncestor reading bs b ≡ false → allOf (keeps reading) vs ≡ true → StandingIn reading bs l vs b
+    unfolding lacksAncestor hasRejected
+    kept-standing old h k = tt
+    kept-standing withdrawing h k =
         record {
-          block = b;
-          given = x .1;
-          unmarked = not-true (b .marked) (and-left (not (b .marked)) _ (x .2));
-          ends = λ v m. at-vote (v .author) (v .path) b (all-in (ends-right b) (k .voters) (and-left (allOf (ends-right b) (k .voters)) _ t) m);
-          quorum = quorum-listed (λ (v : SlipVoter). v .author) (k .voters) c (and-right (allOf (ends-right b) (k .voters)) _ t);
+          whole = lacks-whole bs f b m h;
+          kept = λ v n r. not-both (rejecter-found bs f b m l (v .author) r) (not-true _ (all-in (keeps withdrawing) vs k n));
         }
 
-    right-certifier : RightCertifier votes c bs l k → holds (certifierHolds votes c bs l (k .voters)) (named bs (k .reference)) ≡ true
+    standing-kept : (reading : Reading) → StandingIn reading bs l vs b → allOf (keeps reading) vs ≡ true
+    unfolding hasRejected
+    standing-kept old h = in-all (keeps old) vs (λ v n. refl)
+    standing-kept withdrawing h = in-all (keeps withdrawing) vs (λ v n. ap not (fails _ (λ t. h .kept v n (found-rejecter bs f b m l (v .author) t))))
+
+    standing-whole : (reading : Reading) → StandingIn reading bs l vs b → lacksAncestor reading bs b ≡ false
+    unfolding lacksAncestor
+    standing-whole old h = refl
+    standing-whole withdrawing h = whole-lacks bs f b m (h .whole)
+
+module _ (reading : Reading) (c : Committee) (bs : List Block) (f : Falling bs) (l : TransactionLocator) (k : SlipCertifier) where
+  abbrev ends-right : Block → SlipVoter → Bool
+  ends-right b v = endsAtVote l (v .author) (leads bs (v .path) b)
+
+  certifier-right : holds (certifierHolds reading c bs l (k .voters)) (named bs (k .reference)) ≡ true → missingFrom reading bs (k .voters) (named bs (k .reference)) ≡ false
+      → RightCertifier reading c bs l k
+  unfolding certifierHolds missingFrom
+  certifier-right h g =
+      let x = holds-some (certifierHolds reading c bs l (k .voters)) (named bs (k .reference)) h in
+      let b : Block = x .0 in
+      let m = named-in bs (k .reference) b (x .1) in
+      let t = and-right (not (b .marked)) _ (x .2) in
+      let u = and-right (allOf (ends-right b) (k .voters)) _ t in
+      let n = ap (missingFrom reading bs (k .voters)) (sym (x .1)) ∙ g in
+      record {
+        block = b;
+        given = x .1;
+        unmarked = not-true (b .marked) (and-left (not (b .marked)) _ (x .2));
+        ends = λ v j. at-vote bs l (v .author) (v .path) b (all-in (ends-right b) (k .voters) (and-left (allOf (ends-right b) (k .voters)) _ t) j);
+        standing =
+            kept-standing bs l f (k .voters) b m reading (neither-right (anyOf (λ v. isNotGiven (leads bs (v .path) b)) (k .voters)) _ n)
+            (and-left (allOf (keeps bs l f (k .voters) b m reading) (k .voters)) _ u);
+        quorum = quorum-listed (λ (v : SlipVoter). v .author) (k .voters) c (and-right (allOf (keeps bs l f (k .voters) b m reading) (k .voters)) _ u);
+      }
+
+  module _ (r : RightCertifier reading c bs l k) where
+    own-in : r .block ∈ bs
+    own-in = named-in bs (k .reference) (r .block) (r .given)
+
+    right-certifier : holds (certifierHolds reading c bs l (k .voters)) (named bs (k .reference)) ≡ true
     unfolding holds certifierHolds
-    right-certifier r =
+    right-certifier =
         rw (r .given)
         (and-both _ _ (ap not (r .unmarked))
-        (and-both _ _ (in-all (ends-right (r .block)) (k .voters) (λ v m. vote-at (v .author) (v .path) (r .block) (r .ends v m)))
-        (listed-quorum (λ (v : SlipVoter). v .author) (k .voters) c (r .quorum))))
+        (and-both _ _ (in-all (ends-right (r .block)) (k .voters) (λ v m. vote-at bs l (v .author) (v .path) (r .block) (r .ends v m)))
+        (and-both _ _ (standing-kept bs l f (k .voters) (r .block) own-in reading (r .standing))
+        (listed-quorum (λ (v : SlipVoter). v .author) (k .voters) c (r .quorum)))))
 
-    right-given : RightCertifier votes c bs l k → missingFrom bs (k .voters) (named bs (k .reference)) ≡ false
+    right-given : missingFrom reading bs (k .voters) (named bs (k .reference)) ≡ false
     unfolding missingFrom isNotGiven
-    right-given r =
-        rw (r .given)
-        (fails _ λ t.
+    right-given =
+        rw (r .given, standing-whole bs l f (k .voters) (r .block) own-in reading (r .standing))
+        (or-none _ (fails _ λ t.
         let v = any-in (λ (x : SlipVoter). isNotGiven (leads bs (x .path) (r .block))) (k .voters) t in
-        not-both (v .2) (ap isNotGiven (r .ends (v .0) (v .1) .leading)))
+        not-both (v .2) (ap isNotGiven (r .ends (v .0) (v .1) .leading))))
+      where
+        or-none : (t : Bool) → t ≡ false → t || false ≡ false
+        or-none true e = e
+        or-none false e = refl
 
-module _ (votes : Block → TransactionLocator → Bool) (c : Committee) (bs : List Block) (s : Slip) where
+module _ (c : Committee) (bs : List Block) (f : Falling bs) (s : Slip) where
   abbrev all-hold : SlipCertifier → Bool
-  all-hold k = holds (certifierHolds votes c bs (s .locator) (k .voters)) (named bs (k .reference))
+  all-hold k = holds (certifierHolds (s .reading) c bs (s .locator) (k .voters)) (named bs (k .reference))
 
-  pub slip-right : slipHolds votes c bs s ≡ true → RightSlip votes c bs s
-  unfolding slipHolds
-  slip-right h =
+  abbrev any-lost : SlipCertifier → Bool
+  any-lost k = missingFrom (s .reading) bs (k .voters) (named bs (k .reference))
+
+  pub slip-right : slipHolds c bs s ≡ true → missing bs s ≡ false → RightSlip c bs s
+  unfolding slipHolds missing
+  slip-right h g =
       record {
-        certifiers = λ k m. certifier-right votes c bs (s .locator) k (all-in all-hold (s .certifiers) (and-left (allOf all-hold (s .certifiers)) _ h) m);
+        certifiers = λ k m.
+            certifier-right (s .reading) c bs f (s .locator) k (all-in all-hold (s .certifiers) (and-left (allOf all-hold (s .certifiers)) _ h) m)
+            (fails (any-lost k) (λ t. not-both (in-any any-lost m t) g));
         quorum = quorum-listed (λ (k : SlipCertifier). k .reference .authority) (s .certifiers) c (and-right (allOf all-hold (s .certifiers)) _ h);
       }
 
-  pub right-slip : RightSlip votes c bs s → slipHolds votes c bs s ≡ true
+  pub right-slip : RightSlip c bs s → slipHolds c bs s ≡ true
   unfolding slipHolds
   right-slip r =
-      and-both _ _ (in-all all-hold (s .certifiers) (λ k m. right-certifier votes c bs (s .locator) k (r .certifiers k m)))
+      and-both _ _ (in-all all-hold (s .certifiers) (λ k m. right-certifier (s .reading) c bs f (s .locator) k (r .certifiers k m)))
       (listed-quorum (λ (k : SlipCertifier). k .reference .authority) (s .certifiers) c (r .quorum))
 
   -- nothing that it names is missing
-  pub right-supplied : RightSlip votes c bs s → missing bs s ≡ false
+  pub right-supplied : RightSlip c bs s → missing bs s ≡ false
   unfolding missing
   right-supplied r =
       fails _ λ t.
-      let k = any-in (λ (x : SlipCertifier). missingFrom bs (x .voters) (named bs (x .reference))) (s .certifiers) t in
-      not-both (k .2) (right-given votes c bs (s .locator) (k .0) (r .certifiers (k .0) (k .1)))
+      let k = any-in any-lost (s .certifiers) t in
+      not-both (k .2) (right-given (s .reading) c bs f (s .locator) (k .0) (r .certifiers (k .0) (k .1)))
 
 -- ---- the answer
 
@@ -173,17 +223,24 @@ module _ (c : Committee) (r q : Bytes) (n : ℕ) where
     unfolding readChecks
     accepted-sound = passes-none (readChecks c r q) pass (broken c ⇒ 5) here
 
-    pub accepted-right : RightSlip votesFor c (suppliedBlocks q) (slipIn r)
-    accepted-right = slip-right votesFor c (suppliedBlocks q) (slipIn r) held
+    right-by-themselves : rightBlocks c (suppliedBlocks q) ≡ true
+    unfolding readChecks
+    right-by-themselves = not-false _ (passes-none (readChecks c r q) pass (not (rightBlocks c (suppliedBlocks q)) ⇒ 52) (there (there (there (there here)))))
+
+    pub accepted-right : RightSlip c (suppliedBlocks q) (slipIn r)
+    accepted-right = slip-right c (suppliedBlocks q) (right-falling c (suppliedBlocks q) right-by-themselves) (slipIn r) held given-all
       where
-        held : slipHolds votesFor c (suppliedBlocks q) (slipIn r) ≡ true
-        held = unfold readChecks in not-false _ (passes-none (readChecks c r q) pass (not (slipHolds votesFor c (suppliedBlocks q) (slipIn r)) ⇒ 52) (there (there (there (there (there here))))))
+        held : slipHolds c (suppliedBlocks q) (slipIn r) ≡ true
+        held = unfold readChecks in not-false _ (passes-none (readChecks c r q) pass (not (slipHolds c (suppliedBlocks q) (slipIn r)) ⇒ 52) (there (there (there (there (there (there here)))))))
+
+        given-all : missing (suppliedBlocks q) (slipIn r) ≡ false
+        given-all = unfold readChecks in passes-none (readChecks c r q) pass (missing (suppliedBlocks q) (slipIn r) ⇒ 53) (there (there (there (there (there here)))))
 
     answer-accepted : AcceptedSlip c r q n
     unfolding readChecks readAnswer
     answer-accepted =
-        let s = some-of (readSlip r) (passes-none (readChecks c r q) pass (isNone (readSlip r) ⇒ 52) (there here)) in
-        let rs = some-of (suppliedRecords q) (passes-none (readChecks c r q) pass (isNone (suppliedRecords q) ⇒ 52) (there (there here))) in
+        let s = some-of (readSlip r) (passes-none (readChecks c r q) pass (isNone (readSlip r) ⇒ 52) (there (there here))) in
+        let rs = some-of (suppliedRecords q) (passes-none (readChecks c r q) pass (isNone (suppliedRecords q) ⇒ 52) (there (there (there here)))) in
         let e : slipIn r ≡ s .0 = slip-in (s .0) r (s .1) in
         let f : suppliedBlocks q ≡ blocks (rs .0) = supplied-in (rs .0) q (rs .1) in
         record {
@@ -192,10 +249,8 @@ module _ (c : Committee) (r q : Bytes) (n : ℕ) where
           records = rs .0;
           reads = s .1;
           supplied = rs .1;
-          right =
-              ap (rightBlocks c) (sym f)
-              ∙ not-false _ (passes-none (readChecks c r q) pass (not (rightBlocks c (suppliedBlocks q)) ⇒ 52) (there (there (there here))));
-          holding = subst (λ (x : Slip). RightSlip votesFor c (blocks (rs .0)) x) e (subst (λ (bs : List Block). RightSlip votesFor c bs (slipIn r)) f accepted-right);
+          right = ap (rightBlocks c) (sym f) ∙ right-by-themselves;
+          holding = subst (λ (x : Slip). RightSlip c (blocks (rs .0)) x) e (subst (λ (bs : List Block). RightSlip c bs (slipIn r)) f accepted-right);
           many = ap (λ (x : Slip). length (x .certifiers)) (sym e) ∙ answered-same (readChecks c r q) _ n h;
         }
 
@@ -204,15 +259,19 @@ module _ (c : Committee) (r q : Bytes) (n : ℕ) where
   accepted-answer a =
       rw (
         a .sound,
+        read-names r (a .slip) (a .reads),
         slip-in (a .slip) r (a .reads),
         supplied-in (a .records) q (a .supplied),
         a .reads,
         a .supplied,
         a .right,
-        right-supplied votesFor c (blocks (a .records)) (a .slip) (a .holding),
-        right-slip votesFor c (blocks (a .records)) (a .slip) (a .holding),
+        right-supplied c (blocks (a .records)) (falling a) (a .slip) (a .holding),
+        right-slip c (blocks (a .records)) (falling a) (a .slip) (a .holding),
       )
       (ap {B = Answer ℕ} (λ (m : ℕ). answered m) (a .many))
+    where
+      falling : (a : AcceptedSlip c r q n) → Falling (blocks (a .records))
+      falling a = right-falling c (blocks (a .records)) (a .right)
 
   pub answer-iff : (readAnswer c r q ≡ answered n) ↔ AcceptedSlip c r q n
   answer-iff = (answer-accepted, accepted-answer)

@@ -1,26 +1,28 @@
 -- Slips there and back: what is written is read, and what is read had been written so. Assumes nothing.
-use mathlib.Core.Path.{_≡_, refl, sym}
+use mathlib.Core.Path.{_≡_, refl, sym, _∙_}
 use mathlib.Core.List.{List, [], _∷_, _++_, map, append-assoc, flatten}
-use mathlib.Core.Bool.{true}
-use mathlib.Core.Option.{some}
+use mathlib.Core.Bool.{Bool, true, false}
+use mathlib.Core.Option.{some, Option·none-ne-some}
 use Prim.Native.Nat.{ℕ, _%_, _^_, _<_}
 use native.Mathlib.Omega.{arith}
 use lib.Dec.{ltb, eqb, lit<}
 use lib.ListN.{length}
-use borrow.Author.Tests.{ltb-true, eqb-true}
+use borrow.Author.Tests.{ltb-true, eqb-true, eqb-false}
 use Rattle.base.specs.Lists.{allOf}
 use Rattle.base.specs.Le.{leBytes}
-use Rattle.base.specs.Read.{give, onward, _>>=_, number, given}
+use Rattle.base.specs.Read.{give, fail, onward, _>>=_, items, number, given, complete}
 use Rattle.base.proofs.Tests.{and-left, and-right}
 use Rattle.base.proofs.Lists.{append-nil, Every, every, all-every}
-use Rattle.base.proofs.Le.{AllBytes}
+use Rattle.base.proofs.Le.{AllBytes, leAt-byte}
+use Rattle.base.proofs.Fixed.{number-at}
 use Rattle.base.proofs.Read.{part, items-reads, number-reads, ReadsBack, repeated-reads, complete-reads, Back, give-back, given-back, bind-back, map-back, Items, items-back, Number, number-back, One, Many, repeated-back, complete-back}
 use Rattle.blocks.specs.Reference.{BlockReference, TransactionLocator}
 use Rattle.blocks.specs.Record.{referenceBytes, locatorBytes}
 use Rattle.blocks.specs.Claims.{fitsReference, fitsLocator}
 use Rattle.blocks.proofs.Records.{ReferenceFits, LocatorFits, reference-reads, locator-reads, reference-back, locator-back}
 use Rattle.blocks.proofs.Claimed.{bytes-fit}
-use Rattle.slips.specs.Slip.{SlipVoter, SlipCertifier, Slip, votersAscend, certifiersAscend, readVoter, readCertifier, readBody, readFirst, readSlip, voterBytes, certifierBytes, slipBytes, fitsVoter, fitsCertifier, fitsSlip}
+use Rattle.readings.specs.Readings.{Reading, old, withdrawing, readingOf}
+use Rattle.slips.specs.Slip.{SlipVoter, SlipCertifier, Slip, votersAscend, certifiersAscend, readVoter, readCertifier, readBody, readFirst, namesReading, readSlip, voterBytes, certifierBytes, readingByte, slipBytes, fitsVoter, fitsCertifier, fitsSlip}
 
 -- ---- the limits: what fits a slip
 
@@ -75,6 +77,31 @@ one-byte k h = let e : k % 256 ≡ k = omega arith in rw e
 byte-reads : (k : ℕ) (t : List ℕ) → k < 256 → number 1 (k ∷ t) ≡ some (part k t)
 byte-reads k t h = rw (one-byte k h) at (number-reads 1 k t h)
 
+-- the byte of a reading is a byte, names a reading, and that one
+byte-small : (reading : Reading) → readingByte reading < 256
+unfolding readingByte
+byte-small old = lit< tt
+byte-small withdrawing = lit< tt
+
+byte-names : (reading : Reading) → ltb (readingByte reading) 2 ≡ true
+unfolding readingByte
+byte-names old = refl
+byte-names withdrawing = refl
+
+byte-reading : (reading : Reading) → readingOf (eqb (readingByte reading) 1) ≡ reading
+unfolding readingByte
+byte-reading old = refl
+byte-reading withdrawing = refl
+
+-- and of the bytes that name one, it is the one that is read
+reading-byte : (first : ℕ) → ltb first 2 ≡ true → first ≡ readingByte (readingOf (eqb first 1))
+unfolding readingByte
+reading-byte first h = go (eqb first 1) refl
+  where
+    go : (t : Bool) → eqb first 1 ≡ t → first ≡ readingByte (readingOf t)
+    go true e = eqb-true first 1 e
+    go false e = let k = ltb-true first 2 h in let n = eqb-false first 1 e in omega (arith, k, n)
+
 -- every slip within the limits is read back from its bytes
 pub first-reads : (s : Slip) → SlipFits s → readFirst (slipBytes s) ≡ some (part s [])
 unfolding readFirst readBody slipBytes given _>>=_ onward give
@@ -82,7 +109,9 @@ first-reads s h =
     let ks : List ℕ = flatten (map certifierBytes (s .certifiers)) in
     rw (
       ← append-nil ks,
-      byte-reads 0 (locatorBytes (s .locator) ++ (leBytes 2 (length (s .certifiers)) ++ (ks ++ []))) (lit< tt),
+      byte-reads (readingByte (s .reading)) (locatorBytes (s .locator) ++ (leBytes 2 (length (s .certifiers)) ++ (ks ++ []))) (byte-small (s .reading)),
+      byte-names (s .reading),
+      byte-reading (s .reading),
       locator-reads (s .locator) (h .locator) (leBytes 2 (length (s .certifiers)) ++ (ks ++ [])),
       number-reads 2 (length (s .certifiers)) (ks ++ []) (h .few),
       repeated-reads readCertifier certifierBytes (s .certifiers) (every certifier-reads (s .certifiers) (h .certifiers)) [],
@@ -123,16 +152,29 @@ pub first-back : Back readFirst (One slipBytes SlipFits)
 unfolding readFirst readBody slipBytes
 first-back =
     bind-back _ _ (Number 1) (One slipBytes SlipFits) (number-back 1) λ m w o.
-    given-back (eqb m 0) _ _ λ e.
+    given-back (ltb m 2) _ _ λ e.
     bind-back _ _ (One locatorBytes LocatorFits) _ locator-back λ l x p.
     bind-back _ _ (Number 2) _ (number-back 2) λ n y q.
     bind-back _ _ (Many certifierBytes CertifierFits n) _ (repeated-back certifierBytes CertifierFits readCertifier n certifier-back) λ ks z r.
     given-back (certifiersAscend ks) _ _ λ h.
-    give-back _ (record { locator = l; certifiers = ks })
+    give-back _ (record { reading = readingOf (eqb m 1); locator = l; certifiers = ks })
     (record {
-      are = rw (o .are, one-byte m (o .fits), eqb-true m 0 e, p .are, q .are, r .are, r .many, append-nil (flatten (map certifierBytes ks)));
+      are = rw (o .are, one-byte m (o .fits), ← reading-byte m e, p .are, q .are, r .are, r .many, append-nil (flatten (map certifierBytes ks)));
       right = record { locator = p .right; few = rw (r .many) (q .fits); certifiers = r .right; ascend = h };
     })
+
+-- bytes that are read name a reading
+pub read-names : (r : List ℕ) (s : Slip) → readSlip r ≡ some s → namesReading r ≡ true
+unfolding readSlip namesReading complete given fail
+read-names [] s h = absurd (Option·none-ne-some s (unfold readFirst _>>=_ onward number items in h))
+read-names (first ∷ r) s h = go (ltb first 2) refl (sym on ∙ h)
+  where
+    on : complete (readFirst (first ∷ r)) ≡ complete (given (ltb first 2) (readBody (readingOf (eqb first 1))) r)
+    on = unfold readFirst _>>=_ onward in rw (number-at 1 (first ∷ r) 0 (omega arith), leAt-byte (first ∷ r) 0 (omega arith))
+
+    go : (t : Bool) → ltb first 2 ≡ t → complete (given t (readBody (readingOf (eqb first 1))) r) ≡ some s → ltb first 2 ≡ true
+    go true e k = e
+    go false e k = absurd (Option·none-ne-some s k)
 
 -- what the bytes are read as is what was written, and it is within the limits
 pub slipBytes-readSlip : (r : List ℕ) (s : Slip) → AllBytes r → readSlip r ≡ some s → slipBytes s ≡ r

@@ -1,5 +1,5 @@
 -- The written slip is accepted with the store's records. Assumes nothing.
-use mathlib.Core.Path.{_≡_, refl, subst}
+use mathlib.Core.Path.{_≡_, refl, sym, _∙_, subst}
 use mathlib.Core.Bool.{true, false, not, _&&_}
 use mathlib.Core.List.{List, [], _∷_, _++_, map, append-assoc, flatten}
 use mathlib.Core.Option.{some}
@@ -29,26 +29,30 @@ use Rattle.blocks.proofs.Records.{LocatorFits}
 use Rattle.store_layout.specs.Layout.{Record, usedBy}
 use Rattle.store_layout.specs.Accept.{blockChecks, allAccepted}
 use Rattle.store_layout.specs.Store.{giveRecord, recordsOf, storeInOrder}
-use Rattle.store_layout.proofs.Stored.{WellStored}
+use Rattle.store_layout.proofs.Stored.{WellStored, include-stored}
 use Rattle.store_layout.specs.Layout.{blocks}
 use Rattle.store_layout.proofs.Accepted.{accepted-stored}
 use Rattle.store_layout.proofs.Store.{Right, InOrder, in-order, recordsOf-right, used-within, longest}
-use Rattle.finality.specs.Voters.{votesFor, voters, certifies, certifiers, isFinal}
 use Rattle.finality.specs.Finality.{blocksOf}
 use Rattle.finality.specs.Claims.{Stored}
 use Rattle.finality.proofs.Votes.{votes-for}
+use Rattle.finality.proofs.Ancestors.{ancestor-stored}
 use Rattle.finality.proofs.Growing.{final-votes}
 use Rattle.finality.proofs.Claimed.{well-stored}
+use Rattle.readings.specs.Readings.{Reading, old, withdrawing, votersIn, certifiesIn, certifiersIn, isFinalIn}
+use Rattle.readings.specs.Withdrawing.{VoterIn}
+use Rattle.readings.proofs.FinalsIn.{final-in-old}
+use Rattle.readings.proofs.Claimed.{old-reading}
 use Rattle.slips.specs.Slip.{SlipVoter, readSlip, slipBytes}
 use Rattle.slips.specs.Supplied.{readSupplied, suppliedRecords, rightBlocks, suppliedBytes}
 use Rattle.slips.specs.Reading.{votesAs, readAnswer}
-use Rattle.slips.specs.Meaning.{LeadsToVote, RightCertifier, RightSlip}
+use Rattle.slips.specs.Meaning.{LeadsToVote, StandingIn, RightCertifier, RightSlip}
 use Rattle.slips.specs.Writing.{voterOf, certifierOf, orderedCertifiers, slipFor, writeChecks, writeSlip}
 use Rattle.slips.proofs.Slips.{readSlip-slipBytes}
 use Rattle.slips.proofs.Reading.{answered-passes, answered-same, NamedAs, quorum-listed, accepted-answer}
 use Rattle.slips.proofs.Distances.{named-stored}
 use Rattle.slips.proofs.Ordered.{Distinct}
-use Rattle.slips.proofs.Naming.{member-listed, own-path, certifier-in, certifiers-in}
+use Rattle.slips.proofs.Naming.{member-listed, own-voter, own-path, certifier-in, certifiers-in}
 use Rattle.slips.proofs.Fitting.{block-fits, vote-fits, distinct-stored, length-certifiers, slip-fits}
 
 -- ---- the records, read back
@@ -114,16 +118,21 @@ records-right c rs h w =
 
 -- ---- the written slip holds
 
-module _ (c : Committee) (bs : List Block) (h : Stored c bs) (l : TransactionLocator) where
+module _ (reading : Reading) (c : Committee) (bs : List Block) (h : Stored c bs) (l : TransactionLocator) where
   well : WellStored bs
   well = well-stored c bs h
 
   module _ (b : Block) (m : b ∈ bs) where
     abbrev own : AuthoritySet
-    own = voters bs l (b .reference)
+    own = votersIn reading bs l (b .reference)
 
-    written-certifier : certifies c bs l b ≡ true → RightCertifier votesFor c bs l (certifierOf bs l b)
-    unfolding certifierOf voterOf certifies
+    -- all that is stored is given, and who is counted has not rejected
+    stands : (r : Reading) {vs : List SlipVoter} → ((v : SlipVoter) → v ∈ vs → VoterIn r bs b l (v .author)) → StandingIn r bs l vs b
+    stands old f = tt
+    stands withdrawing f = record { whole = λ x a i k. include-stored well (ancestor-stored a) i k; kept = λ v n r. f v n .1 r }
+
+    written-certifier : certifiesIn reading c bs l b ≡ true → RightCertifier reading c bs l (certifierOf reading bs l b)
+    unfolding certifierOf voterOf certifiesIn
     written-certifier e =
         record {
           block = b;
@@ -131,30 +140,31 @@ module _ (c : Committee) (bs : List Block) (h : Stored c bs) (l : TransactionLoc
           unmarked = not-true (b .marked) (and-left (not (b .marked)) _ e);
           ends = λ v k.
               let x = map-in (voterOf bs l b) (members own) k in
-              subst (λ (y : SlipVoter). LeadsToVote (votesAs votesFor l (y .author)) bs (y .path) b) (x .2) (own-path c bs h l b m (x .0) (x .1) .leading);
+              subst (λ (y : SlipVoter). LeadsToVote (votesAs l (y .author)) bs (y .path) b) (x .2) (own-path reading c bs h l b m (x .0) (x .1) .leading);
+          standing = stands reading (λ v k. let x = map-in (voterOf bs l b) (members own) k in subst (λ (y : SlipVoter). VoterIn reading bs b l (y .author)) (x .2) (own-voter reading c bs h l b m (x .0) (x .1)));
           quorum =
               counted-quorum c own _
               (λ a k t. (voterOf bs l b a, in-map (voterOf bs l b) (member-listed own a (omega (arith, few-members c (h .sound), k)) t), refl))
               (and-right (not (b .marked)) _ e);
         }
 
-  written-right : isFinal c bs l ≡ true → RightSlip votesFor c bs (slipFor c bs l)
-  unfolding slipFor isFinal
+  written-right : isFinalIn reading c bs l ≡ true → RightSlip c bs (slipFor reading c bs l)
+  unfolding slipFor isFinalIn
   written-right f =
       record {
         certifiers = λ k m.
-            let x = map-in (certifierOf bs l) (orderedCertifiers c bs l) m in
-            let i = certifier-in c bs h l (x .0) (x .1) in
-            subst (RightCertifier votesFor c bs l) (x .2) (written-certifier (x .0) (i .0) (i .1));
+            let x = map-in (certifierOf reading bs l) (orderedCertifiers reading c bs l) m in
+            let i = certifier-in reading c bs h l (x .0) (x .1) in
+            subst (RightCertifier reading c bs l) (x .2) (written-certifier (x .0) (i .0) (i .1));
         quorum =
-            quorum-mono c (NamedAs author (certifiers c bs l)) _
-            (λ a x. (certifierOf bs l (x .0), in-map (certifierOf bs l) (certifiers-in c bs h l (x .0) (x .1)), unfold certifierOf in x .2))
-            (quorum-listed author (certifiers c bs l) c f);
+            quorum-mono c (NamedAs author (certifiersIn reading c bs l)) _
+            (λ a x. (certifierOf reading bs l (x .0), in-map (certifierOf reading bs l) (certifiers-in reading c bs h l (x .0) (x .1)), unfold certifierOf in x .2))
+            (quorum-listed author (certifiersIn reading c bs l) c f);
       }
 
 -- ---- together
 
-module _ (c : Committee) (t : Bytes) (sound : broken c ≡ false) (bytes : AllBytes t) (o : storeInOrder c t ≡ true) (l : TransactionLocator) (f : isFinal c (blocksOf t) l ≡ true) where
+module _ (reading : Reading) (c : Committee) (t : Bytes) (sound : broken c ≡ false) (bytes : AllBytes t) (o : storeInOrder c t ≡ true) (l : TransactionLocator) (f : isFinalIn reading c (blocksOf t) l ≡ true) where
   order : InOrder c t
   order = in-order c t o
 
@@ -167,40 +177,40 @@ module _ (c : Committee) (t : Bytes) (sound : broken c ≡ false) (bytes : AllBy
   few-blocks = omega (arith, length-map (recordsOf t) (λ r. r .block), order .few)
 
   target : LocatorFits l
-  target = let v = final-votes c (blocksOf t) l f in vote-fits (v .block) l (block-fits t bytes (v .block) (v .stands)) (votes-for (v .block) l (v .votes))
+  target = let v = final-votes c (blocksOf t) l (sym (old-reading .final c (blocksOf t) l) ∙ final-in-old reading c (blocksOf t) l f) in vote-fits (v .block) l (block-fits t bytes (v .block) (v .stands)) (votes-for (v .block) l (v .votes))
 
-  reads : readSlip (slipBytes (slipFor c (blocksOf t) l)) ≡ some (slipFor c (blocksOf t) l)
-  reads = readSlip-slipBytes (slipFor c (blocksOf t) l) (slip-fits c (blocksOf t) all-stored l few-blocks (block-fits t bytes) target)
+  reads : readSlip (slipBytes (slipFor reading c (blocksOf t) l)) ≡ some (slipFor reading c (blocksOf t) l)
+  reads = readSlip-slipBytes (slipFor reading c (blocksOf t) l) (slip-fits reading c (blocksOf t) all-stored l few-blocks (block-fits t bytes) target)
 
-  pub slip-accepted : readAnswer c (slipBytes (slipFor c (blocksOf t) l)) (suppliedBytes (recordsOf t)) ≡ answered (length (certifiers c (blocksOf t) l))
+  pub slip-accepted : readAnswer c (slipBytes (slipFor reading c (blocksOf t) l)) (suppliedBytes (recordsOf t)) ≡ answered (length (certifiersIn reading c (blocksOf t) l))
   slip-accepted =
-      accepted-answer c (slipBytes (slipFor c (blocksOf t) l)) (suppliedBytes (recordsOf t)) (length (certifiers c (blocksOf t) l))
+      accepted-answer c (slipBytes (slipFor reading c (blocksOf t) l)) (suppliedBytes (recordsOf t)) (length (certifiersIn reading c (blocksOf t) l))
       (record {
         sound = sound;
-        slip = slipFor c (blocksOf t) l;
+        slip = slipFor reading c (blocksOf t) l;
         records = recordsOf t;
         reads = reads;
         supplied = records-supplied c t order;
         right = records-right c (recordsOf t) (order .accepted) (accepted-stored c (recordsOf t) (order .accepted));
-        holding = unfold blocksOf in written-right c (blocksOf t) all-stored l f;
-        many = unfold slipFor in length-certifiers c (blocksOf t) all-stored l few-blocks (block-fits t bytes) target;
+        holding = unfold blocksOf in written-right reading c (blocksOf t) all-stored l f;
+        many = unfold slipFor in length-certifiers reading c (blocksOf t) all-stored l few-blocks (block-fits t bytes) target;
       })
 
 -- the slice that was lent holds the slip in front
-pub slice-accepted : (c : Committee) (t out : Bytes) (l : TransactionLocator) (n : ℕ) → AllBytes t → writeSlip c t out l .answer ≡ answered n
-    → readAnswer c (take n (writeSlip c t out l .out)) (suppliedBytes (recordsOf t)) ≡ answered (length (certifiers c (blocksOf t) l))
+pub slice-accepted : (reading : Reading) (c : Committee) (t out : Bytes) (l : TransactionLocator) (n : ℕ) → AllBytes t → writeSlip reading c t out l .answer ≡ answered n
+    → readAnswer c (take n (writeSlip reading c t out l .out)) (suppliedBytes (recordsOf t)) ≡ answered (length (certifiersIn reading c (blocksOf t) l))
 unfolding writeSlip
-slice-accepted c t out l n b h =
-    let p : passes (writeChecks c t out l) ≡ true = answered-passes (writeChecks c t out l) _ n h in
-    let e : length (slipBytes (slipFor c (blocksOf t) l)) ≡ n = answered-same (writeChecks c t out l) _ n h in
-    rw (p, take-at (slipBytes (slipFor c (blocksOf t) l)) (drop (length (slipBytes (slipFor c (blocksOf t) l))) out) n e)
-    (slip-accepted c t (sound p) b (ordered p) l (final p))
+slice-accepted reading c t out l n b h =
+    let p : passes (writeChecks reading c t out l) ≡ true = answered-passes (writeChecks reading c t out l) _ n h in
+    let e : length (slipBytes (slipFor reading c (blocksOf t) l)) ≡ n = answered-same (writeChecks reading c t out l) _ n h in
+    rw (p, take-at (slipBytes (slipFor reading c (blocksOf t) l)) (drop (length (slipBytes (slipFor reading c (blocksOf t) l))) out) n e)
+    (slip-accepted reading c t (sound p) b (ordered p) l (final p))
   where
-    sound : passes (writeChecks c t out l) ≡ true → broken c ≡ false
-    sound p = unfold writeChecks in passes-none (writeChecks c t out l) p (broken c ⇒ 5) here
+    sound : passes (writeChecks reading c t out l) ≡ true → broken c ≡ false
+    sound p = unfold writeChecks in passes-none (writeChecks reading c t out l) p (broken c ⇒ 5) here
 
-    ordered : passes (writeChecks c t out l) ≡ true → storeInOrder c t ≡ true
-    ordered p = unfold writeChecks in not-false (storeInOrder c t) (passes-none (writeChecks c t out l) p (not (storeInOrder c t) ⇒ 10) (there here))
+    ordered : passes (writeChecks reading c t out l) ≡ true → storeInOrder c t ≡ true
+    ordered p = unfold writeChecks in not-false (storeInOrder c t) (passes-none (writeChecks reading c t out l) p (not (storeInOrder c t) ⇒ 10) (there here))
 
-    final : passes (writeChecks c t out l) ≡ true → isFinal c (blocksOf t) l ≡ true
-    final p = unfold writeChecks in not-false (isFinal c (blocksOf t) l) (passes-none (writeChecks c t out l) p (not (isFinal c (blocksOf t) l) ⇒ 52) (there (there here)))
+    final : passes (writeChecks reading c t out l) ≡ true → isFinalIn reading c (blocksOf t) l ≡ true
+    final p = unfold writeChecks in not-false (isFinalIn reading c (blocksOf t) l) (passes-none (writeChecks reading c t out l) p (not (isFinalIn reading c (blocksOf t) l) ⇒ 52) (there (there here)))

@@ -15,11 +15,11 @@ use Rattle.blocks.specs.Block.{Block}
 use Rattle.blocks.specs.Claims.{areBytes}
 use Rattle.store_layout.specs.Layout.{Record}
 use Rattle.store_layout.specs.Store.{recordsOf, storeInOrder}
-use Rattle.finality.specs.Voters.{certifiers, isFinal}
 use Rattle.finality.specs.Finality.{blocksOf}
 use Rattle.finality.specs.Claims.{Stored}
+use Rattle.readings.specs.Readings.{Reading, certifiersIn, isFinalIn}
 use Rattle.slips.specs.Slip.{Slip, readSlip, slipIn, slipBytes, fitsSlip}
-use Rattle.slips.specs.Supplied.{suppliedIn, suppliedBlocks, suppliedBytes}
+use Rattle.slips.specs.Supplied.{suppliedIn, suppliedBlocks, rightBlocks, suppliedBytes}
 use Rattle.slips.specs.Paths.{pathTo}
 use Rattle.slips.specs.Reading.{missing, readAnswer}
 use Rattle.slips.specs.Writing.{slipFor, writeSlip}
@@ -34,16 +34,16 @@ unfoldable pub SlipWritesBack : Type 0
 SlipWritesBack = (r : Bytes) (s : Slip) → areBytes r ≡ true → readSlip r ≡ some s → slipBytes s ≡ r
 
 -- 02: "accepts a slip .. exactly if every path ends at its author's vote, each block is unmarked and lists quorum voters, and their authors
--- hold quorum"
+-- hold quorum", and a new one only where its certifiers' ancestry is whole and no listed voter rejects there
 unfoldable pub ReadingMeant : Type 0
 ReadingMeant = (c : Committee) (r q : Bytes) (n : ℕ) → (readAnswer c r q ≡ answered n) ↔ AcceptedSlip c r q n
 
--- 02: "53 for one named, also by path, but not supplied"
+-- 02: "53 for one named, also by path, but not supplied", or of a new slip's ancestry, among blocks that are right by themselves
 unfoldable pub MissingMeant : Type 0
-MissingMeant = (bs : List Block) (s : Slip) → (missing bs s ≡ true) ↔ NotSupplied bs s
+MissingMeant = (c : Committee) (bs : List Block) → rightBlocks c bs ≡ true → (s : Slip) → (missing bs s ≡ true) ↔ NotSupplied bs s
 
 -- 02: "in every store under that committee with those records they then really certify": among all blocks stored under the committee that
--- contain the blocks of the records which the slip names
+-- contain the blocks of the records which the slip names, in the slip's own reading
 unfoldable pub AcceptedCertifies : Type 0
 AcceptedCertifies = (c : Committee) (r q : Bytes) (n : ℕ) → readAnswer c r q ≡ answered n
     → (bs : List Block) → Stored c bs → ((d : Block) → NamedBy (suppliedBlocks q) (slipIn r) d → d ∈ bs) → ReallyFinal c bs (slipIn r)
@@ -60,18 +60,18 @@ PathsMeant = (c : Committee) (bs : List Block) → Stored c bs → (votes : Bloc
 
 -- 02: "naming all certifiers and voters"
 unfoldable pub WrittenNamesAll : Type 0
-WrittenNamesAll = (c : Committee) (bs : List Block) → Stored c bs → (l : TransactionLocator) → NamesAll c bs (slipFor c bs l)
+WrittenNamesAll = (reading : Reading) (c : Committee) (bs : List Block) → Stored c bs → (l : TransactionLocator) → NamesAll c bs (slipFor reading c bs l)
 
--- 02: "The node's writer makes, for every final locator, a slip accepted under its committee": with the records of the store
+-- 02: "The node's writer makes, for every final locator, a slip accepted under its committee": with the records of the store, in either reading
 unfoldable pub WrittenAccepted : Type 0
-WrittenAccepted = (c : Committee) (t : Bytes) → broken c ≡ false → areBytes t ≡ true → storeInOrder c t ≡ true
-    → (l : TransactionLocator) → isFinal c (blocksOf t) l ≡ true
-    → readAnswer c (slipBytes (slipFor c (blocksOf t) l)) (suppliedBytes (recordsOf t)) ≡ answered (length (certifiers c (blocksOf t) l))
+WrittenAccepted = (reading : Reading) (c : Committee) (t : Bytes) → broken c ≡ false → areBytes t ≡ true → storeInOrder c t ≡ true
+    → (l : TransactionLocator) → isFinalIn reading c (blocksOf t) l ≡ true
+    → readAnswer c (slipBytes (slipFor reading c (blocksOf t) l)) (suppliedBytes (recordsOf t)) ≡ answered (length (certifiersIn reading c (blocksOf t) l))
 
 -- the same of the slice that was lent to the writer
 unfoldable pub WrittenReads : Type 0
-WrittenReads = (c : Committee) (t out : Bytes) (l : TransactionLocator) (n : ℕ) → areBytes t ≡ true → writeSlip c t out l .answer ≡ answered n
-    → readAnswer c (take n (writeSlip c t out l .out)) (suppliedBytes (recordsOf t)) ≡ answered (length (certifiers c (blocksOf t) l))
+WrittenReads = (reading : Reading) (c : Committee) (t out : Bytes) (l : TransactionLocator) (n : ℕ) → areBytes t ≡ true → writeSlip reading c t out l .answer ≡ answered n
+    → readAnswer c (take n (writeSlip reading c t out l .out)) (suppliedBytes (recordsOf t)) ≡ answered (length (certifiersIn reading c (blocksOf t) l))
 
 pub record Claims : Type 0 where
   pub reads : SlipReadsBack

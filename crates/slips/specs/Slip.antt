@@ -1,6 +1,6 @@
--- Finality slips: their values and their bytes, read and written. Assumes nothing: these are definitions.
+-- Finality slips of both readings: their values and their bytes, read and written. Assumes nothing: these are definitions.
 use Prim.Native.Nat.{ℕ}
-use mathlib.Core.Bool.{Bool, _&&_}
+use mathlib.Core.Bool.{Bool, false, _&&_}
 use mathlib.Core.List.{List, [], _∷_, _++_, map, flatten}
 use mathlib.Core.Option.{Option, Option·getD}
 use lib.Dec.{ltb, eqb}
@@ -12,6 +12,7 @@ use Rattle.committee.specs.Committee.{AuthorityIndex}
 use Rattle.blocks.specs.Reference.{BlockReference, TransactionLocator, referenceBefore}
 use Rattle.blocks.specs.Record.{readReference, readLocator, referenceBytes, locatorBytes, noReference}
 use Rattle.blocks.specs.Claims.{areBytes, fitsReference, fitsLocator}
+use Rattle.readings.specs.Readings.{Reading, old, withdrawing, readingOf}
 
 -- 02: "voters, each its author, path length (2) and path of include places (1 each) from certifier to vote"
 pub record SlipVoter : Type 0 where
@@ -23,8 +24,9 @@ pub record SlipCertifier : Type 0 where
   pub reference : BlockReference
   pub voters : List SlipVoter
 
--- 02: "a finality slip for one locator"
+-- 02: "a finality slip for one locator", and "Slips name their reading in their first byte"
 pub record Slip : Type 0 where
+  pub reading : Reading
   pub locator : TransactionLocator
   pub certifiers : List SlipCertifier
 
@@ -52,18 +54,23 @@ readCertifier = do
   given (votersAscend voters) (give (record { reference = reference; voters = voters }))
 
 -- 02: "the locator, a count (2 bytes) of certifying blocks, .. both lists strictly ascending": what follows the first byte
-unfoldable pub readBody : Read Slip
-readBody = do
+unfoldable pub readBody : Reading → Read Slip
+readBody reading = do
   locator ← readLocator
   n ← number 2
   certifiers ← repeated n readCertifier
-  given (certifiersAscend certifiers) (give (record { locator = locator; certifiers = certifiers }))
+  given (certifiersAscend certifiers) (give (record { reading = reading; locator = locator; certifiers = certifiers }))
 
--- 02: "a byte 0", then the rest
+-- 02: "Slips name their reading in their first byte, 0 the old and 1 the new", then the rest
 unfoldable pub readFirst : Read Slip
 readFirst = do
   first ← number 1
-  given (eqb first 0) readBody
+  given (ltb first 2) (readBody (readingOf (eqb first 1)))
+
+-- 02: "another first byte or none answers 61": here the first byte names a reading
+unfoldable pub namesReading : Bytes → Bool
+namesReading [] = false
+namesReading (first ∷ rest) = ltb first 2
 
 -- nothing after; none is "52 for a slip .. of another form"
 unfoldable pub readSlip : Bytes → Option Slip
@@ -71,7 +78,7 @@ readSlip s = complete (readFirst s)
 
 -- a slip where there is none
 unfoldable pub noSlip : Slip
-noSlip = record { locator = record { block = noReference; offset = 0 }; certifiers = [] }
+noSlip = record { reading = old; locator = record { block = noReference; offset = 0 }; certifiers = [] }
 
 -- the slip of its bytes; an empty one where they are of another form
 unfoldable pub slipIn : Bytes → Slip
@@ -85,8 +92,13 @@ voterBytes v = leBytes 8 (v .author) ++ (leBytes 2 (length (v .path)) ++ v .path
 unfoldable pub certifierBytes : SlipCertifier → Bytes
 certifierBytes k = referenceBytes (k .reference) ++ (leBytes 1 (length (k .voters)) ++ flatten (map voterBytes (k .voters)))
 
+-- 02: "0 the old and 1 the new"
+unfoldable pub readingByte : Reading → ℕ
+readingByte old = 0
+readingByte withdrawing = 1
+
 unfoldable pub slipBytes : Slip → Bytes
-slipBytes s = 0 ∷ locatorBytes (s .locator) ++ (leBytes 2 (length (s .certifiers)) ++ flatten (map certifierBytes (s .certifiers)))
+slipBytes s = readingByte (s .reading) ∷ locatorBytes (s .locator) ++ (leBytes 2 (length (s .certifiers)) ++ flatten (map certifierBytes (s .certifiers)))
 
 -- ---- what fits: every number its bytes, and both lists strictly ascending
 

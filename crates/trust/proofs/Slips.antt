@@ -1,12 +1,11 @@
 -- A slip that is accepted with some records is accepted with more. Assumes nothing.
-use mathlib.Core.Path.{_≡_, refl, sym, ap, subst, _∙_}
-use mathlib.Core.Bool.{Bool, true, false}
+use mathlib.Core.Path.{_≡_, sym, subst, _∙_}
+use mathlib.Core.Bool.{true}
 use mathlib.Core.List.{List, [], _∷_}
 use mathlib.Core.Option.{some, Option·some-injective}
 use Prim.Native.Nat.{ℕ}
 use Rattle.base.specs.Lists.{_∈_}
 use Rattle.base.specs.Le.{Bytes}
-use Rattle.base.specs.Checks.{answered}
 use Rattle.committee.specs.Committee.{Committee}
 use Rattle.blocks.specs.Reference.{BlockReference, TransactionLocator}
 use Rattle.blocks.specs.Block.{Block}
@@ -16,16 +15,19 @@ use Rattle.store_layout.proofs.Store.{in-order}
 use Rattle.store_layout.proofs.Stored.{WellStored}
 use Rattle.store_layout.proofs.Accepted.{accepted-stored}
 use Rattle.finality.specs.Finality.{blocksOf}
-use Rattle.slips.specs.Slip.{SlipCertifier, Slip}
-use Rattle.slips.specs.Supplied.{suppliedRecords, suppliedBytes}
+use Rattle.finality.specs.Ancestry.{Ancestor}
+use Rattle.finality.proofs.Ancestors.{ancestor-stored}
+use Rattle.readings.specs.Readings.{Reading, old, withdrawing}
+use Rattle.readings.proofs.Records.{whole-ancestor}
+use Rattle.slips.specs.Slip.{SlipVoter, SlipCertifier, Slip}
+use Rattle.slips.specs.Supplied.{suppliedBytes}
 use Rattle.slips.specs.Paths.{named, toBlock, leads}
-use Rattle.slips.specs.Reading.{readAnswer}
-use Rattle.slips.specs.Meaning.{LeadsToVote, RightCertifier, RightSlip, AcceptedSlip}
+use Rattle.slips.specs.Meaning.{StandingIn, RightCertifier, RightSlip, AcceptedSlip}
 use Rattle.slips.proofs.Paths.{named-reference, named-in, first-step, step-leads}
 use Rattle.slips.proofs.Distances.{named-stored}
 use Rattle.slips.proofs.Written.{records-supplied, records-right}
 use Rattle.slips.proofs.Reading.{answer-iff}
-use Rattle.promises.specs.Feeds.{Engine, run}
+use Rattle.promises.specs.Feeds.{run}
 use Rattle.trust.specs.Slips.{SlipsStay}
 use Rattle.trust.proofs.Growing.{Grown, run-grows}
 use Rattle.trust.proofs.Naming.{more-blocks}
@@ -43,19 +45,32 @@ module _ (bs cs : List Block) (w : WellStored cs) (more : (x : Block) → x ∈ 
       let s = first-step bs p ps b d h in
       step-leads cs p ps b d (record { include = s .include; next = s .next; at = s .at; given = named-more (s .include) (s .next) (s .given); onward = leads-more ps (s .next) d (s .onward) })
 
-  module _ (votes : Block → TransactionLocator → Bool) (c : Committee) where
-    certifier-more : (l : TransactionLocator) (k : SlipCertifier) → RightCertifier votes c bs l k → RightCertifier votes c cs l k
+  -- a whole ancestry stays the one that it was, and who does not reject there does not
+  standing-more : (reading : Reading) (l : TransactionLocator) (vs : List SlipVoter) (b : Block) → b ∈ bs → StandingIn reading bs l vs b → StandingIn reading cs l vs b
+  standing-more old l vs b m h = tt
+  standing-more withdrawing l vs b m h =
+      record {
+        whole = λ x a i k. let d = h .whole x (back a) i k in (d .0, more (d .0) (d .1), d .2);
+        kept = λ v n r. h .kept v n (record { rejecting = r .rejecting; ancestor = back (r .ancestor); rejects = r .rejects; authored = r .authored });
+      }
+    where
+      back : {d : Block} → Ancestor cs d b → Ancestor bs d b
+      back a = whole-ancestor w m (h .whole) (λ x y. more x (ancestor-stored y)) a
+
+  module _ (reading : Reading) (c : Committee) where
+    certifier-more : (l : TransactionLocator) (k : SlipCertifier) → RightCertifier reading c bs l k → RightCertifier reading c cs l k
     certifier-more l k r =
         record {
           block = r .block;
           given = named-more (k .reference) (r .block) (r .given);
           unmarked = r .unmarked;
           ends = λ v m. let e = r .ends v m in record { vote = e .vote; leading = leads-more (v .path) (r .block) (e .vote) (e .leading); voting = e .voting };
+          standing = standing-more reading l (k .voters) (r .block) (named-in bs (k .reference) (r .block) (r .given)) (r .standing);
           quorum = r .quorum;
         }
 
-    slip-more : (s : Slip) → RightSlip votes c bs s → RightSlip votes c cs s
-    slip-more s r = record { certifiers = λ k m. certifier-more (s .locator) k (r .certifiers k m); quorum = r .quorum }
+  slip-more : (c : Committee) (s : Slip) → RightSlip c bs s → RightSlip c cs s
+  slip-more c s r = record { certifiers = λ k m. certifier-more (s .reading) c (s .locator) k (r .certifiers k m); quorum = r .quorum }
 
 module _ (c : Committee) (s t : Bytes) (h : storeInOrder c s ≡ true) (g : Grown c s t) where
   accepted-more : (slip : Bytes) (n : ℕ) → AcceptedSlip c slip (suppliedBytes (recordsOf s)) n → AcceptedSlip c slip (suppliedBytes (recordsOf t)) n
@@ -72,8 +87,8 @@ module _ (c : Committee) (s t : Bytes) (h : storeInOrder c s ≡ true) (g : Grow
         supplied = records-supplied c t o;
         right = records-right c (recordsOf t) (o .accepted) w;
         holding =
-            slip-more (blocksOf s) (blocksOf t) w (more-blocks c s t (a .sound) h g) _ c (a .slip)
-            (subst (λ (rs : List Record). RightSlip _ c (blocks rs) (a .slip)) (sym same-records) (a .holding));
+            slip-more (blocksOf s) (blocksOf t) w (more-blocks c s t (a .sound) h g) c (a .slip)
+            (subst (λ (rs : List Record). RightSlip c (blocks rs) (a .slip)) (sym same-records) (a .holding));
         many = a .many;
       }
 

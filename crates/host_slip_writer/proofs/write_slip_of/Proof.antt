@@ -17,15 +17,15 @@ returns c = rw (locator-none (c .before .before .before .before .before .before 
 read-locator-requires : tie.Need-read-locator-requires
 read-locator-requires c κs = search needs
 
-write-slip-requires : tie.Need-write-slip-requires
-write-slip-requires c κs = search needs
+write-slip-in-requires : tie.Need-write-slip-in-requires
+write-slip-in-requires c κs = search needs
 
 same-length : tie.Need-same-length
 same-length c = search needs
 
 returns-2 : tie.Need-returns-2
 unfolding askedSlip
-returns-2 c = rw (locator-read (c .before .before .before .before .before .before .before .before .before .before .args .locator .now) (c .before .before .before .before .before .if1 .left), ← c .before .before .before .before .read-locator .ensures) (c .before .before .write-slip .ensures)
+returns-2 c = rw (locator-read (c .before .before .before .before .before .before .before .before .before .before .args .locator .now) (c .before .before .before .before .before .if1 .left), ← c .before .before .before .before .read-locator .ensures) (c .before .before .write-slip-in .ensures)
 
 pub write-slip-of-spec : {M : Type 1} → statement M
 write-slip-of-spec =
@@ -34,6 +34,6 @@ write-slip-of-spec =
     refusal-before-requires
     returns
     read-locator-requires
-    write-slip-requires
+    write-slip-in-requires
     same-length
     returns-2)

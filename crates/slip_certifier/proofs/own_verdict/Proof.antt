@@ -3,7 +3,7 @@ use Rattle.base.specs.Lists.{isNone, holds}
 use Rattle.slip_paths.specs.Verdict.{verdict}
 use Rattle.slip_paths.specs.Walk.{InPlace}
 use Rattle.slip_paths.proofs.Walks.{led-block, led-nowhere, led-missing, from-block, from-none, from-somewhere}
-use Rattle.slip_certifier.specs.Step.{ownVerdict}
+use Rattle.slip_certifier.specs.Verdict.{ownVerdict}
 use borrow.Author.Needs.{needs}
 use Rattle.slip_certifier.proofs.own_verdict.Statement.{statement}
 use Rattle.slip_certifier.proofs.own_verdict.Tie as tie

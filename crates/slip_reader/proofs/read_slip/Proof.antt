@@ -1,4 +1,3 @@
-use Rattle.slip_reader.proofs.Answering.{noted-same}
 use lib.Seq.{length-take-le}
 use mathlib.Core.Path.{refl, sym, ap, subst, _∙_}
 use native.Mathlib.Omega.{arith}
@@ -6,10 +5,10 @@ use borrow.Author.Tests.{not-true, not-false}
 use Rattle.committee.specs.Answers.{asNewCommittee}
 use Rattle.committee.proofs.Answers.{broken-sound, taken-sound}
 use Rattle.slip_records.specs.Step.{SortedAs}
+use Rattle.slip_body.proofs.Certifying.{short-slip}
 use Rattle.slip_reader.specs.Answers.{asSlipAnswer}
-use Rattle.slip_reader.specs.Step.{TookSlip}
-use Rattle.slip_reader.proofs.Certifying.{no-head, head-long}
-use Rattle.slip_reader.proofs.Answering.{answer-broken, answer-form, answer-records, answer-missing, answer-fails, answer-holds}
+use Rattle.slip_reader.specs.Step.{Showed}
+use Rattle.slip_reader.proofs.Answering.{answer-broken, answer-reading, answer-form, answer-records, answer-missing, answer-fails, answer-holds, named-head, right-of}
 use borrow.Author.Needs.{needs}
 use Rattle.slip_reader.proofs.read_slip.Statement.{statement}
 use Rattle.slip_reader.proofs.read_slip.Tie as tie
@@ -27,18 +26,22 @@ returns : tie.Need-returns
 unfolding asSlipAnswer
 returns c = answer-broken _ _ _ (broken-sound _ _ (ap asNewCommittee (sym (c .enum-told .given .1)) ∙ c .before .before .new-committee .ensures))
 
-head-right-requires : tie.Need-head-right-requires
-head-right-requires c κs = search needs
+names-reading-requires : tie.Need-names-reading-requires
+names-reading-requires c κs = search needs
 
 returns-2 : tie.Need-returns-2
 unfolding asSlipAnswer
-returns-2 c = answer-form _ _ _ (taken-sound _ _ (ap asNewCommittee (sym (c .before .before .before .total .given .1)) ∙ c .before .before .before .before .before .new-committee .ensures) .0) (no-head _ (sym (c .before .head-right .ensures) ∙ not-true (c .before .head-right .result) (c .if1 .taken)))
+returns-2 c = answer-reading _ _ _ (taken-sound _ _ (ap asNewCommittee (sym (c .before .before .before .total .given .1)) ∙ c .before .before .before .before .before .new-committee .ensures) .0) (sym (c .before .names-reading .ensures) ∙ not-true (c .before .names-reading .result) (c .if1 .taken))
+
+returns-3 : tie.Need-returns-3
+unfolding asSlipAnswer
+returns-3 c = answer-form _ _ _ (taken-sound _ _ (ap asNewCommittee (sym (c .before .before .before .before .total .given .1)) ∙ c .before .before .before .before .before .before .new-committee .ensures) .0) (sym (c .before .before .names-reading .ensures) ∙ not-false (c .before .before .names-reading .result) (c .before .if1 .left)) (short-slip _ (omega (arith, c .if2 .taken)))
 
 slice-aggregate-sort-records : tie.Need-slice-aggregate-sort-records
 slice-aggregate-sort-records c = search needs
 
 sort-records-requires : tie.Need-sort-records-requires
-sort-records-requires c κs = (taken-sound _ _ (ap asNewCommittee (sym (c .before .before .before .before .total .given .1)) ∙ c .before .before .before .before .before .before .new-committee .ensures) .0, refl)
+sort-records-requires c κs = (taken-sound _ _ (ap asNewCommittee (sym (c .before .before .before .before .before .total .given .1)) ∙ c .before .before .before .before .before .before .before .new-committee .ensures) .0, refl)
 
 enum-known-count : tie.Need-enum-known-count
 enum-known-count c = search needs
@@ -46,48 +49,25 @@ enum-known-count c = search needs
 enum-told-2 : tie.Need-enum-told-2
 enum-told-2 c = search needs
 
-returns-3 : tie.Need-returns-3
+returns-4 : tie.Need-returns-4
 unfolding asSlipAnswer SortedAs
-returns-3 c = answer-records _ _ _ (taken-sound _ _ (ap asNewCommittee (sym (c .before .before .before .before .before .before .before .before .total .given .1)) ∙ c .before .before .before .before .before .before .before .before .before .before .new-committee .ensures) .0) (subst (SortedAs _ _ _) (c .enum-told2 .given .1) (c .before .before .before .sort-records .ensures))
+returns-4 c = answer-records _ _ _ (taken-sound _ _ (ap asNewCommittee (sym (c .before .before .before .before .before .before .before .before .before .total .given .1)) ∙ c .before .before .before .before .before .before .before .before .before .before .before .new-committee .ensures) .0) (sym (c .before .before .before .before .before .before .before .names-reading .ensures) ∙ not-false (c .before .before .before .before .before .before .before .names-reading .result) (c .before .before .before .before .before .before .if1 .left)) (subst (SortedAs _ _ _) (c .enum-told2 .given .1) (c .before .before .before .sort-records .ensures))
 
 array-share-prefix-order : tie.Need-array-share-prefix-order
 unfolding SortedAs
 array-share-prefix-order c = subst (SortedAs _ _ _) (c .before .count .given .1) (c .before .before .before .before .sort-records .ensures) .1 .0
 
-slice-aggregate-note-votes : tie.Need-slice-aggregate-note-votes
+slice-aggregate-show-slip : tie.Need-slice-aggregate-show-slip
 unfolding SortedAs
-slice-aggregate-note-votes c = sym (length-take-le _ _ (subst (SortedAs _ _ _) (c .before .before .count .given .1) (c .before .before .before .before .before .sort-records .ensures) .1 .0))
+slice-aggregate-show-slip c = sym (length-take-le _ _ (subst (SortedAs _ _ _) (c .before .before .count .given .1) (c .before .before .before .before .before .sort-records .ensures) .1 .0))
 
-read-locator-requires : tie.Need-read-locator-requires
-read-locator-requires c κs = omega (arith, head-long (c .before .before .before .before .before .before .before .before .before .before .before .before .before .before .before .before .args .slip .now) (sym (c .before .before .before .before .before .before .before .before .head-right .ensures) ∙ not-false (c .before .before .before .before .before .before .before .before .head-right .result) (c .before .before .before .before .before .before .before .if1 .left)))
-
-slice-aggregate-note-votes-2 : tie.Need-slice-aggregate-note-votes-2
-slice-aggregate-note-votes-2 c = refl
-
-note-votes-requires : tie.Need-note-votes-requires
+show-slip-requires : tie.Need-show-slip-requires
 unfolding SortedAs
-note-votes-requires c κs =
-    let sorted = subst (SortedAs _ _ _) (c .before .before .before .before .count .given .1) (c .before .before .before .before .before .before .before .sort-records .ensures) in
-    (sorted .1 .1 .sorted, omega (arith, length-take-le (c .before .before .before .before .count .given .0 .0) (c .before .before .before .before .before .before .before .sort-records .last .1 .1 .0) (sorted .1 .0), sorted .1 .0, c .before .before .before .before .before .before .before .sort-records .kept .1 .1 .0))
-
-array-share-prefix-order-2 : tie.Need-array-share-prefix-order-2
-unfolding SortedAs
-array-share-prefix-order-2 c = subst (SortedAs _ _ _) (c .before .before .before .before .before .before .count .given .1) (c .before .before .before .before .before .before .before .before .before .sort-records .ensures) .1 .0
-
-slice-aggregate-take-slip : tie.Need-slice-aggregate-take-slip
-unfolding SortedAs
-slice-aggregate-take-slip c = sym (length-take-le _ _ (subst (SortedAs _ _ _) (c .before .before .before .before .before .before .before .count .given .1) (c .before .before .before .before .before .before .before .before .before .before .sort-records .ensures) .1 .0))
-
-slice-aggregate-take-slip-2 : tie.Need-slice-aggregate-take-slip-2
-slice-aggregate-take-slip-2 c = search needs
-
-take-slip-requires : tie.Need-take-slip-requires
-unfolding SortedAs
-take-slip-requires c κs =
-    let sorted = subst (SortedAs _ _ _) (c .before .before .before .before .before .before .before .before .count .given .1) (c .before .before .before .before .before .before .before .before .before .before .before .sort-records .ensures) in
-    let t = taken-sound _ _ (ap asNewCommittee (sym (c .before .before .before .before .before .before .before .before .before .before .before .before .before .before .before .before .total .given .1)) ∙ c .before .before .before .before .before .before .before .before .before .before .before .before .before .before .before .before .before .before .new-committee .ensures) in (
-      sym (c .before .before .before .before .before .before .before .before .before .before .before .before .before .before .head-right .ensures) ∙ not-false (c .before .before .before .before .before .before .before .before .before .before .before .before .before .before .head-right .result) (c .before .before .before .before .before .before .before .before .before .before .before .before .before .if1 .left),
-      record { sound = t .0; all = t .1; places = sorted .1 .1; room = omega (arith, length-take-le (c .before .before .before .before .before .before .before .before .count .given .0 .0) (c .before .before .before .before .before .before .before .before .before .before .before .sort-records .last .1 .1 .0) (sorted .1 .0), sorted .1 .0, c .before .before .before .before .before .before .before .before .before .before .before .sort-records .kept .1 .1 .0, c .before .before .before .note-votes .kept .1 .1 .1 .0) },
+show-slip-requires c κs =
+    let sorted = subst (SortedAs _ _ _) (c .before .before .count .given .1) (c .before .before .before .before .before .sort-records .ensures) in
+    let t = taken-sound _ _ (ap asNewCommittee (sym (c .before .before .before .before .before .before .before .before .before .before .before .total .given .1)) ∙ c .before .before .before .before .before .before .before .before .before .before .before .before .before .new-committee .ensures) in (
+      (named-head (c .before .before .before .before .before .before .before .before .before .before .before .before .before .before .before .before .before .args .slip .now) (sym (c .before .before .before .before .before .before .before .before .before .names-reading .ensures) ∙ not-false (c .before .before .before .before .before .before .before .before .before .names-reading .result) (c .before .before .before .before .before .before .before .before .if1 .left)) (omega (arith, c .before .before .before .before .before .before .before .if2 .left)), (t .0, t .1)),
+      ((sorted .1 .1, right-of _ _ (t .0) (sorted .0)), omega (arith, length-take-le (c .before .before .count .given .0 .0) (c .before .before .before .before .before .sort-records .last .1 .1 .0) (sorted .1 .0), sorted .1 .0, c .before .before .before .before .before .sort-records .kept .1 .1 .0)),
     )
 
 enum-known-shown : tie.Need-enum-known-shown
@@ -96,40 +76,36 @@ enum-known-shown c = search needs
 enum-told-3 : tie.Need-enum-told-3
 enum-told-3 c = search needs
 
-returns-4 : tie.Need-returns-4
-unfolding asSlipAnswer TookSlip
-returns-4 c =
-    answer-form _ _ _ (taken-sound _ _ (ap asNewCommittee (sym (c .before .before .before .before .before .before .before .before .before .before .before .before .before .before .before .before .before .before .before .total .given .1)) ∙ c .before .before .before .before .before .before .before .before .before .before .before .before .before .before .before .before .before .before .before .before .before .new-committee .ensures) .0) (subst (TookSlip _ _ _ _ _) (c .enum-told3 .given .1) (c .before .before .take-slip .ensures))
-
 returns-5 : tie.Need-returns-5
-unfolding asSlipAnswer TookSlip SortedAs
-returns-5 c =
-    let sorted = subst (SortedAs _ _ _) (c .before .before .before .before .before .before .before .before .before .before .before .before .before .count .given .1) (c .before .before .before .before .before .before .before .before .before .before .before .before .before .before .before .before .sort-records .ensures) in
-    let read = subst (TookSlip _ _ _ _ _) (c .before .before .shown .given .1) (c .before .before .before .before .take-slip .ensures) in
-    let noted = noted-same _ _ _ _ _ _ (c .before .before .before .before .before .before .before .before .before .before .read-locator .ensures ∙ sym (read .about)) (c .before .before .before .before .before .before .before .before .note-votes .ensures) in
-    answer-missing _ _ _ (taken-sound _ _ (ap asNewCommittee (sym (c .before .before .before .before .before .before .before .before .before .before .before .before .before .before .before .before .before .before .before .before .before .total .given .1)) ∙ c .before .before .before .before .before .before .before .before .before .before .before .before .before .before .before .before .before .before .before .before .before .before .before .new-committee .ensures) .0) (sorted .0) (read .slip) (read .reads) _ (read .shows noted) (c .if2 .taken)
+unfolding asSlipAnswer Showed
+returns-5 c = answer-form _ _ _ (taken-sound _ _ (ap asNewCommittee (sym (c .before .before .before .before .before .before .before .before .before .before .before .before .before .before .total .given .1)) ∙ c .before .before .before .before .before .before .before .before .before .before .before .before .before .before .before .before .new-committee .ensures) .0) (sym (c .before .before .before .before .before .before .before .before .before .before .before .before .names-reading .ensures) ∙ not-false (c .before .before .before .before .before .before .before .before .before .before .before .before .names-reading .result) (c .before .before .before .before .before .before .before .before .before .before .before .if1 .left)) (subst (Showed _ _ _) (c .enum-told3 .given .1) (c .before .before .show-slip .ensures))
 
 returns-6 : tie.Need-returns-6
-unfolding asSlipAnswer TookSlip SortedAs
+unfolding asSlipAnswer Showed SortedAs
 returns-6 c =
-    let sorted = subst (SortedAs _ _ _) (c .before .before .before .before .before .before .before .before .before .before .before .before .before .before .count .given .1) (c .before .before .before .before .before .before .before .before .before .before .before .before .before .before .before .before .before .sort-records .ensures) in
-    let read = subst (TookSlip _ _ _ _ _) (c .before .before .before .shown .given .1) (c .before .before .before .before .before .take-slip .ensures) in
-    let noted = noted-same _ _ _ _ _ _ (c .before .before .before .before .before .before .before .before .before .before .before .read-locator .ensures ∙ sym (read .about)) (c .before .before .before .before .before .before .before .before .before .note-votes .ensures) in
-    answer-fails _ _ _ (taken-sound _ _ (ap asNewCommittee (sym (c .before .before .before .before .before .before .before .before .before .before .before .before .before .before .before .before .before .before .before .before .before .before .total .given .1)) ∙ c .before .before .before .before .before .before .before .before .before .before .before .before .before .before .before .before .before .before .before .before .before .before .before .before .new-committee .ensures) .0) (sorted .0) (read .slip) (read .reads) _ (read .shows noted) (c .if3 .taken)
-
-read-u16-requires : tie.Need-read-u16-requires
-read-u16-requires c κs = omega (arith, head-long (c .before .before .before .before .before .before .before .before .before .before .before .before .before .before .before .before .before .before .before .before .before .before .before .before .before .before .before .before .args .slip .now) (sym (c .before .before .before .before .before .before .before .before .before .before .before .before .before .before .before .before .before .before .before .before .head-right .ensures) ∙ not-false (c .before .before .before .before .before .before .before .before .before .before .before .before .before .before .before .before .before .before .before .before .head-right .result) (c .before .before .before .before .before .before .before .before .before .before .before .before .before .before .before .before .before .before .before .if1 .left)))
-
-cast-t27 : tie.Need-cast-t27
-cast-t27 c = search needs
+    let sorted = subst (SortedAs _ _ _) (c .before .before .before .before .before .before .before .count .given .1) (c .before .before .before .before .before .before .before .before .before .before .sort-records .ensures) in
+    let read = subst (Showed _ _ _) (c .before .before .shown .given .1) (c .before .before .before .before .show-slip .ensures) in
+    answer-missing _ _ _ (taken-sound _ _ (ap asNewCommittee (sym (c .before .before .before .before .before .before .before .before .before .before .before .before .before .before .before .before .total .given .1)) ∙ c .before .before .before .before .before .before .before .before .before .before .before .before .before .before .before .before .before .before .new-committee .ensures) .0) (sym (c .before .before .before .before .before .before .before .before .before .before .before .before .before .before .names-reading .ensures) ∙ not-false (c .before .before .before .before .before .before .before .before .before .before .before .before .before .before .names-reading .result) (c .before .before .before .before .before .before .before .before .before .before .before .before .before .if1 .left)) (sorted .0) (read .slip) (read .reads) _ (read .shows) (c .if3 .taken)
 
 returns-7 : tie.Need-returns-7
-unfolding asSlipAnswer TookSlip SortedAs
+unfolding asSlipAnswer Showed SortedAs
 returns-7 c =
-    let sorted = subst (SortedAs _ _ _) (c .before .before .before .before .before .before .before .before .before .before .before .before .before .before .before .count .given .1) (c .before .before .before .before .before .before .before .before .before .before .before .before .before .before .before .before .before .before .sort-records .ensures) in
-    let read = subst (TookSlip _ _ _ _ _) (c .before .before .before .before .shown .given .1) (c .before .before .before .before .before .before .take-slip .ensures) in
-    let noted = noted-same _ _ _ _ _ _ (c .before .before .before .before .before .before .before .before .before .before .before .before .read-locator .ensures ∙ sym (read .about)) (c .before .before .before .before .before .before .before .before .before .before .note-votes .ensures) in
-    answer-holds _ _ _ (taken-sound _ _ (ap asNewCommittee (sym (c .before .before .before .before .before .before .before .before .before .before .before .before .before .before .before .before .before .before .before .before .before .before .before .total .given .1)) ∙ c .before .before .before .before .before .before .before .before .before .before .before .before .before .before .before .before .before .before .before .before .before .before .before .before .before .new-committee .ensures) .0) (sorted .0) (read .slip) (read .reads) _ (read .shows noted) _ (c .before .before .if2 .left) (c .before .if3 .left) (read .many ∙ sym (c .read-u16 .ensures))
+    let sorted = subst (SortedAs _ _ _) (c .before .before .before .before .before .before .before .before .count .given .1) (c .before .before .before .before .before .before .before .before .before .before .before .sort-records .ensures) in
+    let read = subst (Showed _ _ _) (c .before .before .before .shown .given .1) (c .before .before .before .before .before .show-slip .ensures) in
+    answer-fails _ _ _ (taken-sound _ _ (ap asNewCommittee (sym (c .before .before .before .before .before .before .before .before .before .before .before .before .before .before .before .before .before .total .given .1)) ∙ c .before .before .before .before .before .before .before .before .before .before .before .before .before .before .before .before .before .before .before .new-committee .ensures) .0) (sym (c .before .before .before .before .before .before .before .before .before .before .before .before .before .before .before .names-reading .ensures) ∙ not-false (c .before .before .before .before .before .before .before .before .before .before .before .before .before .before .before .names-reading .result) (c .before .before .before .before .before .before .before .before .before .before .before .before .before .before .if1 .left)) (sorted .0) (read .slip) (read .reads) _ (read .shows) (c .if4 .taken)
+
+read-u16-requires : tie.Need-read-u16-requires
+read-u16-requires c κs = search needs
+
+cast-t19 : tie.Need-cast-t19
+cast-t19 c = search needs
+
+returns-8 : tie.Need-returns-8
+unfolding asSlipAnswer Showed SortedAs
+returns-8 c =
+    let sorted = subst (SortedAs _ _ _) (c .before .before .before .before .before .before .before .before .before .count .given .1) (c .before .before .before .before .before .before .before .before .before .before .before .before .sort-records .ensures) in
+    let read = subst (Showed _ _ _) (c .before .before .before .before .shown .given .1) (c .before .before .before .before .before .before .show-slip .ensures) in
+    answer-holds _ _ _ (taken-sound _ _ (ap asNewCommittee (sym (c .before .before .before .before .before .before .before .before .before .before .before .before .before .before .before .before .before .before .total .given .1)) ∙ c .before .before .before .before .before .before .before .before .before .before .before .before .before .before .before .before .before .before .before .before .new-committee .ensures) .0) (sym (c .before .before .before .before .before .before .before .before .before .before .before .before .before .before .before .before .names-reading .ensures) ∙ not-false (c .before .before .before .before .before .before .before .before .before .before .before .before .before .before .before .before .names-reading .result) (c .before .before .before .before .before .before .before .before .before .before .before .before .before .before .before .if1 .left)) (sorted .0) (read .slip) (read .reads) _ (read .shows) _ (c .before .before .if3 .left) (c .before .if4 .left) (read .many ∙ sym (c .read-u16 .ensures))
 
 pub read-slip-spec : {M : Type 1} → statement M
 read-slip-spec =
@@ -139,27 +115,22 @@ read-slip-spec =
     enum-known-total
     enum-told
     returns
-    head-right-requires
+    names-reading-requires
     returns-2
+    returns-3
     slice-aggregate-sort-records
     sort-records-requires
     enum-known-count
     enum-told-2
-    returns-3
+    returns-4
     array-share-prefix-order
-    slice-aggregate-note-votes
-    read-locator-requires
-    slice-aggregate-note-votes-2
-    note-votes-requires
-    array-share-prefix-order-2
-    slice-aggregate-take-slip
-    slice-aggregate-take-slip-2
-    take-slip-requires
+    slice-aggregate-show-slip
+    show-slip-requires
     enum-known-shown
     enum-told-3
-    returns-4
     returns-5
     returns-6
+    returns-7
     read-u16-requires
-    cast-t27
-    returns-7)
+    cast-t19
+    returns-8)

@@ -6,7 +6,6 @@ use lib.ListN.{length, getD, length-set}
 use lib.Seq.{sets}
 use Rattle.blocks.specs.Reference.{TransactionLocator}
 use Rattle.blocks.specs.Record.{noReference}
-use Rattle.finality.specs.Voters.{votesFor}
 use Rattle.finality.specs.Finality.{blocksOf}
 use Rattle.block_votes.specs.Walk.{blockAtPlace}
 use Rattle.block_votes.proofs.Sorting.{place-entry, include-found}
@@ -24,7 +23,7 @@ Inv-loop store order near steps k a out₀ at p₀ left₀ to₀ out p left to =
     × ((to + left + 1 ≡ at + getD near (128 * k + a) 0)
     × ((length out ≡ length out₀)
     × ((l : TransactionLocator) → Distances store order l near steps (length order)
-    → sets out₀ at (pathTo (votesAs votesFor l a) (blocksOf store) (blockAtPlace store order k)) ≡ sets out to (stepsFrom (votesAs votesFor l a) (blocksOf store) left (blockAtPlace store order p)))))
+    → sets out₀ at (pathTo (votesAs l a) (blocksOf store) (blockAtPlace store order k)) ≡ sets out to (stepsFrom (votesAs l a) (blocksOf store) left (blockAtPlace store order p)))))
 
 abbrev μ-loop : tie.MeasureT-loop
 μ-loop store order near steps k a out₀ at p₀ left₀ to₀ out p left to = left

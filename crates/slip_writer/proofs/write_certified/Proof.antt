@@ -2,9 +2,10 @@ use mathlib.Core.Path.{ap, _∙_}
 use native.Mathlib.Omega.{arith}
 use Rattle.base.specs.Le.{Bytes}
 use Rattle.types.specs.Values.{asLocator}
+use Rattle.readings.specs.Readings.{readingOf}
 use Rattle.slips.specs.Writing.{Written}
 use Rattle.slip_writer.specs.Listed.{writtenOver}
-use Rattle.slip_writer.proofs.Same.{listed-voted, listed-same}
+use Rattle.slip_writer.proofs.Same.{listed-voted, listed-first}
 use borrow.Author.Needs.{needs}
 use Rattle.slip_writer.proofs.write_certified.Statement.{statement}
 use Rattle.slip_writer.proofs.write_certified.Tie as tie
@@ -16,6 +17,9 @@ list-certifiers-requires : tie.Need-list-certifiers-requires
 list-certifiers-requires c κs = let q = c .before .before .before .before .before .pre in
     (q .0, (q .1 .0, omega (arith, q .1 .1)))
 
+cast-first : tie.Need-cast-first
+cast-first c = search needs
+
 slice-aggregate-write-listed : tie.Need-slice-aggregate-write-listed
 slice-aggregate-write-listed c = search needs
 
@@ -23,7 +27,7 @@ write-listed-requires : tie.Need-write-listed-requires
 write-listed-requires c κs = let a = c .before .before .before .before .before .before .before .before .before .args in
     let q = c .before .before .before .before .before .before .before .before .before .pre in
     let w = c .before .before .before .list-certifiers .ensures in
-    (q .0, ((q .1 .1, omega (arith, q .1 .1, c .before .before .before .list-certifiers .kept .1 .1 .1 .1 .0)), listed-voted (a .store .now) (a .order .now) (asLocator (a .locator)) (a .positions .now) _ w (q .0 .0)))
+    (q .0, ((q .1 .1, omega (arith, q .1 .1, c .before .before .before .list-certifiers .kept .1 .1 .1 .1 .1 .0)), listed-voted (readingOf (a .withdrawing)) (a .store .now) (a .order .now) (asLocator (a .locator)) (a .positions .now) _ w (q .0 .0)))
 
 same-length : tie.Need-same-length
 same-length c = search needs
@@ -31,7 +35,7 @@ same-length c = search needs
 returns : tie.Need-returns
 returns c = let a = c .before .before .before .before .before .before .before .before .before .before .before .before .args in
     let w = c .before .before .before .before .before .before .list-certifiers .ensures in
-    let e = ap (λ (x : Bytes). writtenOver x (a .out .now)) (listed-same (a .store .now) (a .order .now) (asLocator (a .locator)) (a .positions .now) _ w) in
+    let e = ap (λ (x : Bytes). writtenOver x (a .out .now)) (listed-first (a .withdrawing) (a .store .now) (a .order .now) (asLocator (a .locator)) (a .positions .now) _ w) in
     let r = c .before .before .write-listed .ensures in
     (r .0 ∙ ap (λ (x : Written). x .answer) e, r .1 ∙ ap (λ (x : Written). x .out) e)
 
@@ -41,6 +45,7 @@ write-certified-spec =
     (tie.spec
     slice-aggregate-list-certifiers
     list-certifiers-requires
+    cast-first
     slice-aggregate-write-listed
     write-listed-requires
     same-length
