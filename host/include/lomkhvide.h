@@ -215,18 +215,21 @@ uint64_t lomkhvide_creation_time(const uint8_t *stakes, size_t stakes_len, const
 
 /* ---- Finality slips
  *
- * A slip says of one locator which blocks certify it, and where their voters' votes stand: a byte 0, the locator 56, the number of
- * certifying blocks 2, each its reference 48 and the number of its voters 1, each its author 8, path length 2 and the path, one byte for
+ * A slip says of one locator which blocks certify it, and where their voters' votes stand: a byte that names its reading, 0 the old one and
+ * 1 the new one, in which an owner may withdraw, the locator 56, the number of certifying blocks 2, each its reference 48 and the number of its voters 1, each its author 8, path length 2 and the path, one byte for
  * the place of an include in its block, from the certifying block to the vote. References and authors strictly ascend, and nothing stands
  * after them. */
 
 /* Reads a slip with the records that come with it, each after its length of 4 bytes: the number of its certifying blocks. More records
  * than it names are welcome. It is accepted exactly if every path ends at a block of its author that votes for the locator, each listed
- * block is unmarked and lists voters that hold quorum, and the listed blocks' authors hold quorum. In every store under the committee that
- * holds the records it names, these blocks then certify, and the locator is final. Digests are taken as given.
- * Refused, in this order: 5 stakes that are no committee or not whole words; 52 a slip or records of another form, over 1,024 records, two
- * of one reference, or one that 20 to 22 or 24 to 29 refuse; 53 a record that it names, also by path, is missing; 52 it does not hold.
- * It needs at most 16 KB of stack. */
+ * block is unmarked and lists voters that hold quorum, and the listed blocks' authors hold quorum; a slip of the new reading moreover comes
+ * with every block of each listed block's ancestry, and none of the block's listed voters rejects the locator there. In every store under
+ * the committee that holds the records it names, these blocks then certify, and the locator is final, in the slip's reading. Digests are
+ * taken as given.
+ * Refused, in this order: 5 stakes that are no committee or not whole words; 61 another first byte, or none; 52 a slip or records of another form, over 1,024 records, two
+ * of one reference, or one that 20 to 22 or 24 to 29 refuse; 53 a record that it names, also by path, is missing, or for a
+ * slip of the new reading one of the ancestry; 52 it does not hold.
+ * It needs at most 32 KB of stack. */
 uint64_t lomkhvide_read_slip(const uint8_t *stakes, size_t stakes_len, const uint8_t *slip, size_t slip_len, const uint8_t *records,
                              size_t records_len);
 
@@ -237,6 +240,11 @@ uint64_t lomkhvide_read_slip(const uint8_t *stakes, size_t stakes_len, const uin
  * It needs at most 480 KB of stack. */
 uint64_t lomkhvide_write_slip(const uint8_t *stakes, size_t stakes_len, const uint8_t *store, size_t store_len, const uint8_t *locator,
                               size_t locator_len, uint8_t *out, size_t out_len);
+
+/* The same in the reading in which an owner may withdraw, with the same slices, refusals and stack: 52 for a locator that is not final there. Its
+ * reader takes it with the records of every block in the listed blocks' ancestry. */
+uint64_t lomkhvide_write_slip_withdrawing(const uint8_t *stakes, size_t stakes_len, const uint8_t *store, size_t store_len,
+                                          const uint8_t *locator, size_t locator_len, uint8_t *out, size_t out_len);
 
 /* ---- Loadable shares
  *

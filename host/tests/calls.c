@@ -993,7 +993,7 @@ static uint64_t read_slip(const uint8_t *stakes, size_t m, const uint8_t *slip, 
 
 /* One owner: its second block shares, and its third one includes that and is the certifying block of the slip. */
 static void slips(void) {
-    uint8_t one[8], first[64], second[160], third[160], records[512], slip[160];
+    uint8_t one[8], first[64], second[160], third[200], records[512], slip[160];
     put_word(one, 1);
     put_record(first, 0, 1, NULL, "");
     size_t n = put_record(second, 1, 2, first, "gain");
@@ -1007,7 +1007,7 @@ static void slips(void) {
     slip[107] = 1;
     slip[116] = 1;
     for (size_t length = 0; length <= sizeof slip; length++) {
-        same("a slip of any length", read_slip(one, 8, slip, length, records, both), length == 119 ? 1 : refused(52));
+        same("a slip of any length", read_slip(one, 8, slip, length, records, both), length == 0 ? refused(61) : length == 119 ? 1 : refused(52));
     }
     for (size_t length = 0; length <= both + 8; length++) {
         memset(records + both, 0, 8);
@@ -1033,7 +1033,35 @@ static void slips(void) {
     same("another author", read_slip(one, 8, slip, 119, records, both), refused(52));
     slip[108] = 0;
     slip[0] = 1;
-    same("another first byte", read_slip(one, 8, slip, 119, records, both), refused(52));
+    same("a block of the ancestry is missing", read_slip(one, 8, slip, 119, records, both), refused(53));
+    size_t all = both + put_framed(records + both, first, put_record(first, 0, 1, NULL, ""));
+    for (size_t length = 0; length <= sizeof slip; length++) {
+        uint64_t want = length == 0 ? refused(61) : length == 119 ? 1 : refused(52);
+        same("a new slip of any length", read_slip(one, 8, slip, length, records, all), want);
+    }
+    for (unsigned byte = 2; byte < 256; byte++) {
+        slip[0] = (uint8_t)byte;
+        same("another first byte", read_slip(one, 8, slip, 119, records, all), refused(61));
+        same("61 before 52", read_slip(one, 8, slip, 1, records, 3), refused(61));
+        same("5 before 61", read_slip(one, 7, slip, 119, records, all), refused(5));
+    }
+    same("no first byte", read_slip(one, 8, slip, 0, records, 3), refused(61));
+    /* the owner rejects the share in the certifying block: the old slip holds, the new one does not */
+    n = put_record(third, 2, 3, second, "");
+    third[51] = 1;
+    third[n] = 2;
+    memcpy(third + n + 1, second, 48);
+    memset(third + n + 49, 0, 9);
+    only = put_framed(records, first, put_record(first, 0, 1, NULL, ""));
+    only += put_framed(records + only, second, put_record(second, 1, 2, first, "gain"));
+    all = only + put_framed(records + only, third, n + 58);
+    for (uint8_t byte = 0; byte < 2; byte++) {
+        slip[0] = byte;
+        same("a listed voter rejects", read_slip(one, 8, slip, 119, records, all), byte == 0 ? 1 : refused(52));
+    }
+    third[n + 49] = 1;
+    put_framed(records + only, third, n + 58);
+    same("another share rejected", read_slip(one, 8, slip, 119, records, all), 1);
 }
 
 /* ---- slips */
@@ -1087,6 +1115,24 @@ static void written_slips(void) {
         free(out);
     }
     uint8_t out[300];
+    want[0] = 1;
+    for (size_t room = 0; room < sizeof want; room++) {
+        memset(out, 9, sizeof out);
+        memset(right, 9, sizeof right);
+        uint64_t word = lomkhvide_write_slip_withdrawing(one, 8, lent.store, 1024, locator, 56, out, room);
+        same("the new reading, room of any length", word, room < size ? refused(50) : size);
+        if (room >= size) {
+            memcpy(right, want, size);
+        }
+        same("nobody withdraws: the slip but for its first byte", memcmp(out, right, sizeof out), 0);
+    }
+    for (size_t m = 0; m < sizeof locator; m++) {
+        if (m != 56) {
+            same("a locator of any length", lomkhvide_write_slip_withdrawing(one, 8, lent.store, 1024, locator, m, out, 7), refused(20));
+        }
+    }
+    same("no committee", lomkhvide_write_slip_withdrawing(one, 7, lent.store, 15, locator, 7, out, 0), refused(5));
+    same("no store", lomkhvide_write_slip_withdrawing(one, 8, lent.store, 15, locator, 7, out, 0), refused(10));
     memset(out, 9, sizeof out);
     memset(right, 9, sizeof right);
     for (size_t m = 0; m < sizeof locator; m++) {
@@ -1095,6 +1141,7 @@ static void written_slips(void) {
         }
     }
     locator[48] = 1;
+    same("not final", lomkhvide_write_slip_withdrawing(one, 8, lent.store, 1024, locator, 56, out, sizeof out), refused(52));
     same("not final", lomkhvide_write_slip(one, 8, lent.store, 1024, locator, 56, out, sizeof out), refused(52));
     same("52 before 50", lomkhvide_write_slip(one, 8, lent.store, 1024, locator, 56, out, 0), refused(52));
     same("no committee", lomkhvide_write_slip(one, 7, lent.store, 15, locator, 7, out, 0), refused(5));

@@ -126,6 +126,10 @@ static void write_slip(void) {
     answer = lomkhvide_write_slip(owners, 8, store, sizeof store, locator, sizeof locator, written, sizeof written);
 }
 
+static void write_slip_withdrawing(void) {
+    answer = lomkhvide_write_slip_withdrawing(owners, 8, store, sizeof store, locator, sizeof locator, written, sizeof written);
+}
+
 static void share_alone(void) {
     static uint8_t first[56], record[108] = {[8] = 1, [49] = 1, [51] = 1, [105] = 1, [107] = 'g'};
     memset(store, 0, sizeof store);
@@ -264,9 +268,12 @@ int main(void) {
     at_most("write_timed_record", write_timed_record, 72, 2048);
     at_most("creation_time", creation_time, 0, 24576);
     certify();
-    at_most("read_slip", read_slip, 1, 16384);
+    at_most("read_slip", read_slip, 1, 32768);
+    slip[0] = 1;
+    at_most("read_slip, new", read_slip, ((uint64_t)1 << 63) + 53, 32768);
     share_alone();
     at_most("write_slip", write_slip, 118, 491520);
+    at_most("write_slip_withdrawing", write_slip_withdrawing, 118, 491520);
     grow();
     at_most("feed_indexed", feed_indexed, 0, 262144);
     at_most("finality", finality, 2 * 1023 + 1, 98304);
@@ -283,6 +290,6 @@ int main(void) {
     at_most("next_wide_withdrawing", next_wide_withdrawing, 1, 131072);
     at_most("final_stretches_withdrawing", final_stretches_withdrawing, 2, 491520);
     at_most("wide_stretches_withdrawing", wide_stretches_withdrawing, 2, 491520);
-    printf("%d passed, %d failed\n", 24 - failed, failed);
+    printf("%d passed, %d failed\n", 26 - failed, failed);
     return failed != 0;
 }

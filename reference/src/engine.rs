@@ -83,6 +83,7 @@ call!(wide_stretches_indexed = lomkhvide_wide_stretches_indexed(stakes: &[u8], s
 call!(final_stretches_withdrawing = lomkhvide_final_stretches_withdrawing(stakes: &[u8], store: &[u8], after: &[u8], stretches: &mut [u8]));
 call!(wide_stretches_withdrawing = lomkhvide_wide_stretches_withdrawing(stakes: &[u8], store: &[u8], after: &[u8], stretches: &mut [u8]));
 call!(write_slip = lomkhvide_write_slip(stakes: &[u8], store: &[u8], locator: &[u8], out: &mut [u8]));
+call!(write_slip_withdrawing = lomkhvide_write_slip_withdrawing(stakes: &[u8], store: &[u8], locator: &[u8], out: &mut [u8]));
 
 pub fn add(stakes: &[u8], aggregator: &mut [u8], voter: u64) -> Answer {
     extern "C" {

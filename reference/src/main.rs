@@ -270,7 +270,7 @@ fn writing(count: u64, seed: u64) {
     end(count, failed);
 }
 
-/// Slips for the station, whole, damaged, made up and carried.
+/// Slips for the station, of both readings: whole, damaged, made up and carried.
 fn slips(count: u64, seed: u64) {
     println!("seed {seed}");
     let mut told = Default::default();
@@ -283,8 +283,8 @@ fn slips(count: u64, seed: u64) {
     }
     let Told { slips, accepted, refused, left_out, carried } = told;
     println!(
-        "slips {slips}; questions accepted {accepted}, refused 52: {}, 53: {}; records left out {left_out}; slips carried {carried}",
-        refused[0], refused[1]
+        "slips {}, of the new reading {}; questions accepted {accepted}, refused 52: {}, 53: {}, 61: {}; records left out {left_out}; slips carried {carried}",
+        slips[0], slips[1], refused[0], refused[1], refused[2]
     );
     end(count, failed);
 }

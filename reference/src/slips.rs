@@ -1,4 +1,4 @@
-//! Slips for the station: whole, damaged and made up ones, with all records, with the ones they name, with one left out or damaged, on
+//! Slips for the station, of both readings: whole, damaged and made up ones, with all records, with the ones they name, with one left out or damaged, on
 //! the engine and on the model; and slips carried to another store, fed in another order.
 
 use crate::compare::{same, same_bytes, Memory, Outcome};
@@ -8,7 +8,7 @@ use crate::generate;
 use crate::list::List;
 use crate::model::committee::Committee;
 use crate::model::feed::{State, EVENT_BYTES};
-use crate::model::finality::Graph;
+use crate::model::finality::{Graph, Reading};
 use crate::model::lent::{self, POSITION_BYTES};
 use crate::model::record::{Locator, Reference};
 use crate::model::slip::{blocks_of, framed, named, read_slip, slip_for, write_slip, Blocks, Certifier, Slip, Voter};
@@ -17,10 +17,11 @@ use crate::rng::Rng;
 /// What the slips of a run held.
 #[derive(Default)]
 pub struct Told {
-    pub slips: u64,
+    /// Of the old reading and of the new one.
+    pub slips: [u64; 2],
     pub accepted: u64,
-    /// Refused with 52 and with 53.
-    pub refused: [u64; 2],
+    /// Refused with 52, with 53 and with 61.
+    pub refused: [u64; 3],
     pub left_out: u64,
     pub carried: u64,
 }
@@ -49,18 +50,25 @@ fn feed(list: &List, records: &[Vec<u8>]) -> Option<Fed> {
 /// Run n: the slips of some locators of a list, and slips made of them.
 pub fn run(seed: u64, n: u64, told: &mut Told) -> Outcome {
     let mut rng = Rng::new(seed.wrapping_mul(0x9e3779b97f4a7c15) ^ n);
-    let mut list = generate::list(seed, n);
+    let mut list = if n % 2 == 0 { generate::list(seed, n) } else { generate::rejecting(&mut rng) };
     list.records.truncate(120);
     list.store = list.needed() + 100;
     let Some(fed) = feed(&list, &list.records) else { return Ok(()) };
-    let finals: Vec<Locator> = Graph::new(&fed.committee, &fed.state.stores).final_list().into_iter().map(|one| one.0).collect();
-    if finals.is_empty() {
-        return Ok(());
+    for reading in [Reading::Old, Reading::Withdrawing] {
+        let graph = Graph::new(&fed.committee, &fed.state.stores);
+        let finals: Vec<Locator> = graph.final_list_in(reading).into_iter().map(|one| one.0).collect();
+        if finals.is_empty() {
+            continue;
+        }
+        for _ in 0..3 {
+            of(&fed, reading, rng.pick(&finals), &mut rng, told)?;
+        }
+        for locator in graph.rejected() {
+            write(&fed, reading, &fed.store, &locator.bytes(), 4096, "rejected")?;
+        }
+        carried(&list, &fed, reading, rng.pick(&finals), &mut rng, told)?;
     }
-    for _ in 0..4 {
-        of(&fed, rng.pick(&finals), &mut rng, told)?;
-    }
-    carried(&list, &fed, rng.pick(&finals), &mut rng, told)
+    Ok(())
 }
 
 /// One question, on both sides.
@@ -69,17 +77,22 @@ fn read(fed: &Fed, slip: &[u8], records: &[u8], what: &str, told: &mut Told) -> 
     match right {
         Ok(_) => told.accepted += 1,
         Err(53) => told.refused[1] += 1,
+        Err(61) => told.refused[2] += 1,
         Err(_) => told.refused[0] += 1,
     }
     same(&format!("read_slip, {what}, slip {slip:02x?}"), "engine", engine::read_slip(&fed.stakes, slip, records), right)
 }
 
 /// The slip of a locator written into so much room, on both sides: the answer and every byte.
-fn write(fed: &Fed, store: &[u8], locator: &[u8], room: usize, what: &str) -> Outcome {
+fn write(fed: &Fed, reading: Reading, store: &[u8], locator: &[u8], room: usize, what: &str) -> Outcome {
     let (mut ours, mut right) = (vec![9; room], vec![9; room]);
-    let want = write_slip(&fed.stakes, store, locator, &mut right);
-    same(&format!("write_slip, {what}, {room} bytes"), "engine", engine::write_slip(&fed.stakes, store, locator, &mut ours), want)?;
-    same_bytes(&format!("write_slip, {what}, {room} bytes"), &ours, &right)
+    let want = write_slip(reading, &fed.stakes, store, locator, &mut right);
+    let told = match reading {
+        Reading::Old => engine::write_slip(&fed.stakes, store, locator, &mut ours),
+        Reading::Withdrawing => engine::write_slip_withdrawing(&fed.stakes, store, locator, &mut ours),
+    };
+    same(&format!("write_slip, {reading:?}, {what}, {room} bytes"), "engine", told, want)?;
+    same_bytes(&format!("write_slip, {reading:?}, {what}, {room} bytes"), &ours, &right)
 }
 
 /// The same, where the answer is known beforehand.
@@ -93,20 +106,20 @@ fn records(fed: &Fed, of: impl Fn(&Reference) -> bool) -> Vec<Vec<u8>> {
     kept.map(|stored| stored.record.clone()).collect()
 }
 
-/// The slip of a final locator, and slips made of it.
-fn of(fed: &Fed, locator: &Locator, rng: &mut Rng, told: &mut Told) -> Outcome {
-    let slip = slip_for(&fed.committee, &fed.blocks, locator).ok_or("a final locator has no slip")?;
+/// The slip of a locator that is final in a reading, and slips made of it.
+fn of(fed: &Fed, reading: Reading, locator: &Locator, rng: &mut Rng, told: &mut Told) -> Outcome {
+    let slip = slip_for(reading, &fed.committee, &fed.blocks, locator).ok_or("a final locator has no slip")?;
     let bytes = slip.encode();
     let count = slip.certifiers.len() as u64;
-    told.slips += 1;
+    told.slips[(reading == Reading::Withdrawing) as usize] += 1;
     for room in [0, bytes.len() - 1, bytes.len(), bytes.len() + 9] {
-        write(fed, &fed.store, &locator.bytes(), room, "final")?;
+        write(fed, reading, &fed.store, &locator.bytes(), room, "final")?;
     }
     let mut other = locator.bytes();
     other[48] ^= 1;
-    write(fed, &fed.store, &other, bytes.len() + 9, "the neighbouring offset")?;
-    write(fed, &fed.store, &locator.bytes()[..55], bytes.len(), "no locator")?;
-    write(fed, &damaged(&fed.store, rng), &locator.bytes(), bytes.len(), "the store damaged")?;
+    write(fed, reading, &fed.store, &other, bytes.len() + 9, "the neighbouring offset")?;
+    write(fed, reading, &fed.store, &locator.bytes()[..55], bytes.len(), "no locator")?;
+    write(fed, reading, &damaged(&fed.store, rng), &locator.bytes(), bytes.len(), "the store damaged")?;
     same("the slip, read", "model", Slip::decode(&bytes), Some(slip.clone()))?;
     let mut all = records(fed, |_| true);
     told_so(fed, &bytes, &framed(&all), "with all records", Ok(count), told)?;
@@ -119,6 +132,17 @@ fn of(fed: &Fed, locator: &Locator, rng: &mut Rng, told: &mut Told) -> Outcome {
         let rest = framed(own.iter().enumerate().filter(|(i, _)| *i != left_out).map(|one| one.1));
         told_so(fed, &bytes, &rest, "with one of them left out", Err(53), told)?;
         told.left_out += 1;
+    }
+    told_so(fed, &[], &framed(&own), "no first byte", Err(61), told)?;
+    for first in 0..=255 {
+        let other = [&[first][..], &bytes[1..]].concat();
+        if first > 1 {
+            told_so(fed, &other, &framed(&own), "another first byte", Err(61), told)?;
+            told_so(fed, &other[..1], &[], "another first byte alone", Err(61), told)?;
+        } else {
+            read(fed, &other, &framed(&own), "either reading, with the records of one", told)?;
+            read(fed, &other, &framed(&all), "either reading, with all records", told)?;
+        }
     }
     let own = framed(&own);
     for at in 0..bytes.len() {
@@ -147,7 +171,8 @@ fn made_up(fed: &Fed, slip: &Slip, rng: &mut Rng) -> Slip {
             break;
         }
         let k = rng.below(slip.certifiers.len() as u64) as usize;
-        match rng.below(8) {
+        match rng.below(9) {
+            8 => slip.reading = *rng.pick(&[Reading::Old, Reading::Withdrawing]),
             0 => drop(slip.certifiers.remove(k)),
             1 => {
                 let reference = *rng.pick(&blocks);
@@ -186,8 +211,8 @@ fn made_up(fed: &Fed, slip: &Slip, rng: &mut Rng) -> Slip {
 }
 
 /// The slip of a final locator in another store that holds the records it names: there too each listed block certifies.
-fn carried(list: &List, fed: &Fed, locator: &Locator, rng: &mut Rng, told: &mut Told) -> Outcome {
-    let slip = slip_for(&fed.committee, &fed.blocks, locator).ok_or("a final locator has no slip")?;
+fn carried(list: &List, fed: &Fed, reading: Reading, locator: &Locator, rng: &mut Rng, told: &mut Told) -> Outcome {
+    let slip = slip_for(reading, &fed.committee, &fed.blocks, locator).ok_or("a final locator has no slip")?;
     let mut records: Vec<Vec<u8>> = fed.state.stores.blocks.iter().map(|stored| stored.record.clone()).collect();
     // in a random order, until all that can be stored is
     let (mut kept, mut state) = (Vec::new(), State::default());
@@ -209,7 +234,10 @@ fn carried(list: &List, fed: &Fed, locator: &Locator, rng: &mut Rng, told: &mut 
     told.carried += 1;
     told_so(&other, &slip.encode(), &framed(&kept), "with another store's records", Ok(slip.certifiers.len() as u64), told)?;
     let mut positions = vec![0; POSITION_BYTES];
-    let word = engine::finality(&other.stakes, &other.store, &mut positions, &locator.bytes());
+    let word = match reading {
+        Reading::Old => engine::finality(&other.stakes, &other.store, &mut positions, &locator.bytes()),
+        Reading::Withdrawing => engine::finality_withdrawing(&other.stakes, &other.store, &mut positions, &locator.bytes()),
+    };
     same("final there", "engine", word, Ok(2 * slip.certifiers.len() as u64 + 1))?;
     for (i, certifier) in slip.certifiers.iter().enumerate() {
         let position = crate::model::record::number(&positions[8 * i..8 * i + 8]);

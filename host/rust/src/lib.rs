@@ -235,6 +235,16 @@ mod calls {
             out: *mut u8,
             out_len: usize,
         ) -> u64;
+        pub fn lomkhvide_write_slip_withdrawing(
+            stakes: *const u8,
+            stakes_len: usize,
+            store: *const u8,
+            store_len: usize,
+            locator: *const u8,
+            locator_len: usize,
+            out: *mut u8,
+            out_len: usize,
+        ) -> u64;
         pub fn lomkhvide_is_loadable(
             stakes: *const u8,
             stakes_len: usize,
@@ -518,6 +528,7 @@ pub struct Finality {
     pub certifying: Vec<u64>,
 }
 
+type WriteSlip = unsafe extern "C" fn(*const u8, usize, *const u8, usize, *const u8, usize, *mut u8, usize) -> u64;
 type FinalityCall = unsafe extern "C" fn(*const u8, usize, *const u8, usize, *mut u8, usize, *const u8, usize) -> u64;
 
 type ListCall = unsafe extern "C" fn(*const u8, usize, *const u8, usize, *const u8, usize, *mut u8, usize) -> u64;
@@ -815,7 +826,7 @@ impl Committee {
         Ok(ToRing { owners: words[0] as u128 | (words[1] as u128) << 64, stake: words[2] })
     }
 
-    /// Reads a finality slip with the records that come with it: the number of its certifying blocks; or 5, 52, 53.
+    /// Reads a finality slip of either reading with the records that come with it: the number of its certifying blocks; or 5, 61, 52, 53.
     pub fn read_slip(&self, slip: &[u8], records: &[&[u8]]) -> Result<u64, Refused> {
         let stakes = &self.stakes;
         let mut framed = Vec::new();
@@ -839,10 +850,19 @@ impl Committee {
 
     /// Writes the finality slip of a final locator to the front of `out`: its length; or 5, 10, 52, 50, and nothing is written.
     pub fn write_slip(&self, store: &[u8], locator: &Locator, out: &mut [u8]) -> Result<usize, Refused> {
+        self.written_slip(calls::lomkhvide_write_slip, store, locator, out)
+    }
+
+    /// The same in the reading in which an owner may withdraw.
+    pub fn write_slip_withdrawing(&self, store: &[u8], locator: &Locator, out: &mut [u8]) -> Result<usize, Refused> {
+        self.written_slip(calls::lomkhvide_write_slip_withdrawing, store, locator, out)
+    }
+
+    fn written_slip(&self, call: WriteSlip, store: &[u8], locator: &Locator, out: &mut [u8]) -> Result<usize, Refused> {
         let (stakes, locator) = (&self.stakes, &locator.0);
         // The slices are lent for the call alone, and the call writes `out` only.
         let word = unsafe {
-            calls::lomkhvide_write_slip(
+            call(
                 stakes.as_ptr(),
                 stakes.len(),
                 store.as_ptr(),
@@ -1327,9 +1347,16 @@ mod tests {
         assert_eq!(committee.read_slip(&[head(2), above, own].concat(), &all), Err(Refused(52)), "not ascending");
         assert_eq!(committee.read_slip(&head(0), &all), Err(Refused(52)), "no certifying block");
         assert_eq!(committee.read_slip(&slip, &[&second, &third, &third]), Err(Refused(52)), "two of one reference");
-        for length in 0..slip.len() {
+        assert_eq!(committee.read_slip(&[], &all), Err(Refused(61)), "no first byte");
+        for length in 1..slip.len() {
             assert_eq!(committee.read_slip(&slip[..length], &all), Err(Refused(52)), "{length} bytes of the slip");
         }
+        let mut new = slip.clone();
+        new[0] = 1;
+        assert_eq!(committee.read_slip(&new, &all), Ok(2), "nobody withdraws");
+        assert_eq!(committee.read_slip(&new, &[&second, &third]), Err(Refused(53)), "the ancestry is not whole");
+        new[0] = 2;
+        assert_eq!(committee.read_slip(&new, &all), Err(Refused(61)), "another first byte");
         third[48] = 1;
         assert_eq!(committee.read_slip(&slip, &[&second, &third]), Err(Refused(52)), "a marked block");
     }
@@ -1370,7 +1397,12 @@ mod tests {
                 assert_eq!(out[slip.len()..], vec![9; room - slip.len()]);
             }
         }
+        let mut out = vec![9; slip.len()];
+        assert_eq!(committee.write_slip_withdrawing(&store, &locator, &mut out), Ok(slip.len()));
+        slip[0] = 1;
+        assert_eq!(out, slip, "nobody withdraws");
         let other = Locator::new(0, 1, digest, 1);
+        assert_eq!(committee.write_slip_withdrawing(&store, &other, &mut []), Err(Refused(52)));
         assert_eq!(committee.write_slip(&store, &other, &mut []), Err(Refused(52)));
         assert_eq!(committee.write_slip(&store[..15], &other, &mut []), Err(Refused(10)));
     }

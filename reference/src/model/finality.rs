@@ -137,7 +137,7 @@ impl<'a> Graph<'a> {
 }
 
 /// Whether the block has a reject of the locator, its first.
-fn rejects(block: &Block, locator: &Locator) -> bool {
+pub fn rejects(block: &Block, locator: &Locator) -> bool {
     block.statements.iter().any(|statement| matches!(statement, Statement::Reject(first, _) if first == locator))
 }
 
