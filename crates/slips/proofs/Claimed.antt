@@ -25,7 +25,7 @@ reading-meant = answer-iff
 
 missing-meant : MissingMeant
 unfolding MissingMeant
-missing-meant c bs h = missing-iff bs (right-falling c bs h)
+missing-meant c bs s h = missing-iff bs s (λ e. right-falling c bs (h e))
 
 certifies-meant : AcceptedCertifies
 unfolding AcceptedCertifies

@@ -39,7 +39,7 @@ module _ (bs : List Block) where
   missing-path ps b (next {p = p} {ps = qs} {r = r} e f) = ap isNotGiven (leads-not-given bs p qs b r e f) ∙ unfold isNotGiven in refl
   missing-path ps b (further {p = p} {ps = qs} {i = i} {r = r} e f m) = ap isNotGiven (leads-on bs p qs b i r e f) ∙ missing-path qs i m
 
-  module _ (f : Falling bs) (s : Slip) where
+  module _ (s : Slip) (f : s .reading ≡ withdrawing → Falling bs) where
     abbrev any-lost : SlipCertifier → Bool
     any-lost k = missingFrom (s .reading) bs (k .voters) (named bs (k .reference))
 
@@ -51,7 +51,7 @@ module _ (bs : List Block) where
       where
         above : (reading : Reading) → s .reading ≡ reading → (k : SlipCertifier) → k ∈ s .certifiers → (b : Block) → named bs (k .reference) ≡ some b → lacksAncestor reading bs b ≡ true → NotSupplied bs s
         above old r k m b e t = absurd (not-both t (unfold lacksAncestor in refl))
-        above withdrawing r k m b e t = notInAncestry r k b m e (lacks-missing bs f b (named-in bs (k .reference) b e) (unfold lacksAncestor in t))
+        above withdrawing r k m b e t = notInAncestry r k b m e (lacks-missing bs (f r) b (named-in bs (k .reference) b e) (unfold lacksAncestor in t))
 
         either : (k : SlipCertifier) → k ∈ s .certifiers → (b : Block) → named bs (k .reference) ≡ some b
             → (anyOf (λ (x : SlipVoter). isNotGiven (leads bs (x .path) b)) (k .voters) ≡ true) ⊎ (lacksAncestor (s .reading) bs b ≡ true) → NotSupplied bs s
@@ -72,7 +72,7 @@ module _ (bs : List Block) where
         (rw e (or-left _ _ (in-any (λ (x : SlipVoter). isNotGiven (leads bs (x .path) b)) n (missing-path (v .path) b p))))
     missing-named (notInAncestry r k b m e a) =
         in-any any-lost m
-        (rw (e, r) (or-right (anyOf (λ (x : SlipVoter). isNotGiven (leads bs (x .path) b)) (k .voters)) _ (unfold lacksAncestor in missing-lacks bs f b (named-in bs (k .reference) b e) a)))
+        (rw (e, r) (or-right (anyOf (λ (x : SlipVoter). isNotGiven (leads bs (x .path) b)) (k .voters)) _ (unfold lacksAncestor in missing-lacks bs (f r) b (named-in bs (k .reference) b e) a)))
 
     pub missing-iff : (missing bs s ≡ true) ↔ NotSupplied bs s
     missing-iff = (named-missing, missing-named)

@@ -17,7 +17,7 @@ use Rattle.store_layout.specs.Layout.{Record}
 use Rattle.store_layout.specs.Store.{recordsOf, storeInOrder}
 use Rattle.finality.specs.Finality.{blocksOf}
 use Rattle.finality.specs.Claims.{Stored}
-use Rattle.readings.specs.Readings.{Reading, certifiersIn, isFinalIn}
+use Rattle.readings.specs.Readings.{Reading, withdrawing, certifiersIn, isFinalIn}
 use Rattle.slips.specs.Slip.{Slip, readSlip, slipIn, slipBytes, fitsSlip}
 use Rattle.slips.specs.Supplied.{suppliedIn, suppliedBlocks, rightBlocks, suppliedBytes}
 use Rattle.slips.specs.Paths.{pathTo}
@@ -38,9 +38,9 @@ SlipWritesBack = (r : Bytes) (s : Slip) → areBytes r ≡ true → readSlip r �
 unfoldable pub ReadingMeant : Type 0
 ReadingMeant = (c : Committee) (r q : Bytes) (n : ℕ) → (readAnswer c r q ≡ answered n) ↔ AcceptedSlip c r q n
 
--- 02: "53 for one named, also by path, but not supplied", or of a new slip's ancestry, among blocks that are right by themselves
+-- 02: "53 for one named, also by path, but not supplied", among any blocks; of a new slip's ancestry too, among blocks that are right by themselves
 unfoldable pub MissingMeant : Type 0
-MissingMeant = (c : Committee) (bs : List Block) → rightBlocks c bs ≡ true → (s : Slip) → (missing bs s ≡ true) ↔ NotSupplied bs s
+MissingMeant = (c : Committee) (bs : List Block) (s : Slip) → (s .reading ≡ withdrawing → rightBlocks c bs ≡ true) → (missing bs s ≡ true) ↔ NotSupplied bs s
 
 -- 02: "in every store under that committee with those records they then really certify": among all blocks stored under the committee that
 -- contain the blocks of the records which the slip names, in the slip's own reading
