@@ -74,7 +74,7 @@ uint64_t lomkhvide_next_final(const uint8_t *stakes, size_t stakes_len, const ui
 uint64_t lomkhvide_next_wide(const uint8_t *stakes, size_t stakes_len, const uint8_t *store, size_t store_len, const uint8_t *after,
                              size_t after_len, uint8_t *found, size_t found_len);
 
-/* Both in the reading in which an owner may withdraw. They need at most 128 KB of stack. */
+/* Both in the reading in which an owner may withdraw. They need at most 96 KB of stack. */
 uint64_t lomkhvide_next_final_withdrawing(const uint8_t *stakes, size_t stakes_len, const uint8_t *store, size_t store_len,
                                           const uint8_t *after, size_t after_len, uint8_t *found, size_t found_len);
 uint64_t lomkhvide_next_wide_withdrawing(const uint8_t *stakes, size_t stakes_len, const uint8_t *store, size_t store_len,

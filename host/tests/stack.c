@@ -286,8 +286,8 @@ int main(void) {
     at_most("wide_stretches", wide_stretches, 2, 491520);
     at_most("final_stretches_indexed", final_stretches_indexed, 2, 131072);
     at_most("wide_stretches_indexed", wide_stretches_indexed, 2, 131072);
-    at_most("next_final_withdrawing", next_final_withdrawing, 1, 131072);
-    at_most("next_wide_withdrawing", next_wide_withdrawing, 1, 131072);
+    at_most("next_final_withdrawing", next_final_withdrawing, 1, 98304);
+    at_most("next_wide_withdrawing", next_wide_withdrawing, 1, 98304);
     at_most("final_stretches_withdrawing", final_stretches_withdrawing, 2, 491520);
     at_most("wide_stretches_withdrawing", wide_stretches_withdrawing, 2, 491520);
     printf("%d passed, %d failed\n", 26 - failed, failed);

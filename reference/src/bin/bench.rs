@@ -79,7 +79,7 @@ fn table() {
 /// The wide list in both readings, with no rejects and with three in each block: of its first include the share, where owner 3 speaks, else offsets
 /// that nobody votes for.
 fn withdrawing() {
-    for rejects in [0, 3] {
+    for rejects in [0, 1, 3] {
         let mut blocks = graphs::generated(1000);
         for block in &mut blocks {
             let owner = block.reference.author;
