@@ -1,5 +1,5 @@
 -- The voters that count, in either reading. Assumes nothing.
-use mathlib.Core.Path.{_≡_, refl, sym, ap, ap₂, subst, _∙_}
+use mathlib.Core.Path.{_≡_, refl, sym, ap, subst, _∙_}
 use mathlib.Core.Bool.{Bool, true, false}
 use mathlib.Core.List.{List, _∷_}
 use Prim.Native.Nat.{ℕ, suc, _<_}
@@ -15,7 +15,7 @@ use Rattle.authority_set.specs.AuthoritySet.{nobody}
 use Rattle.blocks.specs.Reference.{BlockReference, TransactionLocator}
 use Rattle.blocks.specs.Block.{Block}
 use Rattle.store_layout.specs.Entry.{blockAt}
-use Rattle.finality.specs.Voters.{votesFor, ownVote, voters}
+use Rattle.finality.specs.Voters.{votesFor, voters}
 use Rattle.finality.specs.Finality.{blocksOf}
 use Rattle.finality.proofs.Spoken.{spoken-nobody}
 use Rattle.readings.specs.Rejecting.{rejects, ownReject, rejecters, without}
@@ -27,7 +27,7 @@ use Rattle.voters.specs.Walk.{spokenAt}
 use Rattle.finalization_interpreter.proofs.Finding.{block-position}
 use Rattle.reading_lists.proofs.Between.{no-voters}
 use Rattle.speakers.specs.Heard.{Owned, HeardBelow}
-use Rattle.final_walk.specs.Walk.{countedAt, CountedRight}
+use Rattle.final_walk.specs.Walk.{counted, CountedRight}
 
 pub all-zero : (n k : ℕ) → getD (replicate {A = ℕ} n 0) k 0 ≡ 0
 all-zero n k = go (decLt k n)
@@ -41,26 +41,26 @@ pub place-in : (xs : List ℕ) (x : ℕ) → x ∈ xs → (k : ℕ) × ((k < len
 place-in (y ∷ xs) x here = (0, (omega arith, refl))
 place-in (y ∷ xs) x (there m) = let r = place-in xs x m in (suc (r .0), (omega (arith, r .1 .0), r .1 .1))
 
-module _ (s : Bytes) (order : List ℕ) (l : TransactionLocator) (votes : List ℕ) (w : HeardBelow ownVote s order l votes (length order)) where
+module _ (s : Bytes) (order : List ℕ) (l : TransactionLocator) where
   -- in the old reading every voter counts
-  pub counted-old : (gone : List ℕ) → CountedRight false old s order l votes gone
-  unfolding countedAt votersIn spokenAt
-  counted-old gone k h = w k h
+  pub counted-old : (gone : List ℕ) → CountedRight false old s order l gone
+  unfolding counted votersIn spokenAt
+  counted-old gone k h = refl
 
   -- with those who reject it is the new one
-  pub counted-new : (gone : List ℕ) → HeardBelow ownReject s order l gone (length order) → CountedRight true withdrawing s order l votes gone
-  unfolding countedAt votersIn spokenAt
-  counted-new gone x k h = ap₂ without (w k h) (x k h)
+  pub counted-new : (gone : List ℕ) → HeardBelow ownReject s order l gone (length order) → CountedRight true withdrawing s order l gone
+  unfolding counted votersIn spokenAt
+  counted-new gone x k h = ap (without (voters (blocksOf s) l (blockAtPlace s order k .reference))) (x k h)
 
   -- where nobody rejects, both are the same
-  pub counted-same : ((r : BlockReference) → rejecters (blocksOf s) l r ≡ nobody) → (gone : List ℕ) → CountedRight false withdrawing s order l votes gone
-  unfolding countedAt votersIn spokenAt
-  counted-same none gone k h = w k h ∙ sym (rw (none (blockAtPlace s order k .reference)) (without-nobody (voters (blocksOf s) l (blockAtPlace s order k .reference))))
+  pub counted-same : ((r : BlockReference) → rejecters (blocksOf s) l r ≡ nobody) → (gone : List ℕ) → CountedRight false withdrawing s order l gone
+  unfolding counted votersIn spokenAt
+  counted-same none gone k h = sym (rw (none (blockAtPlace s order k .reference)) (without-nobody (voters (blocksOf s) l (blockAtPlace s order k .reference))))
 
   -- where nobody votes, too
-  pub counted-none : (reading : Reading) → ((d : Block) → d ∈ blocksOf s → votesFor d l ≡ false) → (gone : List ℕ) → CountedRight false reading s order l votes gone
-  unfolding countedAt spokenAt votersIn
-  counted-none reading none gone k h = w k h ∙ no-voters old (blocksOf s) l none (blockAtPlace s order k .reference) ∙ sym (no-voters reading (blocksOf s) l none (blockAtPlace s order k .reference))
+  pub counted-none : (reading : Reading) → ((d : Block) → d ∈ blocksOf s → votesFor d l ≡ false) → (gone : List ℕ) → CountedRight false reading s order l gone
+  unfolding counted spokenAt votersIn
+  counted-none reading none gone k h = no-voters old (blocksOf s) l none (blockAtPlace s order k .reference) ∙ sym (no-voters reading (blocksOf s) l none (blockAtPlace s order k .reference))
 
 -- no place is marked, so nobody rejects
 pub none-rejects : (s : Bytes) (order : List ℕ) → SortedStore s order → (l : TransactionLocator) (own : List ℕ) → Owned true s order l own → ((k : ℕ) → k < length order → eqb (getD own k 0) 1 ≡ false)

@@ -18,14 +18,20 @@ use Rattle.finality.specs.Finality.{blocksOf}
 use Rattle.readings.specs.Readings.{Reading, votersIn, certifiesIn}
 use Rattle.block_votes.specs.Walk.{blockAtPlace}
 use Rattle.finalization_interpreter.proofs.Finding.{holdsAt, found, found-yes, found-no, Authors, authors-none, authors-more}
+use Rattle.include_places.specs.Places.{includesBefore}
+use Rattle.include_places.proofs.Noting.{before-next}
+use Rattle.speakers.specs.Heard.{withSet}
+use Rattle.speakers.proofs.Marking.{with-length}
 use Rattle.final_walk.specs.Walk.{Sure}
 use Rattle.final_walk.specs.declared.Checked as checked
 
 -- ---- what is known when the blocks at the first k places are read
 
-pub record Going (c : Committee) (order flags : List ℕ) (n : ℕ) (last : checked.Checked) (k : ℕ) : Type 0 where
+pub record Going (c : Committee) (s : Bytes) (order memo flags : List ℕ) (n : ℕ) (last : checked.Checked) (i k : ℕ) : Type 0 where
   pub inside : k ≤ length order
   pub few : n ≤ k
+  pub at : i ≡ includesBefore s order k
+  pub long : length memo ≡ 2048
   pub wide : length flags ≡ 1024
   pub sure : Sure c last
 
@@ -34,9 +40,15 @@ pub record Walking (reading : Reading) (c : Committee) (s : Bytes) (l : Transact
   pub authored : Authors s (found (certifiesIn reading c (blocksOf s) l) s order k) authors
   pub flagged : (j : ℕ) → j < k → getD flags j 0 ≡ pick (holdsAt (certifiesIn reading c (blocksOf s) l) s (getD order j 0)) 1 0
 
-pub going-more : (c : Committee) (order flags : List ℕ) (n : ℕ) (last : checked.Checked) (k : ℕ) → Going c order flags n last k → k < length order → (next : checked.Checked) → Sure c next
-    → (m : ℕ) → m ≤ k + 1 → (x : ℕ) → Going c order (set flags k x) m next (k + 1)
-going-more c order flags n last k w h next z m few x = record { inside = omega arith; few = few; wide = length-set flags k x ∙ w .wide; sure = z }
+module _ (c : Committee) (s : Bytes) (order : List ℕ) where
+  pub going-start : (memo flags : List ℕ) (last : checked.Checked) → length memo ≡ 2048 → length flags ≡ 1024 → Sure c last → Going c s order memo flags 0 last 0 0
+  unfolding includesBefore
+  going-start memo flags last h f z = record { inside = omega arith; few = omega arith; at = refl; long = h; wide = f; sure = z }
+
+  pub going-more : (memo flags : List ℕ) (n : ℕ) (last : checked.Checked) (i k : ℕ) → Going c s order memo flags n last i k → k < length order → (v : AuthoritySet) (next : checked.Checked) → Sure c next
+      → (count : ℕ) → count ≡ length (blockAtPlace s order k .includes) → (m : ℕ) → m ≤ k + 1 → (x : ℕ) → Going c s order (withSet memo k v) (set flags k x) m next (i + count) (k + 1)
+  going-more memo flags n last i k w h v next z count g m few x =
+      record { inside = omega arith; few = few; at = before-next s order k i count (w .at) g; long = with-length memo k v ∙ w .long; wide = length-set flags k x ∙ w .wide; sure = z }
 
 module _ (reading : Reading) (c : Committee) (s : Bytes) (l : TransactionLocator) (order : List ℕ) where
   pub walking-start : (flags : List ℕ) → Walking reading c s l order flags nobody 0 0

@@ -10,28 +10,31 @@ use Rattle.committee.specs.Committee.{Committee, isQuorum}
 use Rattle.authority_set.specs.AuthoritySet.{AuthoritySet, setOf, stakeOf}
 use Rattle.blocks.specs.Reference.{TransactionLocator}
 use Rattle.blocks.specs.Block.{author}
+use Rattle.finality.specs.Voters.{ownVote}
 use Rattle.finality.specs.Finality.{blocksOf}
 use Rattle.readings.specs.Rejecting.{without}
 use Rattle.readings.specs.Readings.{Reading, votersIn, certifiesIn, certifiersIn}
 use Rattle.readings.specs.Finality.{certifyingPositionsIn}
 use Rattle.finalization_interpreter.specs.declared.Certifiers as found
 use Rattle.block_votes.specs.Walk.{blockAtPlace}
+use Rattle.voters.specs.Walk.{spokenAt}
 use Rattle.include_places.specs.Places.{setAt}
+use Rattle.speakers.specs.Heard.{Owned}
 use Rattle.final_walk.specs.declared.Checked as checked
 
 -- whether a set of voters holds quorum, as it was found last
 unfoldable pub Sure : Committee → checked.Checked → Type 0
 Sure c x = x .quorum ≡ isQuorum c (stakeOf c (x .voters))
 
--- who votes in the ancestry of the block at a place, less those who reject there where rejects are noted
-unfoldable pub countedAt : Bool → List ℕ → List ℕ → ℕ → AuthoritySet
-countedAt true voters rejecters k = without (setAt voters k) (setAt rejecters k)
-countedAt false voters rejecters k = setAt voters k
+-- those who vote, less those who reject where rejects are noted
+unfoldable pub counted : Bool → AuthoritySet → AuthoritySet → AuthoritySet
+counted true voters rejecters = without voters rejecters
+counted false voters rejecters = voters
 
--- these are the voters of a reading
-abbrev pub CountedRight : Bool → Reading → Bytes → List ℕ → TransactionLocator → List ℕ → List ℕ → Type 0
-CountedRight rejected reading s order l voters rejecters =
-    (k : ℕ) → k < length order → countedAt rejected voters rejecters k ≡ votersIn reading (blocksOf s) l (blockAtPlace s order k .reference)
+-- what counts is the voters of a reading
+abbrev pub CountedRight : Bool → Reading → Bytes → List ℕ → TransactionLocator → List ℕ → Type 0
+CountedRight rejected reading s order l rejecters =
+    (k : ℕ) → k < length order → counted rejected (spokenAt ownVote s order l k) (setAt rejecters k) ≡ votersIn reading (blocksOf s) l (blockAtPlace s order k .reference)
 
 -- the number of certifying blocks, and their authors
 unfoldable pub Certify : Reading → Committee → Bytes → TransactionLocator → found.Certifiers → Type 0
@@ -45,10 +48,10 @@ Flags reading c s order l f = (k : ℕ) → k < length order → getD f k 0 ≡ 
 abbrev pub CertifyFlagged : Reading → Committee → Bytes → List ℕ → TransactionLocator → List ℕ → found.Certifiers → Type 0
 CertifyFlagged reading c s order l f r = Certify reading c s l r × Flags reading c s order l f
 
--- the same of whatever reading and locator the voters are of
-unfoldable pub CertifyCounted : Bool → Committee → Bytes → List ℕ → List ℕ → List ℕ → List ℕ → found.Certifiers → Type 0
-CertifyCounted rejected c s order voters rejecters f r =
-    (reading : Reading) (l : TransactionLocator) → CountedRight rejected reading s order l voters rejecters → CertifyFlagged reading c s order l f r
+-- the same of whatever reading and locator the marks and the rejects are of
+unfoldable pub CertifyMarked : Bool → Committee → Bytes → List ℕ → List ℕ → List ℕ → List ℕ → found.Certifiers → Type 0
+CertifyMarked rejected c s order own rejecters f r =
+    (reading : Reading) (l : TransactionLocator) → Owned false s order l own → CountedRight rejected reading s order l rejecters → CertifyFlagged reading c s order l f r
 
 -- the first n words are the same, or one differs
 unfoldable pub SameWords : List ℕ → List ℕ → ℕ → Bool → Type 0

@@ -12,13 +12,12 @@ ghost use Rattle.base.specs.Lists.{pick};
 ghost use Rattle.committee.specs.Committee.{broken, totalStake};
 ghost use Rattle.types.specs.Values.{asLocator};
 ghost use Rattle.store_layout.specs.Entry.{blockAt, isEntry};
-ghost use Rattle.finality.specs.Voters.{ownVote};
 ghost use Rattle.readings.specs.Readings.{withdrawing, readingOf};
 ghost use Rattle.block_votes.specs.Walk.{Sorted};
-ghost use Rattle.include_places.specs.Places.{Placed};
+ghost use Rattle.include_places.specs.Places.{Placed, setAt};
 ghost use Rattle.vote_table.specs.Table.{BothTabled};
-ghost use Rattle.speakers.specs.Heard.{HeardBelow};
-ghost use Rattle.final_walk.specs.Walk.{Sure, countedAt, SameWords, CertifyCounted, CertifyFlagged};
+ghost use Rattle.speakers.specs.Heard.{Owned};
+ghost use Rattle.final_walk.specs.Walk.{Sure, counted, SameWords, CertifyMarked, CertifyFlagged};
 
 // ---- who certifies
 
@@ -63,39 +62,39 @@ fn flag(yes: bool) -> u64
     0
 }
 
-// Who votes in the ancestry of the block at a place, less those who reject there where any block rejects.
-fn counted_at(voters: &[u64], rejecters: &[u64], rejected: bool, k: usize) -> AuthoritySet
-    requires { ⌜ (2 * k + 1 < length (now voters)) × (rejected ≡ true → 2 * k + 1 < length (now rejecters)) ⌝ }
-    ensures { λ r. ⌜ r ≡ countedAt rejected (now (voters .entry)) (now (rejecters .entry)) k ⌝ }
+// Those who vote, less those who reject in the ancestry of the block at a place where any block rejects.
+fn counted_at(voters: AuthoritySet, rejecters: &[u64], rejected: bool, k: usize) -> AuthoritySet
+    requires { ⌜ (k < 1024) × (rejected ≡ true → 2 * k + 1 < length (now rejecters)) ⌝ }
+    ensures { λ r. ⌜ r ≡ counted rejected voters (setAt (now (rejecters .entry)) k) ⌝ }
 {
-    let low = voters[2 * k];
-    let high = voters[2 * k + 1];
-    let all = AuthoritySet { low, high };
     if !rejected {
-        return all;
+        return voters;
     }
     let gone = AuthoritySet {
         low: rejecters[2 * k],
         high: rejecters[2 * k + 1],
     };
-    block_rejects::less(all, gone)
+    block_rejects::less(voters, gone)
 }
 
-// Goes over the blocks, of which it is known who votes and who rejects in their ancestry. Writes 1 for each block that certifies, and 0 for each
-// other one.
-fn certify(
+// Walks over the blocks in ascending reference order: an include stands at a lower place, so its voters are known. Of each block it is marked
+// whether it votes, and known who rejects in its ancestry. Writes 1 for each block that certifies, and 0 for each other one.
+fn walk(
     stakes: &[u64],
     total: Stake,
     store: &[u8],
     order: &[u64],
-    voters: &[u64],
+    places: &[u64],
+    noted: usize,
+    own: &[u64],
     rejecters: &[u64],
     rejected: bool,
     certified: &mut [u64],
 ) -> Certifiers
-    requires { ⌜ ((Sorted (now stakes) (now store) (now order) × (total .0 ≡ totalStake (now stakes))) × (length (now order) ≤ 1024)) × ((length (now certified) ≡ 1024) × ((length (now voters) ≡ 2048) × (rejected ≡ true → length (now rejecters) ≡ 2048))) ⌝ }
-    ensures { λ r. ⌜ CertifyCounted rejected (now (stakes .entry)) (now (store .entry)) (now (order .entry)) (now (voters .entry)) (now (rejecters .entry)) (now (certified .exit)) r ⌝ }
+    requires { ⌜ (((Sorted (now stakes) (now store) (now order) × (total .0 ≡ totalStake (now stakes))) × (length (now order) ≤ 1024)) × (length (now certified) ≡ 1024)) × (((length (now own) ≡ 1024) × Placed (now store) (now order) (now places) noted) × (rejected ≡ true → length (now rejecters) ≡ 2048)) ⌝ }
+    ensures { λ r. ⌜ CertifyMarked rejected (now (stakes .entry)) (now (store .entry)) (now (order .entry)) (now (own .entry)) (now (rejecters .entry)) (now (certified .exit)) r ⌝ }
 {
+    let mut memo = [0u64; 2048];
     let mut authors = AuthoritySet::new();
     let mut blocks: usize = 0;
     let none = AuthoritySet::new();
@@ -104,13 +103,23 @@ fn certify(
         voters: none,
         quorum,
     };
+    let mut i: usize = 0;
     let mut k: usize = 0;
     while k < order.len() {
         let at = order[k] as usize;
-        let counted = counted_at(voters, rejecters, rejected, k);
-        checked = check(stakes, total, checked, counted);
+        let count = block_votes::include_count_at(store, at);
+        let below = include_places::gather_at(store, order, places, noted, k, i, &memo);
+        let voters = speakers::with_own(store, at, own[k], below);
+        speakers::note_set(&mut memo, k, voters);
+        checked = check(
+            stakes,
+            total,
+            checked,
+            counted_at(voters, rejecters, rejected, k),
+        );
         let yes = certifies_at(store, at, checked.quorum);
         certified[k] = flag(yes);
+        i += count;
         k += 1;
         if !yes {
             continue;
@@ -124,8 +133,8 @@ fn certify(
 
 // ---- in either reading
 
-// The blocks that certify a locator where owners may withdraw, of which it is known who votes in their ancestry. Where no block rejects the locator, they
-// are those of the old reading.
+// The blocks that certify a locator where owners may withdraw, of which it is marked who votes. Where no block rejects the locator, they are those
+// of the old reading.
 fn withdrawn(
     stakes: &[u64],
     total: Stake,
@@ -136,13 +145,13 @@ fn withdrawn(
     places: &[u64],
     noted: usize,
     locator: TransactionLocator,
-    voters: &[u64],
+    own: &[u64],
     certified: &mut [u64],
 ) -> Certifiers
-    requires { ⌜ ((((Sorted (now stakes) (now store) (now order) × (total .0 ≡ totalStake (now stakes))) × (length (now order) ≤ 1024)) × (length (now certified) ≡ 1024)) × (BothTabled (now store) (now order) (now table) sizes × Placed (now store) (now order) (now places) noted)) × ((locator .offset < 18446744073709551615) × ((length (now voters) ≡ 2048) × HeardBelow ownVote (now store) (now order) (asLocator locator) (now voters) (length (now order)))) ⌝ }
+    requires { ⌜ ((((Sorted (now stakes) (now store) (now order) × (total .0 ≡ totalStake (now stakes))) × (length (now order) ≤ 1024)) × (length (now certified) ≡ 1024)) × (BothTabled (now store) (now order) (now table) sizes × Placed (now store) (now order) (now places) noted)) × ((locator .offset < 18446744073709551615) × ((length (now own) ≡ 1024) × Owned false (now store) (now order) (asLocator locator) (now own))) ⌝ }
     ensures { λ r. ⌜ CertifyFlagged withdrawing (now (stakes .entry)) (now (store .entry)) (now (order .entry)) (asLocator locator) (now (certified .exit)) r ⌝ }
 {
-    let mut own = [0u64; 1024];
+    let mut marks = [0u64; 1024];
     let from = 9 * sizes.votes;
     speakers::mark(
         store,
@@ -151,30 +160,34 @@ fn withdrawn(
         sizes.rejects,
         sizes.rejecting,
         locator,
-        &mut own,
+        &mut marks,
         true,
     );
     let mut rejecters = [0u64; 2048];
-    let rejected = speakers::any_marked(&own, order.len());
+    let rejected = speakers::any_marked(&marks, order.len());
     if !rejected {
-        return certify(
+        return walk(
             stakes,
             total,
             store,
             order,
-            voters,
+            places,
+            noted,
+            own,
             &rejecters,
             false,
             certified,
         );
     }
-    speakers::spread(store, order, places, noted, &own, &mut rejecters);
-    certify(
+    speakers::spread(store, order, places, noted, &marks, &mut rejecters);
+    walk(
         stakes,
         total,
         store,
         order,
-        voters,
+        places,
+        noted,
+        own,
         &rejecters,
         true,
         certified,
@@ -210,16 +223,16 @@ pub fn certifiers_of(
         &mut own,
         false,
     );
-    let mut voters = [0u64; 2048];
-    speakers::spread(store, order, places, noted, &own, &mut voters);
     let none = [0u64; 1];
     if !withdrawing {
-        return certify(
+        return walk(
             stakes,
             total,
             store,
             order,
-            &voters,
+            places,
+            noted,
+            &own,
             &none,
             false,
             certified,
@@ -227,12 +240,14 @@ pub fn certifiers_of(
     }
     if locator.offset == 18446744073709551615 {
         // No vote reaches the last offset, so nothing is withdrawn there.
-        return certify(
+        return walk(
             stakes,
             total,
             store,
             order,
-            &voters,
+            places,
+            noted,
+            &own,
             &none,
             false,
             certified,
@@ -248,7 +263,7 @@ pub fn certifiers_of(
         places,
         noted,
         locator,
-        &voters,
+        &own,
         certified,
     )
 }

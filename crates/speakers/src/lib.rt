@@ -79,7 +79,7 @@ pub fn any_marked(own: &[u64], n: usize) -> bool
 // ---- who speaks in the ancestry of each block
 
 // Those who speak below, and the author of the block at a position if it is marked.
-fn with_own(store: &[u8], at: usize, mark: u64, below: AuthoritySet) -> AuthoritySet
+pub fn with_own(store: &[u8], at: usize, mark: u64, below: AuthoritySet) -> AuthoritySet
     requires { ⌜ (isEntry (now store) at ≡ true) × (author (blockAt (now store) at) < 128) ⌝ }
     ensures { λ r. ⌜ r ≡ united (pick (eqb mark 1) (inserted nobody (author (blockAt (now (store .entry)) at))) nobody) below ⌝ }
 {
@@ -92,7 +92,7 @@ fn with_own(store: &[u8], at: usize, mark: u64, below: AuthoritySet) -> Authorit
 }
 
 // Notes who speaks in the ancestry of the block at a place.
-fn note_set(memo: &mut [u64], k: usize, who: AuthoritySet)
+pub fn note_set(memo: &mut [u64], k: usize, who: AuthoritySet)
     requires { ⌜ 2 * k + 1 < length (now memo) ⌝ }
     ensures { λ _. ⌜ now (memo .exit) ≡ withSet (now (memo .entry)) k who ⌝ }
 {

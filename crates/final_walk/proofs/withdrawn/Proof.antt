@@ -1,5 +1,5 @@
 use mathlib.Core.Path.{_≡_, refl, sym, subst}
-use mathlib.Core.Bool.{true}
+use mathlib.Core.Bool.{true, true≢false}
 use mathlib.Core.List.{List}
 use Prim.Native.Nat.{ℕ, _-_, _*_}
 use lib.ListN.{length, drop, length-drop}
@@ -11,7 +11,7 @@ use Rattle.types.specs.Values.{asLocator}
 use Rattle.readings.specs.Readings.{withdrawing}
 use Rattle.block_votes.proofs.Sorting.{some-committee}
 use Rattle.speakers.specs.Heard.{HeardMarked, AnyMarked}
-use Rattle.final_walk.specs.Walk.{CertifyCounted}
+use Rattle.final_walk.specs.Walk.{CertifyMarked}
 use Rattle.final_walk.proofs.Counting.{all-zero, counted-new, counted-same, none-rejects}
 use borrow.Author.Needs.{needs}
 use Rattle.final_walk.proofs.withdrawn.Statement.{statement}
@@ -46,23 +46,24 @@ slice-aggregate-any-marked c = search needs
 any-marked-requires : tie.Need-any-marked-requires
 any-marked-requires c κs = search needs
 
-slice-aggregate-certify : tie.Need-slice-aggregate-certify
-slice-aggregate-certify c = search needs
+slice-aggregate-walk : tie.Need-slice-aggregate-walk
+slice-aggregate-walk c = search needs
 
-certify-requires : tie.Need-certify-requires
-certify-requires c κs = search needs
+walk-requires : tie.Need-walk-requires
+walk-requires c κs = let p = c .before .before .before .before .before .before .before .before .before .before .before .before .before .before .before .before .before .pre in
+    (p .0 .0, ((p .1 .1 .0, p .0 .1 .1), λ e. absurd (true≢false (sym e))))
 
 same-length : tie.Need-same-length
 same-length c = search needs
 
 returns : tie.Need-returns
-unfolding CertifyCounted AnyMarked
+unfolding CertifyMarked AnyMarked
 returns c = let a = c .before .before .before .before .before .before .before .before .before .before .before .before .before .before .before .before .before .before .before .before .args in
     let p = c .before .before .before .before .before .before .before .before .before .before .before .before .before .before .before .before .before .before .before .before .pre in
     let l = asLocator (a .locator) in
     let o = some-committee (p .0 .0 .0 .0 .0) in
     let quiet = rw (not-true (c .before .before .before .before .before .before .any-marked .result) (c .before .before .before .before .before .if1 .taken)) at (c .before .before .before .before .before .before .any-marked .ensures) in
-    c .before .before .certify .ensures withdrawing l (counted-same (a .store .now) (a .order .now) l (a .voters .now) (p .1 .1 .1) (none-rejects (a .store .now) (a .order .now) o l _ (c .before .before .before .before .before .before .before .before .before .mark .ensures) quiet) _)
+    c .before .before .walk .ensures withdrawing l (p .1 .1 .1) (counted-same (a .store .now) (a .order .now) l (none-rejects (a .store .now) (a .order .now) o l _ (c .before .before .before .before .before .before .before .before .before .mark .ensures) quiet) _)
 
 slice-aggregate-spread : tie.Need-slice-aggregate-spread
 slice-aggregate-spread c = search needs
@@ -74,22 +75,22 @@ spread-requires : tie.Need-spread-requires
 spread-requires c κs = let p = c .before .before .before .before .before .before .before .before .before .before .before .before .before .before .before .before .before .pre in
     ((some-committee (p .0 .0 .0 .0 .0), p .0 .0 .0 .1), (c .before .before .before .before .before .before .mark .kept .1 .1 .1 .1 .1 .1 .0, (refl, p .0 .1 .1)))
 
-slice-aggregate-certify-2 : tie.Need-slice-aggregate-certify-2
-slice-aggregate-certify-2 c = search needs
+slice-aggregate-walk-2 : tie.Need-slice-aggregate-walk-2
+slice-aggregate-walk-2 c = search needs
 
-certify-requires-2 : tie.Need-certify-requires-2
-certify-requires-2 c κs = let p = c .before .before .before .before .before .before .before .before .before .before .before .before .before .before .before .before .before .before .before .before .before .pre in
-    (p .0 .0 .0, (p .0 .0 .1, (p .1 .1 .0, λ e. c .before .before .before .spread .kept .1 .1 .1 .1 .1 .0)))
+walk-requires-2 : tie.Need-walk-requires-2
+walk-requires-2 c κs = let p = c .before .before .before .before .before .before .before .before .before .before .before .before .before .before .before .before .before .before .before .before .before .pre in
+    (p .0 .0, ((p .1 .1 .0, p .0 .1 .1), λ e. c .before .before .before .spread .kept .1 .1 .1 .1 .1 .0))
 
 same-length-2 : tie.Need-same-length-2
 same-length-2 c = search needs
 
 returns-2 : tie.Need-returns-2
-unfolding CertifyCounted HeardMarked
+unfolding CertifyMarked HeardMarked
 returns-2 c = let a = c .before .before .before .before .before .before .before .before .before .before .before .before .before .before .before .before .before .before .before .before .before .before .before .before .args in
     let p = c .before .before .before .before .before .before .before .before .before .before .before .before .before .before .before .before .before .before .before .before .before .before .before .before .pre in
     let l = asLocator (a .locator) in
-    c .before .before .certify2 .ensures withdrawing l (counted-new (a .store .now) (a .order .now) l (a .voters .now) (p .1 .1 .1) _ (c .before .before .before .before .before .before .spread .ensures true l (c .before .before .before .before .before .before .before .before .before .before .before .before .before .mark .ensures)))
+    c .before .before .walk2 .ensures withdrawing l (p .1 .1 .1) (counted-new (a .store .now) (a .order .now) l _ (c .before .before .before .before .before .before .spread .ensures true l (c .before .before .before .before .before .before .before .before .before .before .before .before .before .mark .ensures)))
 
 pub withdrawn-spec : {M : Type 1} → statement M
 withdrawn-spec =
@@ -104,14 +105,14 @@ withdrawn-spec =
     mark-requires
     slice-aggregate-any-marked
     any-marked-requires
-    slice-aggregate-certify
-    certify-requires
+    slice-aggregate-walk
+    walk-requires
     same-length
     returns
     slice-aggregate-spread
     slice-aggregate-spread-2
     spread-requires
-    slice-aggregate-certify-2
-    certify-requires-2
+    slice-aggregate-walk-2
+    walk-requires-2
     same-length-2
     returns-2)

@@ -1,0 +1,234 @@
+use mathlib.Core.Path.{_≡_, refl, sym, ap, _∙_}
+use mathlib.Core.Bool.{false}
+use Prim.Native.Nat.{ℕ, _-_, _≤_, _<_, _+_}
+use native.Mathlib.Omega.{arith}
+use borrow.Author.Tests.{not-true, not-false}
+use lib.ListN.{length}
+use Rattle.base.proofs.Le.{bytes-of}
+use Rattle.committee.specs.Committee.{isQuorum}
+use Rattle.authority_set.specs.AuthoritySet.{AuthoritySet}
+use Rattle.blocks.specs.Reference.{TransactionLocator}
+use Rattle.types.specs.Values.{asReference}
+use Rattle.finality.specs.Voters.{ownVote}
+use Rattle.finality.specs.Finality.{blocksOf}
+use Rattle.readings.specs.Readings.{Reading, certifiesIn, certifiersIn}
+use Rattle.readings.specs.Finality.{certifyingPositionsIn}
+use Rattle.block_votes.specs.Walk.{blockAtPlace}
+use Rattle.block_votes.proofs.Sorting.{some-committee, place-entry, place-stored, place-author}
+use Rattle.block_spans.proofs.Fits.{block-fits}
+use Rattle.voters.specs.Walk.{spokenAt}
+use Rattle.finalization_interpreter.proofs.Finding.{found, found-all, authors-all}
+use Rattle.include_places.specs.Places.{GatheredAt, setAt}
+use Rattle.include_places.proofs.Noting.{before-few}
+use Rattle.speakers.specs.Heard.{Owned, HeardBelow}
+use Rattle.speakers.proofs.Spreading.{all-heard, heard-more}
+use Rattle.final_walk.specs.Walk.{Sure, counted, CountedRight, Certify, Flags, CertifyMarked}
+use Rattle.final_walk.proofs.Walking.{Going, Walking, going-start, going-more, walking-start, walking-no, walking-yes}
+use borrow.Author.Needs.{needs}
+use Rattle.final_walk.proofs.walk.Statement.{statement}
+use Rattle.final_walk.proofs.walk.Tie as tie
+
+abbrev Inv-loop : tie.InvT-loop
+Inv-loop stakes total store order places noted own rejecters rejected certified₀ memo₀ authors₀ blocks₀ quorum checked₀ i₀ k₀ certified memo authors blocks checked i k = Going stakes store order memo certified blocks checked i k × (((l : TransactionLocator) → Owned false store order l own → HeardBelow ownVote store order l memo k) × ((reading : Reading) (l : TransactionLocator) → Owned false store order l own → CountedRight rejected reading store order l rejecters → Walking reading stakes store l order certified authors blocks k))
+
+abbrev μ-loop : tie.MeasureT-loop
+μ-loop stakes total store order places noted own rejecters rejected certified₀ memo₀ authors₀ blocks₀ quorum checked₀ i₀ k₀ certified memo authors blocks checked i k = length order - k
+
+new-requires : tie.Need-new-requires Inv-loop μ-loop
+new-requires c κs = search needs
+
+new-requires-2 : tie.Need-new-requires-2 Inv-loop μ-loop
+new-requires-2 c κs = search needs
+
+stake-of-requires : tie.Need-stake-of-requires Inv-loop μ-loop
+stake-of-requires c κs = c .before .before .before .before .before .before .before .before .before .pre .0 .0 .0 .0 .sound
+
+is-quorum-requires : tie.Need-is-quorum-requires Inv-loop μ-loop
+is-quorum-requires c κs = search needs
+
+loop-holds : tie.Need-loop-holds Inv-loop μ-loop
+unfolding Sure isQuorum
+loop-holds c = let a = c .before .before .before .before .before .before .before .before .before .before .before .args in
+    let p = c .before .before .before .before .before .before .before .before .before .before .before .pre in
+    let z : Sure (a .stakes .now) (record { voters = c .before .before .new2 .result; quorum = c .is-quorum .result }) = rw (← p .0 .0 .0 .1, ← c .before .stake-of .ensures) (c .is-quorum .ensures) in
+    (going-start (a .stakes .now) (a .store .now) (a .order .now) _ _ _ refl (p .0 .1) z, (λ l w j m. absurd (omega arith), λ reading l w q. rw (c .before .before .before .new .ensures) (walking-start reading (a .stakes .now) (a .store .now) l (a .order .now) _)))
+
+mul-at : tie.Need-mul-at Inv-loop μ-loop
+mul-at c = search needs
+
+shared-slice-read-at : tie.Need-shared-slice-read-at Inv-loop μ-loop
+shared-slice-read-at c = search needs
+
+include-count-at-requires : tie.Need-include-count-at-requires Inv-loop μ-loop
+include-count-at-requires c κs = let a = c .before .before .before .before .before .before .before .before .before .before .before .before .before .before .args in place-entry (a .store .now) (a .order .now) (some-committee (c .before .before .before .before .before .before .before .before .before .before .before .before .before .before .pre .0 .0 .0 .0)) (c .before .before .loop .k) (c .before .loop-test .taken)
+
+slice-aggregate-gather-at : tie.Need-slice-aggregate-gather-at Inv-loop μ-loop
+slice-aggregate-gather-at c = sym (c .before .before .before .before .loop .inv .0 .long)
+
+gather-at-requires : tie.Need-gather-at-requires Inv-loop μ-loop
+gather-at-requires c κs = let p = c .before .before .before .before .before .before .before .before .before .before .before .before .before .before .before .before .pre in
+    let g = c .before .before .before .before .loop in
+    let h = c .before .before .before .loop-test .taken in
+    ((some-committee (p .0 .0 .0 .0), p .1 .0 .1), (h, (g .inv .0 .at, omega (arith, h, g .inv .0 .long, p .0 .0 .1))))
+
+mul-with-own : tie.Need-mul-with-own Inv-loop μ-loop
+mul-with-own c = omega (arith, c .before .before .before .before .loop-test .taken, c .before .before .before .before .before .before .before .before .before .before .before .before .before .before .before .before .before .pre .0 .0 .1)
+
+shared-slice-read-with-own : tie.Need-shared-slice-read-with-own Inv-loop μ-loop
+shared-slice-read-with-own c = omega (arith, c .before .before .before .before .before .loop-test .taken, c .before .before .before .before .before .before .before .before .before .before .before .before .before .before .before .before .before .before .pre .0 .0 .1, c .before .before .before .before .before .before .before .before .before .before .before .before .before .before .before .before .before .before .pre .1 .0 .0)
+
+with-own-requires : tie.Need-with-own-requires Inv-loop μ-loop
+unfolding blockAtPlace
+with-own-requires c κs = let a = c .before .before .before .before .before .before .before .before .before .before .before .before .before .before .before .before .before .before .args in
+    let o = some-committee (c .before .before .before .before .before .before .before .before .before .before .before .before .before .before .before .before .before .before .pre .0 .0 .0 .0) in
+    (place-entry (a .store .now) (a .order .now) o (c .before .before .before .before .before .before .loop .k) (c .before .before .before .before .before .loop-test .taken), place-author (a .store .now) (a .order .now) o (c .before .before .before .before .before .before .loop .k) (c .before .before .before .before .before .loop-test .taken))
+
+slice-aggregate-note-set : tie.Need-slice-aggregate-note-set Inv-loop μ-loop
+slice-aggregate-note-set c = sym (c .before .before .before .before .before .before .before .before .loop .inv .0 .long)
+
+note-set-requires : tie.Need-note-set-requires Inv-loop μ-loop
+note-set-requires c κs = omega (arith, c .before .before .before .before .before .before .before .loop-test .taken, c .before .before .before .before .before .before .before .before .before .before .before .before .before .before .before .before .before .before .before .before .pre .0 .0 .1, c .before .before .before .before .before .before .before .before .loop .inv .0 .long)
+
+counted-at-requires : tie.Need-counted-at-requires Inv-loop μ-loop
+counted-at-requires c κs = let p = c .before .before .before .before .before .before .before .before .before .before .before .before .before .before .before .before .before .before .before .before .before .before .pre in
+    let h = c .before .before .before .before .before .before .before .before .before .loop-test .taken in
+    (omega (arith, h, p .0 .0 .1), λ e. let n = p .1 .1 e in omega (arith, h, p .0 .0 .1))
+
+check-requires : tie.Need-check-requires Inv-loop μ-loop
+check-requires c κs = let p = c .before .before .before .before .before .before .before .before .before .before .before .before .before .before .before .before .before .before .before .before .before .before .before .pre in ((p .0 .0 .0 .0 .sound, p .0 .0 .0 .1), c .before .before .before .before .before .before .before .before .before .before .before .loop .inv .0 .sure)
+
+certifies-at-requires : tie.Need-certifies-at-requires Inv-loop μ-loop
+certifies-at-requires c κs = let a = c .before .before .before .before .before .before .before .before .before .before .before .before .before .before .before .before .before .before .before .before .before .before .before .before .args in place-entry (a .store .now) (a .order .now) (some-committee (c .before .before .before .before .before .before .before .before .before .before .before .before .before .before .before .before .before .before .before .before .before .before .before .before .pre .0 .0 .0 .0)) (c .before .before .before .before .before .before .before .before .before .before .before .before .loop .k) (c .before .before .before .before .before .before .before .before .before .before .before .loop-test .taken)
+
+flag-requires : tie.Need-flag-requires Inv-loop μ-loop
+flag-requires c κs = search needs
+
+mul-certified : tie.Need-mul-certified Inv-loop μ-loop
+mul-certified c = omega (arith, c .before .before .before .before .before .before .before .before .before .before .before .before .before .loop-test .taken, c .before .before .before .before .before .before .before .before .before .before .before .before .before .before .before .before .before .before .before .before .before .before .before .before .before .before .pre .0 .0 .1)
+
+slice-write-certified : tie.Need-slice-write-certified Inv-loop μ-loop
+slice-write-certified c = omega (arith, c .before .before .before .before .before .before .before .before .before .before .before .before .before .loop-test .taken, c .before .before .before .before .before .before .before .before .before .before .before .before .before .before .before .before .before .before .before .before .before .before .before .before .before .before .pre .0 .0 .1, c .before .before .before .before .before .before .before .before .before .before .before .before .before .before .loop .inv .0 .wide)
+
+add-i : tie.Need-add-i Inv-loop μ-loop
+unfolding blockAtPlace
+add-i c = let a = c .before .before .before .before .before .before .before .before .before .before .before .before .before .before .before .before .before .before .before .before .before .before .before .before .before .before .args in
+    let g = c .before .before .before .before .before .before .before .before .before .before .before .before .before .before .loop in
+    let o = some-committee (c .before .before .before .before .before .before .before .before .before .before .before .before .before .before .before .before .before .before .before .before .before .before .before .before .before .before .pre .0 .0 .0 .0) in
+    let h = c .before .before .before .before .before .before .before .before .before .before .before .before .before .loop-test .taken in
+    let bytes = bytes-of (a .store .now) (λ j l. omega (arith, c .before .before .before .before .before .before .before .before .before .before .before .before .before .before .before .before .before .before .before .before .before .before .before .before .shared-slice-known2 .given j)) in
+    let few : (k : ℕ) → k < length (a .order .now) → length (blockAtPlace (a .store .now) (a .order .now) k .includes) ≤ 65536 =
+    λ k m. omega (arith, block-fits (a .store .now) bytes _ (place-stored (a .store .now) (a .order .now) o k m) .fewIncludes) in
+    omega (arith, before-few (a .store .now) (a .order .now) (g .k) (λ k m. few k (omega (arith, m, h))), few (g .k) h, g .inv .0 .at, c .before .before .before .before .before .before .before .before .before .before .before .include-count-at .ensures, h, c .before .before .before .before .before .before .before .before .before .before .before .before .before .before .before .before .before .before .before .before .before .before .before .before .before .before .pre .0 .0 .1)
+
+add-k : tie.Need-add-k Inv-loop μ-loop
+add-k c = omega (arith, c .before .before .before .before .before .before .before .before .before .before .before .before .before .loop-test .taken, c .before .before .before .before .before .before .before .before .before .before .before .before .before .before .before .before .before .before .before .before .before .before .before .before .before .before .pre .0 .0 .1)
+
+loop-less : tie.Need-loop-less Inv-loop μ-loop
+loop-less c = omega (arith, c .before .before .before .before .before .before .before .before .before .before .before .before .before .before .loop-test .taken)
+
+loop-again : tie.Need-loop-again Inv-loop μ-loop
+unfolding blockAtPlace GatheredAt
+loop-again c = let a = c .before .before .before .before .before .before .before .before .before .before .before .before .before .before .before .before .before .before .before .before .before .before .before .before .before .before .before .args in
+    let g = c .before .before .before .before .before .before .before .before .before .before .before .before .before .before .before .loop in
+    let h = c .before .before .before .before .before .before .before .before .before .before .before .before .before .before .loop-test .taken in
+    let p = c .before .before .before .before .before .before .before .before .before .before .before .before .before .before .before .before .before .before .before .before .before .before .before .before .before .before .before .pre in
+    let z = c .before .before .before .check .ensures in
+    let v = c .before .before .before .before .before .before .before .before .with-own .result in
+    let heard : (l : TransactionLocator) → Owned false (a .store .now) (a .order .now) l (a .own .now) → v ≡ spokenAt ownVote (a .store .now) (a .order .now) l (g .k) =
+    λ l w. c .before .before .before .before .before .before .before .before .with-own .ensures ∙ all-heard false (a .store .now) (a .order .now) (some-committee (p .0 .0 .0 .0)) l (g .k) h (a .own .now) w (c .before .before .before .before .before .before .before .before .before .before .gather-at .result) (c .before .before .before .before .before .before .before .before .before .before .gather-at .ensures ownVote l (g .inv .1 .0 l w)) in
+    let q = sym (c .before .before .certifies-at .ensures) ∙ not-true _ (c .if1 .taken) in
+    let x : c .before .flag .result ≡ 0 = rw (not-true (c .before .before .certifies-at .result) (c .if1 .taken)) at (c .before .flag .ensures) in
+    rw (c .before .before .before .before .before .before .note-set .ensures, x) (
+      going-more (a .stakes .now) (a .store .now) (a .order .now) (g .memo) (g .certified) (g .blocks) (g .checked) (g .i) (g .k) (g .inv .0) h v (c .before .before .before .check .result) (z .1) _ (c .before .before .before .before .before .before .before .before .before .before .before .before .include-count-at .ensures) (g .blocks) (omega (arith, g .inv .0 .few)) 0,
+      (
+        λ l w. heard-more false (a .store .now) (a .order .now) l (g .memo) (g .k) (g .inv .1 .0 l w) (omega (arith, h, g .inv .0 .long, p .0 .0 .1)) v (heard l w),
+        λ reading l w r. walking-no reading (a .stakes .now) (a .store .now) l (a .order .now) (g .certified) (g .authors) (g .blocks) (g .k) (g .inv .1 .1 reading l w r) h (omega (arith, h, g .inv .0 .wide, p .0 .0 .1)) (c .before .before .before .before .counted-at .result) (c .before .before .before .before .counted-at .ensures ∙ ap (λ (y : AuthoritySet). counted (a .rejected) y (setAt (a .rejecters .now) (g .k))) (heard l w) ∙ r (g .k) h) (c .before .before .before .check .result) (z .0) (z .1) q,
+      ),
+    )
+
+add-blocks : tie.Need-add-blocks Inv-loop μ-loop
+add-blocks c = omega (arith, c .before .before .before .before .before .before .before .before .before .before .before .before .before .before .before .loop .inv .0 .few, c .before .before .before .before .before .before .before .before .before .before .before .before .before .before .loop-test .taken, c .before .before .before .before .before .before .before .before .before .before .before .before .before .before .before .before .before .before .before .before .before .before .before .before .before .before .before .pre .0 .0 .1)
+
+reference-at-requires : tie.Need-reference-at-requires Inv-loop μ-loop
+reference-at-requires c κs = let a = c .before .before .before .before .before .before .before .before .before .before .before .before .before .before .before .before .before .before .before .before .before .before .before .before .before .before .before .args in place-entry (a .store .now) (a .order .now) (some-committee (c .before .before .before .before .before .before .before .before .before .before .before .before .before .before .before .before .before .before .before .before .before .before .before .before .before .before .before .pre .0 .0 .0 .0)) (c .before .before .before .before .before .before .before .before .before .before .before .before .before .before .before .loop .k) (c .before .before .before .before .before .before .before .before .before .before .before .before .before .before .loop-test .taken)
+
+insert-requires : tie.Need-insert-requires Inv-loop μ-loop
+unfolding asReference blockAtPlace
+insert-requires c κs = let a = c .before .before .before .before .before .before .before .before .before .before .before .before .before .before .before .before .before .before .before .before .before .before .before .before .before .before .before .before .args in rw (ap (λ r. r .authority) (c .reference-at .ensures)) (place-author (a .store .now) (a .order .now) (some-committee (c .before .before .before .before .before .before .before .before .before .before .before .before .before .before .before .before .before .before .before .before .before .before .before .before .before .before .before .before .pre .0 .0 .0 .0)) (c .before .before .before .before .before .before .before .before .before .before .before .before .before .before .before .before .loop .k) (c .before .before .before .before .before .before .before .before .before .before .before .before .before .before .before .loop-test .taken))
+
+loop-less-2 : tie.Need-loop-less-2 Inv-loop μ-loop
+loop-less-2 c = omega (arith, c .before .before .before .before .before .before .before .before .before .before .before .before .before .before .before .before .loop-test .taken)
+
+loop-again-2 : tie.Need-loop-again-2 Inv-loop μ-loop
+unfolding asReference blockAtPlace GatheredAt
+loop-again-2 c = let a = c .before .before .before .before .before .before .before .before .before .before .before .before .before .before .before .before .before .before .before .before .before .before .before .before .before .before .before .before .before .args in
+    let g = c .before .before .before .before .before .before .before .before .before .before .before .before .before .before .before .before .before .loop in
+    let h = c .before .before .before .before .before .before .before .before .before .before .before .before .before .before .before .before .loop-test .taken in
+    let p = c .before .before .before .before .before .before .before .before .before .before .before .before .before .before .before .before .before .before .before .before .before .before .before .before .before .before .before .before .before .pre in
+    let z = c .before .before .before .before .before .check .ensures in
+    let v = c .before .before .before .before .before .before .before .before .before .before .with-own .result in
+    let heard : (l : TransactionLocator) → Owned false (a .store .now) (a .order .now) l (a .own .now) → v ≡ spokenAt ownVote (a .store .now) (a .order .now) l (g .k) =
+    λ l w. c .before .before .before .before .before .before .before .before .before .before .with-own .ensures ∙ all-heard false (a .store .now) (a .order .now) (some-committee (p .0 .0 .0 .0)) l (g .k) h (a .own .now) w (c .before .before .before .before .before .before .before .before .before .before .before .before .gather-at .result) (c .before .before .before .before .before .before .before .before .before .before .before .before .gather-at .ensures ownVote l (g .inv .1 .0 l w)) in
+    let q = sym (c .before .before .before .before .certifies-at .ensures) ∙ not-false _ (c .before .before .if1 .left) in
+    let x : c .before .before .before .flag .result ≡ 1 = rw (not-false (c .before .before .before .before .certifies-at .result) (c .before .before .if1 .left)) at (c .before .before .before .flag .ensures) in
+    rw (c .before .before .before .before .before .before .before .before .note-set .ensures, x, c .insert .ensures, ap (λ r. r .authority) (c .before .reference-at .ensures)) (
+      going-more (a .stakes .now) (a .store .now) (a .order .now) (g .memo) (g .certified) (g .blocks) (g .checked) (g .i) (g .k) (g .inv .0) h v (c .before .before .before .before .before .check .result) (z .1) _ (c .before .before .before .before .before .before .before .before .before .before .before .before .before .before .include-count-at .ensures) (g .blocks + 1) (omega (arith, g .inv .0 .few)) 1,
+      (
+        λ l w. heard-more false (a .store .now) (a .order .now) l (g .memo) (g .k) (g .inv .1 .0 l w) (omega (arith, h, g .inv .0 .long, p .0 .0 .1)) v (heard l w),
+        λ reading l w r. walking-yes reading (a .stakes .now) (a .store .now) l (a .order .now) (g .certified) (g .authors) (g .blocks) (g .k) (g .inv .1 .1 reading l w r) h (omega (arith, h, g .inv .0 .wide, p .0 .0 .1)) (c .before .before .before .before .before .before .counted-at .result) (c .before .before .before .before .before .before .counted-at .ensures ∙ ap (λ (y : AuthoritySet). counted (a .rejected) y (setAt (a .rejecters .now) (g .k))) (heard l w) ∙ r (g .k) h) (c .before .before .before .before .before .check .result) (z .0) (z .1) q (place-author (a .store .now) (a .order .now) (some-committee (p .0 .0 .0 .0)) (g .k) h),
+      ),
+    )
+
+same-length : tie.Need-same-length Inv-loop μ-loop
+same-length c = c .before .loop .inv .0 .wide ∙ sym (c .before .before .before .before .before .before .before .before .before .before .before .before .before .pre .0 .1)
+
+returns : tie.Need-returns Inv-loop μ-loop
+unfolding CertifyMarked Certify Flags certifyingPositionsIn certifiersIn blockAtPlace
+returns c = let a = c .before .before .before .before .before .before .before .before .before .before .before .before .before .args in
+    let g = c .before .loop in
+    let o = c .before .before .before .before .before .before .before .before .before .before .before .before .before .pre .0 .0 .0 .0 in
+    let e : g .k ≡ length (a .order .now) = omega (arith, g .inv .0 .inside, c .loop-test .left) in
+    λ reading l w r.
+    let x = g .inv .1 .1 reading l w r in
+    let test = certifiesIn reading (a .stakes .now) (blocksOf (a .store .now)) l in
+    let f = ap (found test (a .store .now) (a .order .now)) e ∙ found-all test (a .store .now) (a .stakes .now) (a .order .now) o in
+    ((x .many ∙ ap length f, authors-all (a .stakes .now) (a .store .now) (a .order .now) o test (g .authors) (rw e at (x .authored))), λ j h. x .flagged j (omega (arith, h, e)))
+
+pub walk-spec : {M : Type 1} → statement M
+walk-spec =
+    tie.close
+    (tie.spec
+    Inv-loop
+    μ-loop
+    new-requires
+    new-requires-2
+    stake-of-requires
+    is-quorum-requires
+    loop-holds
+    mul-at
+    shared-slice-read-at
+    include-count-at-requires
+    slice-aggregate-gather-at
+    gather-at-requires
+    mul-with-own
+    shared-slice-read-with-own
+    with-own-requires
+    slice-aggregate-note-set
+    note-set-requires
+    counted-at-requires
+    check-requires
+    certifies-at-requires
+    flag-requires
+    mul-certified
+    slice-write-certified
+    add-i
+    add-k
+    loop-less
+    loop-again
+    add-blocks
+    reference-at-requires
+    insert-requires
+    loop-less-2
+    loop-again-2
+    same-length
+    returns)
