@@ -1,6 +1,5 @@
 -- A stretch of a list found by the cursors is the list's next one. Assumes nothing.
-use mathlib.Core.Path.{_≡_, refl, sym, ap, subst, _∙_}
-use mathlib.Core.Logic.{_⊎_, inl, inr}
+use mathlib.Core.Path.{_≡_, refl, sym, ap, _∙_}
 use mathlib.Core.Bool.{Bool, true, false, _&&_, and-false}
 use mathlib.Core.List.{List, map}
 use mathlib.Core.Option.{Option, none, some}
@@ -9,10 +8,10 @@ use native.Mathlib.Omega.{arith}
 use native.Mathlib.Decide.{decLt, ℕ-discrete}
 use lib.ListN.{length}
 use borrow.Author.Tests.{eq-eqb, ne-eqb}
-use Rattle.base.specs.Lists.{allOf, keep, _∈_}
+use Rattle.base.specs.Lists.{keep}
 use Rattle.base.specs.Le.{Bytes}
 use Rattle.base.proofs.Le.{AllBytes}
-use Rattle.base.proofs.Tests.{fails, not-both, and-both}
+use Rattle.base.proofs.Tests.{fails, and-both}
 use Rattle.committee.specs.Committee.{Committee, Stake}
 use Rattle.authority_set.specs.AuthoritySet.{AuthoritySet, setOf, stakeOf}
 use Rattle.blocks.specs.Reference.{BlockReference, TransactionLocator, locator, locatorBefore}
@@ -20,17 +19,17 @@ use Rattle.blocks.specs.Block.{Block, author}
 use Rattle.blocks.proofs.References.{Precedes, precedes, is-before}
 use Rattle.blocks.proofs.References as order
 use Rattle.store_layout.specs.Store.{storeInOrder}
-use Rattle.finality.specs.Voters.{certifies, certifiers, isFinal}
+use Rattle.finality.specs.Voters.{certifies, certifiers}
 use Rattle.finality.specs.Finality.{blocksOf}
 use Rattle.finality.specs.NextFinal.{isAfter}
 use Rattle.block_spans.proofs.Fits.{final-offset}
-use Rattle.stretches.specs.Stretches.{Listing, wide, agree, certifiedAlike, goesOn, EndsAt, lastLocator, stretchEnd, stretchAt}
+use Rattle.stretches.specs.Stretches.{Listing, wide, agree, certifiedAlike, goesOn, EndsAt, stretchEnd, stretchAt}
 use Rattle.stretches.specs.Claims.{least, nothing, Lawful}
 use Rattle.stretches.proofs.Ends.{agrees, all-in, in-all, end-meant}
 use Rattle.stretches.proofs.Spreading.{one-shown}
 use Rattle.listed.specs.Listed.{listed}
 use Rattle.listed.proofs.Listed.{listed-lawful, listed-certifies, listed-alike, listed-final}
-use Rattle.voters_index.specs.Walk.{Past, byBlock, byOffset, Place, anywhere, beyond, At}
+use Rattle.voters_index.specs.Walk.{Past, byBlock, byOffset, Place, beyond, At}
 use Rattle.index_search.specs.Search.{Alike, Ended}
 use Rattle.index_search.proofs.Counting.{final-alike}
 use Rattle.index_listed.specs.Shown.{ShownAt}

@@ -1,17 +1,16 @@
 -- The next locator of a list: the first of the run of offsets that the list may show, in the stretch of a final one or past it. Assumes nothing.
 use mathlib.Core.Path.{_≡_, refl, sym, ap, subst, _∙_}
-use mathlib.Core.Logic.{_⊎_, inl, inr}
-use mathlib.Core.Bool.{Bool, true, false, not, _&&_, _||_}
+use mathlib.Core.Bool.{Bool, true, false, not, _||_}
 use mathlib.Core.List.{List, map}
-use Prim.Native.Nat.{ℕ, _+_, _≤_, _<_}
+use Prim.Native.Nat.{ℕ, _≤_, _<_}
 use native.Mathlib.Omega.{arith}
 use native.Mathlib.Decide.{decLt}
 use lib.ListN.{length, getD}
-use Rattle.base.specs.Lists.{pick, keep, _∈_}
+use Rattle.base.specs.Lists.{pick, _∈_}
 use Rattle.base.specs.Le.{Bytes}
 use Rattle.base.proofs.Le.{AllBytes}
 use Rattle.base.proofs.Places.{in-place}
-use Rattle.base.proofs.Tests.{fails, not-both, and-both, and-left}
+use Rattle.base.proofs.Tests.{fails, not-both, and-both}
 use Rattle.committee.specs.Committee.{Committee}
 use Rattle.authority_set.specs.AuthoritySet.{AuthoritySet, setOf}
 use Rattle.blocks.specs.Reference.{BlockReference, TransactionLocator, locator, referenceBefore, locatorBefore}
@@ -34,8 +33,8 @@ use Rattle.voters_index.proofs.Fitting.{past-sorted}
 use Rattle.index_cursors.specs.Cursors.{Settled}
 use Rattle.index_watch.specs.Watch.{Watched}
 use Rattle.index_watch.proofs.Standing.{at-past, watched-settled}
-use Rattle.index_search.specs.Search.{Flags, Alike, FirstFinal, edgesPast, FoundAt}
-use Rattle.index_search.proofs.Counting.{each-block, final-alike}
+use Rattle.index_search.specs.Search.{Flags, Alike, FoundAt}
+use Rattle.index_search.proofs.Counting.{final-alike}
 use Rattle.share_runs.specs.Runs.{RunFrom}
 use Rattle.index_listed.specs.Shown.{ShownAt}
 

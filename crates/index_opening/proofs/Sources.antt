@@ -1,8 +1,8 @@
 -- A part that stands in the index, as what a cursor goes over. Assumes nothing.
 use mathlib.Core.Path.{_≡_, refl, sym, ap, subst, _∙_}
-use mathlib.Core.Bool.{Bool, true, false, not, _&&_}
+use mathlib.Core.Bool.{Bool, true, false, not}
 use mathlib.Core.List.{List, [], _∷_}
-use Prim.Native.Nat.{ℕ, zero, suc, _+_, _-_, _*_, _≤_, _<_}
+use Prim.Native.Nat.{ℕ, zero, suc, _+_, _-_, _*_, _<_}
 use native.Mathlib.Omega.{arith}
 use native.Mathlib.Decide.{decLt}
 use native.Mathlib.Numerals.{add-one}
@@ -19,7 +19,7 @@ use Rattle.finality.specs.Voters.{voters, certifies}
 use Rattle.voters_index.specs.Runs.{Run, votersIn}
 use Rattle.voters_index.specs.Part.{partIn}
 use Rattle.voters_index.specs.Certified.{quorumRun}
-use Rattle.voters_index.specs.Walk.{Past, byBlock, byOffset, Place, anywhere, beyond, At, runFrom, runsFrom, partAt}
+use Rattle.voters_index.specs.Walk.{Past, byBlock, byOffset, Place, anywhere, beyond, runFrom, runsFrom, partAt}
 use Rattle.voters_index.proofs.Chain.{Chain, link, Differs, past-trans}
 use Rattle.voters_index.proofs.Chain as chain
 use Rattle.voters_index.proofs.Relation.{runs-chain, past-in, chain-runs}

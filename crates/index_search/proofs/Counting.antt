@@ -1,20 +1,19 @@
 -- Who certifies, counted over the stored blocks; and how far a search has come. Assumes nothing.
-use mathlib.Core.Path.{_≡_, refl, sym, ap, subst, _∙_}
-use mathlib.Core.Logic.{_⊎_, inl, inr}
+use mathlib.Core.Path.{_≡_, refl, ap, _∙_}
 use mathlib.Core.Bool.{Bool, true, false}
 use mathlib.Core.List.{List, [], _∷_, map, flatten}
-use Prim.Native.Nat.{ℕ, zero, suc, _+_, _*_, _≤_, _<_}
+use Prim.Native.Nat.{ℕ, suc, _*_, _<_}
 use native.Mathlib.Omega.{arith}
 use lib.Dec.{eqb}
-use lib.ListN.{length, getD, drop, length-map}
-use borrow.Author.Tests.{le-ltb, eqb-true}
-use Rattle.base.specs.Lists.{pick, keep, countFrom, _∈_, here, there}
-use Rattle.base.proofs.Tests.{holds-or-not, fails, not-both}
+use lib.ListN.{length, getD, length-map}
+use borrow.Author.Tests.{le-ltb}
+use Rattle.base.specs.Lists.{pick, keep, countFrom, _∈_}
+use Rattle.base.proofs.Tests.{fails}
 use Rattle.base.proofs.Lists.{every-in}
 use Rattle.base.proofs.Places.{places-every}
 use Rattle.base.proofs.Members.{in-flatten, in-map, in-countFrom}
 use Rattle.committee.specs.Committee.{Committee, totalStake, quorumOf, isQuorum}
-use Rattle.authority_set.specs.AuthoritySet.{AuthoritySet, nobody, setOf, stakeOf}
+use Rattle.authority_set.specs.AuthoritySet.{AuthoritySet, setOf, stakeOf}
 use Rattle.blocks.specs.Reference.{BlockReference, TransactionLocator, locator, locatorBefore}
 use Rattle.blocks.specs.Block.{Block, author}
 use Rattle.blocks.specs.Record.{noBlock}
@@ -24,7 +23,7 @@ use Rattle.finality.specs.Voters.{certifies, certifiers, isFinal}
 use Rattle.vote_starts.proofs.Starts.{fewer-kept}
 use Rattle.voters_index.specs.Walk.{Past, byBlock, byOffset, Place, anywhere, beyond, At}
 use Rattle.voters_index.proofs.Certifying.{stake-nobody, keep-same}
-use Rattle.index_marks.specs.Marks.{Left, runAt, IsEdge, flagged}
+use Rattle.index_marks.specs.Marks.{flagged}
 use Rattle.index_watch.specs.Watch.{Owners}
 use Rattle.index_search.specs.Search.{Flags, isPast, runEdges, edgesPast}
 

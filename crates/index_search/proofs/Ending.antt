@@ -13,10 +13,10 @@ use Rattle.blocks.specs.Reference.{BlockReference, TransactionLocator, locator}
 use Rattle.blocks.specs.Block.{Block}
 use Rattle.blocks.specs.Record.{noBlock}
 use Rattle.finality.specs.Voters.{certifies}
-use Rattle.voters_index.specs.Walk.{Past, byBlock, byOffset, beyond, At}
+use Rattle.voters_index.specs.Walk.{Past, byBlock, byOffset, beyond}
 use Rattle.voters_index.proofs.Chain.{past-itself}
-use Rattle.index_cursors.specs.Cursors.{passed, Settled}
-use Rattle.index_marks.specs.Marks.{Left, runAt, coversAt, Marked, Onward}
+use Rattle.index_cursors.specs.Cursors.{Settled}
+use Rattle.index_marks.specs.Marks.{coversAt, Marked, Onward}
 use Rattle.index_watch.specs.Watch.{Watched}
 use Rattle.index_watch.proofs.Standing.{bright, watched-settled, all-covers, marked-steady}
 use Rattle.index_search.specs.Search.{Flags, Alike, Ended}

@@ -1,15 +1,15 @@
 -- The next final locator: the first certified one, or one past it. Assumes nothing.
-use mathlib.Core.Path.{_≡_, refl, sym, ap, subst, _∙_}
+use mathlib.Core.Path.{_≡_, sym, ap, _∙_}
 use mathlib.Core.Logic.{_⊎_, inl, inr}
 use mathlib.Core.Bool.{Bool, true, false}
 use mathlib.Core.List.{List, map}
 use mathlib.Core.Option.{none, some}
-use Prim.Native.Nat.{ℕ, _+_, _*_, _≤_, _<_}
+use Prim.Native.Nat.{ℕ, _+_, _≤_, _<_}
 use native.Mathlib.Omega.{arith}
 use native.Mathlib.Decide.{decLt}
 use lib.ListN.{length, getD, drop}
 use lib.Seq.{getD-drop}
-use Rattle.base.specs.Lists.{pick, _∈_, here, there}
+use Rattle.base.specs.Lists.{pick, _∈_, there}
 use Rattle.base.proofs.Tests.{fails, not-both}
 use Rattle.base.proofs.Members.{in-first}
 use Rattle.committee.specs.Committee.{Committee}
@@ -23,7 +23,7 @@ use Rattle.voters_index.proofs.Chain.{Covered, past-itself}
 use Rattle.voters_index.proofs.Fitting.{past-sorted}
 use Rattle.index_cursors.specs.Cursors.{Settled}
 use Rattle.index_marks.specs.Marks.{Left, runAt, FirstStart, Even, IsEdge, Marked}
-use Rattle.index_watch.specs.Watch.{Watched, Owners}
+use Rattle.index_watch.specs.Watch.{Watched}
 use Rattle.index_watch.proofs.Standing.{Fits, at-past, watched-settled, all-covers, watched-here, marked-steady, none-certified, first-there, first-ahead, first-covered, first-certified}
 use Rattle.index_search.specs.Search.{Flags, Alike, FirstFinal, runEdges, edgesPast, FoundAt}
 use Rattle.index_search.proofs.Counting.{each-block, uncertified, final-alike, fewer-edges}

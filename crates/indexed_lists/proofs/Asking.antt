@@ -1,5 +1,5 @@
 -- What a list with the index answers, refusal by refusal. Assumes nothing.
-use mathlib.Core.Path.{_≡_, refl, sym, ap, _∙_}
+use mathlib.Core.Path.{_≡_, sym}
 use mathlib.Core.Logic.{_⊎_, inl, inr}
 use mathlib.Core.Bool.{true, false}
 use mathlib.Core.List.{List}
@@ -16,7 +16,7 @@ use Rattle.store_layout.specs.Store.{storeInOrder}
 use Rattle.finality.specs.Finality.{blocksOf}
 use Rattle.finality.specs.NextFinal.{nextFinalChecks}
 use Rattle.stretches.specs.Stretches.{Listing, stretches}
-use Rattle.stretches.specs.Bulk.{Given, givenAfter, wordsAfter, AskedBulk, listStretches}
+use Rattle.stretches.specs.Bulk.{Given, givenAfter, wordsAfter, listStretches}
 use Rattle.voters_index.specs.Index.{indexAgrees}
 use Rattle.indexed_lists.specs.Indexed.{indexedChecks, listStretchesIndexed}
 

@@ -1,21 +1,20 @@
 -- The stored shares of a block are the shares of the block that is stored. Assumes nothing.
-use mathlib.Core.Path.{_≡_, refl, sym, ap, _∙_}
-use mathlib.Core.Bool.{true, false}
-use mathlib.Core.Option.{Option, none, some}
+use mathlib.Core.Path.{_≡_, sym, ap, _∙_}
+use mathlib.Core.Bool.{true}
 use Prim.Native.Nat.{ℕ, _≤_}
 use native.Mathlib.Omega.{arith}
 use Rattle.base.specs.Lists.{holds}
 use Rattle.base.specs.Le.{Bytes}
 use Rattle.committee.specs.Committee.{Committee}
 use Rattle.blocks.specs.Reference.{BlockReference, locator}
-use Rattle.blocks.specs.Block.{Block, isShareAt}
-use Rattle.store_layout.specs.Layout.{Entry, entries, positionOf, lookup}
+use Rattle.blocks.specs.Block.{isShareAt}
+use Rattle.store_layout.specs.Layout.{entries, positionOf, lookup}
 use Rattle.store_layout.specs.Shares.{isStoredShare}
 use Rattle.store_layout.specs.Store.{recordsOf, storeInOrder}
-use Rattle.store_layout.specs.Entry.{blockAt, laidOut}
+use Rattle.store_layout.specs.Entry.{blockAt}
 use Rattle.store_layout.proofs.Chain.{distinct}
 use Rattle.store_layout.proofs.Check.{order-laid}
-use Rattle.store_layout.proofs.Found.{FoundEntry, found-none, found-entry}
+use Rattle.store_layout.proofs.Found.{found-none, found-entry}
 use Rattle.store_layout.proofs.Loops.{block-of-entry}
 use Rattle.store_layout.proofs.Search.{laid-out}
 use Rattle.store_layout.proofs.Shares.{blocks-entered, share-looked-up}

@@ -1,4 +1,4 @@
-use mathlib.Core.Path.{_≡_, sym, _∙_}
+use mathlib.Core.Path.{sym, _∙_}
 use borrow.Author.Needs.{needs}
 use Rattle.index_list.proofs.fill_opened.Statement.{statement}
 use Rattle.index_list.proofs.fill_opened.Tie as tie

@@ -1,9 +1,8 @@
 use mathlib.Core.Path.{_≡_, sym, ap, _∙_}
-use Prim.Native.Nat.{ℕ}
 use native.Mathlib.Omega.{arith}
 use lib.ListN.{length, length-set}
 use borrow.Author.Needs.{needs}
-use Rattle.base.proofs.Le.{AllBytes, bytes-of}
+use Rattle.base.proofs.Le.{bytes-of}
 use Rattle.blocks.specs.Reference.{BlockReference}
 use Rattle.blocks.specs.Block.{Block}
 use Rattle.types.specs.Values.{asReference}

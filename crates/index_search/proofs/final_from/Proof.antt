@@ -1,7 +1,6 @@
-use mathlib.Core.Path.{_≡_, sym, ap, subst, _∙_}
+use mathlib.Core.Path.{_≡_, sym, _∙_}
 use mathlib.Core.Bool.{true, false}
 use mathlib.Core.List.{List}
-use Prim.Native.Nat.{ℕ}
 use native.Mathlib.Omega.{arith}
 use lib.ListN.{length}
 use Rattle.blocks.specs.Reference.{locator}
@@ -13,7 +12,7 @@ use Rattle.index_runs.specs.Values.{asPlace}
 use Rattle.index_watch.specs.Watch.{Watched, Owners}
 use Rattle.index_watch.proofs.Standing.{Fits, watched-cursors, watched-lined, first-below}
 use Rattle.index_search.specs.Search.{edgesPast, FoundFrom}
-use Rattle.index_search.proofs.Counting.{Told, tally-told}
+use Rattle.index_search.proofs.Counting.{tally-told}
 use Rattle.index_search.proofs.Finding.{marked-flags, edge-passed, Coming, coming-start, coming-none, coming-found, coming-on}
 use borrow.Author.Needs.{needs}
 use Rattle.index_search.proofs.final_from.Statement.{statement}

@@ -12,7 +12,6 @@ use Rattle.index_watch.specs.Watch.{Watched}
 use Rattle.index_watch.proofs.Standing.{watched-cursors, watched-lined}
 use Rattle.index_search.specs.Search.{Flags, Alike}
 use Rattle.index_search.proofs.Ending.{Going, going-start, going-limit, going-watched, going-stop, going-more}
-use borrow.Author.Needs.{needs}
 use Rattle.index_search.proofs.stretch_end.Statement.{statement}
 use Rattle.index_search.proofs.stretch_end.Tie as tie
 
