@@ -100,7 +100,7 @@ gives-final-share c g as′ b h =
     let bs : List Block = blocksOf (g .store) in
     let x = exactly-finals c (in-order-stored c (g .store) (h .order)) in
     record {
-      list = finalShares c bs;
+      shares = finalShares c bs;
       given = shares-asked c (g .store) b (h .order);
       exactly = λ l. subst (λ (ds : List Block). (l ∈ finalShares c bs) ↔ (StoredShare ds l × Final c ds l)) (blocks-are c (g .store) as′ h) (x .exactly l);
       ascending = x .ascending;

@@ -36,10 +36,10 @@ pub record GivesFinal (c : Committee) (g : Engine) (bs : List Block) : Type 0 wh
 
 -- the ordinary list likewise
 pub record GivesFinalShares (c : Committee) (g : Engine) (bs : List Block) : Type 0 where
-  pub list : List TransactionLocator
-  pub given : FinalShareList c (g .store) list
-  pub exactly : (l : TransactionLocator) → (l ∈ list) ↔ (StoredShare bs l × Final c bs l)
-  pub ascending : pairwise locatorBefore list ≡ true
+  pub shares : List TransactionLocator
+  pub given : FinalShareList c (g .store) shares
+  pub exactly : (l : TransactionLocator) → (l ∈ shares) ↔ (StoredShare bs l × Final c bs l)
+  pub ascending : pairwise locatorBefore shares ≡ true
 
 -- a stored share stands in one of two ways, and not in both: the pending question is answered in one and refused in the other
 pub data ShareStands (c : Committee) (g : Engine) (as′ : List Accepted) (l : TransactionLocator) : Type 0 where

@@ -28,9 +28,9 @@ returns c =
       ordinarySame = λ d b t u same ts us on un.
           let f = gives-final-shares d b t in
           let g = gives-final-shares d b u in
-          ordinary-spread d (engineOf d t .store) b (store-of d t .order) on (f .list) (f .given)
-          ∙ same-share-list d b t u same (f .list) (g .list) (f .given) (g .given)
-          ∙ sym (ordinary-spread d (engineOf d u .store) b (store-of d u .order) un (g .list) (g .given));
+          ordinary-spread d (engineOf d t .store) b (store-of d t .order) on (f .shares) (f .given)
+          ∙ same-share-list d b t u same (f .shares) (g .shares) (f .given) (g .given)
+          ∙ sym (ordinary-spread d (engineOf d u .store) b (store-of d u .order) un (g .shares) (g .given));
     }
 
 pub bulk-statement-spec : {M : Type 1} → statement M
