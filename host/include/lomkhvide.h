@@ -18,6 +18,62 @@
 #define LOMKHVIDE_IS_REFUSED(word) ((uint64_t)(word) >> 63 != 0)
 #define LOMKHVIDE_REFUSAL(word) ((uint64_t)(word) & UINT64_C(0x7fffffffffffffff))
 
+/* Every refusal, with a sentence for people: LOMKHVIDE_REFUSALS(X) is X(number, sentence) for each. */
+#define LOMKHVIDE_REFUSALS(X) \
+    X(1, "the committee has no stakes") \
+    X(2, "a stake of the committee is zero") \
+    X(3, "the committee has more than 128 members") \
+    X(4, "the total stake is over 2^63 - 1") \
+    X(5, "the stakes are no committee") \
+    X(6, "the aggregator has unknown voters, or a stake that is not their sum") \
+    X(10, "the store is not in order") \
+    X(11, "the pending table is not in order") \
+    X(12, "the work slice is shorter than the pending table") \
+    X(13, "the store is full") \
+    X(14, "the pending table is full") \
+    X(15, "the slice for events is too short") \
+    X(20, "the record, locator or reference is malformed") \
+    X(21, "the author is not in the committee") \
+    X(22, "a block of round 0 has includes or statements") \
+    X(23, "a block of that reference is stored already") \
+    X(24, "the author of an include is not in the committee") \
+    X(25, "the round of an include is not lower than the block's") \
+    X(26, "the end of a range is below its start") \
+    X(27, "the end of a range is 1,048,576 or more") \
+    X(28, "the offset of an accept is 2^64 - 1") \
+    X(29, "the authors of the includes of the round before do not hold quorum") \
+    X(30, "an include is not stored") \
+    X(40, "a slice for the answer has another length than the call asks for") \
+    X(41, "no such share is stored") \
+    X(42, "the locator is not pending") \
+    X(50, "the slice to be written is too short") \
+    X(51, "no record has that form") \
+    X(52, "the slip does not hold or is of another form, or none can be written since the locator is not final") \
+    X(53, "a record that the slip names is missing") \
+    X(54, "the index disagrees with the store") \
+    X(55, "the index is too short for the block's part") \
+    X(56, "the file of stakes is broken") \
+    X(57, "a name in the file of stakes is bad or comes twice") \
+    X(58, "the slice for the list has fewer places than there are stored shares") \
+    X(59, "the blast calendar has too many windows, or one that is empty, overlaps, or is out of order or range") \
+    X(60, "all who can be reached miss quorum together with the voters") \
+    X(61, "the first byte of the slip names no reading") \
+    X(62, "the locators are not sorted, or not whole") \
+    X(63, "the slice for replies is too short")
+
+/* The sentence of a call's word; NULL where the word is an answer, or a number that is not listed. */
+static inline const char *lomkhvide_sentence(uint64_t word) {
+#define LOMKHVIDE_CASE(number, sentence) \
+    case number: \
+        return sentence;
+    switch (LOMKHVIDE_IS_REFUSED(word) ? LOMKHVIDE_REFUSAL(word) : 0) {
+        LOMKHVIDE_REFUSALS(LOMKHVIDE_CASE)
+    default:
+        return NULL;
+    }
+#undef LOMKHVIDE_CASE
+}
+
 /* Sets a committee, given by its stakes in order of authority number: the total stake.
  * Refused: 1 no stakes, 2 a stake of zero, 3 more than 128, 4 a total over 2^63 - 1, 5 bytes that are not whole words. */
 uint64_t lomkhvide_new_committee(const uint8_t *stakes, size_t stakes_len);

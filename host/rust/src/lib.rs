@@ -2,13 +2,25 @@
 //!
 //! Link the archive that `rt staticlib host` writes (`target/staticlib/libhost.a`).
 
+mod engine;
+mod record;
+mod refusal;
+mod slip;
+mod types;
+
+pub use engine::{Engine, Finals, Parts, PendingItem, Ring};
+pub use record::{Record, RecordBuilder, Statement, Statements};
+pub use refusal::Refusal;
+pub use slip::{Certifier, Slip, Voter};
+pub use types::{NotALocator, Owners, Reference};
+
 /// A refusal, by its number.
 #[derive(Clone, Copy, Debug, PartialEq, Eq)]
 pub struct Refused(pub u64);
 
 mod calls {
     #[link(name = "host", kind = "static")]
-    extern "C" {
+    unsafe extern "C" {
         pub fn lomkhvide_new_committee(stakes: *const u8, stakes_len: usize) -> u64;
         pub fn lomkhvide_is_quorum(total: u64, amount: u64) -> u64;
         pub fn lomkhvide_is_valid(total: u64, amount: u64) -> u64;

@@ -1,0 +1,113 @@
+//! What the engine says of a locator.
+
+use lomkhvide::{Locator, PendingItem, Refusal, Ring, Slip};
+
+use super::Fault;
+use super::run::{Run, Tally, Voice, refused};
+use lomkhvide::Owners;
+
+pub struct Account {
+    pub locator: Locator,
+    pub is_final: bool,
+    /// The certifying blocks, in ascending order of reference, and their owners.
+    pub certifying: Vec<usize>,
+    pub certified: Tally,
+    /// The stored blocks that speak for it, in order of arrival, and the owners of those that vote.
+    pub voices: Vec<(usize, Voice)>,
+    pub voted: Tally,
+    /// Whether it names a stored share.
+    pub is_stored: bool,
+    /// Its item of the pending table, where it is pending.
+    pub pending: Option<PendingItem>,
+    /// The record that brought its votes to quorum.
+    pub processed_by: Option<usize>,
+}
+
+impl Account {
+    pub fn new(run: &Run, locator: &Locator) -> Result<Account, Fault> {
+        let finality = run.engine.finality(locator).map_err(refused)?;
+        let certifying: Vec<usize> = finality.certifying.iter().filter_map(|position| run.at_position(*position)).collect();
+        let author = |block: usize| run.blocks[block].record.author();
+        let voices: Vec<(usize, Voice)> =
+            (0..).zip(&run.blocks).filter_map(|(i, block)| Some((i, run.voice(block, locator)?))).collect();
+        let votes = voices.iter().filter(|(_, voice)| *voice != Voice::Rejects);
+        Ok(Account {
+            locator: *locator,
+            is_final: finality.is_final,
+            certified: run.tally(certifying.iter().map(|block| author(*block))),
+            certifying,
+            voted: run.tally(votes.map(|(block, _)| author(*block))),
+            voices,
+            is_stored: stored(run, locator)?,
+            pending: pending(run, locator)?,
+            processed_by: run.processed_by(locator),
+        })
+    }
+
+    /// The slip of a final locator.
+    pub fn slip(&self, run: &Run) -> Result<Option<Slip>, Fault> {
+        match run.engine.slip(&self.locator) {
+            Ok(slip) => Ok(Some(slip)),
+            Err(Refusal::SlipNotHeld) => Ok(None),
+            Err(refusal) => Err(refused(refusal)),
+        }
+    }
+
+    /// Whom to ring, where it is pending; nobody suffices where the answer is none.
+    pub fn ring(&self, run: &Run, reachable: Owners) -> Result<Option<Ring>, Fault> {
+        match run.engine.ring(&self.locator, reachable) {
+            Ok(ring) => Ok(Some(ring)),
+            Err(Refusal::QuorumOutOfReach | Refusal::NotPending) => Ok(None),
+            Err(refusal) => Err(refused(refusal)),
+        }
+    }
+
+    /// "share 0 of record 5", or "offset 0 of a block that is not stored".
+    pub fn name(&self, run: &Run) -> String {
+        let offset = self.locator.offset();
+        match run.place(&self.locator.reference()) {
+            Some(place) if self.is_stored => format!("share {offset} of record {}", run.blocks[place].number),
+            Some(place) => format!("offset {offset} of record {}, which is no share", run.blocks[place].number),
+            None => format!("offset {offset} of a block that is not stored"),
+        }
+    }
+}
+
+/// Whether the locator names a stored share.
+fn stored(run: &Run, locator: &Locator) -> Result<bool, Fault> {
+    match run.engine.payload(locator) {
+        Ok(_) => Ok(true),
+        Err(Refusal::NoSuchShare) => Ok(false),
+        Err(refusal) => Err(refused(refusal)),
+    }
+}
+
+/// The item of a pending locator.
+fn pending(run: &Run, locator: &Locator) -> Result<Option<PendingItem>, Fault> {
+    let holds = |item: &PendingItem| {
+        item.first.reference() == locator.reference() && (item.first.offset()..item.end).contains(&locator.offset())
+    };
+    match run.engine.pending(locator) {
+        Ok(_) => Ok(run.engine.pending_items().find(holds)),
+        Err(Refusal::NotPending) => Ok(None),
+        Err(refusal) => Err(refused(refusal)),
+    }
+}
+
+/// "1 block certifies", "2 blocks certify".
+pub fn blocks_certify(count: usize) -> String {
+    match count {
+        0 => "no block certifies".into(),
+        1 => "1 block certifies".into(),
+        _ => format!("{count} blocks certify"),
+    }
+}
+
+/// "owner 3 holds", "owners 0, 2 hold".
+pub fn hold(owners: Owners) -> String {
+    match owners.len() {
+        0 => "nobody holds".into(),
+        1 => format!("owner {owners} holds"),
+        _ => format!("owners {owners} hold"),
+    }
+}

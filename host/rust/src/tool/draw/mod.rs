@@ -1,0 +1,169 @@
+//! `draw`: the graph, rounds from left to right and owners from top to bottom, as a page for a browser or as a drawing.
+
+mod page;
+mod scene;
+mod svg;
+
+use std::io::Write;
+
+use lomkhvide::{Locator, Owners};
+
+use super::Fault;
+use super::account::{Account, blocks_certify};
+use super::run::{Run, Voice, refused};
+use scene::Scene;
+
+/// The most blocks of a drawing that shows the ways from certificates to votes: beyond these they would cover each other.
+const MOST_WITH_WAYS: usize = 100;
+
+/// The most locators that a page offers.
+const MOST_CHOICES: usize = 2_000;
+
+/// What a drawing shows of a locator.
+pub struct View {
+    pub locator: Locator,
+    pub name: String,
+    pub is_final: bool,
+    pub is_pending: bool,
+    pub says: String,
+    /// The blocks that speak for it, each with its words.
+    pub voices: Vec<(usize, Voice, String)>,
+    pub certifying: Vec<usize>,
+    pub votes: Bar,
+    pub certificates: Bar,
+    /// The lines from certificates to votes, as a path of the drawing.
+    pub ways: String,
+}
+
+/// Owners out of all, with their stake.
+pub struct Bar {
+    pub owners: Owners,
+    pub says: String,
+}
+
+pub fn draw(run: &Run, chosen: Option<Locator>, svg: bool, out: &mut dyn Write) -> Result<(), Fault> {
+    let scene = Scene::new(run);
+    let (mut locators, left_out) = choices(run)?;
+    if let Some(chosen) = chosen {
+        if let Err(place) = locators.binary_search(&chosen) {
+            locators.insert(place, chosen);
+        }
+    }
+    if svg {
+        let first = match chosen {
+            Some(chosen) => Some(View::new(run, &scene, &chosen)?),
+            None => first_choice(locators.iter().map(|locator| View::new(run, &scene, locator)))?,
+        };
+        out.write_all(svg::drawing(run, &scene, first.as_ref()).as_bytes())?;
+        return Ok(());
+    }
+    let views = locators.iter().map(|locator| View::new(run, &scene, locator)).collect::<Result<Vec<View>, Fault>>()?;
+    let shown = match chosen {
+        Some(chosen) => locators.binary_search(&chosen).ok(),
+        None => views.iter().position(|view| view.is_final).or((!views.is_empty()).then_some(0)),
+    };
+    out.write_all(page::page(run, &scene, &views, shown, left_out).as_bytes())?;
+    Ok(())
+}
+
+/// The first final one, else the first.
+fn first_choice(views: impl Iterator<Item = Result<View, Fault>>) -> Result<Option<View>, Fault> {
+    let mut first = None;
+    for view in views {
+        let view = view?;
+        if view.is_final {
+            return Ok(Some(view));
+        }
+        first = first.or(Some(view));
+    }
+    Ok(first)
+}
+
+/// The stored shares and the final locators, ascending, and how many were left out.
+fn choices(run: &Run) -> Result<(Vec<Locator>, usize), Fault> {
+    let mut all: Vec<Locator> =
+        run.blocks.iter().flat_map(|block| block.record.shares().map(|(share, _)| share).collect::<Vec<_>>()).collect();
+    let mut left_out = 0;
+    for stretch in run.engine.finals() {
+        let stretch = stretch.map_err(refused)?;
+        let room = MOST_CHOICES.saturating_sub(all.len()) as u64;
+        let kept = (stretch.end - stretch.first.offset()).min(room);
+        left_out += (stretch.end - stretch.first.offset() - kept) as usize;
+        let block = stretch.first.reference();
+        all.extend((stretch.first.offset()..stretch.first.offset() + kept).map(|offset| block.at(offset)));
+    }
+    all.sort();
+    all.dedup();
+    left_out += all.len().saturating_sub(MOST_CHOICES);
+    all.truncate(MOST_CHOICES);
+    Ok((all, left_out))
+}
+
+impl View {
+    fn new(run: &Run, scene: &Scene, locator: &Locator) -> Result<View, Fault> {
+        let account = Account::new(run, locator)?;
+        let total = run.committee().total_stake();
+        let words = |(block, voice): &(usize, Voice)| {
+            let stake = run.stake(run.blocks[*block].record.author());
+            let words = match voice {
+                Voice::Shares => format!("shares +{stake}"),
+                Voice::Accepts => format!("accepts +{stake}"),
+                Voice::Covers => format!("range +{stake}"),
+                Voice::Rejects => "rejects".into(),
+            };
+            (*block, *voice, words)
+        };
+        let bar = |tally: &super::run::Tally| Bar { owners: tally.owners, says: format!("{} of {total}", tally.stake) };
+        Ok(View {
+            locator: *locator,
+            name: account.name(run),
+            is_final: account.is_final,
+            is_pending: account.pending.is_some(),
+            says: says(run, &account),
+            voices: account.voices.iter().map(words).collect(),
+            votes: bar(&account.voted),
+            certificates: bar(&account.certified),
+            ways: ways(run, scene, &account)?,
+            certifying: account.certifying,
+        })
+    }
+
+    /// "Share 0 of record 5: final".
+    pub fn title(&self) -> String {
+        let mut title = format!("{}: {}", self.name, if self.is_final { "final" } else { "not final" });
+        title[..1].make_ascii_uppercase();
+        title
+    }
+}
+
+/// Why, in a line.
+fn says(run: &Run, account: &Account) -> String {
+    let quorum = run.committee().quorum();
+    let count = blocks_certify(account.certifying.len());
+    let certified = match account.certifying.is_empty() {
+        true => format!("{count} it"),
+        false => format!("{count} it, their owners hold stake {}", account.certified.stake),
+    };
+    let so_far = match &account.pending {
+        Some(item) if !account.is_final => format!("; its counted votes hold stake {}", item.stake),
+        _ => String::new(),
+    };
+    format!("{certified}{so_far}; quorum begins at {quorum} of {}", run.committee().total_stake())
+}
+
+/// The ways that a slip names, each line once.
+fn ways(run: &Run, scene: &Scene, account: &Account) -> Result<String, Fault> {
+    if !account.is_final || run.blocks.len() > MOST_WITH_WAYS {
+        return Ok(String::new());
+    }
+    let mut steps = std::collections::BTreeSet::new();
+    if let Some(slip) = account.slip(run)? {
+        for certifier in slip.certifiers() {
+            let Some(from) = run.place(&certifier.block) else { continue };
+            for voter in &certifier.voters {
+                steps.extend(run.walk(from, &voter.path).windows(2).map(|step| (step[0], step[1])));
+            }
+        }
+    }
+    Ok(steps.into_iter().map(|(from, to)| scene.line(from, to)).collect())
+}

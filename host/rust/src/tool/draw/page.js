@@ -1,0 +1,110 @@
+"use strict";
+// Shows the chosen locator: what the engine said of each one stands in the data.
+const byId = (id) => document.getElementById(id);
+const data = JSON.parse(byId("data").textContent);
+const marked = new Set(data.marked);
+const choice = byId("choice");
+const scroll = byId("scroll");
+const size = byId("graph").viewBox.baseVal;
+let shown = data.shown;
+let scale = 1;
+
+function setClass(block, voice, certifies) {
+    const words = ["block"];
+    if (marked.has(block)) words.push("marked");
+    if (voice) words.push(voice[1] ? "votes" : "rejects");
+    if (certifies) words.push("certifies");
+    const group = byId("b" + block);
+    group.setAttribute("class", words.join(" "));
+    group.querySelector(".role").textContent = voice ? voice[2] : "";
+}
+
+function show(number) {
+    const locator = data.locators[number];
+    if (!locator) return;
+    shown = number;
+    const certifies = new Set();
+    for (const [first, last] of locator.certifying) for (let i = first; i <= last; i++) certifies.add(i);
+    const voices = new Map(locator.voices.map((voice) => [voice[0], voice]));
+    for (let i = 0; i < data.blocks; i++) setClass(i, voices.get(i), certifies.has(i));
+    byId("ways").setAttribute("d", locator.ways);
+    for (const bar of ["v", "c"]) {
+        const on = new Set(locator[bar]);
+        for (const part of byId("bars").querySelectorAll(`rect[id^="${bar}"]`)) {
+            part.setAttribute("class", on.has(Number(part.id.slice(1))) ? "part on" : "part");
+        }
+        byId(bar + "-says").textContent = locator[bar + "-says"];
+    }
+    byId("title").textContent = document.title = locator.title;
+    byId("says").textContent = locator.says;
+    choice.value = number;
+}
+
+// Brings a block into view.
+function look(block) {
+    const group = byId("b" + block);
+    if (!group) return;
+    const box = group.getBoundingClientRect();
+    const view = scroll.getBoundingClientRect();
+    const margin = byId("labels").getBoundingClientRect().width + 40;
+    if (box.left < view.left + margin || box.right > view.right) scroll.scrollLeft += box.left - view.left - margin;
+    if (box.top < view.top || box.bottom > view.bottom) scroll.scrollTop += box.top - view.top - 40;
+}
+
+function choose(number) {
+    show(number);
+    const locator = data.locators[shown];
+    if (!locator) return;
+    look(locator.home);
+    history.replaceState(null, "", "#" + locator.id);
+}
+
+function zoom(to) {
+    scale = Math.min(4, Math.max(0.05, to));
+    for (const id of ["labels", "graph"]) {
+        const box = byId(id).viewBox.baseVal;
+        byId(id).setAttribute("width", box.width * scale);
+        byId(id).setAttribute("height", box.height * scale);
+    }
+}
+
+function fit() {
+    const width = size.width + byId("labels").viewBox.baseVal.width;
+    zoom(Math.min((scroll.clientWidth - 4) / width, (scroll.clientHeight - 6) / size.height));
+}
+
+// A block that is pointed at shows its includes; one that is clicked on also says what it holds, and its first share is chosen.
+let picked = null;
+function point(block) {
+    if (picked) picked.classList.remove("picked");
+    picked = block ? byId("i" + block.id.slice(1)) : null;
+    if (picked) picked.classList.add("picked");
+}
+const blockOf = (event) => event.target.closest(".block");
+byId("graph").addEventListener("mouseover", (event) => point(blockOf(event)));
+byId("graph").addEventListener("click", (event) => {
+    const block = blockOf(event);
+    if (!block) return;
+    byId("picked").textContent = block.querySelector("title").textContent.split("\n").join("; ");
+    const number = data.locators.findIndex((locator) => locator.home === Number(block.id.slice(1)));
+    if (number >= 0) choose(number);
+});
+
+function fromAddress() {
+    const id = decodeURIComponent(location.hash.slice(1));
+    const number = data.locators.findIndex((locator) => locator.id === id);
+    if (number >= 0) choose(number);
+}
+
+choice.addEventListener("change", () => choose(Number(choice.value)));
+byId("before").addEventListener("click", () => choose(Math.max(0, shown - 1)));
+byId("next").addEventListener("click", () => choose(Math.min(data.locators.length - 1, shown + 1)));
+byId("smaller").addEventListener("click", () => zoom(scale / 1.25));
+byId("larger").addEventListener("click", () => zoom(scale * 1.25));
+byId("fit").addEventListener("click", fit);
+window.addEventListener("hashchange", fromAddress);
+// A drawing for a slide fills the window; a large one begins at its full size, with the chosen block in view.
+if (data.blocks <= 60) fit();
+show(shown);
+if (data.locators[shown]) look(data.locators[shown].home);
+fromAddress();

@@ -1,0 +1,265 @@
+//! The parts of a drawing as SVG, and all of them in one file.
+
+use std::fmt::Write;
+
+use lomkhvide::{Owners, Statement};
+
+use super::super::run::{Block, Run, Voice};
+use super::scene::{AXIS, LABELS, Scene};
+use super::{Bar, View};
+
+pub const STYLE: &str = include_str!("drawing.css");
+
+/// The width of the bars, and of one of them.
+pub const BARS_WIDTH: usize = 900;
+pub const BARS_HEIGHT: usize = 84;
+const BAR_WIDTH: usize = 700;
+const BAR_HEIGHT: usize = 22;
+
+/// The longest text about the statements of a block.
+const MOST_STATEMENTS: usize = 12;
+
+/// Width and height of the line that explains the signs.
+pub const LEGEND_WIDTH: usize = 900;
+pub const LEGEND_HEIGHT: usize = 44;
+
+/// The whole drawing.
+pub fn drawing(run: &Run, scene: &Scene, view: Option<&View>) -> String {
+    let width = (LABELS + scene.width).max(LABELS + LEGEND_WIDTH - 60) + 16;
+    let (graph, bars) = (72, 72 + scene.height + 12);
+    let legend = bars + BARS_HEIGHT;
+    let height = legend + LEGEND_HEIGHT;
+    let (title, says) = view.map_or(("No share is stored".into(), String::new()), |view| (view.title(), view.says.clone()));
+    let mut out = String::new();
+    let _ = write!(
+        out,
+        "<svg xmlns=\"http://www.w3.org/2000/svg\" viewBox=\"0 0 {width} {height}\" width=\"{width}\" height=\"{height}\" role=\"img\">\n\
+         <title>{title}</title>\n<style>\n{STYLE}</style>\n\
+         <rect width=\"{width}\" height=\"{height}\" fill=\"#fff\"/>\n\
+         <text class=\"title\" x=\"12\" y=\"32\">{title}</text>\n<text class=\"says\" x=\"12\" y=\"56\">{says}</text>\n\
+         <g id=\"labels\" transform=\"translate(0,{graph})\">\n{}</g>\n\
+         <g id=\"graph\" transform=\"translate({LABELS},{graph})\">\n{}</g>\n\
+         <g id=\"bars\" transform=\"translate(0,{bars})\">\n{}</g>\n\
+         <g id=\"legend\" transform=\"translate(12,{legend})\">\n{}</g>\n</svg>\n",
+        labels_of(run, scene),
+        graph_of(run, scene, view),
+        bars_of(run, view),
+        legend_of(scene),
+    );
+    out
+}
+
+/// The owners' names and stakes.
+pub fn labels_of(run: &Run, scene: &Scene) -> String {
+    let mut out = String::new();
+    for lane in &scene.lanes {
+        let middle = lane.top + lane.height / 2;
+        let _ = writeln!(
+            out,
+            "<text class=\"owner\" x=\"12\" y=\"{}\">owner {}</text><text class=\"stake\" x=\"12\" y=\"{}\">stake {}</text>",
+            middle - 3,
+            lane.owner,
+            middle + 14,
+            run.stake(lane.owner)
+        );
+    }
+    out
+}
+
+/// Rounds, lanes, includes, ways and blocks.
+pub fn graph_of(run: &Run, scene: &Scene, view: Option<&View>) -> String {
+    let mut out = String::new();
+    for (i, lane) in scene.lanes.iter().enumerate() {
+        if i % 2 == 0 {
+            let _ = writeln!(
+                out,
+                "<rect class=\"lane\" x=\"0\" y=\"{}\" width=\"{}\" height=\"{}\"/>",
+                lane.top, scene.width, lane.height
+            );
+        }
+    }
+    for (i, round) in scene.rounds.iter().enumerate() {
+        let middle = i * scene.column + scene.column / 2;
+        let _ = writeln!(out, "<text class=\"round\" x=\"{middle}\" y=\"{}\">round {round}</text>", AXIS - 10);
+    }
+    out.push_str("<g id=\"includes\">\n");
+    for (i, block) in run.blocks.iter().enumerate().filter(|(_, block)| !block.includes.is_empty()) {
+        let lines: String = block.includes.iter().map(|include| scene.line(i, *include)).collect();
+        let _ = writeln!(out, "<path id=\"i{i}\" class=\"include\" d=\"{lines}\"/>");
+    }
+    out.push_str("</g>\n");
+    let _ = writeln!(out, "<path id=\"ways\" class=\"ways\" d=\"{}\"/>", view.map_or("", |view| &view.ways));
+    for (i, block) in run.blocks.iter().enumerate() {
+        out.push_str(&block_of(run, scene, i, block, view));
+    }
+    out
+}
+
+fn block_of(run: &Run, scene: &Scene, i: usize, block: &Block, view: Option<&View>) -> String {
+    let (x, y) = scene.corners[i];
+    let voice = view.and_then(|view| view.voices.iter().find(|(at, _, _)| *at == i));
+    let certifies = view.is_some_and(|view| view.certifying.contains(&i));
+    let class = class(block.record.is_marked(), voice.map(|(_, voice, _)| *voice), certifies);
+    let role = voice.map_or("", |(_, _, words)| words);
+    format!(
+        "<g id=\"b{i}\" class=\"{class}\" transform=\"translate({x},{y})\"><title>{}</title>{}{}</g>\n",
+        about(run, block),
+        shapes(scene, block.record.is_marked()),
+        texts(scene, &block.number.to_string(), role),
+    )
+}
+
+/// The classes of a block, in a fixed order.
+pub fn class(marked: bool, voice: Option<Voice>, certifies: bool) -> String {
+    let mut class = String::from(if marked { "block marked" } else { "block" });
+    match voice {
+        Some(Voice::Rejects) => class.push_str(" rejects"),
+        Some(_) => class.push_str(" votes"),
+        None => (),
+    }
+    if certifies {
+        class.push_str(" certifies");
+    }
+    class
+}
+
+/// The outline of a block, the second one of a certifying block, and its tick.
+fn shapes(scene: &Scene, marked: bool) -> String {
+    let (w, h) = (scene.box_width as i64, scene.box_height as i64);
+    format!(
+        "<path class=\"face\" d=\"{}\"/><path class=\"ring\" d=\"{}\"/><path class=\"tick\" d=\"M{} {}l4 5l9 -12\"/>",
+        outline(0, 0, w, h, marked),
+        outline(-4, -4, w + 8, h + 8, marked),
+        w - 12,
+        3,
+    )
+}
+
+/// A rectangle; a marked block's has its corners cut.
+fn outline(x: i64, y: i64, w: i64, h: i64, marked: bool) -> String {
+    let cut = 9;
+    match marked {
+        true => format!(
+            "M{} {y}h{}l{cut} {cut}v{}l-{cut} {cut}h-{}l-{cut} -{cut}v-{}z",
+            x + cut,
+            w - 2 * cut,
+            h - 2 * cut,
+            w - 2 * cut,
+            h - 2 * cut
+        ),
+        false => format!("M{x} {y}h{w}v{h}h-{w}z"),
+    }
+}
+
+fn texts(scene: &Scene, number: &str, role: &str) -> String {
+    let (middle, size) = (scene.box_width / 2, if scene.small { " small" } else { "" });
+    let (upper, lower) = if scene.small { (13, 25) } else { (19, 36) };
+    format!(
+        "<text class=\"number{size}\" x=\"{middle}\" y=\"{upper}\">{number}</text>\
+         <text class=\"role{size}\" x=\"{middle}\" y=\"{lower}\">{role}</text>"
+    )
+}
+
+/// A block in words.
+fn about(run: &Run, block: &Block) -> String {
+    let record = &block.record;
+    let mut text = format!("record {}: {:#}", block.number, record.reference());
+    if record.is_marked() {
+        text.push_str(", with an epoch mark");
+    }
+    let numbers: Vec<String> = block.includes.iter().map(|include| run.blocks[*include].number.to_string()).collect();
+    if !numbers.is_empty() {
+        let _ = write!(text, "\nincludes {}", numbers.join(", "));
+    }
+    for (i, statement) in record.statements().enumerate().take(MOST_STATEMENTS) {
+        let _ = match statement {
+            Statement::Share(payload) => write!(text, "\n{i}: shares {} bytes", payload.len()),
+            Statement::Accept(locator) => write!(text, "\n{i}: accepts {locator:#}"),
+            Statement::Reject(locator, _) => write!(text, "\n{i}: rejects {locator:#}"),
+            Statement::Range { first, end } => write!(text, "\n{i}: accepts {first:#} to {end}"),
+        };
+    }
+    if record.statements().len() > MOST_STATEMENTS {
+        let _ = write!(text, "\nand {} more", record.statements().len() - MOST_STATEMENTS);
+    }
+    text
+}
+
+/// The owners who vote and those who certify, by stake, and where quorum begins.
+pub fn bars_of(run: &Run, view: Option<&View>) -> String {
+    let (total, quorum) = (run.committee().total_stake(), run.committee().quorum());
+    // How far along a bar an amount of stake reaches.
+    let along = |amount: u64| (amount as u128 * BAR_WIDTH as u128 / total as u128) as usize;
+    let none = || Bar { owners: Owners::default(), says: format!("0 of {total}") };
+    let empty = (none(), none());
+    let (votes, certificates) = view.map_or((&empty.0, &empty.1), |view| (&view.votes, &view.certificates));
+    let mut out = String::from(
+        "<defs><pattern id=\"hatch\" width=\"6\" height=\"6\" patternUnits=\"userSpaceOnUse\">\
+         <rect width=\"6\" height=\"6\" fill=\"#c9d6f5\"/><path d=\"M-1 7L7 -1\" stroke=\"#7f9ada\"/></pattern></defs>\n",
+    );
+    for (id, name, y, bar) in [("v", "votes", 0, votes), ("c", "certify", BAR_HEIGHT + 8, certificates)] {
+        let _ = writeln!(out, "<text class=\"owner\" x=\"12\" y=\"{}\">{name}</text>", y + 16);
+        let mut before = 0;
+        for owner in 0..run.committee().members() as u64 {
+            let (start, end) = (along(before), along(before + run.stake(owner)));
+            before += run.stake(owner);
+            let on = if bar.owners.contains(owner) { " on" } else { "" };
+            let _ = write!(
+                out,
+                "<rect id=\"{id}{owner}\" class=\"part{on}\" x=\"{}\" y=\"{y}\" width=\"{}\" height=\"{BAR_HEIGHT}\"/>",
+                LABELS + start,
+                end - start,
+            );
+            if end - start >= 22 {
+                let middle = LABELS + (start + end) / 2;
+                let _ = write!(out, "<text class=\"part-name\" x=\"{middle}\" y=\"{}\">{owner}</text>", y + 16);
+            }
+            out.push('\n');
+        }
+        let _ = writeln!(
+            out,
+            "<text id=\"{id}-says\" class=\"sum\" x=\"{}\" y=\"{}\">{}</text>",
+            LABELS + BAR_WIDTH + 10,
+            y + 16,
+            bar.says
+        );
+    }
+    let (at, bottom) = (LABELS + along(quorum), 2 * BAR_HEIGHT + 14);
+    let _ = writeln!(out, "<path class=\"quorum\" d=\"M{at} -5V{bottom}\"/>");
+    let _ = writeln!(out, "<text class=\"sum end\" x=\"{at}\" y=\"{}\">quorum from {quorum} of {total}</text>", bottom + 15);
+    out
+}
+
+/// What the signs mean.
+pub fn legend_of(scene: &Scene) -> String {
+    let sample = Scene {
+        small: true,
+        box_width: 46,
+        box_height: 24,
+        column: 0,
+        rounds: vec![],
+        lanes: vec![],
+        corners: vec![],
+        ..*scene
+    };
+    let mut out = String::new();
+    let items = [
+        (false, Some(Voice::Accepts), false, "+2", "votes, with its stake", 0),
+        (false, None, true, "", "certifies", 210),
+        (true, None, false, "", "marked: passes votes on, never certifies", 344),
+    ];
+    for (marked, voice, certifies, role, words, x) in items {
+        let _ = writeln!(
+            out,
+            "<g class=\"{}\" transform=\"translate({x},6)\">{}<text class=\"role\" x=\"23\" y=\"17\">{role}</text></g>\
+             <text class=\"sum\" x=\"{}\" y=\"22\">{words}</text>",
+            class(marked, voice, certifies),
+            shapes(&sample, marked),
+            x + 60,
+        );
+    }
+    let x = 690;
+    let _ = writeln!(out, "<path class=\"include\" d=\"M{x} 12h40\"/><path class=\"ways\" d=\"M{x} 22h40\"/>");
+    let _ = writeln!(out, "<text class=\"sum\" x=\"{}\" y=\"22\">includes; way to a vote</text>", x + 50);
+    out
+}

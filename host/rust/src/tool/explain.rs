@@ -1,0 +1,113 @@
+//! `explain`: whether a change is final, and why.
+
+use std::io::Write;
+
+use lomkhvide::{Locator, Owners, Voter};
+
+use super::Fault;
+use super::account::{Account, blocks_certify, hold};
+use super::run::{Run, Tally, Voice};
+
+pub fn explain(run: &Run, locator: &Locator, reachable: Owners, out: &mut dyn Write) -> Result<(), Fault> {
+    let account = Account::new(run, locator)?;
+    writeln!(out, "{locator:#}, {}: {}", account.name(run), if account.is_final { "final" } else { "not final" })?;
+    writeln!(out, "{}.", certified(run, &account))?;
+    if account.is_final { certificates(run, &account, out) } else { missing(run, &account, reachable, out) }
+}
+
+/// How many blocks certify, and what their owners hold.
+pub fn certified(run: &Run, account: &Account) -> String {
+    let count = blocks_certify(account.certifying.len());
+    if account.certifying.is_empty() {
+        return format!("{count} it");
+    }
+    format!("{count} it; {}", sum(run, &account.certified))
+}
+
+/// A sum of stake against quorum.
+pub fn sum(run: &Run, tally: &Tally) -> String {
+    let (total, quorum) = (run.committee().total_stake(), run.committee().quorum());
+    let against = match tally.quorum {
+        true => format!("quorum begins at {quorum}"),
+        false => format!("quorum begins at {quorum}, {} more", quorum - tally.stake),
+    };
+    format!("{} stake {} of {total}, {against}", hold(tally.owners), tally.stake)
+}
+
+/// The certifying blocks with their voters.
+fn certificates(run: &Run, account: &Account, out: &mut dyn Write) -> Result<(), Fault> {
+    let Some(slip) = account.slip(run)? else { return Ok(()) };
+    for certifier in slip.certifiers() {
+        let Some(from) = run.place(&certifier.block) else { continue };
+        let (number, owner) = (run.blocks[from].number, certifier.block.author);
+        let voters = run.tally(certifier.voters.iter().map(|voter| voter.author));
+        writeln!(out)?;
+        writeln!(
+            out,
+            "record {number} (round {}, owner {owner}, stake {}) certifies:",
+            certifier.block.round,
+            run.stake(owner)
+        )?;
+        for voter in &certifier.voters {
+            writeln!(out, "  {}", voted(run, account, from, voter))?;
+        }
+        writeln!(out, "  {}", sum(run, &voters))?;
+    }
+    Ok(())
+}
+
+/// "owner 1, stake 1: record 9 accepts it, by 11 > 9".
+fn voted(run: &Run, account: &Account, from: usize, voter: &Voter) -> String {
+    let walked = run.walk(from, &voter.path);
+    let last = walked[walked.len() - 1];
+    let verb = run.voice(&run.blocks[last], &account.locator).map_or("votes for", Voice::verb);
+    let numbers: Vec<String> = walked.iter().map(|block| run.blocks[*block].number.to_string()).collect();
+    let way = if walked.len() == 1 { "itself".into() } else { format!("by {}", numbers.join(" > ")) };
+    format!("owner {}, stake {}: record {} {verb} it, {way}", voter.author, run.stake(voter.author), run.blocks[last].number)
+}
+
+/// What a locator that is not final lacks, and whom to ring.
+fn missing(run: &Run, account: &Account, reachable: Owners, out: &mut dyn Write) -> Result<(), Fault> {
+    writeln!(out)?;
+    if account.voices.is_empty() {
+        writeln!(out, "No stored block shares it, votes for it or rejects it.")?;
+        return Ok(());
+    }
+    writeln!(out, "Votes:")?;
+    for (block, voice) in &account.voices {
+        let owner = run.blocks[*block].record.author();
+        writeln!(out, "  owner {owner}, stake {}: record {} {} it", run.stake(owner), run.blocks[*block].number, voice.verb())?;
+    }
+    if let Some(item) = &account.pending {
+        let counted = run.tally(item.voters.iter());
+        writeln!(out, "Counted so far: {}.", sum(run, &counted))?;
+        let reach = if reachable == Owners::ALL { "" } else { " of those who can be reached" };
+        match account.ring(run, reachable)? {
+            Some(ring) if ring.owners.is_empty() => writeln!(out, "Nobody has to be rung: the votes hold quorum.")?,
+            Some(ring) => {
+                writeln!(out, "Ring{reach}: {} stake {}, the fewest who bring it to quorum.", hold(ring.owners), ring.stake)?
+            }
+            None => writeln!(out, "Nobody{reach} can bring it to quorum: all together hold too little.")?,
+        }
+        return Ok(());
+    }
+    match account.processed_by {
+        Some(number) => writeln!(out, "Record {number} brought the votes to quorum.")?,
+        None => writeln!(out, "By their owners: {}.", sum(run, &account.voted))?,
+    }
+    let members = run.committee().members() as u64;
+    let without: Owners =
+        (0..members).filter(|owner| !account.certified.owners.contains(*owner) && reachable.contains(*owner)).collect();
+    writeln!(
+        out,
+        "An unmarked block certifies that has quorum votes at or below it. Ring for such a block: {}.",
+        without_block(run, without)
+    )?;
+    Ok(())
+}
+
+/// The owners of whom no block certifies, each with the stake.
+fn without_block(run: &Run, owners: Owners) -> String {
+    let each: Vec<String> = owners.iter().map(|owner| format!("owner {owner} (stake {})", run.stake(owner))).collect();
+    if each.is_empty() { "nobody is left".into() } else { each.join(", ") }
+}

@@ -1,0 +1,107 @@
+//! An input of the program `listing`, taken apart as `listing` does.
+
+use std::fs::File;
+use std::io::{self, Read};
+
+use lomkhvide::{Committee, Refusal};
+
+use super::Fault;
+
+/// The store that `listing` lends.
+pub const LISTING_STORE: usize = 65_536;
+
+/// The longest record that `listing` reads.
+const LONGEST_RECORD: usize = 8_192;
+
+/// The longest file of stakes that is one.
+const LONGEST_STAKES: u64 = 65_536;
+
+pub struct Input<'a> {
+    pub committee: Result<Committee, Refusal>,
+    pub records: Vec<Framed<'a>>,
+    pub broken: Option<Broken>,
+}
+
+/// A record, and where its length stands in the file.
+pub struct Framed<'a> {
+    pub at: usize,
+    pub bytes: &'a [u8],
+}
+
+/// The place at which the reading ended early, and why.
+pub struct Broken {
+    pub at: usize,
+    pub why: String,
+}
+
+/// The bytes of a file; '-' is standard input.
+pub fn read_file(name: &str) -> Result<Vec<u8>, Fault> {
+    let mut bytes = Vec::new();
+    let read = if name == "-" {
+        io::stdin().lock().read_to_end(&mut bytes)
+    } else {
+        File::open(name).and_then(|mut file| file.read_to_end(&mut bytes))
+    };
+    match read {
+        Ok(_) => Ok(bytes),
+        Err(error) => Err(Fault::Bad(format!("{name}: cannot be read: {error}"))),
+    }
+}
+
+/// The bytes of the file `stakes` here: none where it is absent, and one more than it may have where it is too long.
+pub fn stakes_file() -> Result<Vec<u8>, Fault> {
+    let mut bytes = Vec::new();
+    match File::open("stakes").and_then(|file| file.take(LONGEST_STAKES + 1).read_to_end(&mut bytes)) {
+        Ok(_) => Ok(bytes),
+        Err(error) if error.kind() == io::ErrorKind::NotFound => Ok(Vec::new()),
+        Err(error) => Err(Fault::Bad(format!("stakes: cannot be read: {error}"))),
+    }
+}
+
+impl<'a> Input<'a> {
+    /// Takes the bytes apart; missing ones are zero up to the end of the stakes.
+    pub fn read(bytes: &'a [u8], stakes_file: &[u8]) -> Input<'a> {
+        let byte = |i: usize| bytes.get(i).copied().unwrap_or(0);
+        let (committee, mut at) = match byte(0) {
+            255 => (Committee::load(stakes_file), 1),
+            count => {
+                let end = 1 + 8 * count as usize;
+                (Committee::from_bytes((1..end).map(byte).collect()), end)
+            }
+        };
+        let mut input = Input { committee: committee.map_err(Refusal::from), records: Vec::new(), broken: None };
+        while at < bytes.len() {
+            match framed(&bytes[at..]) {
+                Ok(record) => {
+                    input.records.push(Framed { at, bytes: record });
+                    at += 4 + record.len();
+                }
+                Err(why) => {
+                    input.broken = Some(Broken { at, why });
+                    break;
+                }
+            }
+        }
+        input
+    }
+
+    /// Keeps the first records only.
+    pub fn keep(&mut self, first: usize) {
+        if first <= self.records.len() {
+            self.records.truncate(first);
+            self.broken = None;
+        }
+    }
+}
+
+/// The record at the front, after its length.
+fn framed(bytes: &[u8]) -> Result<&[u8], String> {
+    let Some((length, rest)) = bytes.split_first_chunk::<4>() else {
+        return Err(format!("{} stray bytes where the length of a record has 4", bytes.len()));
+    };
+    let length = u32::from_le_bytes(*length) as usize;
+    if length > LONGEST_RECORD {
+        return Err(format!("a record of {length} bytes, and {LONGEST_RECORD} is the most"));
+    }
+    rest.get(..length).ok_or_else(|| format!("a record of {length} bytes, of which {} are there", rest.len()))
+}

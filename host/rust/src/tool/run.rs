@@ -1,0 +1,173 @@
+//! An input fed to the engine: the graph of the records that it took.
+
+use std::collections::HashMap;
+
+use lomkhvide::{Aggregator, Committee, Engine, Locator, Outcome, Owners, Record, Reference, Refusal, Statement};
+
+use super::input::Input;
+use super::{Asked, Fault, bad};
+
+pub struct Run {
+    pub engine: Engine,
+    /// The stored blocks, in order of arrival.
+    pub blocks: Vec<Block>,
+    places: HashMap<Reference, usize>,
+    positions: HashMap<u64, usize>,
+    /// The record whose vote brought a share to quorum.
+    processed: HashMap<Locator, usize>,
+}
+
+pub struct Block {
+    /// The record's number in the file, from 1.
+    pub number: usize,
+    pub record: Record,
+    /// The included blocks, by their index here.
+    pub includes: Vec<usize>,
+}
+
+/// How a block speaks for a locator.
+#[derive(Clone, Copy, Debug, PartialEq, Eq)]
+pub enum Voice {
+    Shares,
+    Accepts,
+    /// A range covers it.
+    Covers,
+    Rejects,
+}
+
+impl Voice {
+    pub fn verb(self) -> &'static str {
+        match self {
+            Voice::Shares => "shares",
+            Voice::Accepts => "accepts",
+            Voice::Covers => "accepts by a range",
+            Voice::Rejects => "rejects",
+        }
+    }
+}
+
+/// Owners, counted by the engine's aggregator: each once, with their stake, and whether it is quorum.
+#[derive(Clone, Copy, Debug, Default, PartialEq, Eq)]
+pub struct Tally {
+    pub owners: Owners,
+    pub stake: u64,
+    pub quorum: bool,
+}
+
+/// A refusal of a question that the engine cannot refuse over its own memory.
+pub fn refused(refusal: Refusal) -> Fault {
+    Fault::Bad(format!("the engine refused a question: {refusal}"))
+}
+
+impl Run {
+    pub fn new(input: &Input, asked: &Asked) -> Result<Run, Fault> {
+        let file = &asked.file;
+        let committee = match &input.committee {
+            Ok(committee) => committee.clone(),
+            Err(refusal) => return bad(format!("{file}, byte 0: the committee is refused: {refusal}")),
+        };
+        if let Some(broken) = &input.broken {
+            return bad(format!("{file}, byte {}: {}", broken.at, broken.why));
+        }
+        let mut engine = Engine::new(committee, asked.store);
+        let mut numbers = Vec::new();
+        let mut events = Vec::new();
+        for (k, record) in (1..).zip(&input.records) {
+            if let Ok(told) = engine.feed(record.bytes) {
+                numbers.push(k);
+                events.push(told);
+            }
+        }
+        let mut run =
+            Run { blocks: vec![], places: HashMap::new(), positions: HashMap::new(), processed: HashMap::new(), engine };
+        for (i, (position, record)) in run.engine.records().enumerate() {
+            let includes = record.includes().filter_map(|block| run.places.get(&block).copied()).collect();
+            run.places.insert(record.reference(), i);
+            run.positions.insert(position, i);
+            run.blocks.push(Block { number: numbers[i], record, includes });
+        }
+        for (block, events) in run.blocks.iter().zip(&events) {
+            for event in events.iter().filter(|event| event.outcome == Outcome::Processed) {
+                if let Some(voted) = block.record.statements().nth(event.statement as usize).and_then(voted_block) {
+                    run.processed.insert(voted.at(event.offset), block.number);
+                }
+            }
+        }
+        Ok(run)
+    }
+
+    pub fn committee(&self) -> &Committee {
+        self.engine.committee()
+    }
+
+    pub fn stake(&self, owner: u64) -> u64 {
+        self.committee().stake(owner).unwrap_or(0)
+    }
+
+    /// The index of a stored block.
+    pub fn place(&self, block: &Reference) -> Option<usize> {
+        self.places.get(block).copied()
+    }
+
+    /// The index of the block at a position of an answer.
+    pub fn at_position(&self, position: u64) -> Option<usize> {
+        self.positions.get(&position).copied()
+    }
+
+    /// The record that brought a locator's votes to quorum.
+    pub fn processed_by(&self, locator: &Locator) -> Option<usize> {
+        self.processed.get(locator).copied()
+    }
+
+    /// Counts owners.
+    pub fn tally(&self, owners: impl Iterator<Item = u64>) -> Tally {
+        let mut aggregator = Aggregator::default();
+        let mut quorum = false;
+        for owner in owners {
+            quorum = self.committee().add(&mut aggregator, owner).is_ok_and(|vote| vote.has_quorum());
+        }
+        Tally { owners: Owners::from_words(aggregator.low, aggregator.high), stake: aggregator.stake, quorum }
+    }
+
+    /// How a block speaks for a locator: the first of its statements that does; a reject only where none votes for it.
+    pub fn voice(&self, block: &Block, locator: &Locator) -> Option<Voice> {
+        let (reference, offset) = (locator.reference(), locator.offset());
+        let own = block.record.reference() == reference;
+        let mut rejects = false;
+        for (i, statement) in (0..).zip(block.record.statements()) {
+            match statement {
+                Statement::Share(_) if own && i == offset => return Some(Voice::Shares),
+                Statement::Accept(accepted) if accepted == *locator => return Some(Voice::Accepts),
+                Statement::Range { first, end }
+                    if first.reference() == reference && (first.offset()..end).contains(&offset) =>
+                {
+                    return Some(Voice::Covers);
+                }
+                Statement::Reject(rejected, _) => rejects |= rejected == *locator,
+                _ => (),
+            }
+        }
+        rejects.then_some(Voice::Rejects)
+    }
+
+    /// The blocks that a path of include places leads through, the first one among them.
+    pub fn walk(&self, from: usize, path: &[u8]) -> Vec<usize> {
+        let mut walked = vec![from];
+        let mut at = from;
+        for place in path {
+            let Some(next) = self.blocks[at].includes.get(*place as usize) else { break };
+            at = *next;
+            walked.push(at);
+        }
+        walked
+    }
+}
+
+/// The block that a vote is about.
+fn voted_block(statement: Statement) -> Option<Reference> {
+    match statement {
+        Statement::Accept(locator) => Some(locator.reference()),
+        Statement::Range { first, .. } => Some(first.reference()),
+        _ => None,
+    }
+}

@@ -1,0 +1,1 @@
+//! The program on files, whole and damaged.
