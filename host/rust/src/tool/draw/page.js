@@ -19,6 +19,19 @@ function setClass(block, voice, certifies) {
     group.querySelector(".role").textContent = voice ? voice[2] : "";
 }
 
+// Puts the parts of a bar's owners in front; lengths are hundredths.
+function fill(bar, owners) {
+    const numbers = data.widths.map((_, owner) => owner);
+    let start = 9600;
+    for (const owner of [...numbers.filter((n) => owners.has(n)), ...numbers.filter((n) => !owners.has(n))]) {
+        const part = byId(bar + owner);
+        const y = part.transform.baseVal[0].matrix.f;
+        part.setAttribute("class", owners.has(owner) ? "part on" : "part");
+        part.setAttribute("transform", `translate(${(start / 100).toFixed(2)},${y})`);
+        start += data.widths[owner];
+    }
+}
+
 function show(number) {
     const locator = data.locators[number];
     if (!locator) return;
@@ -29,10 +42,7 @@ function show(number) {
     for (let i = 0; i < data.blocks; i++) setClass(i, voices.get(i), certifies.has(i));
     byId("ways").setAttribute("d", locator.ways);
     for (const bar of ["v", "c"]) {
-        const on = new Set(locator[bar]);
-        for (const part of byId("bars").querySelectorAll(`rect[id^="${bar}"]`)) {
-            part.setAttribute("class", on.has(Number(part.id.slice(1))) ? "part on" : "part");
-        }
+        fill(bar, new Set(locator[bar]));
         byId(bar + "-says").textContent = locator[bar + "-says"];
     }
     byId("title").textContent = document.title = locator.title;

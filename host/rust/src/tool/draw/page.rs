@@ -75,7 +75,7 @@ fn options(views: &[View], shown: Option<usize>) -> String {
 fn data(run: &Run, views: &[View], shown: Option<usize>) -> String {
     let mut out = format!("{{\"shown\":{},\"marked\":", shown.map_or(-1, |shown| shown as i64));
     let marked: Vec<usize> = (0..run.blocks.len()).filter(|i| run.blocks[*i].record.is_marked()).collect();
-    let _ = write!(out, "{marked:?},\"blocks\":{},\"locators\":[", run.blocks.len());
+    let _ = write!(out, "{marked:?},\"blocks\":{},\"widths\":{:?},\"locators\":[", run.blocks.len(), svg::widths(run));
     for (i, view) in views.iter().enumerate() {
         let voices: Vec<String> = view
             .voices

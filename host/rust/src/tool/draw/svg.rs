@@ -16,6 +16,9 @@ pub const BARS_HEIGHT: usize = 84;
 const BAR_WIDTH: usize = 700;
 const BAR_HEIGHT: usize = 22;
 
+/// The narrowest part of a bar that has room for its owner's number, in hundredths.
+const ROOM_FOR_NAME: usize = 2200;
+
 /// The longest text about the statements of a block.
 const MOST_STATEMENTS: usize = 12;
 
@@ -188,8 +191,6 @@ fn about(run: &Run, block: &Block) -> String {
 /// The owners who vote and those who certify, by stake, and where quorum begins.
 pub fn bars_of(run: &Run, view: Option<&View>) -> String {
     let (total, quorum) = (run.committee().total_stake(), run.committee().quorum());
-    // How far along a bar an amount of stake reaches.
-    let along = |amount: u64| (amount as u128 * BAR_WIDTH as u128 / total as u128) as usize;
     let none = || Bar { owners: Owners::default(), says: format!("0 of {total}") };
     let empty = (none(), none());
     let (votes, certificates) = view.map_or((&empty.0, &empty.1), |view| (&view.votes, &view.certificates));
@@ -199,35 +200,68 @@ pub fn bars_of(run: &Run, view: Option<&View>) -> String {
     );
     for (id, name, y, bar) in [("v", "votes", 0, votes), ("c", "certify", BAR_HEIGHT + 8, certificates)] {
         let _ = writeln!(out, "<text class=\"owner\" x=\"12\" y=\"{}\">{name}</text>", y + 16);
-        let mut before = 0;
-        for owner in 0..run.committee().members() as u64 {
-            let (start, end) = (along(before), along(before + run.stake(owner)));
-            before += run.stake(owner);
-            let on = if bar.owners.contains(owner) { " on" } else { "" };
-            let _ = write!(
-                out,
-                "<rect id=\"{id}{owner}\" class=\"part{on}\" x=\"{}\" y=\"{y}\" width=\"{}\" height=\"{BAR_HEIGHT}\"/>",
-                LABELS + start,
-                end - start,
-            );
-            if end - start >= 22 {
-                let middle = LABELS + (start + end) / 2;
-                let _ = write!(out, "<text class=\"part-name\" x=\"{middle}\" y=\"{}\">{owner}</text>", y + 16);
-            }
-            out.push('\n');
-        }
+        out.push_str(&parts(run, id, y, bar));
+        let (x, y) = (LABELS + BAR_WIDTH + 10, y + 16);
+        let _ = writeln!(out, "<text id=\"{id}-says\" class=\"sum\" x=\"{x}\" y=\"{y}\">{}</text>", bar.says);
+    }
+    let (at, bottom) = (100 * LABELS + along(total, quorum), 2 * BAR_HEIGHT + 14);
+    let _ = writeln!(out, "<path class=\"quorum\" d=\"M{} -5V{bottom}\"/>", hundredths(at));
+    let _ = writeln!(
+        out,
+        "<text class=\"sum end\" x=\"{}\" y=\"{}\">quorum from {quorum} of {total}</text>",
+        hundredths(at),
+        bottom + 15
+    );
+    out
+}
+
+/// The parts of a bar, those of the bar's owners in front.
+fn parts(run: &Run, id: &str, y: usize, bar: &Bar) -> String {
+    let widths = widths(run);
+    let (front, rest): (Vec<usize>, Vec<usize>) = (0..widths.len()).partition(|owner| bar.owners.contains(*owner as u64));
+    let mut starts = vec![0; widths.len()];
+    let mut start = 100 * LABELS;
+    for owner in front.into_iter().chain(rest) {
+        starts[owner] = start;
+        start += widths[owner];
+    }
+    let mut out = String::new();
+    for (owner, (start, width)) in starts.iter().zip(&widths).enumerate() {
+        let on = if bar.owners.contains(owner as u64) { " on" } else { "" };
+        let name = if *width >= ROOM_FOR_NAME { owner.to_string() } else { String::new() };
         let _ = writeln!(
             out,
-            "<text id=\"{id}-says\" class=\"sum\" x=\"{}\" y=\"{}\">{}</text>",
-            LABELS + BAR_WIDTH + 10,
-            y + 16,
-            bar.says
+            "<g id=\"{id}{owner}\" class=\"part{on}\" transform=\"translate({},{y})\">\
+             <rect width=\"{}\" height=\"{BAR_HEIGHT}\"/><text x=\"{}\" y=\"16\">{name}</text></g>",
+            hundredths(*start),
+            hundredths(*width),
+            hundredths(width / 2),
         );
     }
-    let (at, bottom) = (LABELS + along(quorum), 2 * BAR_HEIGHT + 14);
-    let _ = writeln!(out, "<path class=\"quorum\" d=\"M{at} -5V{bottom}\"/>");
-    let _ = writeln!(out, "<text class=\"sum end\" x=\"{at}\" y=\"{}\">quorum from {quorum} of {total}</text>", bottom + 15);
     out
+}
+
+/// The width of each owner's part of a bar, in hundredths.
+pub fn widths(run: &Run) -> Vec<usize> {
+    let total = run.committee().total_stake();
+    let mut before = 0;
+    let members = 0..run.committee().members() as u64;
+    members
+        .map(|owner| {
+            let start = along(total, before);
+            before += run.stake(owner);
+            along(total, before) - start
+        })
+        .collect()
+}
+
+/// How far along a bar an amount of stake reaches, in hundredths.
+fn along(total: u64, amount: u64) -> usize {
+    (amount as u128 * 100 * BAR_WIDTH as u128 / total as u128) as usize
+}
+
+fn hundredths(number: usize) -> String {
+    format!("{}.{:02}", number / 100, number % 100)
 }
 
 /// What the signs mean.
