@@ -1,10 +1,9 @@
 //! What the engine says of a locator.
 
-use lomkhvide::{Locator, PendingItem, Refusal, Ring, Slip};
+use lomkhvide::{Locator, Owners, PendingItem, Refusal, Ring, Slip};
 
 use super::Fault;
 use super::run::{Run, Tally, Voice, refused};
-use lomkhvide::Owners;
 
 pub struct Account {
     pub locator: Locator,
@@ -16,7 +15,7 @@ pub struct Account {
     pub voices: Vec<(usize, Voice)>,
     pub voted: Tally,
     /// Whether it names a stored share.
-    pub is_stored: bool,
+    pub is_share: bool,
     /// Its item of the pending table, where it is pending.
     pub pending: Option<PendingItem>,
     /// The record that brought its votes to quorum.
@@ -28,8 +27,7 @@ impl Account {
         let finality = run.engine.finality(locator).map_err(refused)?;
         let certifying: Vec<usize> = finality.certifying.iter().filter_map(|position| run.at_position(*position)).collect();
         let author = |block: usize| run.blocks[block].record.author();
-        let voices: Vec<(usize, Voice)> =
-            (0..).zip(&run.blocks).filter_map(|(i, block)| Some((i, run.voice(block, locator)?))).collect();
+        let voices = run.voices(locator);
         let votes = voices.iter().filter(|(_, voice)| *voice != Voice::Rejects);
         Ok(Account {
             locator: *locator,
@@ -38,8 +36,8 @@ impl Account {
             certifying,
             voted: run.tally(votes.map(|(block, _)| author(*block))),
             voices,
-            is_stored: stored(run, locator)?,
-            pending: pending(run, locator)?,
+            is_share: run.is_share(locator),
+            pending: run.pending(locator),
             processed_by: run.processed_by(locator),
         })
     }
@@ -66,31 +64,10 @@ impl Account {
     pub fn name(&self, run: &Run) -> String {
         let offset = self.locator.offset();
         match run.place(&self.locator.reference()) {
-            Some(place) if self.is_stored => format!("share {offset} of record {}", run.blocks[place].number),
+            Some(place) if self.is_share => format!("share {offset} of record {}", run.blocks[place].number),
             Some(place) => format!("offset {offset} of record {}, which is no share", run.blocks[place].number),
             None => format!("offset {offset} of a block that is not stored"),
         }
-    }
-}
-
-/// Whether the locator names a stored share.
-fn stored(run: &Run, locator: &Locator) -> Result<bool, Fault> {
-    match run.engine.payload(locator) {
-        Ok(_) => Ok(true),
-        Err(Refusal::NoSuchShare) => Ok(false),
-        Err(refusal) => Err(refused(refusal)),
-    }
-}
-
-/// The item of a pending locator.
-fn pending(run: &Run, locator: &Locator) -> Result<Option<PendingItem>, Fault> {
-    let holds = |item: &PendingItem| {
-        item.first.reference() == locator.reference() && (item.first.offset()..item.end).contains(&locator.offset())
-    };
-    match run.engine.pending(locator) {
-        Ok(_) => Ok(run.engine.pending_items().find(holds)),
-        Err(Refusal::NotPending) => Ok(None),
-        Err(refusal) => Err(refused(refusal)),
     }
 }
 

@@ -16,8 +16,9 @@ pub fn explain(run: &Run, locator: &Locator, reachable: Owners, out: &mut dyn Wr
 }
 
 /// How many blocks certify, and what their owners hold.
-pub fn certified(run: &Run, account: &Account) -> String {
-    let count = blocks_certify(account.certifying.len());
+fn certified(run: &Run, account: &Account) -> String {
+    let mut count = blocks_certify(account.certifying.len());
+    count[..1].make_ascii_uppercase();
     if account.certifying.is_empty() {
         return format!("{count} it");
     }
@@ -25,7 +26,7 @@ pub fn certified(run: &Run, account: &Account) -> String {
 }
 
 /// A sum of stake against quorum.
-pub fn sum(run: &Run, tally: &Tally) -> String {
+fn sum(run: &Run, tally: &Tally) -> String {
     let (total, quorum) = (run.committee().total_stake(), run.committee().quorum());
     let against = match tally.quorum {
         true => format!("quorum begins at {quorum}"),

@@ -1,8 +1,6 @@
 //! A locator as it is typed.
 
-use std::collections::BTreeSet;
-
-use lomkhvide::{Locator, Reference, Statement};
+use lomkhvide::{Locator, Reference};
 
 use super::run::Run;
 use super::{Fault, bad};
@@ -34,25 +32,11 @@ pub fn locate(run: &Run, given: &[String]) -> Result<Locator, Fault> {
         let hex: String = block.digest[..digits.len().div_ceil(2)].iter().map(|byte| format!("{byte:02x}")).collect();
         (block.round, block.author) == (round, author) && hex.starts_with(&digits)
     };
-    let named: Vec<Reference> = known(run).into_iter().filter(begins).collect();
+    let named: Vec<Reference> = run.known().into_iter().filter(begins).collect();
     let who = format!("round {round} and owner {author} whose digest begins with {digits}");
     match named[..] {
         [block] => Ok(block.at(offset)),
         [] => bad(format!("{}: no block of {who} is stored or voted on", given.join(" "))),
         _ => bad(format!("{}: {} blocks of {who}: give more digits", given.join(" "), named.len())),
     }
-}
-
-/// The blocks that are stored, or that a stored block votes on.
-fn known(run: &Run) -> BTreeSet<Reference> {
-    let mut known = BTreeSet::new();
-    for block in &run.blocks {
-        known.insert(block.record.reference());
-        known.extend(block.record.statements().filter_map(|statement| match statement {
-            Statement::Share(_) => None,
-            Statement::Accept(locator) | Statement::Reject(locator, _) => Some(locator.reference()),
-            Statement::Range { first, .. } => Some(first.reference()),
-        }));
-    }
-    known
 }

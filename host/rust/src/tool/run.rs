@@ -1,8 +1,8 @@
 //! An input fed to the engine: the graph of the records that it took.
 
-use std::collections::HashMap;
+use std::collections::{BTreeSet, HashMap};
 
-use lomkhvide::{Aggregator, Committee, Engine, Locator, Outcome, Owners, Record, Reference, Refusal, Statement};
+use lomkhvide::{Aggregator, Committee, Engine, Locator, Outcome, Owners, PendingItem, Record, Reference, Refusal, Statement};
 
 use super::input::Input;
 use super::{Asked, Fault, bad};
@@ -15,6 +15,9 @@ pub struct Run {
     positions: HashMap<u64, usize>,
     /// The record whose vote brought a share to quorum.
     processed: HashMap<Locator, usize>,
+    /// The blocks that share, vote on or reject offsets of a block, ascending.
+    speaking: HashMap<Reference, BTreeSet<usize>>,
+    pending: Vec<PendingItem>,
 }
 
 pub struct Block {
@@ -78,17 +81,28 @@ impl Run {
                 events.push(told);
             }
         }
-        let mut run =
-            Run { blocks: vec![], places: HashMap::new(), positions: HashMap::new(), processed: HashMap::new(), engine };
+        let mut run = Run {
+            pending: engine.pending_items().collect(),
+            engine,
+            blocks: Vec::new(),
+            places: HashMap::new(),
+            positions: HashMap::new(),
+            processed: HashMap::new(),
+            speaking: HashMap::new(),
+        };
         for (i, (position, record)) in run.engine.records().enumerate() {
             let includes = record.includes().filter_map(|block| run.places.get(&block).copied()).collect();
             run.places.insert(record.reference(), i);
+            for statement in record.statements() {
+                let about = about(statement).unwrap_or(record.reference());
+                run.speaking.entry(about).or_default().insert(i);
+            }
             run.positions.insert(position, i);
             run.blocks.push(Block { number: numbers[i], record, includes });
         }
         for (block, events) in run.blocks.iter().zip(&events) {
             for event in events.iter().filter(|event| event.outcome == Outcome::Processed) {
-                if let Some(voted) = block.record.statements().nth(event.statement as usize).and_then(voted_block) {
+                if let Some(voted) = block.record.statements().nth(event.statement as usize).and_then(about) {
                     run.processed.insert(voted.at(event.offset), block.number);
                 }
             }
@@ -129,6 +143,32 @@ impl Run {
         Tally { owners: Owners::from_words(aggregator.low, aggregator.high), stake: aggregator.stake, quorum }
     }
 
+    /// The blocks that share a locator, vote for it or reject it, in order of arrival.
+    pub fn voices(&self, locator: &Locator) -> Vec<(usize, Voice)> {
+        let speaking = self.speaking.get(&locator.reference()).into_iter().flatten();
+        speaking.filter_map(|i| Some((*i, self.voice(&self.blocks[*i], locator)?))).collect()
+    }
+
+    /// The blocks that are stored or spoken of.
+    pub fn known(&self) -> BTreeSet<Reference> {
+        self.places.keys().chain(self.speaking.keys()).copied().collect()
+    }
+
+    /// The item of a pending locator.
+    pub fn pending(&self, locator: &Locator) -> Option<PendingItem> {
+        let holds = |item: &&PendingItem| {
+            item.first.reference() == locator.reference() && (item.first.offset()..item.end).contains(&locator.offset())
+        };
+        self.pending.iter().find(holds).copied()
+    }
+
+    /// Whether a locator names a share of a stored block.
+    pub fn is_share(&self, locator: &Locator) -> bool {
+        let block = self.place(&locator.reference()).map(|place| &self.blocks[place].record);
+        let statement = block.and_then(|record| record.statements().nth(usize::try_from(locator.offset()).ok()?));
+        matches!(statement, Some(Statement::Share(_)))
+    }
+
     /// How a block speaks for a locator: the first of its statements that does; a reject only where none votes for it.
     pub fn voice(&self, block: &Block, locator: &Locator) -> Option<Voice> {
         let (reference, offset) = (locator.reference(), locator.offset());
@@ -163,11 +203,11 @@ impl Run {
     }
 }
 
-/// The block that a vote is about.
-fn voted_block(statement: Statement) -> Option<Reference> {
+/// The block that a vote or a reject is about.
+fn about(statement: Statement) -> Option<Reference> {
     match statement {
-        Statement::Accept(locator) => Some(locator.reference()),
+        Statement::Share(_) => None,
+        Statement::Accept(locator) | Statement::Reject(locator, _) => Some(locator.reference()),
         Statement::Range { first, .. } => Some(first.reference()),
-        _ => None,
     }
 }

@@ -139,7 +139,8 @@ impl View {
 /// Why, in a line.
 fn says(run: &Run, account: &Account) -> String {
     let quorum = run.committee().quorum();
-    let count = blocks_certify(account.certifying.len());
+    let mut count = blocks_certify(account.certifying.len());
+    count[..1].make_ascii_uppercase();
     let certified = match account.certifying.is_empty() {
         true => format!("{count} it"),
         false => format!("{count} it, their owners hold stake {}", account.certified.stake),

@@ -8,6 +8,7 @@ const scroll = byId("scroll");
 const size = byId("graph").viewBox.baseVal;
 let shown = data.shown;
 let scale = 1;
+let whole = false;
 
 function setClass(block, voice, certifies) {
     const words = ["block"];
@@ -70,6 +71,7 @@ function choose(number) {
 }
 
 function zoom(to) {
+    whole = false;
     scale = Math.min(4, Math.max(0.05, to));
     for (const id of ["labels", "graph"]) {
         const box = byId(id).viewBox.baseVal;
@@ -81,6 +83,7 @@ function zoom(to) {
 function fit() {
     const width = size.width + byId("labels").viewBox.baseVal.width;
     zoom(Math.min((scroll.clientWidth - 4) / width, (scroll.clientHeight - 6) / size.height));
+    whole = true;
 }
 
 // A block that is pointed at shows its includes; one that is clicked on also says what it holds, and its first share is chosen.
@@ -113,6 +116,7 @@ byId("smaller").addEventListener("click", () => zoom(scale / 1.25));
 byId("larger").addEventListener("click", () => zoom(scale * 1.25));
 byId("fit").addEventListener("click", fit);
 window.addEventListener("hashchange", fromAddress);
+window.addEventListener("resize", () => whole && fit());
 // A drawing for a slide fills the window; a large one begins at its full size, with the chosen block in view.
 if (data.blocks <= 60) fit();
 show(shown);

@@ -39,8 +39,8 @@ impl Scene {
         rounds.sort_unstable();
         rounds.dedup();
         let small = run.blocks.len() > MOST_FOR_A_SLIDE;
-        let (box_width, box_height, gap) = if small { (58, 30, 8) } else { (88, 44, 10) };
-        let column = if small { 92 } else { (860 / rounds.len().max(1)).clamp(132, 215) };
+        let (box_width, box_height, gap) = if small { (66, 30, 8) } else { (88, 44, 10) };
+        let column = if small { 100 } else { (860 / rounds.len().max(1)).clamp(132, 215) };
         let column_of = |round: u64| rounds.partition_point(|other| *other < round);
 
         // How many blocks stand above each other at a round of an owner, and each block's place among them.

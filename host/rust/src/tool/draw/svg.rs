@@ -85,10 +85,11 @@ pub fn graph_of(run: &Run, scene: &Scene, view: Option<&View>) -> String {
         let middle = i * scene.column + scene.column / 2;
         let _ = writeln!(out, "<text class=\"round\" x=\"{middle}\" y=\"{}\">round {round}</text>", AXIS - 10);
     }
+    let thin = if scene.small { " thin" } else { "" };
     out.push_str("<g id=\"includes\">\n");
     for (i, block) in run.blocks.iter().enumerate().filter(|(_, block)| !block.includes.is_empty()) {
         let lines: String = block.includes.iter().map(|include| scene.line(i, *include)).collect();
-        let _ = writeln!(out, "<path id=\"i{i}\" class=\"include\" d=\"{lines}\"/>");
+        let _ = writeln!(out, "<path id=\"i{i}\" class=\"include{thin}\" d=\"{lines}\"/>");
     }
     out.push_str("</g>\n");
     let _ = writeln!(out, "<path id=\"ways\" class=\"ways\" d=\"{}\"/>", view.map_or("", |view| &view.ways));

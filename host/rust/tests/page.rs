@@ -1,0 +1,98 @@
+//! Drawings, and pages in a real browser where there is one.
+
+mod common;
+
+use std::fs;
+use std::path::Path;
+use std::process::Command;
+
+use common::{folder, graph, input, runs};
+
+/// What the program writes.
+fn told(words: &[&str]) -> String {
+    let output = Command::new(env!("CARGO_BIN_EXE_lomkhvide")).args(words).output().unwrap();
+    assert!(output.status.success(), "{words:?}: {}", String::from_utf8_lossy(&output.stderr));
+    String::from_utf8(output.stdout).unwrap()
+}
+
+/// The page after its script has run; none where there is no browser.
+fn in_browser(profile: &Path, page: &Path, address: &str) -> Option<String> {
+    let url = format!("file://{}#{address}", page.display());
+    let flags =
+        ["--headless", "--no-sandbox", "--disable-gpu", "--disable-dev-shm-usage", "--window-size=1280,720", "--dump-dom"];
+    let data = format!("--user-data-dir={}", profile.display());
+    match Command::new("chromium").args(flags).args([&data, &url]).output() {
+        Ok(output) => Some(String::from_utf8(output.stdout).unwrap()),
+        Err(_) => {
+            println!("no chromium here: the page was not tried in a browser");
+            None
+        }
+    }
+}
+
+/// What stands in the part of a page or drawing with that id, one line for each element; every element has an end tag of its own.
+fn part(text: &str, tag: &str, id: &str) -> String {
+    let start = text.find(&format!("<{tag} id=\"{id}\"")).unwrap_or_else(|| panic!("no part {id}"));
+    let from = start + text[start..].find('>').unwrap() + 1;
+    let mut depth = 1;
+    let mut at = from;
+    while depth > 0 {
+        let (open, close) = (text[at..].find(&format!("<{tag} ")), text[at..].find(&format!("</{tag}>")).unwrap());
+        match open.filter(|open| *open < close) {
+            Some(open) => (depth, at) = (depth + 1, at + open + 1),
+            None => (depth, at) = (depth - 1, at + close + 1),
+        }
+    }
+    let mut out = String::new();
+    for piece in text[from..at - 1].split('<').filter(|piece| !piece.is_empty()) {
+        match piece.split_once("/>") {
+            Some((element, rest)) => out += &format!("<{element}></{}>{rest}", element.split(' ').next().unwrap()),
+            None => out += &format!("<{piece}"),
+        }
+    }
+    out.trim().to_string()
+}
+
+/// Every locator that can be chosen on a page.
+fn addresses(page: &str) -> Vec<&str> {
+    page.split("{\"id\":\"").skip(1).map(|rest| rest.split('"').next().unwrap()).collect()
+}
+
+/// After another locator was chosen, the page shows what a drawing of that locator shows.
+#[test]
+fn chosen_in_a_browser() {
+    let folder = folder("pages");
+    for name in ["heads_for_stake", "marked_block", "owner_twice"] {
+        let file = runs().join(format!("data/{name}.bin"));
+        let file = file.to_str().unwrap();
+        let page = told(&["draw", file]);
+        let path = folder.join(format!("{name}.html"));
+        fs::write(&path, &page).unwrap();
+        let address = *addresses(&page).last().unwrap();
+        let Some(shown) = in_browser(&folder.join("profile"), &path, address) else { return };
+        let drawing = told(&["draw", "--svg", file, address]);
+        for id in ["labels", "graph", "bars"] {
+            assert_eq!(part(&shown, "svg", id), part(&drawing, "g", id), "{name}: {id}");
+        }
+        let title = drawing.split("<title>").nth(1).unwrap().split('<').next().unwrap();
+        assert!(shown.contains(&format!("<h1 id=\"title\" aria-live=\"polite\">{title}</h1>")), "{name}: {title}");
+    }
+}
+
+/// A thousand blocks: the page is made, opens, and another locator can be chosen.
+#[test]
+fn a_thousand_blocks() {
+    let folder = folder("thousand");
+    let file = folder.join("thousand.bin");
+    fs::write(&file, input(10, &graph(10, 100))).unwrap();
+    let file = file.to_str().unwrap();
+    let page = told(&["draw", "--store", "2000000", file]);
+    assert_eq!(page.matches("<g id=\"b").count(), 1000);
+    let path = folder.join("thousand.html");
+    fs::write(&path, &page).unwrap();
+    let address = addresses(&page)[500];
+    let Some(shown) = in_browser(&folder.join("profile"), &path, address) else { return };
+    let drawing = told(&["draw", "--store", "2000000", "--svg", file, address]);
+    assert_eq!(part(&shown, "svg", "graph"), part(&drawing, "g", "graph"));
+    assert_eq!(part(&shown, "svg", "bars"), part(&drawing, "g", "bars"));
+}
