@@ -11,7 +11,7 @@ pub struct Account {
     /// The certifying blocks, in ascending order of reference, and their owners.
     pub certifying: Vec<usize>,
     pub certified: Tally,
-    /// The stored blocks that speak for it, in order of arrival, and the owners of those that vote.
+    /// The stored blocks that speak of it, in order of arrival, and the owners of those that vote.
     pub voices: Vec<(usize, Voice)>,
     pub voted: Tally,
     /// Whether it names a stored share.
@@ -24,11 +24,11 @@ pub struct Account {
 
 impl Account {
     pub fn new(run: &Run, locator: &Locator) -> Result<Account, Fault> {
-        let finality = run.engine.finality(locator).map_err(refused)?;
+        let finality = run.finality(locator)?;
         let certifying: Vec<usize> = finality.certifying.iter().filter_map(|position| run.at_position(*position)).collect();
         let author = |block: usize| run.blocks[block].record.author();
         let voices = run.voices(locator);
-        let votes = voices.iter().filter(|(_, voice)| *voice != Voice::Rejects);
+        let votes = voices.iter().filter(|(_, voice)| voice.vote.is_some());
         Ok(Account {
             locator: *locator,
             is_final: finality.is_final,
@@ -42,8 +42,11 @@ impl Account {
         })
     }
 
-    /// The slip of a final locator.
+    /// The slip of a final locator, in the old reading.
     pub fn slip(&self, run: &Run) -> Result<Option<Slip>, Fault> {
+        if run.withdrawing {
+            return Ok(None);
+        }
         match run.engine.slip(&self.locator) {
             Ok(slip) => Ok(Some(slip)),
             Err(Refusal::SlipNotHeld) => Ok(None),
@@ -57,6 +60,16 @@ impl Account {
             Ok(ring) => Ok(Some(ring)),
             Err(Refusal::QuorumOutOfReach | Refusal::NotPending) => Ok(None),
             Err(refusal) => Err(refused(refusal)),
+        }
+    }
+
+    /// Final or not, and in which reading where it is not the old one.
+    pub fn verdict(&self, run: &Run) -> &'static str {
+        match (self.is_final, run.withdrawing) {
+            (true, false) => "final",
+            (false, false) => "not final",
+            (true, true) => "final, where owners may withdraw",
+            (false, true) => "not final, where owners may withdraw",
         }
     }
 

@@ -6,11 +6,11 @@ use lomkhvide::{Locator, Owners, Voter};
 
 use super::Fault;
 use super::account::{Account, blocks_certify, hold};
-use super::run::{Run, Tally, Voice};
+use super::run::{Run, Tally};
 
 pub fn explain(run: &Run, locator: &Locator, reachable: Owners, out: &mut dyn Write) -> Result<(), Fault> {
     let account = Account::new(run, locator)?;
-    writeln!(out, "{locator:#}, {}: {}", account.name(run), if account.is_final { "final" } else { "not final" })?;
+    writeln!(out, "{locator:#}, {}: {}", account.name(run), account.verdict(run))?;
     writeln!(out, "{}.", certified(run, &account))?;
     if account.is_final { certificates(run, &account, out) } else { missing(run, &account, reachable, out) }
 }
@@ -37,7 +37,14 @@ fn sum(run: &Run, tally: &Tally) -> String {
 
 /// The certifying blocks with their voters.
 fn certificates(run: &Run, account: &Account, out: &mut dyn Write) -> Result<(), Fault> {
-    let Some(slip) = account.slip(run)? else { return Ok(()) };
+    let Some(slip) = account.slip(run)? else {
+        for block in &account.certifying {
+            let record = &run.blocks[*block].record;
+            let (number, owner) = (run.blocks[*block].number, record.author());
+            writeln!(out, "record {number} (round {}, owner {owner}, stake {}) certifies", record.round(), run.stake(owner))?;
+        }
+        return Ok(());
+    };
     for certifier in slip.certifiers() {
         let Some(from) = run.place(&certifier.block) else { continue };
         let (number, owner) = (run.blocks[from].number, certifier.block.author);
@@ -61,7 +68,7 @@ fn certificates(run: &Run, account: &Account, out: &mut dyn Write) -> Result<(),
 fn voted(run: &Run, account: &Account, from: usize, voter: &Voter) -> String {
     let walked = run.walk(from, &voter.path);
     let last = walked[walked.len() - 1];
-    let verb = run.voice(&run.blocks[last], &account.locator).map_or("votes for", Voice::verb);
+    let verb = run.voice(&run.blocks[last], &account.locator).map_or("votes for", |voice| voice.verb());
     let numbers: Vec<String> = walked.iter().map(|block| run.blocks[*block].number.to_string()).collect();
     let way = if walked.len() == 1 { "itself".into() } else { format!("by {}", numbers.join(" > ")) };
     format!("owner {}, stake {}: record {} {verb} it, {way}", voter.author, run.stake(voter.author), run.blocks[last].number)
@@ -99,9 +106,10 @@ fn missing(run: &Run, account: &Account, reachable: Owners, out: &mut dyn Write)
     let members = run.committee().members() as u64;
     let without: Owners =
         (0..members).filter(|owner| !account.certified.owners.contains(*owner) && reachable.contains(*owner)).collect();
+    let less = if run.withdrawing { ", less those who reject there" } else { "" };
     writeln!(
         out,
-        "An unmarked block certifies that has quorum votes at or below it. Ring for such a block: {}.",
+        "An unmarked block certifies that has quorum votes at or below it{less}. Ring for such a block: {}.",
         without_block(run, without)
     )?;
     Ok(())

@@ -33,6 +33,7 @@ LOCATOR is ROUND/AUTHOR/DIGEST/OFFSET, or these four as in a line 'final' of lis
 Options:
   --first N      feed the first N records only
   --reach A,B,.. the owners who can be reached by telephone (explain; else all)
+  --withdrawing  explain and draw in the reading in which an owner may withdraw a vote by a reject
   --store BYTES  lend a store of that size (else 65536, as listing does)
   --help         this page
 
@@ -50,6 +51,7 @@ pub struct Asked {
     pub reach: Owners,
     pub store: usize,
     pub svg: bool,
+    pub withdrawing: bool,
 }
 
 #[derive(Clone, Copy, Debug, PartialEq, Eq)]
@@ -100,6 +102,7 @@ pub fn asked(words: &[String]) -> Result<Option<Asked>, Fault> {
         reach: Owners::ALL,
         store: input::LISTING_STORE,
         svg: false,
+        withdrawing: false,
     };
     let mut plain = Vec::new();
     let mut words = words.iter();
@@ -111,6 +114,7 @@ pub fn asked(words: &[String]) -> Result<Option<Asked>, Fault> {
         match word.as_str() {
             "--help" | "-h" => return Ok(None),
             "--svg" => asked.svg = true,
+            "--withdrawing" => asked.withdrawing = true,
             "--first" => asked.first = Some(number("--first")?),
             "--store" => asked.store = number("--store")?,
             "--reach" => asked.reach = owners(words.next().map_or("", |value| value))?,

@@ -2,7 +2,9 @@
 
 use std::collections::{BTreeSet, HashMap};
 
-use lomkhvide::{Aggregator, Committee, Engine, Locator, Outcome, Owners, PendingItem, Record, Reference, Refusal, Statement};
+use lomkhvide::{
+    Aggregator, Committee, Engine, Finality, Locator, Outcome, Owners, PendingItem, Record, Reference, Refusal, Statement,
+};
 
 use super::input::Input;
 use super::{Asked, Fault, bad};
@@ -15,6 +17,8 @@ pub struct Run {
     positions: HashMap<u64, usize>,
     /// The record whose vote brought a share to quorum.
     processed: HashMap<Locator, usize>,
+    /// Whether an owner may withdraw.
+    pub withdrawing: bool,
     /// The blocks that share, vote on or reject offsets of a block, ascending.
     speaking: HashMap<Reference, BTreeSet<usize>>,
     pending: Vec<PendingItem>,
@@ -28,23 +32,31 @@ pub struct Block {
     pub includes: Vec<usize>,
 }
 
-/// How a block speaks for a locator.
+/// How a block speaks of a locator.
 #[derive(Clone, Copy, Debug, PartialEq, Eq)]
-pub enum Voice {
+pub struct Voice {
+    pub vote: Option<Vote>,
+    pub rejects: bool,
+}
+
+#[derive(Clone, Copy, Debug, PartialEq, Eq)]
+pub enum Vote {
     Shares,
     Accepts,
     /// A range covers it.
     Covers,
-    Rejects,
 }
 
 impl Voice {
     pub fn verb(self) -> &'static str {
-        match self {
-            Voice::Shares => "shares",
-            Voice::Accepts => "accepts",
-            Voice::Covers => "accepts by a range",
-            Voice::Rejects => "rejects",
+        match (self.vote, self.rejects) {
+            (Some(Vote::Shares), false) => "shares",
+            (Some(Vote::Shares), true) => "shares and rejects",
+            (Some(Vote::Accepts), false) => "accepts",
+            (Some(Vote::Accepts), true) => "accepts and rejects",
+            (Some(Vote::Covers), false) => "accepts by a range",
+            (Some(Vote::Covers), true) => "accepts by a range and rejects",
+            (None, _) => "rejects",
         }
     }
 }
@@ -84,6 +96,7 @@ impl Run {
         let mut run = Run {
             pending: engine.pending_items().collect(),
             engine,
+            withdrawing: asked.withdrawing,
             blocks: Vec::new(),
             places: HashMap::new(),
             positions: HashMap::new(),
@@ -108,6 +121,15 @@ impl Run {
             }
         }
         Ok(run)
+    }
+
+    /// Whether a locator is final in the reading that was asked for.
+    pub fn finality(&self, locator: &Locator) -> Result<Finality, Fault> {
+        let answer = match self.withdrawing {
+            false => self.engine.finality(locator),
+            true => self.engine.finality_withdrawing(locator),
+        };
+        answer.map_err(refused)
     }
 
     pub fn committee(&self) -> &Committee {
@@ -169,25 +191,29 @@ impl Run {
         matches!(statement, Some(Statement::Share(_)))
     }
 
-    /// How a block speaks for a locator: the first of its statements that does; a reject only where none votes for it.
+    /// How a block speaks of a locator: by its first vote, and by rejects.
     pub fn voice(&self, block: &Block, locator: &Locator) -> Option<Voice> {
         let (reference, offset) = (locator.reference(), locator.offset());
         let own = block.record.reference() == reference;
-        let mut rejects = false;
+        let mut voice = Voice { vote: None, rejects: false };
         for (i, statement) in (0..).zip(block.record.statements()) {
-            match statement {
-                Statement::Share(_) if own && i == offset => return Some(Voice::Shares),
-                Statement::Accept(accepted) if accepted == *locator => return Some(Voice::Accepts),
+            let vote = match statement {
+                Statement::Share(_) if own && i == offset => Some(Vote::Shares),
+                Statement::Accept(accepted) if accepted == *locator => Some(Vote::Accepts),
                 Statement::Range { first, end }
                     if first.reference() == reference && (first.offset()..end).contains(&offset) =>
                 {
-                    return Some(Voice::Covers);
+                    Some(Vote::Covers)
                 }
-                Statement::Reject(rejected, _) => rejects |= rejected == *locator,
-                _ => (),
-            }
+                Statement::Reject(rejected, _) => {
+                    voice.rejects |= rejected == *locator;
+                    None
+                }
+                _ => None,
+            };
+            voice.vote = voice.vote.or(vote);
         }
-        rejects.then_some(Voice::Rejects)
+        (voice.vote.is_some() || voice.rejects).then_some(voice)
     }
 
     /// The blocks that a path of include places leads through, the first one among them.

@@ -10,7 +10,7 @@ use lomkhvide::{Locator, Owners};
 
 use super::Fault;
 use super::account::{Account, blocks_certify};
-use super::run::{Run, Voice, refused};
+use super::run::{Run, Voice, Vote, refused};
 use scene::Scene;
 
 /// The most blocks of a drawing that shows the ways from certificates to votes: beyond these they would cover each other.
@@ -24,9 +24,10 @@ pub struct View {
     pub locator: Locator,
     pub name: String,
     pub is_final: bool,
+    pub verdict: &'static str,
     pub is_pending: bool,
     pub says: String,
-    /// The blocks that speak for it, each with its words.
+    /// The blocks that speak of it, each with its words.
     pub voices: Vec<(usize, Voice, String)>,
     pub certifying: Vec<usize>,
     pub votes: Bar,
@@ -105,11 +106,12 @@ impl View {
         let total = run.committee().total_stake();
         let words = |(block, voice): &(usize, Voice)| {
             let stake = run.stake(run.blocks[*block].record.author());
-            let words = match voice {
-                Voice::Shares => format!("shares +{stake}"),
-                Voice::Accepts => format!("accepts +{stake}"),
-                Voice::Covers => format!("range +{stake}"),
-                Voice::Rejects => "rejects".into(),
+            let words = match (voice.vote, voice.rejects) {
+                (Some(Vote::Shares), false) => format!("shares +{stake}"),
+                (Some(Vote::Accepts), false) => format!("accepts +{stake}"),
+                (Some(Vote::Covers), false) => format!("range +{stake}"),
+                (Some(_), true) => format!("+{stake}, rejects"),
+                (None, _) => "rejects".into(),
             };
             (*block, *voice, words)
         };
@@ -118,6 +120,7 @@ impl View {
             locator: *locator,
             name: account.name(run),
             is_final: account.is_final,
+            verdict: account.verdict(run),
             is_pending: account.pending.is_some(),
             says: says(run, &account),
             voices: account.voices.iter().map(words).collect(),
@@ -130,7 +133,7 @@ impl View {
 
     /// "Share 0 of record 5: final".
     pub fn title(&self) -> String {
-        let mut title = format!("{}: {}", self.name, if self.is_final { "final" } else { "not final" });
+        let mut title = format!("{}: {}", self.name, self.verdict);
         title[..1].make_ascii_uppercase();
         title
     }
@@ -141,9 +144,10 @@ fn says(run: &Run, account: &Account) -> String {
     let quorum = run.committee().quorum();
     let mut count = blocks_certify(account.certifying.len());
     count[..1].make_ascii_uppercase();
-    let certified = match account.certifying.is_empty() {
-        true => format!("{count} it"),
-        false => format!("{count} it, their owners hold stake {}", account.certified.stake),
+    let certified = match account.certifying.len() {
+        0 => format!("{count} it"),
+        1 => format!("{count} it, and its owner holds stake {}", account.certified.stake),
+        _ => format!("{count} it, and their owners hold stake {}", account.certified.stake),
     };
     let so_far = match &account.pending {
         Some(item) if !account.is_final => format!("; its counted votes hold stake {}", item.stake),

@@ -13,7 +13,8 @@ let whole = false;
 function setClass(block, voice, certifies) {
     const words = ["block"];
     if (marked.has(block)) words.push("marked");
-    if (voice) words.push(voice[1] ? "votes" : "rejects");
+    if (voice && voice[1] & 1) words.push("votes");
+    if (voice && voice[1] & 2) words.push("rejects");
     if (certifies) words.push("certifies");
     const group = byId("b" + block);
     group.setAttribute("class", words.join(" "));

@@ -4,7 +4,7 @@ use std::fmt::Write;
 
 use lomkhvide::Owners;
 
-use super::super::run::{Run, Voice};
+use super::super::run::Run;
 use super::View;
 use super::scene::{LABELS, Scene};
 use super::svg::{self, BARS_HEIGHT, BARS_WIDTH, LEGEND_HEIGHT, LEGEND_WIDTH};
@@ -80,7 +80,9 @@ fn data(run: &Run, views: &[View], shown: Option<usize>) -> String {
         let voices: Vec<String> = view
             .voices
             .iter()
-            .map(|(block, voice, words)| format!("[{block},{},\"{words}\"]", (*voice != Voice::Rejects) as u8))
+            .map(|(block, voice, words)| {
+                format!("[{block},{},\"{words}\"]", voice.vote.is_some() as u8 + 2 * voice.rejects as u8)
+            })
             .collect();
         let home = run.place(&view.locator.reference()).map_or(-1, |place| place as i64);
         let _ = write!(

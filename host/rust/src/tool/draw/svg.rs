@@ -4,7 +4,7 @@ use std::fmt::Write;
 
 use lomkhvide::{Owners, Statement};
 
-use super::super::run::{Block, Run, Voice};
+use super::super::run::{Block, Run, Voice, Vote};
 use super::scene::{AXIS, LABELS, Scene};
 use super::{Bar, View};
 
@@ -116,10 +116,11 @@ fn block_of(run: &Run, scene: &Scene, i: usize, block: &Block, view: Option<&Vie
 /// The classes of a block, in a fixed order.
 pub fn class(marked: bool, voice: Option<Voice>, certifies: bool) -> String {
     let mut class = String::from(if marked { "block marked" } else { "block" });
-    match voice {
-        Some(Voice::Rejects) => class.push_str(" rejects"),
-        Some(_) => class.push_str(" votes"),
-        None => (),
+    if voice.is_some_and(|voice| voice.vote.is_some()) {
+        class.push_str(" votes");
+    }
+    if voice.is_some_and(|voice| voice.rejects) {
+        class.push_str(" rejects");
     }
     if certifies {
         class.push_str(" certifies");
@@ -279,7 +280,7 @@ pub fn legend_of(scene: &Scene) -> String {
     };
     let mut out = String::new();
     let items = [
-        (false, Some(Voice::Accepts), false, "+2", "votes, with its stake", 0),
+        (false, Some(Voice { vote: Some(Vote::Accepts), rejects: false }), false, "+2", "votes, with its stake", 0),
         (false, None, true, "", "certifies", 210),
         (true, None, false, "", "marked: passes votes on, never certifies", 344),
     ];
