@@ -1,6 +1,7 @@
 //! The engine's calls for a host in Rust: safe functions over the calls of `lomkhvide.h`.
 //!
 //! Link the archive that `rt staticlib host` writes (`target/staticlib/libhost.a`).
+#![doc = include_str!("../README.md")]
 
 mod engine;
 mod record;
