@@ -21,6 +21,15 @@ static uint64_t refused(uint64_t number) {
     return (UINT64_C(1) << 63) + number;
 }
 
+/* The sentences of refusals: of a word that is refused, and of no other. */
+static void sentences(void) {
+    uint8_t zero[8] = {0};
+    const char *told = lomkhvide_sentence(lomkhvide_new_committee(zero, 8));
+    same("the sentence of 2", told != NULL && strcmp(told, "a stake of the committee is zero") == 0, 1);
+    same("the sentence of an answer", lomkhvide_sentence(2) == NULL, 1);
+    same("the sentence of a number that is not listed", lomkhvide_sentence(refused(99)) == NULL, 1);
+}
+
 static void put_word(uint8_t *to, uint64_t word) {
     for (int i = 0; i < 8; i++) {
         to[i] = (uint8_t)(word >> (8 * i));
@@ -1269,6 +1278,7 @@ static void sorted_lists(void) {
 }
 
 int main(void) {
+    sentences();
     loading();
     committees();
     quorums();

@@ -1,0 +1,151 @@
+//! The engine that owns its memory, beside the calls over lent slices.
+
+mod common;
+
+use common::{Chance, graph};
+use lomkhvide::{
+    Committee, Engine, Event, Locator, Outcome, Owners, Parts, Pending, Record, Refusal, Refused, Slip, fresh_store,
+    fresh_table,
+};
+
+const ROOM: usize = 1 << 20;
+
+fn fed(stakes: &[u64], records: &[Record]) -> Engine {
+    let mut engine = Engine::new(Committee::new(stakes).unwrap(), ROOM);
+    records.iter().for_each(|record| drop(engine.feed(record).unwrap()));
+    engine
+}
+
+/// Store, table, events and answers are those of the calls over lent slices.
+#[test]
+fn thin_calls() {
+    let records = graph(4, 12);
+    let committee = Committee::new(&[2, 1, 1, 1]).unwrap();
+    let (mut store, mut table) = (fresh_store(ROOM), fresh_table());
+    let mut engine = Engine::new(committee.clone(), ROOM);
+    let mut events: Vec<Event> = Vec::new();
+    for record in records.iter().flat_map(|record| [record, record]) {
+        let told = engine.feed(record);
+        assert_eq!(told.clone().map_err(Refused::from), committee.feed(&mut store, &mut table, record.as_bytes()));
+        events.extend(told.unwrap_or_default());
+    }
+    assert_eq!(engine.store(), store);
+    assert!(events.iter().any(|event| event.outcome == Outcome::Processed));
+    for locator in records.iter().flat_map(|record| [record.reference().at(0), record.reference().at(1)]) {
+        assert_eq!(engine.finality(&locator), Ok(committee.finality(&store, &locator).unwrap()));
+        assert_eq!(engine.finality_withdrawing(&locator), Ok(committee.finality_withdrawing(&store, &locator).unwrap()));
+        assert_eq!(engine.pending(&locator).map_err(Refused::from), committee.pending(&store, &table, &locator));
+        assert_eq!(engine.payload(&locator).map_err(Refused::from), committee.payload(&store, &locator));
+        let ring = engine.ring(&locator, Owners::ALL).map_err(Refused::from).map(|ring| (ring.owners.0, ring.stake));
+        let flat = committee.whom_to_ring(&store, &table, u128::MAX, &locator).map(|ring| (ring.owners, ring.stake));
+        assert_eq!(ring, flat);
+    }
+}
+
+/// The list comes whole, also where it takes many calls.
+#[test]
+fn long_lists() {
+    let records = graph(4, 60);
+    let engine = fed(&[1; 4], &records);
+    let stretches = engine.finals().collect::<Result<Vec<_>, _>>().unwrap();
+    assert!(stretches.len() > 128, "{} stretches", stretches.len());
+    let mut listed = Vec::new();
+    for stretch in stretches {
+        listed.extend((stretch.first.offset()..stretch.end).map(|offset| stretch.first.reference().at(offset)));
+    }
+    let mut asked = Vec::new();
+    while let Some(next) = engine.committee().next_final(engine.store(), asked.last()).unwrap() {
+        asked.push(next);
+    }
+    assert_eq!(listed, asked);
+    assert!(listed.is_sorted());
+}
+
+#[test]
+fn items_and_records() {
+    let records = graph(4, 6);
+    let engine = fed(&[1; 4], &records);
+    assert_eq!(engine.records().map(|(_, record)| record).collect::<Vec<_>>(), records);
+    for (position, record) in engine.records() {
+        assert_eq!(engine.record_at(position), Some(record));
+        assert_eq!(engine.record_at(position + 1), None);
+    }
+    let mut pending: Vec<Locator> = Vec::new();
+    for item in engine.pending_items() {
+        for offset in item.first.offset()..item.end {
+            let locator = item.first.reference().at(offset);
+            let told = Pending { stake: item.stake, voters: item.voters.len() as u64 };
+            assert_eq!(engine.pending(&locator), Ok(told));
+            pending.push(locator);
+        }
+    }
+    let shares = records.iter().flat_map(|record| record.shares().map(|(locator, _)| locator).collect::<Vec<_>>());
+    let asked: Vec<Locator> = shares.filter(|locator| engine.pending(locator).is_ok()).collect();
+    assert!(!asked.is_empty());
+    assert_eq!(pending, asked);
+}
+
+/// A slip of many blocks, read at a station with the records alone.
+#[test]
+fn slips() {
+    let records = graph(4, 40);
+    let engine = fed(&[1; 4], &records);
+    let share = records[4].reference().at(0);
+    let slip = engine.slip(&share).unwrap();
+    assert!(slip.as_bytes().len() > 4096, "it does not fit at first");
+    assert_eq!(slip.locator(), share);
+    assert_eq!(slip.certifiers().len(), engine.finality(&share).unwrap().certifying.len());
+    for (certifier, position) in slip.certifiers().iter().zip(engine.finality(&share).unwrap().certifying) {
+        assert_eq!(certifier.block, engine.record_at(position).unwrap().reference());
+        assert!(certifier.voters.len() >= 3);
+    }
+    assert_eq!(Slip::read(engine.committee(), slip.as_bytes(), &records), Ok(slip.clone()));
+    assert_eq!(Slip::read(engine.committee(), slip.as_bytes(), &records[..20]), Err(Refusal::SlipRecordMissing));
+}
+
+/// What was kept opens to the same engine, which goes on alike.
+#[test]
+fn kept_and_opened() {
+    let records = graph(4, 10);
+    let mut engine = fed(&[1; 4], &records[..25]);
+    let (store, table) = (engine.parts().store.to_vec(), engine.parts().table.to_vec());
+    let mut opened = Engine::open(Committee::new(&[1; 4]).unwrap(), ROOM, Parts { store: &store, table: &table }).unwrap();
+    assert_eq!(opened, engine);
+    for record in &records[25..] {
+        assert_eq!(opened.feed(record), engine.feed(record));
+    }
+    assert_eq!(opened, engine);
+    let less = Engine::open(Committee::new(&[1; 4]).unwrap(), 16, Parts { store: &store, table: &table }).unwrap();
+    assert_eq!(less.store().len(), store.len(), "the room is never less than what was kept");
+}
+
+/// Damaged parts are refused or are in order; nothing panics, and what is opened answers.
+#[test]
+fn damaged_parts() {
+    let engine = fed(&[1; 4], &graph(4, 5));
+    let committee = Committee::new(&[1; 4]).unwrap();
+    let mut chance = Chance(5);
+    let mut refused = 0;
+    for _ in 0..600 {
+        let (mut store, mut table) = (engine.parts().store.to_vec(), engine.parts().table.to_vec());
+        let part = if chance.below(2) == 0 { &mut store } else { &mut table };
+        let place = chance.below(part.len() as u64) as usize;
+        match chance.below(3) {
+            0 => part.truncate(place),
+            1 => part[place] ^= 1 << chance.below(8),
+            _ => part.insert(place, chance.below(256) as u8),
+        }
+        match Engine::open(committee.clone(), ROOM, Parts { store: &store, table: &table }) {
+            Ok(opened) => {
+                assert!(opened.finals().all(|stretch| stretch.is_ok()));
+                opened.pending_items().for_each(drop);
+                opened.records().for_each(drop);
+            }
+            Err(refusal) => {
+                assert!(matches!(refusal, Refusal::StoreNotInOrder | Refusal::TableNotInOrder), "{refusal}");
+                refused += 1;
+            }
+        }
+    }
+    assert!(refused > 300, "{refused} refused");
+}
