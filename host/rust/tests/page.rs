@@ -71,7 +71,7 @@ fn chosen_in_a_browser() {
         let address = *addresses(&page).last().unwrap();
         let Some(shown) = in_browser(&folder.join("profile"), &path, address) else { return };
         let drawing = told(&["draw", "--svg", file, address]);
-        for id in ["labels", "graph", "bars"] {
+        for id in ["axis", "labels", "graph", "bars"] {
             assert_eq!(part(&shown, "svg", id), part(&drawing, "g", id), "{name}: {id}");
         }
         let title = drawing.split("<title>").nth(1).unwrap().split('<').next().unwrap();

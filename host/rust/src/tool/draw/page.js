@@ -58,9 +58,10 @@ function look(block) {
     if (!group) return;
     const box = group.getBoundingClientRect();
     const view = scroll.getBoundingClientRect();
-    const margin = byId("labels").getBoundingClientRect().width + 40;
-    if (box.left < view.left + margin || box.right > view.right) scroll.scrollLeft += box.left - view.left - margin;
-    if (box.top < view.top || box.bottom > view.bottom) scroll.scrollTop += box.top - view.top - 40;
+    const left = view.left + byId("labels").getBoundingClientRect().width + 20;
+    const top = view.top + byId("axis").getBoundingClientRect().height + 8;
+    if (box.left < left || box.right > view.right) scroll.scrollLeft += box.left - left - 20;
+    if (box.top < top || box.bottom > view.bottom) scroll.scrollTop += box.top - top;
 }
 
 function choose(number) {
@@ -74,7 +75,7 @@ function choose(number) {
 function zoom(to) {
     whole = false;
     scale = Math.min(4, Math.max(0.05, to));
-    for (const id of ["labels", "graph"]) {
+    for (const id of ["axis", "labels", "graph"]) {
         const box = byId(id).viewBox.baseVal;
         byId(id).setAttribute("width", box.width * scale);
         byId(id).setAttribute("height", box.height * scale);
@@ -83,7 +84,8 @@ function zoom(to) {
 
 function fit() {
     const width = size.width + byId("labels").viewBox.baseVal.width;
-    zoom(Math.min((scroll.clientWidth - 4) / width, (scroll.clientHeight - 6) / size.height));
+    const height = size.height + byId("axis").viewBox.baseVal.height;
+    zoom(Math.min((scroll.clientWidth - 4) / width, (scroll.clientHeight - 6) / height));
     whole = true;
 }
 

@@ -6,7 +6,7 @@ use lomkhvide::Owners;
 
 use super::super::run::Run;
 use super::View;
-use super::scene::{LABELS, Scene};
+use super::scene::{AXIS, LABELS, Scene};
 use super::svg::{self, BARS_HEIGHT, BARS_WIDTH, LEGEND_HEIGHT, LEGEND_WIDTH};
 
 const PAGE_STYLE: &str = include_str!("page.css");
@@ -19,7 +19,7 @@ pub fn page(run: &Run, scene: &Scene, views: &[View], shown: Option<usize>, left
         0 => String::new(),
         number => format!("<span id=\"left-out\">{number} more are left out</span>"),
     };
-    let (width, height, labels) = (scene.width, scene.height, LABELS);
+    let (width, height, labels) = (scene.width, scene.height - AXIS, LABELS);
     format!(
         "<!DOCTYPE html>\n<html lang=\"en\">\n<head>\n<meta charset=\"utf-8\">\n\
          <meta name=\"viewport\" content=\"width=device-width\">\n<title>{title}</title>\n\
@@ -30,14 +30,17 @@ pub fn page(run: &Run, scene: &Scene, views: &[View], shown: Option<usize>, left
          <button id=\"smaller\" title=\"smaller\">&minus;</button><button id=\"larger\" title=\"larger\">+</button>\
          <button id=\"fit\">whole</button>{left_out}\n<span id=\"picked\"></span></nav>\n</header>\n\
          <main id=\"scroll\" tabindex=\"0\">\n\
-         <svg id=\"labels\" viewBox=\"0 0 {labels} {height}\" width=\"{labels}\" height=\"{height}\">\n{}</svg>\
-         <svg id=\"graph\" viewBox=\"0 0 {width} {height}\" width=\"{width}\" height=\"{height}\">\n{}</svg>\n\
+         <div id=\"corner\"></div>\n\
+         <svg id=\"axis\" viewBox=\"0 0 {width} {AXIS}\" width=\"{width}\" height=\"{AXIS}\">\n{}</svg>\n\
+         <svg id=\"labels\" viewBox=\"0 {AXIS} {labels} {height}\" width=\"{labels}\" height=\"{height}\">\n{}</svg>\n\
+         <svg id=\"graph\" viewBox=\"0 {AXIS} {width} {height}\" width=\"{width}\" height=\"{height}\">\n{}</svg>\n\
          </main>\n<footer>\n\
          <svg id=\"bars\" viewBox=\"0 -8 {BARS_WIDTH} {}\" width=\"{BARS_WIDTH}\">\n{}</svg>\n\
          <svg id=\"legend\" viewBox=\"-8 0 {} {LEGEND_HEIGHT}\" width=\"{}\">\n{}</svg>\n</footer>\n\
          <script type=\"application/json\" id=\"data\">{}</script>\n<script>\n{SCRIPT}</script>\n</body>\n</html>\n",
         svg::STYLE,
         options(views, shown),
+        svg::axis_of(scene),
         svg::labels_of(run, scene),
         svg::graph_of(run, scene, view),
         BARS_HEIGHT + 4,

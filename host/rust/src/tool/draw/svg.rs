@@ -41,10 +41,12 @@ pub fn drawing(run: &Run, scene: &Scene, view: Option<&View>) -> String {
          <rect width=\"{width}\" height=\"{height}\" fill=\"#fff\"/>\n\
          <text class=\"title\" x=\"12\" y=\"32\">{title}</text>\n<text class=\"says\" x=\"12\" y=\"56\">{says}</text>\n\
          <g id=\"labels\" transform=\"translate(0,{graph})\">\n{}</g>\n\
+         <g id=\"axis\" transform=\"translate({LABELS},{graph})\">\n{}</g>\n\
          <g id=\"graph\" transform=\"translate({LABELS},{graph})\">\n{}</g>\n\
          <g id=\"bars\" transform=\"translate(0,{bars})\">\n{}</g>\n\
          <g id=\"legend\" transform=\"translate(12,{legend})\">\n{}</g>\n</svg>\n",
         labels_of(run, scene),
+        axis_of(scene),
         graph_of(run, scene, view),
         bars_of(run, view),
         legend_of(scene),
@@ -69,7 +71,17 @@ pub fn labels_of(run: &Run, scene: &Scene) -> String {
     out
 }
 
-/// Rounds, lanes, includes, ways and blocks.
+/// The rounds' numbers.
+pub fn axis_of(scene: &Scene) -> String {
+    let mut out = String::new();
+    for (i, round) in scene.rounds.iter().enumerate() {
+        let middle = i * scene.column + scene.column / 2;
+        let _ = writeln!(out, "<text class=\"round\" x=\"{middle}\" y=\"{}\">round {round}</text>", AXIS - 10);
+    }
+    out
+}
+
+/// Lanes, includes, ways and blocks.
 pub fn graph_of(run: &Run, scene: &Scene, view: Option<&View>) -> String {
     let mut out = String::new();
     for (i, lane) in scene.lanes.iter().enumerate() {
@@ -80,10 +92,6 @@ pub fn graph_of(run: &Run, scene: &Scene, view: Option<&View>) -> String {
                 lane.top, scene.width, lane.height
             );
         }
-    }
-    for (i, round) in scene.rounds.iter().enumerate() {
-        let middle = i * scene.column + scene.column / 2;
-        let _ = writeln!(out, "<text class=\"round\" x=\"{middle}\" y=\"{}\">round {round}</text>", AXIS - 10);
     }
     let thin = if scene.small { " thin" } else { "" };
     out.push_str("<g id=\"includes\">\n");
