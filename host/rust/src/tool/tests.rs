@@ -62,11 +62,17 @@ fn try_all(bytes: &[u8], name: &str, chance: &mut Chance) {
     let finals: Vec<&str> = listed.lines().filter(|line| line.starts_with("final")).collect();
     let typed = ["1/0/00000005/0", "1/2/0/18446744073709551615", "0/0/0/0", "2/1/ff/3"][chance.below(4)];
     let locator = if finals.is_empty() { typed } else { finals[chance.below(finals.len())] };
-    for words in [&["explain", "x", locator][..], &["draw", "x"], &["draw", "--svg", "x"], &["draw", "--svg", "x", locator]] {
+    for words in [
+        &["explain", "x", locator][..],
+        &["explain", "--withdrawing", "x", locator],
+        &["draw", "x"],
+        &["draw", "--svg", "x"],
+        &["draw", "--svg", "--withdrawing", "x", locator],
+    ] {
         match told(words, bytes) {
             Ok(text) => {
                 assert!(!text.is_empty(), "{name}: {words:?}");
-                if words[0] == "explain" && locator.starts_with("final") {
+                if words[1] == "x" && words[0] == "explain" && locator.starts_with("final") {
                     assert!(text.lines().next().unwrap().ends_with(": final"), "{name}: {text}");
                 }
             }
