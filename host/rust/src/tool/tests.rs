@@ -6,7 +6,7 @@ use std::path::Path;
 use super::{Asked, Fault, answer_bytes, asked};
 
 /// How many damaged files are tried.
-const DAMAGED: u64 = 1_000;
+const DAMAGED: u64 = 500;
 
 /// The inputs of `listing_runs`, by name.
 fn inputs() -> Vec<(String, Vec<u8>)> {
