@@ -4,7 +4,9 @@ mod common;
 
 use std::fs;
 use std::path::Path;
-use std::process::Command;
+use std::process::{Child, Command, Stdio};
+use std::thread::sleep;
+use std::time::Duration;
 
 use common::{folder, graph, input, runs};
 
@@ -15,19 +17,41 @@ fn told(words: &[&str]) -> String {
     String::from_utf8(output.stdout).unwrap()
 }
 
-/// The page after its script has run; none where there is no browser.
-fn in_browser(profile: &Path, page: &Path, address: &str) -> Option<String> {
+/// The page after its script has run; none where no browser runs here, which is said.
+fn in_browser(folder: &Path, page: &Path, address: &str) -> Option<String> {
     let url = format!("file://{}#{address}", page.display());
-    let flags =
-        ["--headless", "--no-sandbox", "--disable-gpu", "--disable-dev-shm-usage", "--window-size=1280,720", "--dump-dom"];
-    let data = format!("--user-data-dir={}", profile.display());
-    match Command::new("chromium").args(flags).args([&data, &url]).output() {
-        Ok(output) => Some(String::from_utf8(output.stdout).unwrap()),
-        Err(_) => {
-            println!("no chromium here: the page was not tried in a browser");
-            None
-        }
+    let data = format!("--user-data-dir={}", folder.join("profile").display());
+    let flags = [
+        "--headless",
+        "--no-sandbox",
+        "--disable-gpu",
+        "--disable-dev-shm-usage",
+        "--disable-background-networking",
+        "--no-first-run",
+        "--window-size=1280,720",
+        "--dump-dom",
+    ];
+    let shown = folder.join("shown");
+    let out = fs::File::create(&shown).unwrap();
+    let started = Command::new("chromium").args(flags).args([&data, &url]).stdout(out).stderr(Stdio::null()).spawn();
+    if started.is_ok_and(|child| ended_well(child)) {
+        return Some(fs::read_to_string(shown).unwrap());
     }
+    println!("no chromium runs here: a page was not tried in a browser");
+    None
+}
+
+/// Waits for a browser, at most two minutes.
+fn ended_well(mut child: Child) -> bool {
+    for _ in 0..1200 {
+        if let Some(status) = child.try_wait().unwrap() {
+            return status.success();
+        }
+        sleep(Duration::from_millis(100));
+    }
+    child.kill().unwrap();
+    child.wait().unwrap();
+    false
 }
 
 /// What stands in the part of a page or drawing with that id, one line for each element; every element has an end tag of its own.
@@ -69,7 +93,7 @@ fn chosen_in_a_browser() {
         let path = folder.join(format!("{name}.html"));
         fs::write(&path, &page).unwrap();
         let address = *addresses(&page).last().unwrap();
-        let Some(shown) = in_browser(&folder.join("profile"), &path, address) else { return };
+        let Some(shown) = in_browser(&folder, &path, address) else { return };
         let drawing = told(&["draw", "--svg", file, address]);
         for id in ["axis", "labels", "graph", "bars"] {
             assert_eq!(part(&shown, "svg", id), part(&drawing, "g", id), "{name}: {id}");
@@ -91,7 +115,7 @@ fn a_thousand_blocks() {
     let path = folder.join("thousand.html");
     fs::write(&path, &page).unwrap();
     let address = addresses(&page)[500];
-    let Some(shown) = in_browser(&folder.join("profile"), &path, address) else { return };
+    let Some(shown) = in_browser(&folder, &path, address) else { return };
     let drawing = told(&["draw", "--store", "2000000", "--svg", file, address]);
     assert_eq!(part(&shown, "svg", "graph"), part(&drawing, "g", "graph"));
     assert_eq!(part(&shown, "svg", "bars"), part(&drawing, "g", "bars"));
