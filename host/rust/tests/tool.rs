@@ -106,7 +106,7 @@ Votes:
   owner 0, stake 1: record 9 accepts it
   owner 3, stake 1: record 12 accepts it
 Record 12 brought the votes to quorum.
-An unmarked block certifies that has quorum votes at or below it. Ring for such a block: owner 1 (stake 1), owner 2 (stake 1).
+An unmarked block certifies that has quorum votes at or below it. Ring for such a block: owner 1, stake 1; owner 2, stake 1.
 ";
     assert_eq!(text(&tool(&["explain", &file("owner_twice.bin"), "1/2/00000007/0"]).stdout), expected);
 }
@@ -175,4 +175,32 @@ fn cut_off() {
     drop(child.stdout.take());
     let output = child.wait_with_output().unwrap();
     assert!(output.stderr.is_empty(), "{}", text(&output.stderr));
+}
+
+/// The names of the file of stakes are shown.
+#[test]
+fn names() {
+    let data = runs().join("../stakes_runs/data");
+    let told = |words: &[&str]| {
+        let output = Command::new(env!("CARGO_BIN_EXE_lomkhvide")).args(words).current_dir(&data).output().unwrap();
+        assert!(output.status.success(), "{}", text(&output.stderr));
+        String::from_utf8(output.stdout).unwrap()
+    };
+    let explained = told(&["explain", "input.bin", "1/0/00000005/0"]);
+    assert!(explained.contains("\n  owner 0 (karst), stake 2: record 5 shares it, by 13 > 9 > 5\n"), "{explained}");
+    assert!(told(&["draw", "--svg", "input.bin"]).contains(">karst</text>"));
+}
+
+/// A name may hold anything; a drawing stays well formed.
+#[test]
+fn names_that_look_like_tags() {
+    let folder = folder("tags");
+    let mut stakes = vec![1, 0, 0, 0];
+    stakes.extend(b"<script>&\"\n\xff\0\0\0\0");
+    stakes.extend(1u64.to_le_bytes());
+    fs::write(folder.join("stakes"), &stakes).unwrap();
+    fs::write(folder.join("input"), [255]).unwrap();
+    let output =
+        Command::new(env!("CARGO_BIN_EXE_lomkhvide")).args(["draw", "--svg", "input"]).current_dir(&folder).output().unwrap();
+    assert!(text(&output.stdout).contains(">&lt;script&gt;&amp;\"??</text>"), "{}", text(&output.stderr));
 }

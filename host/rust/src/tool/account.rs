@@ -93,11 +93,12 @@ pub fn blocks_certify(count: usize) -> String {
     }
 }
 
-/// "owner 3 holds", "owners 0, 2 hold".
-pub fn hold(owners: Owners) -> String {
+/// "owner 3 holds", "owners 0, 2 hold", with the names where they are known.
+pub fn hold(run: &Run, owners: Owners) -> String {
+    let each: Vec<String> = owners.iter().map(|owner| run.owner(owner)["owner ".len()..].to_string()).collect();
     match owners.len() {
         0 => "nobody holds".into(),
-        1 => format!("owner {owners} holds"),
-        _ => format!("owners {owners} hold"),
+        1 => format!("owner {} holds", each[0]),
+        _ => format!("owners {} hold", each.join(", ")),
     }
 }

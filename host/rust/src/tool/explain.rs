@@ -32,36 +32,34 @@ fn sum(run: &Run, tally: &Tally) -> String {
         true => format!("quorum begins at {quorum}"),
         false => format!("quorum begins at {quorum}, {} more", quorum - tally.stake),
     };
-    format!("{} stake {} of {total}, {against}", hold(tally.owners), tally.stake)
+    format!("{} stake {} of {total}, {against}", hold(run, tally.owners), tally.stake)
 }
 
 /// The certifying blocks with their voters.
 fn certificates(run: &Run, account: &Account, out: &mut dyn Write) -> Result<(), Fault> {
     let Some(slip) = account.slip(run)? else {
         for block in &account.certifying {
-            let record = &run.blocks[*block].record;
-            let (number, owner) = (run.blocks[*block].number, record.author());
-            writeln!(out, "record {number} (round {}, owner {owner}, stake {}) certifies", record.round(), run.stake(owner))?;
+            writeln!(out, "{} certifies", block_of(run, *block))?;
         }
         return Ok(());
     };
     for certifier in slip.certifiers() {
         let Some(from) = run.place(&certifier.block) else { continue };
-        let (number, owner) = (run.blocks[from].number, certifier.block.author);
         let voters = run.tally(certifier.voters.iter().map(|voter| voter.author));
-        writeln!(out)?;
-        writeln!(
-            out,
-            "record {number} (round {}, owner {owner}, stake {}) certifies:",
-            certifier.block.round,
-            run.stake(owner)
-        )?;
+        writeln!(out, "\n{} certifies:", block_of(run, from))?;
         for voter in &certifier.voters {
             writeln!(out, "  {}", voted(run, account, from, voter))?;
         }
         writeln!(out, "  {}", sum(run, &voters))?;
     }
     Ok(())
+}
+
+/// "record 11 (round 3, owner 0, stake 1)".
+fn block_of(run: &Run, block: usize) -> String {
+    let record = &run.blocks[block].record;
+    let owner = record.author();
+    format!("record {} (round {}, {}, stake {})", run.blocks[block].number, record.round(), run.owner(owner), run.stake(owner))
 }
 
 /// "owner 1, stake 1: record 9 accepts it, by 11 > 9".
@@ -71,7 +69,8 @@ fn voted(run: &Run, account: &Account, from: usize, voter: &Voter) -> String {
     let verb = run.voice(&run.blocks[last], &account.locator).map_or("votes for", |voice| voice.verb());
     let numbers: Vec<String> = walked.iter().map(|block| run.blocks[*block].number.to_string()).collect();
     let way = if walked.len() == 1 { "itself".into() } else { format!("by {}", numbers.join(" > ")) };
-    format!("owner {}, stake {}: record {} {verb} it, {way}", voter.author, run.stake(voter.author), run.blocks[last].number)
+    let (owner, stake, number) = (run.owner(voter.author), run.stake(voter.author), run.blocks[last].number);
+    format!("{owner}, stake {stake}: record {number} {verb} it, {way}")
 }
 
 /// What a locator that is not final lacks, and whom to ring.
@@ -84,7 +83,8 @@ fn missing(run: &Run, account: &Account, reachable: Owners, out: &mut dyn Write)
     writeln!(out, "Votes:")?;
     for (block, voice) in &account.voices {
         let owner = run.blocks[*block].record.author();
-        writeln!(out, "  owner {owner}, stake {}: record {} {} it", run.stake(owner), run.blocks[*block].number, voice.verb())?;
+        let (name, stake, number) = (run.owner(owner), run.stake(owner), run.blocks[*block].number);
+        writeln!(out, "  {name}, stake {stake}: record {number} {} it", voice.verb())?;
     }
     if let Some(item) = &account.pending {
         let counted = run.tally(item.voters.iter());
@@ -92,9 +92,12 @@ fn missing(run: &Run, account: &Account, reachable: Owners, out: &mut dyn Write)
         let reach = if reachable == Owners::ALL { "" } else { " of those who can be reached" };
         match account.ring(run, reachable)? {
             Some(ring) if ring.owners.is_empty() => writeln!(out, "Nobody has to be rung: the votes hold quorum.")?,
-            Some(ring) => {
-                writeln!(out, "Ring{reach}: {} stake {}, the fewest who bring it to quorum.", hold(ring.owners), ring.stake)?
-            }
+            Some(ring) => writeln!(
+                out,
+                "Ring{reach}: {} stake {}, the fewest who bring it to quorum.",
+                hold(run, ring.owners),
+                ring.stake
+            )?,
             None => writeln!(out, "Nobody{reach} can bring it to quorum: all together hold too little.")?,
         }
         return Ok(());
@@ -117,6 +120,6 @@ fn missing(run: &Run, account: &Account, reachable: Owners, out: &mut dyn Write)
 
 /// The owners of whom no block certifies, each with the stake.
 fn without_block(run: &Run, owners: Owners) -> String {
-    let each: Vec<String> = owners.iter().map(|owner| format!("owner {owner} (stake {})", run.stake(owner))).collect();
-    if each.is_empty() { "nobody is left".into() } else { each.join(", ") }
+    let each: Vec<String> = owners.iter().map(|owner| format!("{}, stake {}", run.owner(owner), run.stake(owner))).collect();
+    if each.is_empty() { "nobody is left".into() } else { each.join("; ") }
 }

@@ -18,6 +18,8 @@ const LONGEST_STAKES: u64 = 65_536;
 
 pub struct Input<'a> {
     pub committee: Result<Committee, Refusal>,
+    /// The members' names, where the file of stakes gives them.
+    pub names: Vec<String>,
     pub records: Vec<Framed<'a>>,
     pub broken: Option<Broken>,
 }
@@ -69,7 +71,8 @@ impl<'a> Input<'a> {
                 (Committee::from_bytes((1..end).map(byte).collect()), end)
             }
         };
-        let mut input = Input { committee: committee.map_err(Refusal::from), records: Vec::new(), broken: None };
+        let names = if byte(0) == 255 && committee.is_ok() { names(stakes_file) } else { Vec::new() };
+        let mut input = Input { committee: committee.map_err(Refusal::from), names, records: Vec::new(), broken: None };
         while at < bytes.len() {
             match framed(&bytes[at..]) {
                 Ok(record) => {
@@ -92,6 +95,21 @@ impl<'a> Input<'a> {
             self.broken = None;
         }
     }
+}
+
+/// The names along the chain of a file of stakes that the engine has taken. A character that cannot be shown is a question mark.
+fn names(file: &[u8]) -> Vec<String> {
+    let mut names = Vec::new();
+    let mut next = file;
+    while let Some([low, high]) = next.first_chunk::<2>().filter(|index| **index != [0, 0]) {
+        let index = u16::from_le_bytes([*low, *high]) as usize;
+        let Some(record) = file.get(2 + 26 * (index - 1)..2 + 26 * index) else { break };
+        let name = record[2..18].split(|byte| *byte == 0).next().unwrap_or(&[]);
+        let shown = |c: char| if c.is_control() || c == char::REPLACEMENT_CHARACTER { '?' } else { c };
+        names.push(String::from_utf8_lossy(name).chars().map(shown).collect());
+        next = record;
+    }
+    names
 }
 
 /// The record at the front, after its length.

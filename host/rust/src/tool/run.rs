@@ -11,6 +11,8 @@ use super::{Asked, Fault, bad};
 
 pub struct Run {
     pub engine: Engine,
+    /// The owners' names, where they are known.
+    names: Vec<String>,
     /// The stored blocks, in order of arrival.
     pub blocks: Vec<Block>,
     places: HashMap<Reference, usize>,
@@ -96,6 +98,7 @@ impl Run {
         let mut run = Run {
             pending: engine.pending_items().collect(),
             engine,
+            names: input.names.clone(),
             withdrawing: asked.withdrawing,
             blocks: Vec::new(),
             places: HashMap::new(),
@@ -134,6 +137,18 @@ impl Run {
 
     pub fn committee(&self) -> &Committee {
         self.engine.committee()
+    }
+
+    pub fn name(&self, owner: u64) -> Option<&str> {
+        self.names.get(owner as usize).map(String::as_str)
+    }
+
+    /// "owner 3", or with the name "owner 3 (karst)".
+    pub fn owner(&self, owner: u64) -> String {
+        match self.name(owner) {
+            Some(name) => format!("owner {owner} ({name})"),
+            None => format!("owner {owner}"),
+        }
     }
 
     pub fn stake(&self, owner: u64) -> u64 {

@@ -58,17 +58,30 @@ pub fn drawing(run: &Run, scene: &Scene, view: Option<&View>) -> String {
 pub fn labels_of(run: &Run, scene: &Scene) -> String {
     let mut out = String::new();
     for lane in &scene.lanes {
-        let middle = lane.top + lane.height / 2;
-        let _ = writeln!(
+        let name = run.name(lane.owner).map(shortened);
+        let middle = lane.top + lane.height / 2 - if name.is_some() { 7 } else { 0 };
+        let _ = write!(
             out,
             "<text class=\"owner\" x=\"12\" y=\"{}\">owner {}</text><text class=\"stake\" x=\"12\" y=\"{}\">stake {}</text>",
             middle - 3,
             lane.owner,
-            middle + 14,
+            middle + 13,
             run.stake(lane.owner)
         );
+        if let Some(name) = name {
+            let _ = write!(out, "<text class=\"name\" x=\"12\" y=\"{}\">{name}</text>", middle + 27);
+        }
+        out.push('\n');
     }
     out
+}
+
+/// As much of a name as there is room for, as the text of an element.
+fn shortened(name: &str) -> String {
+    let most = 13;
+    let cut: String =
+        if name.chars().count() > most { name.chars().take(most - 1).chain(['.']).collect() } else { name.into() };
+    cut.replace('&', "&amp;").replace('<', "&lt;").replace('>', "&gt;")
 }
 
 /// The rounds' numbers.
