@@ -4,9 +4,9 @@ use std::io::Write;
 
 use lomkhvide::{Engine, Outcome};
 
+use super::Fault;
 use super::input::Input;
 use super::run::refused;
-use super::{Fault, bad};
 
 pub fn list(input: &Input, store: usize, out: &mut dyn Write) -> Result<(), Fault> {
     let committee = match &input.committee {
@@ -44,7 +44,7 @@ pub fn list(input: &Input, store: usize, out: &mut dyn Write) -> Result<(), Faul
     }
     let mut finals = 0;
     for stretch in engine.finals() {
-        let Ok(stretch) = stretch.map_err(refused) else { return bad("the final list was refused") };
+        let stretch = stretch.map_err(refused)?;
         let block = stretch.first.reference();
         let digest: String = block.digest[..4].iter().map(|byte| format!("{byte:02x}")).collect();
         for offset in stretch.first.offset()..stretch.end {

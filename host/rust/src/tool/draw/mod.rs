@@ -4,13 +4,14 @@ mod page;
 mod scene;
 mod svg;
 
+use std::collections::BTreeSet;
 use std::io::Write;
 
 use lomkhvide::{Locator, Owners};
 
 use super::Fault;
 use super::account::{Account, blocks_certify};
-use super::run::{Run, Voice, Vote, refused};
+use super::run::{Run, Tally, Voice, Vote, refused};
 use scene::Scene;
 
 /// The most blocks of a drawing that shows the ways from certificates to votes: beyond these they would cover each other.
@@ -82,22 +83,25 @@ fn first_choice(views: impl Iterator<Item = Result<View, Fault>>) -> Result<Opti
 
 /// The stored shares and the final locators, ascending, and how many were left out.
 fn choices(run: &Run) -> Result<(Vec<Locator>, usize), Fault> {
-    let mut all: Vec<Locator> =
-        run.blocks.iter().flat_map(|block| block.record.shares().map(|(share, _)| share).collect::<Vec<_>>()).collect();
-    let mut left_out = 0;
+    let mut all: BTreeSet<Locator> = BTreeSet::new();
+    for block in &run.blocks {
+        all.extend(block.record.shares().map(|(share, _)| share));
+    }
+    let mut left_out = all.len().saturating_sub(MOST_CHOICES);
+    all = all.into_iter().take(MOST_CHOICES).collect();
     for stretch in run.engine.finals() {
         let stretch = stretch.map_err(refused)?;
-        let room = MOST_CHOICES.saturating_sub(all.len()) as u64;
-        let kept = (stretch.end - stretch.first.offset()).min(room);
-        left_out += (stretch.end - stretch.first.offset() - kept) as usize;
-        let block = stretch.first.reference();
-        all.extend((stretch.first.offset()..stretch.first.offset() + kept).map(|offset| block.at(offset)));
+        let (block, mut offsets) = (stretch.first.reference(), stretch.first.offset()..stretch.end);
+        while all.len() < MOST_CHOICES {
+            let Some(offset) = offsets.next() else { break };
+            all.insert(block.at(offset));
+        }
+        let shares = run.place(&block).map_or(0, |place| {
+            run.blocks[place].record.shares().filter(|(share, _)| offsets.contains(&share.offset())).count()
+        });
+        left_out += (offsets.end - offsets.start) as usize - shares;
     }
-    all.sort();
-    all.dedup();
-    left_out += all.len().saturating_sub(MOST_CHOICES);
-    all.truncate(MOST_CHOICES);
-    Ok((all, left_out))
+    Ok((all.into_iter().collect(), left_out))
 }
 
 impl View {
@@ -115,7 +119,7 @@ impl View {
             };
             (*block, *voice, words)
         };
-        let bar = |tally: &super::run::Tally| Bar { owners: tally.owners, says: format!("{} of {total}", tally.stake) };
+        let bar = |tally: &Tally| Bar { owners: tally.owners, says: format!("{} of {total}", tally.stake) };
         Ok(View {
             locator: *locator,
             name: account.name(run),
@@ -161,7 +165,7 @@ fn ways(run: &Run, scene: &Scene, account: &Account) -> Result<String, Fault> {
     if !account.is_final || run.blocks.len() > MOST_WITH_WAYS {
         return Ok(String::new());
     }
-    let mut steps = std::collections::BTreeSet::new();
+    let mut steps = BTreeSet::new();
     if let Some(slip) = account.slip(run)? {
         for certifier in slip.certifiers() {
             let Some(from) = run.place(&certifier.block) else { continue };

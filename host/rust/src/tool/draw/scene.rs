@@ -41,51 +41,29 @@ impl Scene {
         let small = run.blocks.len() > MOST_FOR_A_SLIDE;
         let (box_width, box_height, gap) = if small { (66, 30, 8) } else { (88, 44, 10) };
         let column = if small { 100 } else { (860 / rounds.len().max(1)).clamp(132, 215) };
-        let column_of = |round: u64| rounds.partition_point(|other| *other < round);
 
-        // How many blocks stand above each other at a round of an owner, and each block's place among them.
-        let members = run.committee().members();
-        let mut stacks = vec![vec![0; rounds.len()]; members];
+        // Each block's owner, column and place among those that stand above each other there; and how many stand there.
+        let mut stacks = vec![vec![0; rounds.len()]; run.committee().members()];
         let mut places = Vec::new();
         for block in &run.blocks {
-            let (owner, column) = (block.record.author() as usize, column_of(block.record.round()));
+            let owner = block.record.author() as usize;
+            let column = rounds.partition_point(|round| *round < block.record.round());
             places.push((owner, column, stacks[owner][column]));
             stacks[owner][column] += 1;
         }
 
-        let mut lanes = Vec::new();
-        let mut tops = vec![0; members];
-        let mut top = AXIS;
-        for (owner, stack) in stacks.iter().enumerate() {
-            let most = stack.iter().copied().max().unwrap_or(0);
-            if most == 0 && members > MOST_LANES {
-                continue;
-            }
-            let height = most.max(1) * (box_height + gap) + if small || members > 5 { gap } else { 2 * gap };
-            tops[owner] = top;
-            lanes.push(Lane { owner: owner as u64, top, height });
-            top += height;
-        }
-        let most = |owner: usize| stacks[owner].iter().copied().max().unwrap_or(0).max(1);
-        let height_of = |owner: usize| lanes.iter().find(|lane| lane.owner == owner as u64).map_or(0, |lane| lane.height);
-        let corner = |(owner, column_at, place): &(usize, usize, usize)| {
+        let margin = if small || stacks.len() > 5 { gap } else { 2 * gap };
+        let (lanes, height) = lanes(&stacks, box_height + gap, margin);
+        let corner = |(owner, at, place): (usize, usize, usize)| {
             // A lower stack stands in the middle of its lane.
-            let stack = stacks[*owner][*column_at].min(most(*owner)) * (box_height + gap) - gap;
-            let y = tops[*owner] + (height_of(*owner) - stack) / 2 + place * (box_height + gap);
-            (column_at * column + (column - box_width) / 2, y)
+            let stack = stacks[owner][at] * (box_height + gap) - gap;
+            let lane = lanes.iter().find(|lane| lane.owner == owner as u64);
+            let top = lane.map_or(AXIS, |lane| lane.top + (lane.height - stack) / 2);
+            (at * column + (column - box_width) / 2, top + place * (box_height + gap))
         };
-        let corners = places.iter().map(corner).collect();
-        Scene {
-            small,
-            box_width,
-            box_height,
-            column,
-            width: (column * rounds.len()).max(column),
-            height: top,
-            rounds,
-            lanes,
-            corners,
-        }
+        let corners = places.into_iter().map(corner).collect();
+        let width = column * rounds.len().max(1);
+        Scene { small, box_width, box_height, column, rounds, lanes, corners, width, height }
     }
 
     /// The line from a block to one that it includes.
@@ -98,4 +76,19 @@ impl Scene {
         let bend = x.abs_diff(right) / 2;
         format!("M{x} {y}C{} {y} {} {level} {right} {level}", x as i64 - bend as i64, right + bend)
     }
+}
+
+/// A lane for each owner, high enough for the most blocks that stand above each other, and where they end.
+fn lanes(stacks: &[Vec<usize>], step: usize, margin: usize) -> (Vec<Lane>, usize) {
+    let mut lanes = Vec::new();
+    let mut top = AXIS;
+    for (owner, stack) in (0..).zip(stacks) {
+        let most = stack.iter().copied().max().unwrap_or(0);
+        if most > 0 || stacks.len() <= MOST_LANES {
+            let height = most.max(1) * step + margin;
+            lanes.push(Lane { owner, top, height });
+            top += height;
+        }
+    }
+    (lanes, top)
 }
