@@ -34,7 +34,7 @@ fn in_browser(folder: &Path, page: &Path, address: &str) -> Option<String> {
     let shown = folder.join("shown");
     let out = fs::File::create(&shown).unwrap();
     let started = Command::new("chromium").args(flags).args([&data, &url]).stdout(out).stderr(Stdio::null()).spawn();
-    if started.is_ok_and(|child| ended_well(child)) {
+    if started.is_ok_and(ended_well) {
         return Some(fs::read_to_string(shown).unwrap());
     }
     println!("no chromium runs here: a page was not tried in a browser");

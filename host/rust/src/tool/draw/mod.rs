@@ -46,10 +46,10 @@ pub struct Bar {
 pub fn draw(run: &Run, chosen: Option<Locator>, svg: bool, out: &mut dyn Write) -> Result<(), Fault> {
     let scene = Scene::new(run);
     let (mut locators, left_out) = choices(run)?;
-    if let Some(chosen) = chosen {
-        if let Err(place) = locators.binary_search(&chosen) {
-            locators.insert(place, chosen);
-        }
+    if let Some(chosen) = chosen
+        && let Err(place) = locators.binary_search(&chosen)
+    {
+        locators.insert(place, chosen);
     }
     if svg {
         let first = match chosen {
