@@ -1,5 +1,7 @@
 //! An engine that owns its memory: store and pending table.
 
+use std::collections::HashMap;
+
 use crate::types::word_at;
 use crate::{
     Committee, Event, Finality, Locator, Owners, Pending, Record, Reference, Refusal, Refused, Slip, Stretch, fresh_store,
@@ -319,6 +321,53 @@ impl Engine {
     /// ```
     pub fn payload(&self, locator: &Locator) -> Result<&[u8], Refusal> {
         Ok(self.committee.payload(&self.store, locator)?)
+    }
+
+    /// Whether a station may load a change: a final stored share whose needed change, if any, may be loaded too.
+    ///
+    /// ```
+    /// # fn main() -> Result<(), lomkhvide::Refusal> {
+    /// use lomkhvide::{Committee, Engine, Reference};
+    ///
+    /// let engine = Engine::new(Committee::new(&[1])?, 65_536);
+    /// let nobody = Reference { round: 1, author: 0, digest: [2; 32] }.at(0);
+    /// assert!(!engine.is_loadable(&nobody)?);
+    /// # Ok(())
+    /// # }
+    /// ```
+    pub fn is_loadable(&self, locator: &Locator) -> Result<bool, Refusal> {
+        Ok(self.committee.is_loadable(&self.store, locator)?)
+    }
+
+    /// All changes that a station may load, ascending: what one needs stands before it.
+    ///
+    /// ```
+    /// # fn main() -> Result<(), lomkhvide::Refusal> {
+    /// use lomkhvide::{Committee, Engine, Record};
+    ///
+    /// let mut engine = Engine::new(Committee::new(&[1])?, 65_536);
+    /// let first = Record::builder(0, 0, [1; 32]).finish()?;
+    /// let program = Record::builder(0, 1, [2; 32]).include(first.reference()).share(b"program").finish()?;
+    /// // A gain table for it: the byte 1, the program's locator, the table.
+    /// let needs = [&[1], &program.reference().at(0).0[..], b"gain"].concat();
+    /// let table = Record::builder(0, 2, [3; 32]).include(program.reference()).share(&needs).finish()?;
+    /// for record in [&first, &program, &table] {
+    ///     engine.feed(record)?;
+    /// }
+    /// assert_eq!(engine.loadable()?, [program.reference().at(0), table.reference().at(0)]);
+    /// # Ok(())
+    /// # }
+    /// ```
+    pub fn loadable(&self) -> Result<Vec<Locator>, Refusal> {
+        let mut blocks = HashMap::new();
+        let mut shares = 0;
+        for (position, record) in self.records() {
+            shares += record.shares().count();
+            blocks.insert(position, record.reference());
+        }
+        let mut places = vec![0; 2 * shares];
+        let count = self.committee.loadable(&self.store, &mut places)?;
+        Ok(places[..2 * count].chunks_exact(2).filter_map(|place| Some(blocks.get(&place[0])?.at(place[1]))).collect())
     }
 
     /// The finality slip of a final locator, for a station; 52 where it is not final.

@@ -73,6 +73,7 @@ record {record} (round 3, owner {owner}, stake 1) certifies:
     };
     let first = "1/0/00000005/0, share 0 of record 5: final
 3 blocks certify it; owners 0, 1, 2 hold stake 3 of 4, quorum begins at 3.
+A station may load it.
 ";
     let expected = format!("{first}{}{}{}", certifier(11, 0), certifier(12, 1), certifier(13, 2));
     assert_eq!(text(&output.stdout), expected);

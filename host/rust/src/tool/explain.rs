@@ -6,13 +6,18 @@ use lomkhvide::{Locator, Owners, Voter};
 
 use super::Fault;
 use super::account::{Account, blocks_certify, hold};
-use super::run::{Run, Tally};
+use super::run::{Run, Tally, refused};
 
 pub fn explain(run: &Run, locator: &Locator, reachable: Owners, out: &mut dyn Write) -> Result<(), Fault> {
     let account = Account::new(run, locator)?;
     writeln!(out, "{locator:#}, {}: {}", account.name(run), account.verdict(run))?;
     writeln!(out, "{}.", certified(run, &account))?;
-    if account.is_final { certificates(run, &account, out) } else { missing(run, &account, reachable, out) }
+    if !account.is_final {
+        return missing(run, &account, reachable, out);
+    }
+    let loadable = run.engine.is_loadable(locator).map_err(refused)?;
+    writeln!(out, "{}.", if loadable { "A station may load it" } else { "No station may load it" })?;
+    certificates(run, &account, out)
 }
 
 /// How many blocks certify, and what their owners hold.
