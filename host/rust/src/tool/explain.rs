@@ -71,11 +71,11 @@ fn block_of(run: &Run, block: usize) -> String {
 fn voted(run: &Run, account: &Account, from: usize, voter: &Voter) -> String {
     let walked = run.walk(from, &voter.path);
     let last = walked[walked.len() - 1];
-    let verb = run.voice(&run.blocks[last], &account.locator).map_or("votes for", |voice| voice.verb());
+    let verb = run.voice(&run.blocks[last], &account.locator).map_or("votes for it", |voice| voice.verb());
     let numbers: Vec<String> = walked.iter().map(|block| run.blocks[*block].number.to_string()).collect();
     let way = if walked.len() == 1 { "itself".into() } else { format!("by {}", numbers.join(" > ")) };
     let (owner, stake, number) = (run.owner(voter.author), run.stake(voter.author), run.blocks[last].number);
-    format!("{owner}, stake {stake}: record {number} {verb} it, {way}")
+    format!("{owner}, stake {stake}: record {number} {verb}, {way}")
 }
 
 /// What a locator that is not final lacks, and whom to ring.
@@ -89,7 +89,7 @@ fn missing(run: &Run, account: &Account, reachable: Owners, out: &mut dyn Write)
     for (block, voice) in &account.voices {
         let owner = run.blocks[*block].record.author();
         let (name, stake, number) = (run.owner(owner), run.stake(owner), run.blocks[*block].number);
-        writeln!(out, "  {name}, stake {stake}: record {number} {} it", voice.verb())?;
+        writeln!(out, "  {name}, stake {stake}: record {number} {}", voice.verb())?;
     }
     if let Some(item) = &account.pending {
         let counted = run.tally(item.voters.iter());

@@ -52,13 +52,13 @@ pub enum Vote {
 impl Voice {
     pub fn verb(self) -> &'static str {
         match (self.vote, self.rejects) {
-            (Some(Vote::Shares), false) => "shares",
-            (Some(Vote::Shares), true) => "shares and rejects",
-            (Some(Vote::Accepts), false) => "accepts",
-            (Some(Vote::Accepts), true) => "accepts and rejects",
-            (Some(Vote::Covers), false) => "accepts by a range",
-            (Some(Vote::Covers), true) => "accepts by a range and rejects",
-            (None, _) => "rejects",
+            (Some(Vote::Shares), false) => "shares it",
+            (Some(Vote::Shares), true) => "shares and rejects it",
+            (Some(Vote::Accepts), false) => "accepts it",
+            (Some(Vote::Accepts), true) => "accepts and rejects it",
+            (Some(Vote::Covers), false) => "accepts it by a range",
+            (Some(Vote::Covers), true) => "accepts it by a range and rejects it",
+            (None, _) => "rejects it",
         }
     }
 }
