@@ -3,7 +3,7 @@
 use std::fmt;
 
 use crate::types::word_at;
-use crate::{Draft, Given, Locator, Reference, Refusal, Refused, calls, fresh_store, fresh_table};
+use crate::{Committee, Draft, Given, Locator, Reference, Refusal, Refused, fresh_store, fresh_table};
 
 /// Where the includes begin, in a record without a time.
 const HEADER: usize = 56;
@@ -81,24 +81,7 @@ impl Record {
     /// ```
     pub fn read(bytes: &[u8]) -> Result<Record, Refusal> {
         // A fresh store of 16 bytes has no room, so nothing is taken; and 20 is the first number that a record can bring there.
-        let (stakes, mut store, mut table) = ([1, 0, 0, 0, 0, 0, 0, 0], fresh_store(16), fresh_table());
-        let mut events = vec![0; 8 * 8192];
-        // The slices are lent for the call alone, and those that it may write are this function's own.
-        let word = unsafe {
-            calls::lomkhvide_feed(
-                stakes.as_ptr(),
-                stakes.len(),
-                store.as_mut_ptr(),
-                store.len(),
-                table.as_mut_ptr(),
-                table.len(),
-                events.as_mut_ptr(),
-                events.len(),
-                bytes.as_ptr(),
-                bytes.len(),
-            )
-        };
-        match crate::answer(word) {
+        match Committee::new(&[1])?.feed(&mut fresh_store(16), &mut fresh_table(), bytes) {
             Err(Refused(20)) => Err(Refusal::Malformed),
             _ => Ok(Record { bytes: bytes.to_vec() }),
         }
