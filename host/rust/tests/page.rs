@@ -98,6 +98,8 @@ fn chosen_in_a_browser() {
         for id in ["axis", "labels", "graph", "bars"] {
             assert_eq!(part(&shown, "svg", id), part(&drawing, "g", id), "{name}: {id}");
         }
+        let why = shown.split("<pre id=\"explained\">").nth(1).unwrap().split("</pre>").next().unwrap();
+        assert_eq!(why.replace("&gt;", ">"), told(&["explain", file, address]), "{name}");
         let title = drawing.split("<title>").nth(1).unwrap().split('<').next().unwrap();
         assert!(shown.contains(&format!("<h1 id=\"title\" aria-live=\"polite\">{title}</h1>")), "{name}: {title}");
     }

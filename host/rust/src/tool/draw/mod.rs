@@ -11,10 +11,12 @@ use lomkhvide::{Locator, Owners};
 
 use super::Fault;
 use super::account::{Account, blocks_certify};
+use super::explain::explain;
 use super::run::{Run, Tally, Voice, Vote, refused};
 use scene::Scene;
 
-/// The most blocks of a drawing that shows the ways from certificates to votes: beyond these they would cover each other.
+/// The most blocks of a drawing that shows the ways from certificates to votes, and of a page that explains them: beyond these they
+/// would cover each other.
 const MOST_WITH_WAYS: usize = 100;
 
 /// The most locators that a page offers.
@@ -33,8 +35,9 @@ pub struct View {
     pub certifying: Vec<usize>,
     pub votes: Bar,
     pub certificates: Bar,
-    /// The lines from certificates to votes, as a path of the drawing.
+    /// The lines from certificates to votes, as a path of the drawing; and what `explain` says. Both are empty in a large graph.
     pub ways: String,
+    pub why: String,
 }
 
 /// Owners out of all, with their stake.
@@ -131,6 +134,7 @@ impl View {
             votes: bar(&account.voted),
             certificates: bar(&account.certified),
             ways: ways(run, scene, &account)?,
+            why: why(run, locator)?,
             certifying: account.certifying,
         })
     }
@@ -158,6 +162,15 @@ fn says(run: &Run, account: &Account) -> String {
         _ => String::new(),
     };
     format!("{certified}{so_far}; quorum begins at {quorum} of {}", run.committee().total_stake())
+}
+
+/// What `explain` says.
+fn why(run: &Run, locator: &Locator) -> Result<String, Fault> {
+    let mut out = Vec::new();
+    if run.blocks.len() <= MOST_WITH_WAYS {
+        explain(run, locator, Owners::ALL, &mut out)?;
+    }
+    Ok(String::from_utf8_lossy(&out).into_owned())
 }
 
 /// The ways that a slip names, each line once.

@@ -49,6 +49,7 @@ function show(number) {
     }
     byId("title").textContent = document.title = locator.title;
     byId("says").textContent = locator.says;
+    byId("explained").textContent = locator.why;
     choice.value = number;
 }
 

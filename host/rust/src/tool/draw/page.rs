@@ -28,7 +28,8 @@ pub fn page(run: &Run, scene: &Scene, views: &[View], shown: Option<usize>, left
          <nav><label>Change <select id=\"choice\">\n{}</select></label>\n\
          <button id=\"before\" title=\"the change before\">&lt;</button><button id=\"next\" title=\"the next change\">&gt;</button>\n\
          <button id=\"smaller\" title=\"smaller\">&minus;</button><button id=\"larger\" title=\"larger\">+</button>\
-         <button id=\"fit\">whole</button>{left_out}\n<span id=\"picked\"></span></nav>\n</header>\n\
+         <button id=\"fit\">whole</button>{left_out}\n<span id=\"picked\"></span></nav>\n\
+         <details id=\"why\"{}><summary>why</summary><pre id=\"explained\">{}</pre></details>\n</header>\n\
          <main id=\"scroll\" tabindex=\"0\">\n\
          <div id=\"corner\"></div>\n\
          <svg id=\"axis\" viewBox=\"0 0 {width} {AXIS}\" width=\"{width}\" height=\"{AXIS}\">\n{}</svg>\n\
@@ -40,6 +41,8 @@ pub fn page(run: &Run, scene: &Scene, views: &[View], shown: Option<usize>, left
          <script type=\"application/json\" id=\"data\">{}</script>\n<script>\n{SCRIPT}</script>\n</body>\n</html>\n",
         svg::STYLE,
         options(views, shown),
+        if view.is_none_or(|view| view.why.is_empty()) { " hidden" } else { "" },
+        svg::text(view.map_or("", |view| &view.why)),
         svg::axis_of(scene),
         svg::labels_of(run, scene),
         svg::graph_of(run, scene, view),
@@ -74,7 +77,7 @@ fn options(views: &[View], shown: Option<usize>) -> String {
     out
 }
 
-/// What the script needs, as JSON: all of it is numbers and words of this program.
+/// What the script needs, as JSON: numbers and words of this program, but for the names of owners in what explains.
 fn data(run: &Run, views: &[View], shown: Option<usize>) -> String {
     let mut out = format!("{{\"shown\":{},\"marked\":", shown.map_or(-1, |shown| shown as i64));
     let marked: Vec<usize> = (0..run.blocks.len()).filter(|i| run.blocks[*i].record.is_marked()).collect();
@@ -91,7 +94,7 @@ fn data(run: &Run, views: &[View], shown: Option<usize>) -> String {
         let _ = write!(
             out,
             "{}{{\"id\":\"{}\",\"home\":{home},\"title\":\"{}\",\"says\":\"{}\",\"voices\":[{}],\"certifying\":{},\
-             \"v\":{},\"v-says\":\"{}\",\"c\":{},\"c-says\":\"{}\",\"ways\":\"{}\"}}",
+             \"v\":{},\"v-says\":\"{}\",\"c\":{},\"c-says\":\"{}\",\"ways\":\"{}\",\"why\":{}}}",
             if i == 0 { "" } else { ",\n" },
             view.locator,
             view.title(),
@@ -103,10 +106,26 @@ fn data(run: &Run, views: &[View], shown: Option<usize>) -> String {
             list(view.certificates.owners),
             view.certificates.says,
             view.ways,
+            json(&view.why),
         );
     }
     out.push_str("]}");
     out
+}
+
+/// A text of JSON in which nothing ends the script that holds it.
+fn json(text: &str) -> String {
+    let mut out = String::from("\"");
+    for c in text.chars() {
+        match c {
+            '"' | '\\' | '<' | '>' | '&' | '\0'..=' ' | '\u{7f}'.. if c != ' ' => {
+                let mut units = [0; 2];
+                c.encode_utf16(&mut units).iter().for_each(|unit| out.push_str(&format!("\\u{unit:04x}")));
+            }
+            _ => out.push(c),
+        }
+    }
+    out + "\""
 }
 
 fn list(owners: Owners) -> String {

@@ -76,12 +76,17 @@ pub fn labels_of(run: &Run, scene: &Scene) -> String {
     out
 }
 
-/// As much of a name as there is room for, as the text of an element.
+/// As much of a name as there is room for.
 fn shortened(name: &str) -> String {
     let most = 13;
     let cut: String =
         if name.chars().count() > most { name.chars().take(most - 1).chain(['.']).collect() } else { name.into() };
-    cut.replace('&', "&amp;").replace('<', "&lt;").replace('>', "&gt;")
+    text(&cut)
+}
+
+/// As the text of an element.
+pub fn text(text: &str) -> String {
+    text.replace('&', "&amp;").replace('<', "&lt;").replace('>', "&gt;")
 }
 
 /// The rounds' numbers.
