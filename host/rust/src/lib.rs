@@ -6,16 +6,25 @@
 mod engine;
 mod record;
 mod refusal;
+mod sample;
 mod slip;
 mod types;
 
 pub use engine::{Engine, Finals, Parts, PendingItem, Ring};
 pub use record::{Record, RecordBuilder, Statement, Statements};
 pub use refusal::Refusal;
+#[doc(hidden)]
+pub use sample::{Sample, sample};
 pub use slip::{Certifier, Slip, Voter};
 pub use types::{NotALocator, Owners, Reference};
 
 /// A refusal, by its number.
+///
+/// ```
+/// use lomkhvide::{Committee, Refused};
+///
+/// assert_eq!(Committee::new(&[]), Err(Refused(1)));
+/// ```
 #[derive(Clone, Copy, Debug, PartialEq, Eq)]
 pub struct Refused(pub u64);
 
@@ -335,6 +344,10 @@ fn answer(word: u64) -> Result<u64, Refused> {
 }
 
 /// Words as they cross: 8 bytes each, lowest first.
+///
+/// ```
+/// assert_eq!(lomkhvide::bytes_of(&[1, 2])[8..], [2, 0, 0, 0, 0, 0, 0, 0]);
+/// ```
 pub fn bytes_of(words: &[u64]) -> Vec<u8> {
     words.iter().flat_map(|word| word.to_le_bytes()).collect()
 }
@@ -345,6 +358,14 @@ fn words_of(bytes: &[u8]) -> Vec<u64> {
 }
 
 /// A committee that the engine has taken: its stakes, as every other call is lent them.
+///
+/// ```
+/// # fn main() -> Result<(), lomkhvide::Refused> {
+/// let committee = lomkhvide::Committee::new(&[5, 3, 3, 2, 2, 1, 1])?;
+/// assert_eq!(committee.total_stake(), 17);
+/// # Ok(())
+/// # }
+/// ```
 #[derive(Clone, Debug, PartialEq, Eq)]
 pub struct Committee {
     stakes: Vec<u8>,
@@ -353,11 +374,23 @@ pub struct Committee {
 
 impl Committee {
     /// Sets a committee, or 1 to 4.
+    ///
+    /// ```
+    /// use lomkhvide::{Committee, Refused};
+    ///
+    /// assert_eq!(Committee::new(&[5, 0]), Err(Refused(2)));
+    /// ```
     pub fn new(stakes: &[u64]) -> Result<Committee, Refused> {
         Committee::from_bytes(bytes_of(stakes))
     }
 
     /// The same of stakes as they cross, or 5 where they are not whole words.
+    ///
+    /// ```
+    /// use lomkhvide::{Committee, Refused};
+    ///
+    /// assert_eq!(Committee::from_bytes(vec![1; 7]), Err(Refused(5)));
+    /// ```
     pub fn from_bytes(stakes: Vec<u8>) -> Result<Committee, Refused> {
         // The slice is lent for the call alone, and the call only reads it.
         let word = unsafe { calls::lomkhvide_new_committee(stakes.as_ptr(), stakes.len()) };
@@ -365,20 +398,49 @@ impl Committee {
         Ok(Committee { stakes, total })
     }
 
+    /// The stake of all members.
+    ///
+    /// ```
+    /// # fn main() -> Result<(), lomkhvide::Refused> {
+    /// assert_eq!(lomkhvide::Committee::new(&[5, 3])?.total_stake(), 8);
+    /// # Ok(())
+    /// # }
+    /// ```
     pub fn total_stake(&self) -> u64 {
         self.total
     }
 
+    /// The stakes, as every other call is lent them.
+    ///
+    /// ```
+    /// # fn main() -> Result<(), lomkhvide::Refused> {
+    /// assert_eq!(lomkhvide::Committee::new(&[5, 3])?.stakes().len(), 16);
+    /// # Ok(())
+    /// # }
+    /// ```
     pub fn stakes(&self) -> &[u8] {
         &self.stakes
     }
 }
 
 /// A locator as it crosses: author 8 bytes, round 8, digest 32, offset 8.
+///
+/// ```
+/// use lomkhvide::Locator;
+///
+/// assert_eq!(Locator::new(2, 1, [7; 32], 3).0[0], 2);
+/// ```
 #[derive(Clone, Copy, Debug, PartialEq, Eq)]
 pub struct Locator(pub [u8; 56]);
 
 impl Locator {
+    /// A locator of its parts.
+    ///
+    /// ```
+    /// use lomkhvide::Locator;
+    ///
+    /// assert_eq!(Locator::new(2, 1, [7; 32], 3).offset(), 3);
+    /// ```
     pub fn new(author: u64, round: u64, digest: [u8; 32], offset: u64) -> Locator {
         let mut bytes = [0; 56];
         bytes[..8].copy_from_slice(&author.to_le_bytes());
@@ -398,18 +460,30 @@ pub struct Reply {
 }
 
 /// Whether an amount of stake is quorum of a total.
+///
+/// ```
+/// assert!(lomkhvide::is_quorum(17, 12) && !lomkhvide::is_quorum(17, 11));
+/// ```
 pub fn is_quorum(total: u64, amount: u64) -> bool {
     // The call is lent nothing.
     unsafe { calls::lomkhvide_is_quorum(total, amount) == 1 }
 }
 
 /// Whether it is valid.
+///
+/// ```
+/// assert!(lomkhvide::is_valid(17, 6) && !lomkhvide::is_valid(17, 5));
+/// ```
 pub fn is_valid(total: u64, amount: u64) -> bool {
     // The call is lent nothing.
     unsafe { calls::lomkhvide_is_valid(total, amount) == 1 }
 }
 
 /// Voters, by bits, and the stake that they hold together.
+///
+/// ```
+/// assert_eq!(lomkhvide::Aggregator::default().stake, 0);
+/// ```
 #[derive(Clone, Copy, Debug, Default, PartialEq, Eq)]
 pub struct Aggregator {
     pub low: u64,
@@ -418,6 +492,12 @@ pub struct Aggregator {
 }
 
 /// What adding a vote tells: whether the voter had voted or is new, and whether quorum holds now.
+///
+/// ```
+/// use lomkhvide::Vote;
+///
+/// assert_eq!(Vote::NewWithQuorum { crossed: true }.to_string(), "new, completes the quorum");
+/// ```
 #[derive(Clone, Copy, Debug, PartialEq, Eq)]
 pub enum Vote {
     RepeatedBelowQuorum,
@@ -437,6 +517,11 @@ impl Vote {
         }
     }
 
+    /// Whether quorum holds now.
+    ///
+    /// ```
+    /// assert!(lomkhvide::Vote::RepeatedWithQuorum.has_quorum());
+    /// ```
     pub fn has_quorum(self) -> bool {
         matches!(self, Vote::RepeatedWithQuorum | Vote::NewWithQuorum { .. })
     }
@@ -456,6 +541,17 @@ impl std::fmt::Display for Vote {
 
 /// Neighbouring final locators of one block, from the first to an end offset (excluded), that have the same certifying blocks: their
 /// number, and the stake of their authors, each once.
+///
+/// ```
+/// # fn main() -> Result<(), lomkhvide::Refused> {
+/// # use lomkhvide::*;
+/// // One owner, who has shared a change in round 1.
+/// let Sample { committee, store, share, .. } = sample();
+/// let list = committee.final_stretches(&store, None)?;
+/// assert_eq!(list.stretches[0], Stretch { first: share, end: 1, blocks: 1, stake: 1 });
+/// # Ok(())
+/// # }
+/// ```
 #[derive(Clone, Copy, Debug, PartialEq, Eq)]
 pub struct Stretch {
     pub first: Locator,
@@ -465,6 +561,17 @@ pub struct Stretch {
 }
 
 /// A part of the final list, and whether more follows.
+///
+/// ```
+/// # fn main() -> Result<(), lomkhvide::Refused> {
+/// # use lomkhvide::*;
+/// // One owner, who has shared a change in round 1.
+/// let Sample { committee, store, .. } = sample();
+/// let list = committee.final_stretches(&store, None)?;
+/// assert!(list.stretches.len() == 1 && !list.more);
+/// # Ok(())
+/// # }
+/// ```
 #[derive(Clone, Debug, PartialEq, Eq)]
 pub struct Stretches {
     pub stretches: Vec<Stretch>,
@@ -472,6 +579,16 @@ pub struct Stretches {
 }
 
 /// The stake and the number of the voters of a pending locator.
+///
+/// ```
+/// # fn main() -> Result<(), lomkhvide::Refused> {
+/// # use lomkhvide::*;
+/// // One owner, who has shared a change in round 1.
+/// let Sample { committee, store, table, share, .. } = sample();
+/// assert_eq!(committee.pending(&store, &table, &share)?, Pending { stake: 1, voters: 1 });
+/// # Ok(())
+/// # }
+/// ```
 #[derive(Clone, Copy, Debug, PartialEq, Eq)]
 pub struct Pending {
     pub stake: u64,
@@ -479,6 +596,17 @@ pub struct Pending {
 }
 
 /// The fewest owners whose votes bring a pending locator to quorum: owner i is bit i; and their stake.
+///
+/// ```
+/// # fn main() -> Result<(), lomkhvide::Refused> {
+/// # use lomkhvide::*;
+/// // One owner, who has shared a change in round 1.
+/// let Sample { committee, store, table, share, .. } = sample();
+/// let nobody = ToRing { owners: 0, stake: 0 };
+/// assert_eq!(committee.whom_to_ring(&store, &table, u128::MAX, &share)?, nobody);
+/// # Ok(())
+/// # }
+/// ```
 #[derive(Clone, Copy, Debug, PartialEq, Eq)]
 pub struct ToRing {
     pub owners: u128,
@@ -486,6 +614,13 @@ pub struct ToRing {
 }
 
 /// What became of an offset that a statement of the record votes on.
+///
+/// ```
+/// use lomkhvide::{Event, Outcome};
+///
+/// let event = Event { outcome: Outcome::Processed, statement: 0, offset: 0 };
+/// assert_ne!(event.outcome, Outcome::Late);
+/// ```
 #[derive(Clone, Copy, Debug, PartialEq, Eq)]
 pub enum Outcome {
     Processed,
@@ -494,6 +629,13 @@ pub enum Outcome {
 }
 
 /// An event of a feed.
+///
+/// ```
+/// use lomkhvide::{Event, Outcome};
+///
+/// let event = Event { outcome: Outcome::Processed, statement: 2, offset: 0 };
+/// assert_eq!(event.statement, 2);
+/// ```
 #[derive(Clone, Copy, Debug, PartialEq, Eq)]
 pub struct Event {
     pub outcome: Outcome,
@@ -516,6 +658,10 @@ fn events_of(bytes: &[u8]) -> Vec<Event> {
 }
 
 /// A fresh store of that many bytes, at least 16.
+///
+/// ```
+/// assert_eq!(lomkhvide::fresh_store(4096).len(), 4096);
+/// ```
 pub fn fresh_store(length: usize) -> Vec<u8> {
     let mut bytes = vec![0; length.max(16)];
     bytes[4] = 16;
@@ -530,11 +676,25 @@ pub fn fresh_index(length: usize) -> Vec<u64> {
 }
 
 /// A fresh pending table: 6,145 words.
+///
+/// ```
+/// assert!(lomkhvide::fresh_table().iter().all(|byte| *byte == 0));
+/// ```
 pub fn fresh_table() -> Vec<u8> {
     vec![0; 8 * 6145]
 }
 
 /// Whether a locator is final, and the positions in the store of the blocks that certify it, in ascending order of reference.
+///
+/// ```
+/// # fn main() -> Result<(), lomkhvide::Refused> {
+/// # use lomkhvide::*;
+/// // One owner, who has shared a change in round 1.
+/// let Sample { committee, store, share, .. } = sample();
+/// assert_eq!(committee.finality(&store, &share)?, Finality { is_final: true, certifying: vec![80] });
+/// # Ok(())
+/// # }
+/// ```
 #[derive(Clone, Debug, PartialEq, Eq)]
 pub struct Finality {
     pub is_final: bool,
@@ -564,11 +724,31 @@ fn stretches_in(number: u64, bytes: &[u8]) -> Stretches {
 
 impl Committee {
     /// Whether a locator is final; or 5, 10.
+    ///
+    /// ```
+    /// # fn main() -> Result<(), lomkhvide::Refused> {
+    /// # use lomkhvide::*;
+    /// // One owner, who has shared a change in round 1.
+    /// let Sample { committee, store, share, .. } = sample();
+    /// assert!(committee.finality(&store, &share)?.is_final);
+    /// # Ok(())
+    /// # }
+    /// ```
     pub fn finality(&self, store: &[u8], locator: &Locator) -> Result<Finality, Refused> {
         self.asked_finality(calls::lomkhvide_finality, store, locator)
     }
 
     /// The same in the reading in which an owner may withdraw.
+    ///
+    /// ```
+    /// # fn main() -> Result<(), lomkhvide::Refused> {
+    /// # use lomkhvide::*;
+    /// // One owner, who has shared a change in round 1.
+    /// let Sample { committee, store, share, .. } = sample();
+    /// assert!(committee.finality_withdrawing(&store, &share)?.is_final, "nobody withdraws");
+    /// # Ok(())
+    /// # }
+    /// ```
     pub fn finality_withdrawing(&self, store: &[u8], locator: &Locator) -> Result<Finality, Refused> {
         self.asked_finality(calls::lomkhvide_finality_withdrawing, store, locator)
     }
@@ -594,6 +774,16 @@ impl Committee {
     }
 
     /// Feeds a block record: its events; or 5, 10, 11, 20 to 30, 15, 13, 14, and store and table are as they were.
+    ///
+    /// ```
+    /// # fn main() -> Result<(), lomkhvide::Refused> {
+    /// # use lomkhvide::*;
+    /// let committee = Committee::new(&[1])?;
+    /// let (mut store, mut table) = (fresh_store(4096), fresh_table());
+    /// assert_eq!(committee.feed(&mut store, &mut table, b"noise"), Err(Refused(20)));
+    /// # Ok(())
+    /// # }
+    /// ```
     pub fn feed(&self, store: &mut [u8], table: &mut [u8], record: &[u8]) -> Result<Vec<Event>, Refused> {
         let mut events = vec![0; 8 * 8192];
         let stakes = &self.stakes;
@@ -783,6 +973,16 @@ impl Committee {
     }
 
     /// The stake and the number of voters of a pending locator; or 5, 10, 11, 42.
+    ///
+    /// ```
+    /// # fn main() -> Result<(), lomkhvide::Refused> {
+    /// # use lomkhvide::*;
+    /// // One owner, who has shared a change in round 1.
+    /// let Sample { committee, store, table, share, .. } = sample();
+    /// assert_eq!(committee.pending(&store, &table, &share)?.voters, 1);
+    /// # Ok(())
+    /// # }
+    /// ```
     pub fn pending(&self, store: &[u8], table: &[u8], locator: &Locator) -> Result<Pending, Refused> {
         let (stakes, locator) = (&self.stakes, &locator.0);
         // The slices are lent for the calls alone, and the calls only read them.
@@ -814,6 +1014,16 @@ impl Committee {
     }
 
     /// Whom to ring so that a pending locator gets its quorum, of the owners who can be reached (owner i is bit i); or 5, 10, 11, 42, 60.
+    ///
+    /// ```
+    /// # fn main() -> Result<(), lomkhvide::Refused> {
+    /// # use lomkhvide::*;
+    /// // One owner, who has shared a change in round 1.
+    /// let Sample { committee, store, table, share, .. } = sample();
+    /// assert_eq!(committee.whom_to_ring(&store, &table, 1, &share)?.owners, 0, "its owner has voted, and is quorum");
+    /// # Ok(())
+    /// # }
+    /// ```
     pub fn whom_to_ring(&self, store: &[u8], table: &[u8], reachable: u128, locator: &Locator) -> Result<ToRing, Refused> {
         let (stakes, locator) = (&self.stakes, &locator.0);
         let mut found = [0; 24];
@@ -840,6 +1050,18 @@ impl Committee {
     }
 
     /// Reads a finality slip of either reading with the records that come with it: the number of its certifying blocks; or 5, 61, 52, 53.
+    ///
+    /// ```
+    /// # fn main() -> Result<(), lomkhvide::Refused> {
+    /// # use lomkhvide::*;
+    /// // One owner, who has shared a change in round 1.
+    /// let Sample { committee, store, record, share, .. } = sample();
+    /// let mut slip = [0; 200];
+    /// let written = committee.write_slip(&store, &share, &mut slip)?;
+    /// assert_eq!(committee.read_slip(&slip[..written], &[&record])?, 1);
+    /// # Ok(())
+    /// # }
+    /// ```
     pub fn read_slip(&self, slip: &[u8], records: &[&[u8]]) -> Result<u64, Refused> {
         let stakes = &self.stakes;
         let mut framed = Vec::new();
@@ -862,6 +1084,17 @@ impl Committee {
     }
 
     /// Writes the finality slip of a final locator to the front of `out`: its length; or 5, 10, 52, 50, and nothing is written.
+    ///
+    /// ```
+    /// # fn main() -> Result<(), lomkhvide::Refused> {
+    /// # use lomkhvide::*;
+    /// // One owner, who has shared a change in round 1.
+    /// let Sample { committee, store, share, .. } = sample();
+    /// assert_eq!(committee.write_slip(&store, &share, &mut [0; 200])?, 118);
+    /// assert_eq!(committee.write_slip(&store, &share, &mut [0; 100]), Err(Refused(50)));
+    /// # Ok(())
+    /// # }
+    /// ```
     pub fn write_slip(&self, store: &[u8], locator: &Locator, out: &mut [u8]) -> Result<usize, Refused> {
         self.written_slip(calls::lomkhvide_write_slip, store, locator, out)
     }
@@ -890,6 +1123,16 @@ impl Committee {
     }
 
     /// Whether the locator names a loadable stored share: a final one whose needed change, if any, is loadable; or 10.
+    ///
+    /// ```
+    /// # fn main() -> Result<(), lomkhvide::Refused> {
+    /// # use lomkhvide::*;
+    /// // One owner, who has shared a change in round 1.
+    /// let Sample { committee, store, share, .. } = sample();
+    /// assert!(committee.is_loadable(&store, &share)?);
+    /// # Ok(())
+    /// # }
+    /// ```
     pub fn is_loadable(&self, store: &[u8], locator: &Locator) -> Result<bool, Refused> {
         let (stakes, locator) = (&self.stakes, &locator.0);
         // The slices are lent for the call alone, which writes none of them.
@@ -908,6 +1151,18 @@ impl Committee {
 
     /// The number of loadable stored shares, which are written to the front of `places` in ascending order, two words each: the position of
     /// the block's entry in the store, and the offset; or 10, 58 for fewer places than stored shares.
+    ///
+    /// ```
+    /// # fn main() -> Result<(), lomkhvide::Refused> {
+    /// # use lomkhvide::*;
+    /// // One owner, who has shared a change in round 1.
+    /// let Sample { committee, store, .. } = sample();
+    /// let mut places = [0; 2];
+    /// assert_eq!(committee.loadable(&store, &mut places)?, 1);
+    /// assert_eq!(places, [80, 0]);
+    /// # Ok(())
+    /// # }
+    /// ```
     pub fn loadable(&self, store: &[u8], places: &mut [u64]) -> Result<usize, Refused> {
         let stakes = &self.stakes;
         // The slices are lent for the call alone, and the call writes `places` only. Words cross as words: their number is the length.
@@ -925,6 +1180,17 @@ impl Committee {
     }
 
     /// Puts a voter into the aggregator: what the vote did; or 6, 21, and the aggregator is as it was.
+    ///
+    /// ```
+    /// # fn main() -> Result<(), lomkhvide::Refused> {
+    /// # use lomkhvide::*;
+    /// let committee = Committee::new(&[5, 3, 3])?;
+    /// let mut aggregator = Aggregator::default();
+    /// assert_eq!(committee.add(&mut aggregator, 0)?, Vote::NewBelowQuorum);
+    /// assert_eq!(committee.add(&mut aggregator, 1)?, Vote::NewWithQuorum { crossed: true });
+    /// # Ok(())
+    /// # }
+    /// ```
     pub fn add(&self, aggregator: &mut Aggregator, voter: u64) -> Result<Vote, Refused> {
         let stakes = &self.stakes;
         let mut held = bytes_of(&[aggregator.low, aggregator.high, aggregator.stake]);
@@ -940,6 +1206,17 @@ impl Committee {
 
     /// The time of a stored block's creation in nanoseconds, by its reference; none where its record has none, or no such block is stored.
     /// Or 5, 10.
+    ///
+    /// ```
+    /// # fn main() -> Result<(), lomkhvide::Refused> {
+    /// # use lomkhvide::*;
+    /// // One owner, who has shared a change in round 1.
+    /// let Sample { committee, store, record, share, .. } = sample();
+    /// let block = share.reference().to_bytes();
+    /// assert_eq!(committee.creation_time(&store, &block)?, None, "its record has no time");
+    /// # Ok(())
+    /// # }
+    /// ```
     pub fn creation_time(&self, store: &[u8], reference: &[u8; 48]) -> Result<Option<u64>, Refused> {
         let mut found = [0; 8];
         let stakes = &self.stakes;
@@ -960,6 +1237,16 @@ impl Committee {
     }
 
     /// A stored share's payload, as the part of the store that holds it; or 5, 10, 41.
+    ///
+    /// ```
+    /// # fn main() -> Result<(), lomkhvide::Refused> {
+    /// # use lomkhvide::*;
+    /// // One owner, who has shared a change in round 1.
+    /// let Sample { committee, store, share, .. } = sample();
+    /// assert_eq!(committee.payload(&store, &share)?, b"gain");
+    /// # Ok(())
+    /// # }
+    /// ```
     pub fn payload<'a>(&self, store: &'a [u8], locator: &Locator) -> Result<&'a [u8], Refused> {
         let (stakes, locator) = (&self.stakes, &locator.0);
         // The slices are lent for the calls alone, and the calls only read them.
@@ -997,6 +1284,13 @@ fn load_stakes(file: &[u8], stakes: &mut [u8]) -> Result<usize, Refused> {
 
 impl Committee {
     /// Loads a network's own stakes from the bytes of its file `stakes`; no bytes are the course committee. Or 56, 57, 1 to 4.
+    ///
+    /// ```
+    /// # fn main() -> Result<(), lomkhvide::Refused> {
+    /// assert_eq!(lomkhvide::Committee::load(&[])?.total_stake(), 17, "the course committee");
+    /// # Ok(())
+    /// # }
+    /// ```
     pub fn load(file: &[u8]) -> Result<Committee, Refused> {
         let mut stakes = vec![0; 8 * 128];
         let members = load_stakes(file, &mut stakes)?;
@@ -1006,6 +1300,11 @@ impl Committee {
 }
 
 /// A window of a blast calendar: start and end (excluded) in seconds of the week, which begins on Monday at 0:00.
+///
+/// ```
+/// let window = lomkhvide::Window { start: 36_000, end: 37_800 };
+/// assert!(window.start < window.end);
+/// ```
 #[derive(Clone, Copy, Debug, PartialEq, Eq)]
 pub struct Window {
     pub start: u64,
@@ -1013,6 +1312,19 @@ pub struct Window {
 }
 
 /// A blast calendar as it crosses; each call checks it anew.
+///
+/// ```
+/// # fn main() -> Result<(), lomkhvide::Refused> {
+/// use lomkhvide::{Calendar, Window};
+///
+/// // Mondays from 10:00 to 10:30.
+/// let calendar = Calendar::new(&[Window { start: 36_000, end: 37_800 }]);
+/// let monday = 345_600;
+/// assert!(!calendar.is_open(monday + 36_000)?);
+/// assert_eq!(calendar.next_open(monday + 36_000)?, Some(monday + 37_800));
+/// # Ok(())
+/// # }
+/// ```
 #[derive(Clone, Debug, PartialEq, Eq)]
 pub struct Calendar {
     bytes: Vec<u8>,
@@ -1020,15 +1332,39 @@ pub struct Calendar {
 
 impl Calendar {
     /// A calendar of these windows.
+    ///
+    /// ```
+    /// # fn main() -> Result<(), lomkhvide::Refused> {
+    /// assert!(lomkhvide::Calendar::new(&[]).is_open(0)?);
+    /// # Ok(())
+    /// # }
+    /// ```
     pub fn new(windows: &[Window]) -> Calendar {
         Calendar::from_bytes(windows.iter().flat_map(|window| bytes_of(&[window.start, window.end])).collect())
     }
 
+    /// A calendar of bytes as they cross.
+    ///
+    /// ```
+    /// use lomkhvide::{Calendar, Refused};
+    ///
+    /// assert_eq!(Calendar::from_bytes(vec![0; 8]).is_open(0), Err(Refused(59)), "half a window");
+    /// ```
     pub fn from_bytes(bytes: Vec<u8>) -> Calendar {
         Calendar { bytes }
     }
 
     /// Whether loading is open at a time, in seconds since 1970; or 59.
+    ///
+    /// ```
+    /// # fn main() -> Result<(), lomkhvide::Refused> {
+    /// use lomkhvide::{Calendar, Window};
+    ///
+    /// let always = Window { start: 0, end: 604_800 };
+    /// assert!(!Calendar::new(&[always]).is_open(0)?);
+    /// # Ok(())
+    /// # }
+    /// ```
     pub fn is_open(&self, time: u64) -> Result<bool, Refused> {
         // The slice is lent for the call alone, and the call only reads it.
         let word = unsafe { calls::lomkhvide_is_open(self.bytes.as_ptr(), self.bytes.len(), time) };
@@ -1036,6 +1372,16 @@ impl Calendar {
     }
 
     /// The first open second at or after a time, or none; or 59.
+    ///
+    /// ```
+    /// # fn main() -> Result<(), lomkhvide::Refused> {
+    /// use lomkhvide::{Calendar, Window};
+    ///
+    /// let always = Window { start: 0, end: 604_800 };
+    /// assert_eq!(Calendar::new(&[always]).next_open(0)?, None);
+    /// # Ok(())
+    /// # }
+    /// ```
     pub fn next_open(&self, time: u64) -> Result<Option<u64>, Refused> {
         let mut found = [0; 8];
         // The slices are lent for the call alone, and the one that it writes is this function's own.
@@ -1047,6 +1393,17 @@ impl Calendar {
 }
 
 /// A record of our own as it is given to the writer.
+///
+/// ```
+/// # fn main() -> Result<(), lomkhvide::Refused> {
+/// use lomkhvide::{Draft, Given};
+///
+/// let shares = vec![Given::Share(b"gain".to_vec())];
+/// let draft = Draft { author: 0, round: 1, digest: [2; 32], marked: false, time: None, includes: vec![], statements: shares };
+/// assert_eq!(draft.write(&mut [0; 100])?, 63);
+/// # Ok(())
+/// # }
+/// ```
 #[derive(Clone, Debug, PartialEq, Eq)]
 pub struct Draft {
     pub author: u64,
@@ -1062,6 +1419,13 @@ pub struct Draft {
 }
 
 /// A statement of a draft.
+///
+/// ```
+/// use lomkhvide::{Given, Locator};
+///
+/// let vote = Given::Accept(Locator::new(0, 1, [2; 32], 0));
+/// assert_ne!(vote, Given::Share(vec![]));
+/// ```
 #[derive(Clone, Debug, PartialEq, Eq)]
 pub enum Given {
     Share(Vec<u8>),
@@ -1102,6 +1466,14 @@ impl Given {
 
 impl Draft {
     /// Writes the record to the front of `out`, with neighbouring accepts as ranges, and gives its length; or 51, 50.
+    ///
+    /// ```
+    /// use lomkhvide::{Draft, Refused};
+    ///
+    /// let draft = Draft { author: 0, round: 0, digest: [1; 32], marked: false, time: None, includes: vec![], statements: vec![] };
+    /// assert_eq!(draft.write(&mut [0; 55]), Err(Refused(50)));
+    /// assert_eq!(draft.write(&mut [0; 56]), Ok(56));
+    /// ```
     pub fn write(&self, out: &mut [u8]) -> Result<usize, Refused> {
         let includes = self.includes.concat();
         let mut statements = Vec::new();
