@@ -4,8 +4,8 @@ use std::collections::HashMap;
 
 use crate::types::word_at;
 use crate::{
-    Committee, Event, Finality, Locator, Owners, Pending, Record, Reference, Refusal, Refused, Slip, Stretch, fresh_store,
-    fresh_table,
+    Committee, Event, Finality, Locator, Owners, Pending, Record, Reference, Refusal, Refused, Slip, Stretch, Stretches,
+    fresh_store, fresh_table,
 };
 
 /// The words of an item of the pending table: entry position, start, end, votes low and high, stake.
@@ -252,7 +252,7 @@ impl Engine {
         Ok(self.committee.finality_withdrawing(&self.store, locator)?)
     }
 
-    /// The final list, ascending, in stretches of neighbouring locators; the engine is asked for 128 of them at a time.
+    /// The list of final stored shares, ascending, in stretches of neighbouring ones; the engine is asked for 128 of them at a time.
     ///
     /// ```
     /// # fn main() -> Result<(), lomkhvide::Refusal> {
@@ -269,7 +269,31 @@ impl Engine {
     /// # }
     /// ```
     pub fn finals(&self) -> Finals<'_> {
-        Finals { engine: self, ready: Vec::new().into_iter(), after: None, more: true }
+        self.listed(|engine, after| engine.committee.final_stretches(&engine.store, after))
+    }
+
+    /// The same of every final locator, also where no share of that name is stored: a mistyped vote can become final.
+    ///
+    /// ```
+    /// # fn main() -> Result<(), lomkhvide::Refusal> {
+    /// use lomkhvide::{Committee, Engine, Record, Reference};
+    ///
+    /// let mut engine = Engine::new(Committee::new(&[1])?, 65_536);
+    /// let first = Record::builder(0, 0, [1; 32]).finish()?;
+    /// let unsent = Reference { round: 0, author: 0, digest: [9; 32] };
+    /// let second = Record::builder(0, 1, [2; 32]).include(first.reference()).accept(unsent.at(0)).finish()?;
+    /// engine.feed(&first)?;
+    /// engine.feed(&second)?;
+    /// assert_eq!((engine.finals().count(), engine.finals_wide().count()), (0, 1));
+    /// # Ok(())
+    /// # }
+    /// ```
+    pub fn finals_wide(&self) -> Finals<'_> {
+        self.listed(|engine, after| engine.committee.wide_stretches(&engine.store, after))
+    }
+
+    fn listed(&self, ask: Ask) -> Finals<'_> {
+        Finals { engine: self, ask, ready: Vec::new().into_iter(), after: None, more: true }
     }
 
     /// The stake and the number of the voters of a pending locator; 42 where it is not pending.
@@ -513,7 +537,10 @@ fn number_at(bytes: &[u8], at: usize) -> usize {
     u32::from_le_bytes([bytes[at], bytes[at + 1], bytes[at + 2], bytes[at + 3]]) as usize
 }
 
-/// The final list of an engine, stretch by stretch: see [`Engine::finals`].
+/// Asks for the next part of a list.
+type Ask = fn(&Engine, Option<&Locator>) -> Result<Stretches, Refused>;
+
+/// A final list of an engine, stretch by stretch: see [`Engine::finals`].
 ///
 /// ```
 /// # fn main() -> Result<(), lomkhvide::Refusal> {
@@ -530,6 +557,7 @@ fn number_at(bytes: &[u8], at: usize) -> usize {
 #[derive(Clone, Debug)]
 pub struct Finals<'a> {
     engine: &'a Engine,
+    ask: Ask,
     ready: std::vec::IntoIter<Stretch>,
     after: Option<Locator>,
     more: bool,
@@ -540,7 +568,7 @@ impl Iterator for Finals<'_> {
 
     fn next(&mut self) -> Option<Result<Stretch, Refusal>> {
         if self.ready.len() == 0 && self.more {
-            match self.engine.committee.final_stretches(&self.engine.store, self.after.as_ref()) {
+            match (self.ask)(self.engine, self.after.as_ref()) {
                 Ok(part) => {
                     self.after = part.stretches.last().map(|last| last.first.reference().at(last.end - 1));
                     self.more = part.more;

@@ -92,7 +92,7 @@ fn choices(run: &Run) -> Result<(Vec<Locator>, usize), Fault> {
     }
     let mut left_out = all.len().saturating_sub(MOST_CHOICES);
     all = all.into_iter().take(MOST_CHOICES).collect();
-    for stretch in run.engine.finals() {
+    for stretch in run.engine.finals_wide() {
         let stretch = stretch.map_err(refused)?;
         let (block, mut offsets) = (stretch.first.reference(), stretch.first.offset()..stretch.end);
         while all.len() < MOST_CHOICES {
