@@ -836,11 +836,32 @@ impl Committee {
     }
 
     /// The least final stored share after a given locator, or from the start; or 5, 10.
+    ///
+    /// ```
+    /// # fn main() -> Result<(), lomkhvide::Refused> {
+    /// # use lomkhvide::*;
+    /// // One owner, who has shared a change in round 1.
+    /// let Sample { committee, store, share, .. } = sample();
+    /// assert_eq!(committee.next_final(&store, None)?, Some(share));
+    /// assert_eq!(committee.next_final(&store, Some(&share))?, None);
+    /// # Ok(())
+    /// # }
+    /// ```
     pub fn next_final(&self, store: &[u8], after: Option<&Locator>) -> Result<Option<Locator>, Refused> {
         self.next_of(calls::lomkhvide_next_final, store, after)
     }
 
     /// The least final locator after a given one, stored or not; or 5, 10.
+    ///
+    /// ```
+    /// # fn main() -> Result<(), lomkhvide::Refused> {
+    /// # use lomkhvide::*;
+    /// // One owner, who has shared a change in round 1.
+    /// let Sample { committee, store, share, .. } = sample();
+    /// assert_eq!(committee.next_wide(&store, None)?, Some(share));
+    /// # Ok(())
+    /// # }
+    /// ```
     pub fn next_wide(&self, store: &[u8], after: Option<&Locator>) -> Result<Option<Locator>, Refused> {
         self.next_of(calls::lomkhvide_next_wide, store, after)
     }
@@ -876,11 +897,32 @@ impl Committee {
     }
 
     /// The ordinary list, of the final stored shares, after a given locator, or from the start, up to 128 stretches of it; or 5, 10.
+    ///
+    /// ```
+    /// # fn main() -> Result<(), lomkhvide::Refused> {
+    /// # use lomkhvide::*;
+    /// // One owner, who has shared a change in round 1.
+    /// let Sample { committee, store, share, .. } = sample();
+    /// assert_eq!(committee.final_stretches(&store, None)?.stretches[0].first, share);
+    /// assert!(committee.final_stretches(&store, Some(&share))?.stretches.is_empty());
+    /// # Ok(())
+    /// # }
+    /// ```
     pub fn final_stretches(&self, store: &[u8], after: Option<&Locator>) -> Result<Stretches, Refused> {
         self.stretches_of(calls::lomkhvide_final_stretches, store, after)
     }
 
     /// The wide list, of every final locator, likewise.
+    ///
+    /// ```
+    /// # fn main() -> Result<(), lomkhvide::Refused> {
+    /// # use lomkhvide::*;
+    /// // One owner, who has shared a change in round 1.
+    /// let Sample { committee, store, share, .. } = sample();
+    /// assert_eq!(committee.wide_stretches(&store, None)?.stretches[0].first, share);
+    /// # Ok(())
+    /// # }
+    /// ```
     pub fn wide_stretches(&self, store: &[u8], after: Option<&Locator>) -> Result<Stretches, Refused> {
         self.stretches_of(calls::lomkhvide_wide_stretches, store, after)
     }
