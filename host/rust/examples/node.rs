@@ -5,9 +5,9 @@
 //!
 //! STATE is a folder of its own. The committee is that of the file `stakes` in it, or the course committee where there is none.
 //!
-//! What the engine holds is kept as `store.N` and `table.N`, and the file `current` says which N counts. A new state is written beside the old
-//! one and synced; then `current` is replaced by a rename, which happens as a whole or not at all. So store and table are always of one
-//! moment. A record is reported as stored once it is kept; after a restart the node goes on with the state that counts, and records that
+//! What the engine holds is kept as `store.N`, `table.N` and `index.N`, and the file `current` says which N counts. A new state is written
+//! beside the old one and synced; then `current` is replaced by a rename, which happens as a whole or not at all. So the three are always
+//! of one moment. A record is reported as stored once it is kept; after a restart the node goes on with the state that counts, and records that
 //! come again are found to be stored before (23).
 
 use std::env;
@@ -17,7 +17,7 @@ use std::io::{self, BufRead, BufReader, Read, Write};
 use std::path::{Path, PathBuf};
 use std::process::ExitCode;
 
-use lomkhvide::{Committee, Engine, Parts, Refusal};
+use lomkhvide::{Committee, Engine, Parts, Refusal, bytes_of};
 
 /// The bytes of the store that the engine is lent.
 const ROOM: usize = 16 << 20;
@@ -55,10 +55,11 @@ impl Files {
     /// The engine as it was kept, or a fresh one.
     fn engine(&self, committee: Committee) -> Result<Engine, Box<dyn Error>> {
         if self.current == 0 {
-            return Ok(Engine::new(committee, ROOM));
+            return Ok(Engine::with_index(committee, ROOM));
         }
-        let (store, table) = (fs::read(self.path("store", self.current))?, fs::read(self.path("table", self.current))?);
-        Ok(Engine::open(committee, ROOM, Parts { store: &store, table: &table })?)
+        let read = |name| fs::read(self.path(name, self.current));
+        let (store, table, index) = (read("store")?, read("table")?, words_of(&read("index")?));
+        Ok(Engine::open(committee, ROOM, Parts { store: &store, table: &table, index: Some(&index) })?)
     }
 
     /// Keeps the engine: the new state counts from the rename on.
@@ -67,6 +68,7 @@ impl Files {
         let parts = engine.parts();
         write_synced(&self.path("store", next), parts.store)?;
         write_synced(&self.path("table", next), parts.table)?;
+        write_synced(&self.path("index", next), &bytes_of(parts.index.unwrap_or(&[])))?;
         let beside = self.folder.join("current.new");
         write_synced(&beside, format!("{next}\n").as_bytes())?;
         fs::rename(&beside, self.folder.join("current"))?;
@@ -80,13 +82,18 @@ impl Files {
         for entry in fs::read_dir(&self.folder)? {
             let path = entry?.path();
             let number = path.extension().and_then(|number| number.to_str()?.parse::<u64>().ok());
-            let ours = path.file_stem().is_some_and(|name| name == "store" || name == "table");
+            let ours = path.file_stem().is_some_and(|name| name == "store" || name == "table" || name == "index");
             if ours && number.is_some_and(|number| number != self.current) {
                 fs::remove_file(path)?;
             }
         }
         Ok(())
     }
+}
+
+/// Words from a file, 8 bytes each, lowest first; bytes that are left over are none.
+fn words_of(bytes: &[u8]) -> Vec<u64> {
+    bytes.as_chunks().0.iter().map(|word| u64::from_le_bytes(*word)).collect()
 }
 
 fn write_synced(path: &Path, bytes: &[u8]) -> io::Result<()> {

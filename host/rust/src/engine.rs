@@ -1,11 +1,11 @@
-//! An engine that owns its memory: store and pending table.
+//! An engine that owns its memory: store, pending table and, where it is wanted, the index of voters.
 
 use std::collections::HashMap;
 
 use crate::types::word_at;
 use crate::{
     Committee, Event, Finality, Locator, Owners, Pending, Record, Reference, Refusal, Refused, Slip, Stretch, Stretches,
-    fresh_store, fresh_table,
+    fresh_index, fresh_store, fresh_table,
 };
 
 /// The words of an item of the pending table: entry position, start, end, votes low and high, stake.
@@ -15,9 +15,17 @@ const ITEM_WORDS: usize = 6;
 const STORE_HEADER: usize = 16;
 const ENTRY_HEADER: usize = 8;
 
-/// The engine with the memory that it is lent: the stored records, and the pending table. Each method is one call.
+/// The words of a run of the index: author, round, four of the digest, first offset, end, voters low and high.
+const RUN_WORDS: usize = 10;
+
+/// The words of a fresh index, before it grows.
+const FIRST_INDEX: usize = 1024;
+
+/// The engine with the memory that it is lent: the stored records, the pending table, and with [`Engine::with_index`] the voters of each
+/// stored block. Each method is one call.
 ///
-/// Made by [`Engine::new`] or [`Engine::open`] and changed by [`Engine::feed`] alone, its memory is in order: 5, 10 and 11 never come.
+/// Made by [`Engine::new`], [`Engine::with_index`] or [`Engine::open`] and changed by [`Engine::feed`] alone, its memory is in order: 5, 10, 11
+/// and 54 never come.
 ///
 /// ```
 /// # fn main() -> Result<(), lomkhvide::Refusal> {
@@ -41,6 +49,7 @@ pub struct Engine {
     committee: Committee,
     store: Vec<u8>,
     table: Vec<u8>,
+    index: Option<Vec<u64>>,
 }
 
 /// What is to be kept of an engine while it is not running: the parts of its memory that are in use.
@@ -63,6 +72,8 @@ pub struct Parts<'a> {
     pub store: &'a [u8],
     /// The pending table without the zeros after its items.
     pub table: &'a [u8],
+    /// The used words of the index, where there is one.
+    pub index: Option<&'a [u64]>,
 }
 
 /// An item of the pending table: neighbouring shares of a block that have the same votes so far.
@@ -122,17 +133,32 @@ impl Engine {
     /// # }
     /// ```
     pub fn new(committee: Committee, room: usize) -> Engine {
-        Engine { committee, store: fresh_store(room.min(u32::MAX as usize)), table: fresh_table() }
+        Engine { committee, store: fresh_store(room.min(u32::MAX as usize)), table: fresh_table(), index: None }
+    }
+
+    /// The same with an index of voters, which grows with the store: feeding takes longer, and asking for many locators is quick.
+    ///
+    /// ```
+    /// # fn main() -> Result<(), lomkhvide::Refusal> {
+    /// use lomkhvide::{Committee, Engine};
+    ///
+    /// let engine = Engine::with_index(Committee::new(&[5, 3, 3])?, 65_536);
+    /// assert_eq!(engine.parts().index, Some(&[1][..]), "nothing is stored yet");
+    /// # Ok(())
+    /// # }
+    /// ```
+    pub fn with_index(committee: Committee, room: usize) -> Engine {
+        Engine { index: Some(fresh_index(FIRST_INDEX)), ..Engine::new(committee, room) }
     }
 
     /// An engine over parts that were kept, with room for a store of that many bytes. Refused where they are not in order under the
-    /// committee: 10, 11.
+    /// committee: 10, 11, 54.
     ///
     /// ```
     /// # fn main() -> Result<(), lomkhvide::Refusal> {
     /// use lomkhvide::{Committee, Engine, Parts, Refusal};
     ///
-    /// let broken = Parts { store: &[1; 16], table: &[] };
+    /// let broken = Parts { store: &[1; 16], table: &[], index: None };
     /// assert_eq!(Engine::open(Committee::new(&[1])?, 65_536, broken), Err(Refusal::StoreNotInOrder));
     /// # Ok(())
     /// # }
@@ -147,10 +173,12 @@ impl Engine {
         }
         engine.store[..parts.store.len()].copy_from_slice(parts.store);
         engine.table[..parts.table.len()].copy_from_slice(parts.table);
-        // A question about any locator checks both; that this one is not pending is all that it may say else.
-        match engine.pending(&Locator([0; 56])) {
-            Ok(_) | Err(Refusal::NotPending) => Ok(engine),
+        engine.index = parts.index.map(<[u64]>::to_vec);
+        // Feeding no bytes is refused as malformed once all that is lent was found in order.
+        match engine.feed([]) {
+            Err(Refusal::Malformed) => Ok(engine),
             Err(refusal) => Err(refusal),
+            Ok(_) => Ok(engine),
         }
     }
 
@@ -167,7 +195,8 @@ impl Engine {
     /// ```
     pub fn parts(&self) -> Parts<'_> {
         let items = word_at(&self.table, 0) as usize;
-        Parts { store: &self.store[..self.used()], table: &self.table[..8 * (1 + ITEM_WORDS * items)] }
+        let index = self.index.as_ref().map(|index| &index[..index[0] as usize]);
+        Parts { store: &self.store[..self.used()], table: &self.table[..8 * (1 + ITEM_WORDS * items)], index }
     }
 
     /// The committee.
@@ -200,7 +229,7 @@ impl Engine {
         &self.store
     }
 
-    /// Feeds a record: it is stored and counted, and its events come back. Refused with 20 to 30 where it breaks a rule, 15, 13 or 14
+    /// Feeds a record: it is stored and counted, and its events come back; the index grows where it is too short. Refused with 20 to 30 where it breaks a rule, 15, 13 or 14
     /// where memory is short.
     ///
     /// ```
@@ -216,7 +245,16 @@ impl Engine {
     /// # }
     /// ```
     pub fn feed(&mut self, record: impl AsRef<[u8]>) -> Result<Vec<Event>, Refusal> {
-        Ok(self.committee.feed(&mut self.store, &mut self.table, record.as_ref())?)
+        let record = record.as_ref();
+        let Some(index) = &mut self.index else {
+            return Ok(self.committee.feed(&mut self.store, &mut self.table, record)?);
+        };
+        loop {
+            match self.committee.feed_indexed(&mut self.store, &mut self.table, index, record) {
+                Err(Refused(55)) => index.resize(2 * index.len() + 1, 0),
+                told => return Ok(told?),
+            }
+        }
     }
 
     /// Whether a locator is final, and the positions of the blocks that certify it: see [`Engine::record_at`].
@@ -294,6 +332,37 @@ impl Engine {
 
     fn listed(&self, ask: Ask) -> Finals<'_> {
         Finals { engine: self, ask, ready: Vec::new().into_iter(), after: None, more: true }
+    }
+
+    /// The voters for a locator at or below each stored block that has any, as the index keeps them, with the block's position; of an
+    /// engine without an index there are none.
+    ///
+    /// ```
+    /// # fn main() -> Result<(), lomkhvide::Refusal> {
+    /// use lomkhvide::{Committee, Engine, Owners, Record};
+    ///
+    /// let mut engine = Engine::with_index(Committee::new(&[1])?, 65_536);
+    /// let first = Record::builder(0, 0, [1; 32]).finish()?;
+    /// let second = Record::builder(0, 1, [2; 32]).include(first.reference()).share(b"gain").finish()?;
+    /// engine.feed(&first)?;
+    /// engine.feed(&second)?;
+    /// assert_eq!(engine.voters(&second.reference().at(0)), [(80, Owners(1))]);
+    /// # Ok(())
+    /// # }
+    /// ```
+    pub fn voters(&self, locator: &Locator) -> Vec<(u64, Owners)> {
+        let named: Vec<u64> = (0..6).map(|i| word_at(&locator.0, 8 * i)).collect();
+        let mut parts = &self.index.as_deref().unwrap_or(&[1])[1..];
+        let mut voters = Vec::new();
+        for (position, _) in self.records() {
+            let Some((runs, rest)) = parts.split_first() else { break };
+            let (part, rest) = rest.split_at(RUN_WORDS * *runs as usize);
+            let run =
+                part.chunks_exact(RUN_WORDS).find(|run| run[..6] == named && (run[6]..run[7]).contains(&locator.offset()));
+            voters.extend(run.map(|run| (position, Owners::from_words(run[8], run[9]))));
+            parts = rest;
+        }
+        voters
     }
 
     /// The stake and the number of the voters of a pending locator; 42 where it is not pending.

@@ -109,14 +109,55 @@ fn kept_and_opened() {
     let records = graph(4, 10);
     let mut engine = fed(&[1; 4], &records[..25]);
     let (store, table) = (engine.parts().store.to_vec(), engine.parts().table.to_vec());
-    let mut opened = Engine::open(Committee::new(&[1; 4]).unwrap(), ROOM, Parts { store: &store, table: &table }).unwrap();
+    let parts = Parts { store: &store, table: &table, index: None };
+    let mut opened = Engine::open(Committee::new(&[1; 4]).unwrap(), ROOM, parts).unwrap();
     assert_eq!(opened, engine);
     for record in &records[25..] {
         assert_eq!(opened.feed(record), engine.feed(record));
     }
     assert_eq!(opened, engine);
-    let less = Engine::open(Committee::new(&[1; 4]).unwrap(), 16, Parts { store: &store, table: &table }).unwrap();
+    let less = Engine::open(Committee::new(&[1; 4]).unwrap(), 16, parts).unwrap();
     assert_eq!(less.store().len(), store.len(), "the room is never less than what was kept");
+}
+
+/// With the index: the same answers, an index that can be kept, and 54 for any other.
+#[test]
+fn indexed() {
+    let records = graph(4, 12);
+    let committee = Committee::new(&[1; 4]).unwrap();
+    let (mut plain, mut engine) = (Engine::new(committee.clone(), ROOM), Engine::with_index(committee.clone(), ROOM));
+    for record in records.iter().flat_map(|record| [record, record]) {
+        assert_eq!(engine.feed(record), plain.feed(record));
+    }
+    assert_eq!(engine.store(), plain.store());
+    assert!(engine.finals().eq(plain.finals()));
+    for share in records.iter().map(|record| record.reference().at(0)) {
+        let quorum = |voters: &Owners| voters.len() >= 3;
+        let mut certifying: Vec<u64> =
+            engine.voters(&share).iter().filter(|(_, voters)| quorum(voters)).map(|(at, _)| *at).collect();
+        certifying.sort();
+        assert_eq!(
+            certifying,
+            engine.finality(&share).unwrap().certifying,
+            "no block is marked, and all stand in ascending order"
+        );
+        assert!(plain.voters(&share).is_empty());
+    }
+    let (store, table) = (engine.parts().store.to_vec(), engine.parts().table.to_vec());
+    let index = engine.parts().index.unwrap().to_vec();
+    assert!(index.len() > 1024, "it has grown: {} words", index.len());
+    let opened =
+        |index: &[u64]| Engine::open(committee.clone(), ROOM, Parts { store: &store, table: &table, index: Some(index) });
+    assert_eq!(opened(&index).unwrap().parts(), engine.parts());
+    let mut chance = Chance(11);
+    for _ in 0..60 {
+        let mut other = index.clone();
+        match chance.below(2) {
+            0 => other.truncate(chance.below(index.len() as u64) as usize),
+            _ => other[chance.below(index.len() as u64) as usize] ^= 1 << chance.below(64),
+        }
+        assert_eq!(opened(&other), Err(Refusal::IndexDisagrees));
+    }
 }
 
 /// Damaged parts are refused or are in order; nothing panics, and what is opened answers.
@@ -135,7 +176,7 @@ fn damaged_parts() {
             1 => part[place] ^= 1 << chance.below(8),
             _ => part.insert(place, chance.below(256) as u8),
         }
-        match Engine::open(committee.clone(), ROOM, Parts { store: &store, table: &table }) {
+        match Engine::open(committee.clone(), ROOM, Parts { store: &store, table: &table, index: None }) {
             Ok(opened) => {
                 assert!(opened.finals().all(|stretch| stretch.is_ok()));
                 opened.pending_items().for_each(drop);

@@ -109,12 +109,15 @@ fn from_standard_input() {
 #[test]
 fn broken_files() {
     let (state, none) = (folder("node-broken"), folder("node-broken-none"));
-    for (name, bytes, why) in [("store.1", vec![7; 16], "the store is not in order (10)"), ("table.1", vec![7; 8], "(11)")] {
+    for (name, bytes, why) in
+        [("store.1", vec![7; 16], "(10)"), ("table.1", vec![7; 8], "(11)"), ("index.1", vec![7; 8], "(54)")]
+    {
         fs::write(state.join("current"), "1\n").unwrap();
         let mut fresh = [0; 16];
         fresh[4] = 16;
         fs::write(state.join("store.1"), fresh).unwrap();
         fs::write(state.join("table.1"), [0; 8]).unwrap();
+        fs::write(state.join("index.1"), [1, 0, 0, 0, 0, 0, 0, 0]).unwrap();
         fs::write(state.join(name), &bytes).unwrap();
         let output = run(&state, &none);
         assert_eq!(output.status.code(), Some(1));

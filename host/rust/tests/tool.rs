@@ -107,7 +107,9 @@ Votes:
   owner 0, stake 1: record 9 accepts it
   owner 3, stake 1: record 12 accepts it
 Record 12 brought the votes to quorum.
-An unmarked block certifies that has quorum votes at or below it. Ring for such a block: owner 1, stake 1; owner 2, stake 1.
+An unmarked block certifies that has quorum votes at or below it. Ring for such a block:
+  owner 1, stake 1: record 13 has votes of stake 1
+  owner 2, stake 1: record 11 has votes of stake 1
 ";
     assert_eq!(text(&tool(&["explain", &file("owner_twice.bin"), "1/2/00000007/0"]).stdout), expected);
 }

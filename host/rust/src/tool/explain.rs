@@ -111,20 +111,18 @@ fn missing(run: &Run, account: &Account, reachable: Owners, out: &mut dyn Write)
         Some(number) => writeln!(out, "Record {number} brought the votes to quorum.")?,
         None => writeln!(out, "By their owners: {}.", sum(run, &account.voted))?,
     }
-    let members = run.committee().members() as u64;
-    let without: Owners =
-        (0..members).filter(|owner| !account.certified.owners.contains(*owner) && reachable.contains(*owner)).collect();
     let less = if run.withdrawing { ", less those who reject there" } else { "" };
-    writeln!(
-        out,
-        "An unmarked block certifies that has quorum votes at or below it{less}. Ring for such a block: {}.",
-        without_block(run, without)
-    )?;
+    writeln!(out, "An unmarked block certifies that has quorum votes at or below it{less}. Ring for such a block:")?;
+    let voters = run.voters(&account.locator);
+    let members = 0..run.committee().members() as u64;
+    for owner in members.filter(|owner| !account.certified.owners.contains(*owner) && reachable.contains(*owner)) {
+        write!(out, "  {}, stake {}", run.owner(owner), run.stake(owner))?;
+        if let (Some(latest), Some(voters)) = (run.latest(owner), &voters) {
+            let below = run.tally(voters.get(&latest).copied().unwrap_or_default().iter());
+            let marked = if run.blocks[latest].record.is_marked() { ", marked," } else { "" };
+            write!(out, ": record {}{marked} has votes of stake {}", run.blocks[latest].number, below.stake)?;
+        }
+        writeln!(out)?;
+    }
     Ok(())
-}
-
-/// The owners of whom no block certifies, each with the stake.
-fn without_block(run: &Run, owners: Owners) -> String {
-    let each: Vec<String> = owners.iter().map(|owner| format!("{}, stake {}", run.owner(owner), run.stake(owner))).collect();
-    if each.is_empty() { "nobody is left".into() } else { each.join("; ") }
 }

@@ -9,6 +9,9 @@ use lomkhvide::{
 use super::input::Input;
 use super::{Asked, Fault, bad};
 
+/// The most records that are fed with an index: beyond these its checks would take seconds.
+const MOST_INDEXED: usize = 200;
+
 pub struct Run {
     pub engine: Engine,
     /// The owners' names, where they are known.
@@ -86,7 +89,10 @@ impl Run {
         if let Some(broken) = &input.broken {
             return bad(format!("{file}, byte {}: {}", broken.at, broken.why));
         }
-        let mut engine = Engine::new(committee, asked.store);
+        let mut engine = match input.records.len() {
+            0..=MOST_INDEXED => Engine::with_index(committee, asked.store),
+            _ => Engine::new(committee, asked.store),
+        };
         let mut numbers = Vec::new();
         let mut events = Vec::new();
         for (k, record) in (1..).zip(&input.records) {
@@ -168,6 +174,19 @@ impl Run {
     /// The record that brought a locator's votes to quorum.
     pub fn processed_by(&self, locator: &Locator) -> Option<usize> {
         self.processed.get(locator).copied()
+    }
+
+    /// The voters for a locator at or below each block that has any, where an index is kept; it speaks of the old reading alone.
+    pub fn voters(&self, locator: &Locator) -> Option<HashMap<usize, Owners>> {
+        self.engine.parts().index.filter(|_| !self.withdrawing)?;
+        Some(self.engine.voters(locator).into_iter().filter_map(|(at, voters)| Some((self.at_position(at)?, voters))).collect())
+    }
+
+    /// The block of an owner in the highest round, the last to arrive of several.
+    pub fn latest(&self, owner: u64) -> Option<usize> {
+        (0..self.blocks.len())
+            .filter(|i| self.blocks[*i].record.author() == owner)
+            .max_by_key(|i| self.blocks[*i].record.round())
     }
 
     /// Counts owners.
