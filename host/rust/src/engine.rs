@@ -4,7 +4,7 @@ use std::collections::HashMap;
 
 use crate::types::word_at;
 use crate::{
-    Committee, Event, Finality, Locator, Owners, Pending, Record, Reference, Refusal, Refused, Slip, Stretch, Stretches,
+    Committee, Event, Finality, Locator, Owners, Pending, Record, Reference, Refusal, Refused, Reply, Slip, Stretch, Stretches,
     fresh_index, fresh_store, fresh_table,
 };
 
@@ -332,6 +332,28 @@ impl Engine {
 
     fn listed(&self, ask: Ask) -> Finals<'_> {
         Finals { engine: self, ask, ready: Vec::new().into_iter(), after: None, more: true }
+    }
+
+    /// Whether each of these locators is final, and the owners of its certifying blocks, in one pass over the index. Refused with 62
+    /// where they do not ascend (equal ones may follow each other), and with 54 of an engine without an index.
+    ///
+    /// ```
+    /// # fn main() -> Result<(), lomkhvide::Refusal> {
+    /// use lomkhvide::{Committee, Engine, Record, Reply};
+    ///
+    /// let mut engine = Engine::with_index(Committee::new(&[1])?, 65_536);
+    /// let first = Record::builder(0, 0, [1; 32]).finish()?;
+    /// let second = Record::builder(0, 1, [2; 32]).include(first.reference()).share(b"gain").finish()?;
+    /// engine.feed(&first)?;
+    /// engine.feed(&second)?;
+    /// let block = second.reference();
+    /// let (yes, no) = (Reply { is_final: true, authors: 1 }, Reply { is_final: false, authors: 0 });
+    /// assert_eq!(engine.replies(&[block.at(0), block.at(1)])?, [yes, no]);
+    /// # Ok(())
+    /// # }
+    /// ```
+    pub fn replies(&self, locators: &[Locator]) -> Result<Vec<Reply>, Refusal> {
+        Ok(self.committee.answer_sorted(&self.store, self.index.as_deref().unwrap_or(&[]), locators)?)
     }
 
     /// The voters for a locator at or below each stored block that has any, as the index keeps them, with the block's position; of an

@@ -143,6 +143,12 @@ fn indexed() {
         );
         assert!(plain.voters(&share).is_empty());
     }
+    let shares: Vec<Locator> = records.iter().map(|record| record.reference().at(0)).collect();
+    for (share, reply) in shares.iter().zip(engine.replies(&shares).unwrap()) {
+        assert_eq!(reply.is_final, engine.finality(share).unwrap().is_final);
+    }
+    assert_eq!(plain.replies(&shares), Err(Refusal::IndexDisagrees));
+    assert_eq!(engine.replies(&[shares[1], shares[0]]), Err(Refusal::LocatorsNotSorted));
     let (store, table) = (engine.parts().store.to_vec(), engine.parts().table.to_vec());
     let index = engine.parts().index.unwrap().to_vec();
     assert!(index.len() > 1024, "it has grown: {} words", index.len());
