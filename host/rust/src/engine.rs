@@ -307,7 +307,10 @@ impl Engine {
     /// # }
     /// ```
     pub fn finals(&self) -> Finals<'_> {
-        self.listed(|engine, after| engine.committee.final_stretches(&engine.store, after))
+        self.listed(|engine, after| match &engine.index {
+            Some(index) => engine.committee.final_stretches_indexed(&engine.store, index, after),
+            None => engine.committee.final_stretches(&engine.store, after),
+        })
     }
 
     /// The same of every final locator, also where no share of that name is stored: a mistyped vote can become final.
@@ -327,7 +330,10 @@ impl Engine {
     /// # }
     /// ```
     pub fn finals_wide(&self) -> Finals<'_> {
-        self.listed(|engine, after| engine.committee.wide_stretches(&engine.store, after))
+        self.listed(|engine, after| match &engine.index {
+            Some(index) => engine.committee.wide_stretches_indexed(&engine.store, index, after),
+            None => engine.committee.wide_stretches(&engine.store, after),
+        })
     }
 
     fn listed(&self, ask: Ask) -> Finals<'_> {

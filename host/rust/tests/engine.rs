@@ -130,7 +130,7 @@ fn indexed() {
         assert_eq!(engine.feed(record), plain.feed(record));
     }
     assert_eq!(engine.store(), plain.store());
-    assert!(engine.finals().eq(plain.finals()));
+    assert!(engine.finals().eq(plain.finals()) && engine.finals_wide().eq(plain.finals_wide()));
     for share in records.iter().map(|record| record.reference().at(0)) {
         let quorum = |voters: &Owners| voters.len() >= 3;
         let mut certifying: Vec<u64> =
