@@ -452,6 +452,12 @@ impl Locator {
 }
 
 /// What is answered about a locator of a sorted list.
+///
+/// ```
+/// use lomkhvide::Reply;
+///
+/// assert!(Reply { is_final: true, authors: 0b111 }.is_final);
+/// ```
 #[derive(Clone, Copy, Debug, PartialEq, Eq)]
 pub struct Reply {
     pub is_final: bool,
@@ -669,6 +675,10 @@ pub fn fresh_store(length: usize) -> Vec<u8> {
 }
 
 /// The index of a fresh store, of that many words, at least one.
+///
+/// ```
+/// assert_eq!(lomkhvide::fresh_index(16)[0], 1);
+/// ```
 pub fn fresh_index(length: usize) -> Vec<u64> {
     let mut words = vec![0; length.max(1)];
     words[0] = 1;
@@ -806,6 +816,16 @@ impl Committee {
     }
 
     /// The same with the index beside the store, to which the block's part is appended: 54 after 11, and 55 last; a refusal leaves the index too.
+    ///
+    /// ```
+    /// # fn main() -> Result<(), lomkhvide::Refused> {
+    /// # use lomkhvide::*;
+    /// let committee = Committee::new(&[1])?;
+    /// let (mut store, mut table, mut index) = (fresh_store(4096), fresh_table(), fresh_index(64));
+    /// assert_eq!(committee.feed_indexed(&mut store, &mut table, &mut index, b"noise"), Err(Refused(20)));
+    /// # Ok(())
+    /// # }
+    /// ```
     pub fn feed_indexed(
         &self,
         store: &mut [u8],
@@ -958,11 +978,29 @@ impl Committee {
     }
 
     /// The ordinary list with the index, which goes from feed to feed with the store; or 5, 10, 54 an index that disagrees with the store.
+    ///
+    /// ```
+    /// # fn main() -> Result<(), lomkhvide::Refused> {
+    /// # use lomkhvide::*;
+    /// let committee = Committee::new(&[1])?;
+    /// assert!(committee.final_stretches_indexed(&fresh_store(16), &fresh_index(1), None)?.stretches.is_empty());
+    /// # Ok(())
+    /// # }
+    /// ```
     pub fn final_stretches_indexed(&self, store: &[u8], index: &[u64], after: Option<&Locator>) -> Result<Stretches, Refused> {
         self.indexed_stretches_of(calls::lomkhvide_final_stretches_indexed, store, index, after)
     }
 
     /// The wide list with the index, likewise.
+    ///
+    /// ```
+    /// # fn main() -> Result<(), lomkhvide::Refused> {
+    /// # use lomkhvide::*;
+    /// let committee = Committee::new(&[1])?;
+    /// assert_eq!(committee.wide_stretches_indexed(&fresh_store(16), &[], None), Err(Refused(54)));
+    /// # Ok(())
+    /// # }
+    /// ```
     pub fn wide_stretches_indexed(&self, store: &[u8], index: &[u64], after: Option<&Locator>) -> Result<Stretches, Refused> {
         self.indexed_stretches_of(calls::lomkhvide_wide_stretches_indexed, store, index, after)
     }
@@ -990,6 +1028,15 @@ impl Committee {
     }
 
     /// The replies to locators in ascending order, equal ones included, with the index that was kept beside the store; or 5, 10, 54, 62.
+    ///
+    /// ```
+    /// # fn main() -> Result<(), lomkhvide::Refused> {
+    /// # use lomkhvide::*;
+    /// let committee = Committee::new(&[1])?;
+    /// assert_eq!(committee.answer_sorted(&fresh_store(16), &fresh_index(1), &[])?, []);
+    /// # Ok(())
+    /// # }
+    /// ```
     pub fn answer_sorted(&self, store: &[u8], index: &[u64], locators: &[Locator]) -> Result<Vec<Reply>, Refused> {
         let stakes = &self.stakes;
         let locators: Vec<u8> = locators.iter().flat_map(|locator| locator.0).collect();
