@@ -336,6 +336,41 @@ impl Engine {
         })
     }
 
+    /// The list of final stored shares in the reading in which an owner may withdraw.
+    ///
+    /// ```
+    /// # fn main() -> Result<(), lomkhvide::Refusal> {
+    /// use lomkhvide::{Committee, Engine, Locator, Record};
+    ///
+    /// // The sole owner shares a change, and rejects it in the same block.
+    /// let mut engine = Engine::new(Committee::new(&[1])?, 65_536);
+    /// let first = Record::builder(0, 0, [1; 32]).finish()?;
+    /// let second = Record::builder(0, 1, [2; 32]).include(first.reference()).share(b"gain");
+    /// let second = second.reject(Locator::new(0, 1, [2; 32], 0), None).finish()?;
+    /// engine.feed(&first)?;
+    /// engine.feed(&second)?;
+    /// assert_eq!((engine.finals().count(), engine.finals_withdrawing().count()), (1, 0));
+    /// # Ok(())
+    /// # }
+    /// ```
+    pub fn finals_withdrawing(&self) -> Finals<'_> {
+        self.listed(|engine, after| engine.committee.final_stretches_withdrawing(&engine.store, after))
+    }
+
+    /// The list of every final locator in that reading.
+    ///
+    /// ```
+    /// # fn main() -> Result<(), lomkhvide::Refusal> {
+    /// use lomkhvide::{Committee, Engine};
+    ///
+    /// assert_eq!(Engine::new(Committee::new(&[1])?, 65_536).finals_wide_withdrawing().count(), 0);
+    /// # Ok(())
+    /// # }
+    /// ```
+    pub fn finals_wide_withdrawing(&self) -> Finals<'_> {
+        self.listed(|engine, after| engine.committee.wide_stretches_withdrawing(&engine.store, after))
+    }
+
     fn listed(&self, ask: Ask) -> Finals<'_> {
         Finals { engine: self, ask, ready: Vec::new().into_iter(), after: None, more: true }
     }
@@ -509,9 +544,34 @@ impl Engine {
     /// # }
     /// ```
     pub fn slip(&self, locator: &Locator) -> Result<Slip, Refusal> {
+        self.written(Committee::write_slip, locator)
+    }
+
+    /// The same in the reading in which an owner may withdraw: a station reads it with every block of each certifier's ancestry.
+    ///
+    /// ```
+    /// # fn main() -> Result<(), lomkhvide::Refusal> {
+    /// use lomkhvide::{Committee, Engine, Record};
+    ///
+    /// let mut engine = Engine::new(Committee::new(&[1])?, 65_536);
+    /// let first = Record::builder(0, 0, [1; 32]).finish()?;
+    /// let second = Record::builder(0, 1, [2; 32]).include(first.reference()).share(b"gain").finish()?;
+    /// engine.feed(&first)?;
+    /// engine.feed(&second)?;
+    /// let slip = engine.slip_withdrawing(&second.reference().at(0))?;
+    /// assert_eq!(slip.as_bytes()[0], 1, "the first byte names the reading");
+    /// # Ok(())
+    /// # }
+    /// ```
+    pub fn slip_withdrawing(&self, locator: &Locator) -> Result<Slip, Refusal> {
+        self.written(Committee::write_slip_withdrawing, locator)
+    }
+
+    /// A slip by one of the writers, with as much room as it needs.
+    fn written(&self, write: Writer, locator: &Locator) -> Result<Slip, Refusal> {
         let mut out = vec![0; 4096];
         loop {
-            match self.committee.write_slip(&self.store, locator, &mut out) {
+            match write(&self.committee, &self.store, locator, &mut out) {
                 Err(Refused(50)) => out.resize(4 * out.len(), 0),
                 answer => {
                     out.truncate(answer?);
@@ -633,6 +693,9 @@ impl Engine {
 fn number_at(bytes: &[u8], at: usize) -> usize {
     u32::from_le_bytes([bytes[at], bytes[at + 1], bytes[at + 2], bytes[at + 3]]) as usize
 }
+
+/// Writes a slip.
+type Writer = fn(&Committee, &[u8], &Locator, &mut [u8]) -> Result<usize, Refused>;
 
 /// Asks for the next part of a list.
 type Ask = fn(&Engine, Option<&Locator>) -> Result<Stretches, Refused>;

@@ -42,12 +42,13 @@ impl Account {
         })
     }
 
-    /// The slip of a final locator, in the old reading.
+    /// The slip of a final locator.
     pub fn slip(&self, run: &Run) -> Result<Option<Slip>, Fault> {
-        if run.withdrawing {
-            return Ok(None);
-        }
-        match run.engine.slip(&self.locator) {
+        let answer = match run.withdrawing {
+            false => run.engine.slip(&self.locator),
+            true => run.engine.slip_withdrawing(&self.locator),
+        };
+        match answer {
             Ok(slip) => Ok(Some(slip)),
             Err(Refusal::SlipNotHeld) => Ok(None),
             Err(refusal) => Err(refused(refusal)),

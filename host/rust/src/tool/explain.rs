@@ -42,12 +42,7 @@ fn sum(run: &Run, tally: &Tally) -> String {
 
 /// The certifying blocks with their voters.
 fn certificates(run: &Run, account: &Account, out: &mut dyn Write) -> Result<(), Fault> {
-    let Some(slip) = account.slip(run)? else {
-        for block in &account.certifying {
-            writeln!(out, "{} certifies", block_of(run, *block))?;
-        }
-        return Ok(());
-    };
+    let Some(slip) = account.slip(run)? else { return Ok(()) };
     for certifier in slip.certifiers() {
         let Some(from) = run.place(&certifier.block) else { continue };
         let voters = run.tally(certifier.voters.iter().map(|voter| voter.author));
