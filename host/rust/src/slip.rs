@@ -61,14 +61,17 @@ pub struct Voter {
 }
 
 impl Slip {
-    /// Reads a slip with the records that come with it, as a station does; more records than it names are welcome. Refused with 52
-    /// where it does not hold, 53 where a record that it names is missing.
+    /// Reads a slip of either reading with the records that come with it, as a station does; more records than it names are welcome. Refused
+    /// with 61 where its first byte names no reading, 52 where it does not hold, 53 where a record that it names is missing; a slip of the
+    /// reading in which an owner may withdraw needs every record below its certifying blocks.
     ///
     /// ```
     /// # fn main() -> Result<(), lomkhvide::Refusal> {
     /// use lomkhvide::{Committee, Refusal, Slip};
     ///
-    /// assert_eq!(Slip::read(&Committee::new(&[1])?, b"noise", &[]), Err(Refusal::SlipNotHeld));
+    /// let committee = Committee::new(&[1])?;
+    /// assert_eq!(Slip::read(&committee, b"noise", &[]), Err(Refusal::SlipReadingUnknown));
+    /// assert_eq!(Slip::read(&committee, b"\0", &[]), Err(Refusal::SlipNotHeld));
     /// # Ok(())
     /// # }
     /// ```
