@@ -288,7 +288,14 @@ fn cases() -> Vec<Case> {
             name: "next_wide_withdrawing",
             slices: vec![stakes.clone(), store.clone(), after(&[]), found],
             engine: over!(|stakes, store, after, out| engine::next_wide_withdrawing(stakes, store, after, out)),
-            model: over!(|stakes, store, after, out| lent::next_listed(Reading::Withdrawing, Listed::Wide, stakes, store, after, out)),
+            model: over!(|stakes, store, after, out| lent::next_listed(
+                Reading::Withdrawing,
+                Listed::Wide,
+                stakes,
+                store,
+                after,
+                out
+            )),
         },
         Case {
             name: "write_record",
@@ -298,7 +305,10 @@ fn cases() -> Vec<Case> {
                 ("statements", given_bytes(&drafted), given_bytes(&drafted).len() + 100),
                 ("out", vec![5; 600], 700),
             ],
-            engine: over!(|digest, includes, statements, out| engine::write_record(&draft(digest, None, includes, statements), out)),
+            engine: over!(|digest, includes, statements, out| engine::write_record(
+                &draft(digest, None, includes, statements),
+                out
+            )),
             model: over!(|digest, includes, statements, out| write_record(&draft(digest, None, includes, statements), out)),
         },
         Case {
@@ -316,7 +326,12 @@ fn cases() -> Vec<Case> {
         },
         Case {
             name: "creation_time",
-            slices: vec![stakes.clone(), store.clone(), ("reference", shared.bytes().to_vec(), 80), ("time written", vec![5; 8], 40)],
+            slices: vec![
+                stakes.clone(),
+                store.clone(),
+                ("reference", shared.bytes().to_vec(), 80),
+                ("time written", vec![5; 8], 40),
+            ],
             engine: over!(|stakes, store, reference, out| engine::creation_time(stakes, store, reference, out)),
             model: over!(|stakes, store, reference, out| lent::creation_time(stakes, store, reference, out)),
         },

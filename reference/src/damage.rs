@@ -5,8 +5,8 @@ use crate::compare::{same, same_bytes, Memory, Outcome};
 use crate::engine;
 use crate::model::finality::{Listed, Reading};
 use crate::model::lent;
-use crate::questions::ListCall;
 use crate::model::loading;
+use crate::questions::ListCall;
 use crate::rng::Rng;
 use crate::tally::Tally;
 
@@ -132,7 +132,12 @@ fn questions_of_store(stakes: &[u8], store: &[u8], locator: &[u8]) -> Outcome {
     ] {
         let (mut right, mut got) = (vec![0x3c; 56], vec![0x3c; 56]);
         let answer = lent::next_listed(Reading::Withdrawing, list, stakes, store, locator, &mut right);
-        same("the next locator in the second reading over damaged memory", "engine", next(stakes, store, locator, &mut got), answer)?;
+        same(
+            "the next locator in the second reading over damaged memory",
+            "engine",
+            next(stakes, store, locator, &mut got),
+            answer,
+        )?;
         same_bytes("that locator over damaged memory", &got, &right)?;
         let (mut right, mut got) = (vec![0x3c; lent::STRETCHES_BYTES], vec![0x3c; lent::STRETCHES_BYTES]);
         let answer = lent::list_stretches(Reading::Withdrawing, list, stakes, store, locator, &mut right);

@@ -219,14 +219,7 @@ pub fn is_valid(total: u64, amount: u64) -> bool {
     unsafe { lomkhvide_is_valid(total, amount) == 1 }
 }
 
-pub fn whom_to_ring(
-    stakes: &[u8],
-    store: &[u8],
-    table: &[u8],
-    reachable: u128,
-    locator: &[u8],
-    found: &mut [u8],
-) -> Answer {
+pub fn whom_to_ring(stakes: &[u8], store: &[u8], table: &[u8], reachable: u128, locator: &[u8], found: &mut [u8]) -> Answer {
     extern "C" {
         fn lomkhvide_whom_to_ring(
             stakes: *const u8,

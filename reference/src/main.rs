@@ -266,7 +266,9 @@ fn writing(count: u64, seed: u64) {
         }
     }
     let Written { records, ranges, malformed, short, fed } = written;
-    println!("records written {records}, with {ranges} joined ranges; refused 51: {malformed}, 50: {short}; written and fed {fed}");
+    println!(
+        "records written {records}, with {ranges} joined ranges; refused 51: {malformed}, 50: {short}; written and fed {fed}"
+    );
     end(count, failed);
 }
 

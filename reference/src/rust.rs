@@ -8,7 +8,8 @@ use std::sync::{Arc, Once};
 
 use mysticeti::block_store::BlockStore;
 use mysticeti::committee::{
-    Authority, Committee, ProcessedTransactionHandler, QuorumThreshold, StakeAggregator, TransactionAggregator, VoteRangeBuilder,
+    Authority, Committee, ProcessedTransactionHandler, QuorumThreshold, StakeAggregator, TransactionAggregator,
+    VoteRangeBuilder,
 };
 use mysticeti::finalization_interpreter::FinalizationInterpreter;
 use mysticeti::make;

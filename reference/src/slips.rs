@@ -241,7 +241,12 @@ fn carried(list: &List, fed: &Fed, reading: Reading, locator: &Locator, rng: &mu
     same("final there", "engine", word, Ok(2 * slip.certifiers.len() as u64 + 1))?;
     for (i, certifier) in slip.certifiers.iter().enumerate() {
         let position = crate::model::record::number(&positions[8 * i..8 * i + 8]);
-        same("certifies there", "engine", Some(position), other.state.stores.get(&certifier.reference).map(|stored| stored.position))?;
+        same(
+            "certifies there",
+            "engine",
+            Some(position),
+            other.state.stores.get(&certifier.reference).map(|stored| stored.position),
+        )?;
     }
     Ok(())
 }

@@ -34,7 +34,13 @@ mod calls {
         pub fn lomkhvide_new_committee(stakes: *const u8, stakes_len: usize) -> u64;
         pub fn lomkhvide_is_quorum(total: u64, amount: u64) -> u64;
         pub fn lomkhvide_is_valid(total: u64, amount: u64) -> u64;
-        pub fn lomkhvide_add(stakes: *const u8, stakes_len: usize, aggregator: *mut u8, aggregator_len: usize, voter: u64) -> u64;
+        pub fn lomkhvide_add(
+            stakes: *const u8,
+            stakes_len: usize,
+            aggregator: *mut u8,
+            aggregator_len: usize,
+            voter: u64,
+        ) -> u64;
         pub fn lomkhvide_next_final(
             stakes: *const u8,
             stakes_len: usize,
@@ -285,7 +291,13 @@ mod calls {
         ) -> u64;
         pub fn lomkhvide_load_stakes(file: *const u8, file_len: usize, stakes: *mut u8, stakes_len: usize) -> u64;
         pub fn lomkhvide_is_open(calendar: *const u8, calendar_len: usize, time: u64) -> u64;
-        pub fn lomkhvide_next_open(calendar: *const u8, calendar_len: usize, time: u64, found: *mut u8, found_len: usize) -> u64;
+        pub fn lomkhvide_next_open(
+            calendar: *const u8,
+            calendar_len: usize,
+            time: u64,
+            found: *mut u8,
+            found_len: usize,
+        ) -> u64;
         pub fn lomkhvide_write_record(
             author: u64,
             round: u64,
@@ -336,11 +348,7 @@ mod calls {
 
 /// Below 2^63 a word is the answer, and 2^63 + n is refusal n.
 fn answer(word: u64) -> Result<u64, Refused> {
-    if word >> 63 == 0 {
-        Ok(word)
-    } else {
-        Err(Refused(word & (u64::MAX >> 1)))
-    }
+    if word >> 63 == 0 { Ok(word) } else { Err(Refused(word & (u64::MAX >> 1))) }
 }
 
 /// Words as they cross: 8 bytes each, lowest first.
@@ -510,7 +518,9 @@ pub enum Vote {
     RepeatedWithQuorum,
     NewBelowQuorum,
     /// Crossed: quorum did not hold before this vote.
-    NewWithQuorum { crossed: bool },
+    NewWithQuorum {
+        crossed: bool,
+    },
 }
 
 impl Vote {
@@ -716,7 +726,8 @@ type FinalityCall = unsafe extern "C" fn(*const u8, usize, *const u8, usize, *mu
 
 type ListCall = unsafe extern "C" fn(*const u8, usize, *const u8, usize, *const u8, usize, *mut u8, usize) -> u64;
 
-type IndexedCall = unsafe extern "C" fn(*const u8, usize, *const u8, usize, *const u64, usize, *const u8, usize, *mut u8, usize) -> u64;
+type IndexedCall =
+    unsafe extern "C" fn(*const u8, usize, *const u8, usize, *const u64, usize, *const u8, usize, *mut u8, usize) -> u64;
 
 /// The stretches that a call has written, by its answer.
 fn stretches_in(number: u64, bytes: &[u8]) -> Stretches {
@@ -1005,7 +1016,13 @@ impl Committee {
         self.indexed_stretches_of(calls::lomkhvide_wide_stretches_indexed, store, index, after)
     }
 
-    fn indexed_stretches_of(&self, call: IndexedCall, store: &[u8], index: &[u64], after: Option<&Locator>) -> Result<Stretches, Refused> {
+    fn indexed_stretches_of(
+        &self,
+        call: IndexedCall,
+        store: &[u8],
+        index: &[u64],
+        after: Option<&Locator>,
+    ) -> Result<Stretches, Refused> {
         let mut stretches = vec![0; 8 * 1280];
         let stakes = &self.stakes;
         let after: &[u8] = after.map_or(&[], |locator| &locator.0);
@@ -1161,14 +1178,7 @@ impl Committee {
         }
         // The slices are lent for the call alone, and the call only reads them.
         answer(unsafe {
-            calls::lomkhvide_read_slip(
-                stakes.as_ptr(),
-                stakes.len(),
-                slip.as_ptr(),
-                slip.len(),
-                framed.as_ptr(),
-                framed.len(),
-            )
+            calls::lomkhvide_read_slip(stakes.as_ptr(), stakes.len(), slip.as_ptr(), slip.len(), framed.as_ptr(), framed.len())
         })
     }
 
@@ -1284,9 +1294,7 @@ impl Committee {
         let stakes = &self.stakes;
         let mut held = bytes_of(&[aggregator.low, aggregator.high, aggregator.stake]);
         // The slices are lent for the call alone, and the one that it writes is this function's own.
-        let word = unsafe {
-            calls::lomkhvide_add(stakes.as_ptr(), stakes.len(), held.as_mut_ptr(), held.len(), voter)
-        };
+        let word = unsafe { calls::lomkhvide_add(stakes.as_ptr(), stakes.len(), held.as_mut_ptr(), held.len(), voter) };
         let vote = Vote::of(answer(word)?);
         let words = words_of(&held);
         *aggregator = Aggregator { low: words[0], high: words[1], stake: words[2] };
@@ -1474,9 +1482,8 @@ impl Calendar {
     pub fn next_open(&self, time: u64) -> Result<Option<u64>, Refused> {
         let mut found = [0; 8];
         // The slices are lent for the call alone, and the one that it writes is this function's own.
-        let word = unsafe {
-            calls::lomkhvide_next_open(self.bytes.as_ptr(), self.bytes.len(), time, found.as_mut_ptr(), found.len())
-        };
+        let word =
+            unsafe { calls::lomkhvide_next_open(self.bytes.as_ptr(), self.bytes.len(), time, found.as_mut_ptr(), found.len()) };
         Ok(if answer(word)? == 1 { Some(u64::from_le_bytes(found)) } else { None })
     }
 }
@@ -1949,9 +1956,21 @@ mod tests {
         assert_eq!(committee.final_stretches(&store, None), Ok(all));
         let last = Stretches { stretches: vec![stretch(2)], more: false };
         assert_eq!(committee.final_stretches(&store, Some(&shares[1])), Ok(last));
-        assert_eq!(committee.wide_stretches(&store, None), committee.final_stretches(&store, None), "every final locator is a share");
-        assert_eq!(committee.final_stretches_withdrawing(&store, None), committee.final_stretches(&store, None), "nobody withdraws");
-        assert_eq!(committee.wide_stretches_withdrawing(&store, None), committee.wide_stretches(&store, None), "nobody withdraws");
+        assert_eq!(
+            committee.wide_stretches(&store, None),
+            committee.final_stretches(&store, None),
+            "every final locator is a share"
+        );
+        assert_eq!(
+            committee.final_stretches_withdrawing(&store, None),
+            committee.final_stretches(&store, None),
+            "nobody withdraws"
+        );
+        assert_eq!(
+            committee.wide_stretches_withdrawing(&store, None),
+            committee.wide_stretches(&store, None),
+            "nobody withdraws"
+        );
         let mut table = fresh_table();
         let pending = |table: &[u8], offset| committee.pending(&store, table, &Locator::new(0, 1, digest, offset));
         assert_eq!(pending(&table, 0), Err(Refused(42)));
@@ -2003,9 +2022,16 @@ mod tests {
         let index: Vec<u64> = [vec![23, 0, 2], run(&mistyped, 5), run(&share, 0), vec![7; 3]].concat();
         assert_eq!(committee.final_stretches_indexed(&store, &index, None), committee.final_stretches(&store, None));
         assert_eq!(committee.wide_stretches_indexed(&store, &index, None), committee.wide_stretches(&store, None));
-        assert_eq!(committee.wide_stretches_indexed(&store, &index, Some(&mistyped)), committee.wide_stretches(&store, Some(&mistyped)));
+        assert_eq!(
+            committee.wide_stretches_indexed(&store, &index, Some(&mistyped)),
+            committee.wide_stretches(&store, Some(&mistyped))
+        );
         for length in 0..23 {
-            assert_eq!(committee.wide_stretches_indexed(&store, &index[..length], None), Err(Refused(54)), "{length} words of the index");
+            assert_eq!(
+                committee.wide_stretches_indexed(&store, &index[..length], None),
+                Err(Refused(54)),
+                "{length} words of the index"
+            );
         }
         for at in 0..23 {
             let mut other = index.clone();
@@ -2026,13 +2052,16 @@ mod tests {
         second.extend(bytes_of(&[1]));
         second.push(0);
         let store = store(&[first, second.clone()]);
-        let shares: Vec<Locator> = (0..3).map(|offset| Locator::new(0, 1, second[16..48].try_into().unwrap(), offset)).collect();
+        let shares: Vec<Locator> =
+            (0..3).map(|offset| Locator::new(0, 1, second[16..48].try_into().unwrap(), offset)).collect();
         for next in [Committee::next_final_withdrawing, Committee::next_wide_withdrawing] {
             assert_eq!(next(&committee, &store, None), Ok(Some(shares[0])));
             assert_eq!(next(&committee, &store, Some(&shares[0])), Ok(Some(shares[2])), "the second was withdrawn");
             assert_eq!(next(&committee, &store, Some(&shares[2])), Ok(None));
         }
-        let runs = |list: Result<Stretches, Refused>| list.unwrap().stretches.iter().map(|one| (one.first, one.end)).collect::<Vec<_>>();
+        let runs = |list: Result<Stretches, Refused>| {
+            list.unwrap().stretches.iter().map(|one| (one.first, one.end)).collect::<Vec<_>>()
+        };
         let apart = [(shares[0], 1), (shares[2], 3)];
         assert_eq!(runs(committee.final_stretches_withdrawing(&store, None)), apart);
         assert_eq!(runs(committee.wide_stretches_withdrawing(&store, None)), apart);
@@ -2150,7 +2179,8 @@ mod tests {
             Given::Reject(at(8), Some(at(9))),
             Given::Range(at(8), 9),
         ];
-        let mut draft = Draft { author: 5, round: 6, digest: [7; 32], marked: true, time: None, includes: vec![[8; 48]], statements };
+        let mut draft =
+            Draft { author: 5, round: 6, digest: [7; 32], marked: true, time: None, includes: vec![[8; 48]], statements };
         let need = 56 + 48 + 5 + 65 + 57 + 114 + 65;
         for length in 0..need + 40 {
             let mut out = vec![9; length];
@@ -2179,12 +2209,21 @@ mod tests {
         let committee = Committee::new(&[1]).unwrap();
         let (mut store, mut table) = (fresh_store(4096), fresh_table());
         let mut record = [0; 4096];
-        let first = Draft { author: 0, round: 0, digest: [1; 32], marked: false, time: None, includes: vec![], statements: vec![] };
+        let first =
+            Draft { author: 0, round: 0, digest: [1; 32], marked: false, time: None, includes: vec![], statements: vec![] };
         let length = first.write(&mut record).unwrap();
         assert_eq!(committee.feed(&mut store, &mut table, &record[..length]), Ok(vec![]));
         let include: [u8; 48] = record[..48].try_into().unwrap();
         let shares = vec![Given::Share(vec![4, 5]), Given::Share(vec![6])];
-        let second = Draft { author: 0, round: 1, digest: [2; 32], marked: false, time: None, includes: vec![include], statements: shares };
+        let second = Draft {
+            author: 0,
+            round: 1,
+            digest: [2; 32],
+            marked: false,
+            time: None,
+            includes: vec![include],
+            statements: shares,
+        };
         let length = second.write(&mut record).unwrap();
         assert_eq!(committee.feed(&mut store, &mut table, &record[..length]), Ok(vec![]));
         assert_eq!(committee.payload(&store, &Locator::new(0, 1, [2; 32], 1)), Ok(&[6][..]));
@@ -2194,7 +2233,8 @@ mod tests {
     #[test]
     fn timed() {
         let committee = Committee::new(&[1]).unwrap();
-        let draft = |time| Draft { author: 0, round: 0, digest: [1; 32], marked: false, time, includes: vec![], statements: vec![] };
+        let draft =
+            |time| Draft { author: 0, round: 0, digest: [1; 32], marked: false, time, includes: vec![], statements: vec![] };
         for time in [None, Some(0), Some(1_700_000_000_000_000_000), Some(u64::MAX)] {
             let (mut store, mut table) = (fresh_store(4096), fresh_table());
             let mut record = [9; 100];

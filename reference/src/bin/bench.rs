@@ -51,7 +51,11 @@ fn table() {
         row(&format!("the same, the Rust with `verify` and its store, {name}"), engine, rust_feed_checked(&blocks));
         let (indexed, index) = fed_indexed(&blocks);
         let wide = wide_list_indexed(&indexed, &index);
-        row(&format!("wide list in bulk with the index, {name} ({wide} final)"), least(|| wide_list_indexed(&indexed, &index)), rust);
+        row(
+            &format!("wide list in bulk with the index, {name} ({wide} final)"),
+            least(|| wide_list_indexed(&indexed, &index)),
+            rust,
+        );
         row(&format!("ordinary list in bulk with the index, {name}"), least(|| final_list_indexed(&indexed, &index)), rust);
         // Refused right after the index (20): as often as the list is asked.
         let calls = wide.div_ceil(128).max(1);
@@ -84,7 +88,8 @@ fn withdrawing() {
         for block in &mut blocks {
             let owner = block.reference.author;
             let first = block.includes.first().copied();
-            let rejected = first.into_iter().flat_map(|block| (0..rejects).map(move |i| (block, if owner == 3 { i } else { i + 5 })));
+            let rejected =
+                first.into_iter().flat_map(|block| (0..rejects).map(move |i| (block, if owner == 3 { i } else { i + 5 })));
             block.statements.extend(rejected.map(|(block, offset)| Statement::Reject(Locator::new(block, offset), None)));
         }
         let memory = fed(&blocks);

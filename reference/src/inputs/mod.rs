@@ -137,7 +137,9 @@ fn withdrawing(page: &str) -> Result<(), String> {
         let blocks = course::withdrawn(cells[1].parse().ok());
         let mut state = State::default();
         for block in &blocks {
-            state.feed(&committee, 65_536, EVENT_BYTES, &block.encode()).map_err(|number| format!("a record is refused: {number}"))?;
+            state
+                .feed(&committee, 65_536, EVENT_BYTES, &block.encode())
+                .map_err(|number| format!("a record is refused: {number}"))?;
         }
         let graph = Graph::new(&committee, &state.stores);
         let certify = |reading| {
@@ -168,7 +170,9 @@ fn following(page: &str) -> Result<(), String> {
         let cells: Vec<&str> = row.split('|').map(str::trim).collect();
         let mut state = State::default();
         for block in course::following(cells[1]) {
-            state.feed(&committee, 65_536, EVENT_BYTES, &block.encode()).map_err(|number| format!("a record is refused: {number}"))?;
+            state
+                .feed(&committee, 65_536, EVENT_BYTES, &block.encode())
+                .map_err(|number| format!("a record is refused: {number}"))?;
         }
         let table = *loading::stored_shares(&state.stores).last().expect("the table");
         let right = loading::is_loadable(&Graph::new(&committee, &state.stores), &state.stores, &table);
@@ -203,5 +207,8 @@ pub fn run(check: bool) -> Vec<Result<(), String>> {
         exercise(&page, name, input, *mistake)
     });
     let files = files(&inputs);
-    exercises.chain([ringing(&page), withdrawing(&page), following(&page)]).chain(files.iter().map(|(place, content)| file(place, content, check))).collect()
+    exercises
+        .chain([ringing(&page), withdrawing(&page), following(&page)])
+        .chain(files.iter().map(|(place, content)| file(place, content, check)))
+        .collect()
 }

@@ -74,14 +74,7 @@ pub fn pending(stakes: &[u8], store: &[u8], table: &[u8], locator: &[u8]) -> Res
 }
 
 /// Whom to ring: the number of owners, and three words, their set and their stake. 40 stands between the pending question's 20 and 42.
-pub fn whom_to_ring(
-    stakes: &[u8],
-    store: &[u8],
-    table: &[u8],
-    reachable: u128,
-    locator: &[u8],
-    found: &mut [u8],
-) -> Answer {
+pub fn whom_to_ring(stakes: &[u8], store: &[u8], table: &[u8], reachable: u128, locator: &[u8], found: &mut [u8]) -> Answer {
     let votes = match pending(stakes, store, table, locator) {
         Err(number) if number != 42 => return Err(number),
         _ if found.len() != 24 => return Err(40),

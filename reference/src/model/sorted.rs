@@ -7,7 +7,13 @@ use super::record::{number, Locator, Reference};
 use super::store::Stores;
 
 /// The number of locators, with their replies in front of the words that are lent; or the first refusal after 10.
-pub fn answer_sorted(committee: &Committee, stores: &Stores, index: &[u64], bytes: &[u8], replies: &mut [u64]) -> Result<u64, u64> {
+pub fn answer_sorted(
+    committee: &Committee,
+    stores: &Stores,
+    index: &[u64],
+    bytes: &[u8],
+    replies: &mut [u64],
+) -> Result<u64, u64> {
     let right = afresh(stores);
     let used = index.first().map(|used| *used as usize);
     if used.is_none_or(|used| index.get(..used) != Some(&right)) {
