@@ -898,11 +898,31 @@ impl Committee {
     }
 
     /// The least final stored share after a given locator in the reading in which an owner may withdraw.
+    ///
+    /// ```
+    /// # fn main() -> Result<(), lomkhvide::Refused> {
+    /// # use lomkhvide::*;
+    /// // One owner, who has shared a change in round 1 and withdrawn nothing.
+    /// let Sample { committee, store, share, .. } = sample();
+    /// assert_eq!(committee.next_final_withdrawing(&store, None)?, Some(share));
+    /// # Ok(())
+    /// # }
+    /// ```
     pub fn next_final_withdrawing(&self, store: &[u8], after: Option<&Locator>) -> Result<Option<Locator>, Refused> {
         self.next_of(calls::lomkhvide_next_final_withdrawing, store, after)
     }
 
     /// The least final locator after a given one, stored or not, in that reading.
+    ///
+    /// ```
+    /// # fn main() -> Result<(), lomkhvide::Refused> {
+    /// # use lomkhvide::*;
+    /// // One owner, who has shared a change in round 1 and withdrawn nothing.
+    /// let Sample { committee, store, share, .. } = sample();
+    /// assert_eq!(committee.next_wide_withdrawing(&store, Some(&share))?, None);
+    /// # Ok(())
+    /// # }
+    /// ```
     pub fn next_wide_withdrawing(&self, store: &[u8], after: Option<&Locator>) -> Result<Option<Locator>, Refused> {
         self.next_of(calls::lomkhvide_next_wide_withdrawing, store, after)
     }
@@ -959,11 +979,31 @@ impl Committee {
     }
 
     /// The ordinary list in the reading in which an owner may withdraw.
+    ///
+    /// ```
+    /// # fn main() -> Result<(), lomkhvide::Refused> {
+    /// # use lomkhvide::*;
+    /// // One owner, who has shared a change in round 1 and withdrawn nothing.
+    /// let Sample { committee, store, share, .. } = sample();
+    /// assert_eq!(committee.final_stretches_withdrawing(&store, None), committee.final_stretches(&store, None));
+    /// # Ok(())
+    /// # }
+    /// ```
     pub fn final_stretches_withdrawing(&self, store: &[u8], after: Option<&Locator>) -> Result<Stretches, Refused> {
         self.stretches_of(calls::lomkhvide_final_stretches_withdrawing, store, after)
     }
 
     /// The wide list in that reading.
+    ///
+    /// ```
+    /// # fn main() -> Result<(), lomkhvide::Refused> {
+    /// # use lomkhvide::*;
+    /// // One owner, who has shared a change in round 1 and withdrawn nothing.
+    /// let Sample { committee, store, share, .. } = sample();
+    /// assert_eq!(committee.wide_stretches_withdrawing(&store, None)?.stretches[0].first, share);
+    /// # Ok(())
+    /// # }
+    /// ```
     pub fn wide_stretches_withdrawing(&self, store: &[u8], after: Option<&Locator>) -> Result<Stretches, Refused> {
         self.stretches_of(calls::lomkhvide_wide_stretches_withdrawing, store, after)
     }
@@ -1199,6 +1239,18 @@ impl Committee {
     }
 
     /// The same in the reading in which an owner may withdraw.
+    ///
+    /// ```
+    /// # fn main() -> Result<(), lomkhvide::Refused> {
+    /// # use lomkhvide::*;
+    /// // One owner, who has shared a change in round 1 and withdrawn nothing.
+    /// let Sample { committee, store, share, .. } = sample();
+    /// let mut slip = [0; 200];
+    /// committee.write_slip_withdrawing(&store, &share, &mut slip)?;
+    /// assert_eq!(slip[0], 1, "the first byte names the reading");
+    /// # Ok(())
+    /// # }
+    /// ```
     pub fn write_slip_withdrawing(&self, store: &[u8], locator: &Locator, out: &mut [u8]) -> Result<usize, Refused> {
         self.written_slip(calls::lomkhvide_write_slip_withdrawing, store, locator, out)
     }

@@ -1,10 +1,9 @@
-//! Every public item of the crate's own types has an example in its documentation, which `cargo test` runs.
+//! Every public item of the crate has an example in its documentation, which `cargo test` runs.
 
 use std::fs;
 use std::path::Path;
 
-/// The files of these types; the wrapper of the calls, `lib.rs`, has its tests beside it.
-const FILES: [&str; 5] = ["engine.rs", "record.rs", "refusal.rs", "slip.rs", "types.rs"];
+const FILES: [&str; 6] = ["lib.rs", "engine.rs", "record.rs", "refusal.rs", "slip.rs", "types.rs"];
 
 const PUBLIC: [&str; 4] = ["pub fn ", "pub struct ", "pub enum ", "pub const "];
 
@@ -15,7 +14,10 @@ fn every_public_item_has_an_example() {
         let path = Path::new(env!("CARGO_MANIFEST_DIR")).join("src").join(file);
         let text = fs::read_to_string(path).unwrap();
         let lines: Vec<&str> = text.lines().map(str::trim).collect();
-        for (i, line) in lines.iter().enumerate().filter(|(_, line)| PUBLIC.iter().any(|public| line.starts_with(public))) {
+        // The declarations of the engine's calls are seen by `lib.rs` alone.
+        let public =
+            |line: &str| PUBLIC.iter().any(|public| line.starts_with(public)) && !line.starts_with("pub fn lomkhvide_");
+        for (i, line) in lines.iter().enumerate().filter(|(_, line)| public(line)) {
             let above = lines[..i].iter().rev().take_while(|line| line.starts_with("///") || line.starts_with("#["));
             assert!(above.filter(|line| **line == "/// ```").count() == 2, "{file}, line {}: {line}", i + 1);
             items += 1;
