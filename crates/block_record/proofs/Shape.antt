@@ -1,15 +1,15 @@
 -- A record that is well formed: where each part of its block stands in it. Assumes nothing.
 use mathlib.Core.Path.{_≡_, refl, sym, ap, _∙_}
-use mathlib.Core.List.{List, []}
+use mathlib.Core.List.{List, [], _++_}
 use mathlib.Core.Option.{Option, none, some}
 use mathlib.Core.Bool.{Bool, true, false, not}
 use Prim.Native.Nat.{ℕ, _+_, _*_, _≤_, _<_}
 use native.Mathlib.Omega.{arith}
 use native.Mathlib.Decide.{decLe}
 use lib.Dec.{eqb}
-use lib.ListN.{length, getD, drop}
-use lib.Seq.{drop-drop}
-use Rattle.base.specs.Le.{leAt}
+use lib.ListN.{length, getD, take, drop, length-append, length-drop, take-append-drop}
+use lib.Seq.{drop-drop, take-append-le, drop-append-le}
+use Rattle.base.specs.Le.{Bytes, leAt}
 use Rattle.base.specs.Read.{give, onward, _>>=_, repeated}
 use Rattle.base.proofs.Tests.{not-both}
 use Rattle.base.proofs.Le.{leAt-byte}
@@ -88,3 +88,29 @@ module _ (s : List ℕ) (b : Block) (h : Shape s b) where
 
   pub statement-count : length (b .statements) ≡ leAt 2 s 51
   statement-count = repeated-length readStatement (leAt 2 s 51) (drop (bodyStart s + leAt 2 s 49 * 48) s) (part (b .statements) []) (h .statements)
+
+-- ---- a record within other bytes
+
+reference-front : (xs ys : Bytes) → 48 ≤ length xs → referenceAt (xs ++ ys) 0 ≡ referenceAt xs 0
+unfolding referenceAt leAt
+reference-front xs ys h =
+    rw (
+      take-append-le 8 xs ys (omega arith),
+      drop-append-le 8 xs ys (omega arith),
+      take-append-le 8 (drop 8 xs) ys (omega (arith, length-drop 8 xs)),
+      drop-append-le 16 xs ys (omega arith),
+      take-append-le 32 (drop 16 xs) ys (omega (arith, length-drop 16 xs)),
+    )
+
+reference-on : (s : Bytes) (p : ℕ) → referenceAt (drop p s) 0 ≡ referenceAt s p
+unfolding referenceAt leAt
+reference-on s p = rw (drop-drop 8 p s, drop-drop 16 p s)
+
+-- its reference stands where it begins
+pub reference-within : (s : Bytes) (p n : ℕ) → wellFormed (take n (drop p s)) ≡ true → (p + 48 ≤ length s) × (referenceAt s p ≡ blockIn (take n (drop p s)) .reference)
+reference-within s p n w =
+    let h : Shape (take n (drop p s)) (blockIn (take n (drop p s))) = shape-in (take n (drop p s)) w in
+    let whole : take n (drop p s) ++ drop n (drop p s) ≡ drop p s = take-append-drop n (drop p s) in (
+      omega (arith, h .long, ap length whole, length-append (take n (drop p s)) (drop n (drop p s)), length-drop p s),
+      sym (reference-on s p) ∙ ap (λ (l : Bytes). referenceAt l 0) (sym whole) ∙ reference-front (take n (drop p s)) (drop n (drop p s)) (omega (arith, h .long)) ∙ sym (h .reference),
+    )

@@ -1,6 +1,7 @@
 // The vote of one stored block, and the stored blocks in ascending reference order. Follows finalization_interpreter.rs.
 use authority_set::AuthoritySet;
 use block_record::BaseStatement;
+use reference_search::FoundPlace;
 use types::BlockReference;
 use types::Ordering;
 use types::TransactionLocator;
@@ -164,29 +165,15 @@ pub fn sorted_positions(store: &[u8], order: &mut [u64]) -> usize
     count
 }
 
-// The place of a stored block among the positions in ascending reference order, by binary search.
+// The place of a stored block among the positions in ascending reference order.
 pub fn place_of(store: &[u8], order: &[u64], block: BlockReference) -> usize
     requires { ⌜ SortedStore (now store) (now order) × (isStored (recordsOf (now store)) (asReference block) ≡ true) ⌝ }
     ensures { λ r. ⌜ (r < length (now (order .entry))) × (blockAtPlace (now (store .entry)) (now (order .entry)) r .reference ≡ asReference block) ⌝ }
 {
-    let mut low = 0;
-    let mut high = order.len();
-    while low < high {
-        let middle = low + (high - low) / 2;
-        let at = order[middle] as usize;
-        let compared = types::compare(store_order::reference_at(store, at), block);
-        match compared {
-            Ordering::Equal => {
-                return middle;
-            }
-            Ordering::Less => {
-                low = middle + 1;
-            }
-            Ordering::Greater => {
-                high = middle;
-            }
-        }
+    let found = reference_search::find_place(store, order, 8, block);
+    match found {
+        FoundPlace::At(k) => k,
+        // Never so: the block is stored.
+        FoundPlace::Before(_) => 0,
     }
-    // Never so: the block is stored.
-    0
 }

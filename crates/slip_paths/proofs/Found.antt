@@ -18,7 +18,7 @@ use Rattle.blocks.specs.Block.{Block}
 use Rattle.blocks.proofs.References.{reference-same, same-reference, reference-irrefl}
 use Rattle.slips.specs.Paths.{named}
 use Rattle.slip_records.specs.Places.{blockAtPlace, referenceIn, Sorted, Places}
-use Rattle.slip_records.specs.Step.{Between}
+use Rattle.reference_search.specs.Places.{Between}
 
 -- where the test holds of an element, one is found
 find-some : {A : Type 0} (p : A → Bool) {x : A} (xs : List A) → x ∈ xs → p x ≡ true → (y : A) × (find p xs ≡ some y)
@@ -55,7 +55,7 @@ module _ (q : Bytes) (bs : List Block) (order : List ℕ) (p : Places q bs order
       y .1 ∙ ap some (sym (x .2) ∙ ap (blockAtPlace q order) same)
 
   -- none is, where the reference stands between the places
-  pub named-nowhere : (i : ℕ) → Between q order r i → named bs r ≡ none
+  pub named-nowhere : (i : ℕ) → Between (length order) (referenceIn q order) r i → named bs r ≡ none
   unfolding named
   named-nowhere i b = go (find asked bs) refl
     where

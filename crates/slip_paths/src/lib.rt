@@ -1,5 +1,5 @@
 // Paths of include places over the records that come with a slip, and what a voter's path shows.
-use slip_records::Place;
+use reference_search::FoundPlace;
 use types::BlockReference;
 use types::TransactionLocator;
 ghost use Prim.Native.Nat.{_≤_, _<_};
@@ -59,10 +59,10 @@ pub fn find(records: &[u8], order: &[u64], block: BlockReference) -> Led
     requires { ⌜ Places (now records) (suppliedBlocks (now records)) (now order) ⌝ }
     ensures { λ r. ⌜ LedTo (now (records .entry)) (now (order .entry)) r (onFrom toBlock (named (suppliedBlocks (now (records .entry))) (asReference block))) ⌝ }
 {
-    let found = slip_records::place_of(records, order, block);
+    let found = reference_search::find_place(records, order, 4, block);
     match found {
-        Place::At(j) => Led::To(j),
-        Place::Before(_) => Led::NotGiven,
+        FoundPlace::At(j) => Led::To(j),
+        FoundPlace::Before(_) => Led::NotGiven,
     }
 }
 

@@ -1,12 +1,36 @@
--- A record by its position. Assumes nothing.
+-- A record by its position, and the search by reference. Assumes nothing.
 use mathlib.Core.Path.{_≡_}
-use Prim.Native.Nat.{ℕ, _+_, _-_}
+use mathlib.Core.List.{List}
+use Prim.Native.Nat.{ℕ, _+_, _-_, _≤_, _<_}
 use native.Mathlib.Nat.{add-sub-cancel-left}
-use lib.ListN.{take, drop}
+use lib.ListN.{length, getD, take, drop}
 use Rattle.base.specs.Le.{Bytes, leAt}
-use Rattle.slip_records.specs.Places.{recordFrom}
+use Rattle.blocks.specs.Reference.{BlockReference}
+use Rattle.types.specs.Step.{referenceAt}
+use Rattle.block_record.proofs.Shape.{reference-within}
+use Rattle.reference_search.specs.Places.{referenceFrom, Ascending, Between, FoundAmong}
+use Rattle.reference_search.specs.declared.FoundPlace.{FoundPlace}
+use Rattle.reference_search.specs.declared.FoundPlace.the-variants.{At, Before}
+use Rattle.reference_search.proofs.Known.{known-ascend, known-at, known-between}
+use Rattle.slip_records.specs.Places.{recordFrom, blockFrom, blockAtPlace, referenceIn, Sorted}
 
 -- a record lent as a part of all
 pub record-part : (q : Bytes) (p end : ℕ) → end ≡ p + 4 + leAt 4 q p → take (end - (p + 4)) (drop (p + 4) q) ≡ recordFrom q p
 unfolding recordFrom
 record-part q p end h = rw (h, add-sub-cancel-left (p + 4) (leAt 4 q p))
+
+-- ---- by reference
+
+module _ (q : Bytes) (order : List ℕ) (s : Sorted q order) where
+  stand : (j : ℕ) → j < length order → (getD order j 0 + 4 + 48 ≤ length q) × (referenceAt q (getD order j 0 + 4) ≡ referenceIn q order j)
+  unfolding recordFrom blockFrom blockAtPlace
+  stand j h = reference-within q (getD order j 0 + 4) (leAt 4 q (getD order j 0)) (s .framed j h .formed)
+
+  pub sorted-ascends : Ascending q order 4
+  sorted-ascends = known-ascend q order 4 (referenceIn q order) stand (s .rises)
+
+  pub sorted-at : (r : BlockReference) (p : FoundPlace) (j : ℕ) → p ≡ At j → FoundAmong (length order) (referenceFrom q order 4) r p → (j < length order) × (referenceIn q order j ≡ r)
+  sorted-at = known-at q order 4 (referenceIn q order) stand
+
+  pub sorted-between : (r : BlockReference) (p : FoundPlace) (j : ℕ) → p ≡ Before j → FoundAmong (length order) (referenceFrom q order 4) r p → Between (length order) (referenceIn q order) r j
+  sorted-between = known-between q order 4 (referenceIn q order) stand

@@ -1,6 +1,7 @@
 // Whether a lent store is in order (10): entries, chain, and each record accepted after those before it.
 use committee::NewCommittee;
 use committee::Stake;
+use reference_search::FoundPlace;
 use types::BlockReference;
 use types::Ordering;
 ghost use Prim.Native.Nat.{_+_, _≤_};
@@ -155,30 +156,15 @@ fn chain_right(store: &[u8], starts: &[u64], order: &mut [u64]) -> bool
     at == 0
 }
 
-// The position of the block of that reference, by binary search among the positions in ascending reference order; zero where it is not stored.
+// The position of the block of that reference, by its place among the positions in ascending reference order; zero where it is not stored.
 fn find_ordered(store: &[u8], order: &[u64], block: BlockReference) -> usize
     requires { ⌜ (laidOut (now store) ≡ true) × (now order ≡ sortedPositions (recordsOf (now store))) ⌝ }
     ensures { λ r. ⌜ r ≡ positionOf (lookup (entries (recordsOf (now (store .entry)))) (asReference block)) ⌝ }
 {
-    let mut low = 0;
-    let mut high = order.len();
-    while low < high {
-        let middle = low + (high - low) / 2;
-        let at = order[middle] as usize;
-        let compared = types::compare(reference_at(store, at), block);
-        match compared {
-            Ordering::Equal => {
-                return at;
-            }
-            Ordering::Less => {
-                low = middle + 1;
-            }
-            Ordering::Greater => {
-                high = middle;
-            }
-        }
-    }
-    0
+    let FoundPlace::At(k) = reference_search::find_place(store, order, 8, block) else {
+        return 0;
+    };
+    order[k] as usize
 }
 
 // Whether every include of a record is stored before a position.

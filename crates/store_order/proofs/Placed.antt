@@ -1,0 +1,36 @@
+-- The search by reference among the entries of a store. Assumes nothing.
+use mathlib.Core.Path.{_≡_}
+use mathlib.Core.List.{List}
+use mathlib.Core.Bool.{true}
+use Prim.Native.Nat.{ℕ, _+_, _≤_, _<_}
+use native.Mathlib.Omega.{arith}
+use lib.ListN.{length, getD}
+use Rattle.base.specs.Le.{Bytes, leAt}
+use Rattle.blocks.specs.Reference.{BlockReference}
+use Rattle.types.specs.Step.{referenceAt}
+use Rattle.block_record.proofs.Shape.{reference-within}
+use Rattle.reference_search.specs.Places.{referenceFrom, Ascending, Between, FoundAmong}
+use Rattle.reference_search.specs.declared.FoundPlace.{FoundPlace}
+use Rattle.reference_search.specs.declared.FoundPlace.the-variants.{At, Before}
+use Rattle.reference_search.proofs.Known.{known-ascend, known-at, known-between}
+use Rattle.store_layout.specs.Layout.{entries, positionOf, lookup}
+use Rattle.store_layout.specs.Store.{recordsOf}
+use Rattle.store_layout.specs.Entry.{recordAt, blockAt, sortedPositions, laidOut}
+use Rattle.store_layout.proofs.Loops.{entry-room}
+use Rattle.store_layout.proofs.Search.{referenceIn, order-entry, order-rises, found-nowhere}
+
+module _ (s : Bytes) (h : laidOut s ≡ true) (order : List ℕ) (q : order ≡ sortedPositions (recordsOf s)) where
+  stand : (j : ℕ) → j < length order → (getD order j 0 + 8 + 48 ≤ length s) × (referenceAt s (getD order j 0 + 8) ≡ referenceIn s order j)
+  unfolding referenceIn blockAt recordAt
+  stand j l = reference-within s (getD order j 0 + 8) (leAt 4 s (getD order j 0 + 4)) (entry-room s (getD order j 0) (order-entry s h order q j l) .formed)
+
+  pub order-ascends : Ascending s order 8
+  order-ascends = known-ascend s order 8 (referenceIn s order) stand (order-rises s h order q)
+
+  pub order-at : (r : BlockReference) (p : FoundPlace) (j : ℕ) → p ≡ At j → FoundAmong (length order) (referenceFrom s order 8) r p → (j < length order) × (referenceIn s order j ≡ r)
+  order-at = known-at s order 8 (referenceIn s order) stand
+
+  pub order-misses : (r : BlockReference) (p : FoundPlace) (j : ℕ) → p ≡ Before j → FoundAmong (length order) (referenceFrom s order 8) r p → 0 ≡ positionOf (lookup (entries (recordsOf s)) r)
+  order-misses r p j e f =
+      let b : Between (length order) (referenceIn s order) r j = known-between s order 8 (referenceIn s order) stand r p j e f in
+      found-nowhere s h order q r j j (omega arith) (record { order = omega arith; inside = b .most; below = b .below; above = b .above })
