@@ -15,7 +15,7 @@ use Rattle.blocks.specs.Reference.{BlockReference, referenceBefore}
 use Rattle.blocks.specs.Block.{Block}
 use Rattle.types.specs.Values.{referenceOrder}
 use Rattle.types.specs.declared.Ordering.the-variants.{Less, Equal, Greater}
-use Rattle.blocks.proofs.References.{reference-irrefl, reference-trans}
+use Rattle.blocks.proofs.References.{reference-same, reference-irrefl, reference-trans}
 use Rattle.store_layout.specs.Layout.{Entry, referenceOf, entries, positionOf, firstPosition, ascending, lookup}
 use Rattle.store_layout.specs.Store.{blockCount, recordsOf}
 use Rattle.store_layout.specs.Entry.{blockAt, laidOut, isEntry}
@@ -23,7 +23,7 @@ use Rattle.store_layout.specs.Step.{first}
 use Rattle.block_store.specs.Step.{LastAt, none-last, last-at, Between}
 use Rattle.store_layout.proofs.Chain.{lower, Ascending, least-first, ascending-ascends, next-after}
 use Rattle.store_layout.proofs.Visit.{ascending-in, in-ascending, length-ascending, length-entries}
-use Rattle.store_order.proofs.Compared.{compared-less, compared-equal, compared-greater}
+use Rattle.types.proofs.Words.{compared-less, compared-equal, compared-greater}
 use Rattle.store_layout.proofs.Loops.{is-entry, block-of-entry}
 use Rattle.store_layout.proofs.Lookups.{lookup-hit, lookup-miss}
 use Rattle.store_layout.proofs.Search.{laid-out}
@@ -141,22 +141,22 @@ module _ (s : Bytes) (h : laidOut s ≡ true) (r : BlockReference) where
     -- the same by what comparing tells
     module _ (l : 0 < left) (x : BlockReference) (q : x ≡ blockAt s at .reference) where
       pub met-hit : referenceOrder x r ≡ Equal → at ≡ positionOf (lookup es r)
-      met-hit o = along-hit l (sym q ∙ compared-equal x r o)
+      met-hit o = along-hit l (sym q ∙ reference-same x r (compared-equal x r o))
 
       pub met-found : referenceOrder x r ≡ Equal → isNone (lookup es r) ≡ false
       unfolding isNone
       met-found o =
           let e : Coming = coming l in
-          rw (lookup-hit es (laid-out s h .chain .distinct) (e .entry) (e .stored) r (sym (ap (λ (b : Block). b .reference) (e .block)) ∙ sym q ∙ compared-equal x r o))
+          rw (lookup-hit es (laid-out s h .chain .distinct) (e .entry) (e .stored) r (sym (ap (λ (b : Block). b .reference) (e .block)) ∙ sym q ∙ reference-same x r (compared-equal x r o)))
 
       pub met-high : referenceOrder x r ≡ Greater → Every (λ e. referenceBefore r (referenceOf e) ≡ true) (a .rest)
-      met-high o = along-high l (rw (← q) (compared-greater x r o))
+      met-high o = along-high l (rw (← q) (compared-greater x r o .1))
 
       pub met-past : referenceOrder x r ≡ Greater → lookup es r ≡ none
       met-past o = missed (met-high o)
 
       pub met-on : (next : ℕ) → referenceOrder x r ≡ Less → next ≡ leAt 4 s at → Along s r next (left - 1)
-      met-on next o = along-on next l (rw (← q) (compared-less x r o))
+      met-on next o = along-on next l (rw (← q) (compared-less x r o .1))
 
       -- where the last that was passed stands
       pub met-last : (next below : ℕ) (o : referenceOrder x r ≡ Less) (p : next ≡ leAt 4 s at) → LastAt (a .passed) below → LastAt (met-on next o p .passed) at

@@ -27,7 +27,8 @@ use Rattle.store_layout.proofs.Lookups.{lookup-in}
 use Rattle.store_layout.proofs.Search.{laid-out}
 use Rattle.store_layout.proofs.Shares.{share-looked-up}
 use Rattle.store_layout.proofs.Visit.{one-position}
-use Rattle.store_order.proofs.Compared.{compared-equal}
+use Rattle.blocks.proofs.References.{reference-same}
+use Rattle.types.proofs.Words.{compared-equal}
 use Rattle.feeds.specs.ProcessBlock.{missed}
 use Rattle.events.specs.Step.{withNew}
 use Rattle.feeds.proofs.ProcessBlock.{lookup-new}
@@ -60,7 +61,7 @@ module _ (s rec : Bytes) (r : BlockReference) where
 
   pub position-own : referenceOrder (blockIn rec .reference) r ≡ Equal → positionOf (lookup (withNew s rec) r) ≡ usedBy (recordsOf s)
   unfolding positionOf new
-  position-own h = rw (with-new, ← compared-equal (blockIn rec .reference) r h, lookup-new (entries (recordsOf s)) new)
+  position-own h = rw (with-new, ← reference-same (blockIn rec .reference) r (compared-equal (blockIn rec .reference) r h), lookup-new (entries (recordsOf s)) new)
 
   other : sameReference (blockIn rec .reference) r ≡ false → positionOf (lookup (withNew s rec) r) ≡ positionOf (lookup (entries (recordsOf s)) r)
   unfolding lookup find new

@@ -14,7 +14,7 @@ use Rattle.blocks.proofs.References.{locator-irrefl, locator-trans, locator-sam
 use Rattle.types.specs.Values.{locatorOrder}
 use Rattle.types.specs.declared.Ordering.{Ordering}
 use Rattle.types.specs.declared.Ordering.the-variants.{Less, Equal, Greater}
-use Rattle.block_votes.proofs.Compared.{order-less, order-equal, order-greater}
+use Rattle.types.proofs.Words.{order-less, order-equal, order-greater}
 use Rattle.voters_index.specs.Walk.{Place}
 use Rattle.index_marks.specs.Marks.{Left, runAt, startFrom, lesserBy, lesserStart, FirstStart}
 

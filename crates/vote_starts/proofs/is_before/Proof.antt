@@ -3,7 +3,7 @@ use Rattle.types.specs.Values.{asLocator, locatorOrder}
 use Rattle.blocks.specs.Reference.{sameLocator, locatorBefore}
 use Rattle.blocks.proofs.References.{locator-irrefl, locator-same}
 use Rattle.base.proofs.Tests.{fails}
-use Rattle.block_votes.proofs.Compared.{order-less, order-equal, order-greater}
+use Rattle.types.proofs.Words.{order-less, order-equal, order-greater}
 use borrow.Author.Needs.{needs}
 use Rattle.vote_starts.proofs.is_before.Statement.{statement}
 use Rattle.vote_starts.proofs.is_before.Tie as tie
