@@ -74,7 +74,7 @@ pub fn says_at(store: &[u8], at: usize, locator: TransactionLocator, rejecting: 
         return block_votes::votes_at(store, at, locator);
     }
     let from = at + 8;
-    let end = store_order::record_end(store, at);
+    let end = store_entries::record_end(store, at);
     rejects(&store[from..end], locator)
 }
 
@@ -86,7 +86,7 @@ fn own_reject_at(store: &[u8], at: usize, locator: TransactionLocator) -> Author
     if !says_at(store, at, locator, true) {
         return AuthoritySet::new();
     }
-    let block = store_order::reference_at(store, at);
+    let block = store_entries::reference_at(store, at);
     AuthoritySet::new().insert(block.authority)
 }
 

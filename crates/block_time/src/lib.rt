@@ -30,7 +30,7 @@ pub fn creation_time(stakes: &[u64], store: &[u8], reference: BlockReference) ->
         return TimeAnswer::NoTime;
     }
     let from = at + 8;
-    let end = store_order::record_end(store, at);
+    let end = store_entries::record_end(store, at);
     match block_record::creation_time(&store[from..end]) {
         CreationTime::Given(time) => TimeAnswer::Found(time),
         CreationTime::NotGiven => TimeAnswer::NoTime,

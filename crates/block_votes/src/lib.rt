@@ -103,7 +103,7 @@ pub fn votes_at(store: &[u8], at: usize, locator: TransactionLocator) -> bool
     ensures { λ r. ⌜ r ≡ votesFor (blockAt (now (store .entry)) at) (asLocator locator) ⌝ }
 {
     let from = at + 8;
-    let end = store_order::record_end(store, at);
+    let end = store_entries::record_end(store, at);
     votes_for(&store[from..end], locator)
 }
 
@@ -115,7 +115,7 @@ pub fn own_vote_at(store: &[u8], at: usize, locator: TransactionLocator) -> Auth
     if !votes_at(store, at, locator) {
         return AuthoritySet::new();
     }
-    let block = store_order::reference_at(store, at);
+    let block = store_entries::reference_at(store, at);
     AuthoritySet::new().insert(block.authority)
 }
 
@@ -125,7 +125,7 @@ pub fn include_count_at(store: &[u8], at: usize) -> usize
     ensures { λ r. ⌜ r ≡ length (blockAt (now (store .entry)) at .includes) ⌝ }
 {
     let from = at + 8;
-    let end = store_order::record_end(store, at);
+    let end = store_entries::record_end(store, at);
     block_record::include_count(&store[from..end])
 }
 
@@ -135,7 +135,7 @@ pub fn include_at(store: &[u8], at: usize, j: usize) -> BlockReference
     ensures { λ r. ⌜ asReference r ≡ getD (blockAt (now (store .entry)) at .includes) j noReference ⌝ }
 {
     let from = at + 8;
-    let end = store_order::record_end(store, at);
+    let end = store_entries::record_end(store, at);
     block_record::include(&store[from..end], j)
 }
 
@@ -145,7 +145,7 @@ pub fn epoch_changed_at(store: &[u8], at: usize) -> bool
     ensures { λ r. ⌜ r ≡ blockAt (now (store .entry)) at .marked ⌝ }
 {
     let from = at + 8;
-    let end = store_order::record_end(store, at);
+    let end = store_entries::record_end(store, at);
     block_record::epoch_changed(&store[from..end])
 }
 

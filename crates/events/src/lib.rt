@@ -125,7 +125,7 @@ fn missed_events(
         return missed_in(rec, events, n, statement, start, end);
     }
     let from = at + 8;
-    let stop = store_order::record_end(store, at);
+    let stop = store_entries::record_end(store, at);
     missed_in(&store[from..stop], events, n, statement, start, end)
 }
 

@@ -125,7 +125,7 @@ fn walk(
             continue;
         }
         blocks += 1;
-        let block = store_order::reference_at(store, at);
+        let block = store_entries::reference_at(store, at);
         authors = authors.insert(block.authority);
     }
     Certifiers { blocks, authors }

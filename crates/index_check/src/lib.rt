@@ -75,12 +75,12 @@ pub fn index_agrees(store: &[u8], order: &[u64], index: &[u64], starts: &mut [u6
     let mut i: usize = 0;
     while i < order.len() {
         let from = at + 8;
-        let end = store_order::record_end(store, at);
+        let end = store_entries::record_end(store, at);
         let ended = record_part_end(store, order, starts, index, &store[from..end], pos);
         let PartEnd::Ends(next) = ended else {
             return false;
         };
-        let place = block_votes::place_of(store, order, store_order::reference_at(store, at));
+        let place = block_votes::place_of(store, order, store_entries::reference_at(store, at));
         starts[place] = pos as u64;
         pos = next;
         at = end;

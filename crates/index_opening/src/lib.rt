@@ -91,13 +91,13 @@ pub fn open_cursors(
     let mut j = order.len();
     while 0 < j {
         j -= 1;
-        let block = store_order::reference_at(store, at);
+        let block = store_entries::reference_at(store, at);
         let start = starts[block_votes::place_of(store, order, block)] as usize;
         let marked = block_votes::epoch_changed_at(store, at);
         let opened = open_part(stakes, total, index, start, marked, place);
         ends[j] = opened.end as u64;
         cursors[j] = opened.at as u64;
         owners[j] = block.authority.0;
-        at = store_order::record_end(store, at);
+        at = store_entries::record_end(store, at);
     }
 }

@@ -107,7 +107,7 @@ pub fn list_all(
     while k < order.len() {
         let at = order[k] as usize;
         let from = at + 8;
-        let end = store_order::record_end(store, at);
+        let end = store_entries::record_end(store, at);
         n = list_record(
             stakes,
             total,

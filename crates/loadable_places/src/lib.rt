@@ -23,7 +23,7 @@ fn share_at(store: &[u8], places: &[u64], i: usize) -> TransactionLocator
     ensures { λ r. ⌜ asLocator r ≡ placeAt (now (store .entry)) (now (places .entry)) i ⌝ }
 {
     let at = places[2 * i] as usize;
-    let block = store_order::reference_at(store, at);
+    let block = store_entries::reference_at(store, at);
     TransactionLocator {
         block,
         offset: places[2 * i + 1],

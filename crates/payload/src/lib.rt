@@ -67,7 +67,7 @@ pub fn stored_payload(store: &[u8], locator: TransactionLocator) -> SharePlace
         return SharePlace::NoShare;
     }
     let from = at + 8;
-    let end = store_order::record_end(store, at);
+    let end = store_entries::record_end(store, at);
     let SharePlace::Payload(start, len) = find_share(&store[from..end], locator.offset) else {
         return SharePlace::NoShare;
     };

@@ -103,7 +103,7 @@ fn entry_from(store: &[u8], from: usize, p: u64) -> usize
         if p <= at as u64 {
             return at;
         }
-        at = store_order::record_end(store, at);
+        at = store_entries::record_end(store, at);
     }
     at
 }
@@ -156,7 +156,7 @@ fn item_stored(store: &[u8], x: Item, walk: Walk) -> Stored
         };
     }
     let from = at + 8;
-    let end = store_order::record_end(store, at);
+    let end = store_entries::record_end(store, at);
     let cursor = place_in(&store[from..end], at == walk.last, walk.cursor);
     let found = item_suits(&store[from..end], x, cursor);
     let stored = found.all;

@@ -37,7 +37,7 @@ pub fn count_shares(stakes: &[u64], store: &[u8], order: &[u64]) -> usize
     while k < order.len() {
         let at = order[k] as usize;
         let from = at + 8;
-        let end = store_order::record_end(store, at);
+        let end = store_entries::record_end(store, at);
         n += shares_in(&store[from..end]);
         k += 1;
     }

@@ -81,7 +81,7 @@ fn stored_run(store: &[u8], block: BlockReference, from: u64) -> ShownRun
         };
     }
     let begin = at + 8;
-    let end = store_order::record_end(store, at);
+    let end = store_entries::record_end(store, at);
     share_run(&store[begin..end], from)
 }
 

@@ -107,7 +107,7 @@ pub fn list_certifiers(
     read_rejects(store, order, locator, withdrawing, &mut rejects);
     let mut i: usize = 0;
     while i < positions.len() {
-        let block = store_order::reference_at(store, positions[i] as usize);
+        let block = store_entries::reference_at(store, positions[i] as usize);
         let k = block_votes::place_of(store, order, block);
         let voters = voters_at(
             store,
@@ -156,7 +156,7 @@ fn write_certifier(
     ensures { λ r. ⌜ r ≡ at + (49 + votersSize (now (near .entry)) k voters) ⌝ }
     ensures { λ r. ⌜ ((l : Locator) → Distances (now (store .entry)) (now (order .entry)) l (now (near .entry)) (now (steps .entry)) (length (now (order .entry))) → now (out .exit) ≡ sets (now (out .entry)) at (certifierBytesAt (now (store .entry)) (now (order .entry)) l k voters)) ⌝ }
 {
-    let block = store_order::reference_at(store, order[k] as usize);
+    let block = store_entries::reference_at(store, order[k] as usize);
     types::write_reference(out, at, block);
     out[at + 48] = voters.count() as u8;
     slip_routes::write_voters(store, order, near, steps, k, voters, out, at + 49)

@@ -49,7 +49,7 @@ fn note_own(store: &[u8], order: &[u64], locator: TransactionLocator, k: usize, 
 {
     let at = order[k] as usize;
     let own = block_votes::own_vote_at(store, at, locator);
-    let block = store_order::reference_at(store, at);
+    let block = store_entries::reference_at(store, at);
     if !own.contains(block.authority) {
         return;
     }

@@ -81,7 +81,7 @@ fn step_all(
     let mut k: usize = 0;
     while k < count {
         let from = at + 8;
-        let end = store_order::record_end(store, at);
+        let end = store_entries::record_end(store, at);
         let next = p + 1 + 10 * (index[p] as usize);
         sorted_step::step(
             stakes,

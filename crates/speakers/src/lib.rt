@@ -86,7 +86,7 @@ pub fn with_own(store: &[u8], at: usize, mark: u64, below: AuthoritySet) -> Auth
     if mark != 1 {
         return voters::union(AuthoritySet::new(), below);
     }
-    let block = store_order::reference_at(store, at);
+    let block = store_entries::reference_at(store, at);
     let own = AuthoritySet::new().insert(block.authority);
     voters::union(own, below)
 }

@@ -85,7 +85,7 @@ pub fn least_edge(
     while k < order.len() {
         let at = order[k] as usize;
         let start = at + 8;
-        let end = store_order::record_end(store, at);
+        let end = store_entries::record_end(store, at);
         near = record_edges(&store[start..end], block, offset, near, rejecting);
         k += 1;
     }

@@ -126,7 +126,7 @@ pub fn least_start(
     while k < order.len() {
         let at = order[k] as usize;
         let start = at + 8;
-        let end = store_order::record_end(store, at);
+        let end = store_entries::record_end(store, at);
         least = least_start_in(&store[start..end], last, least, rejecting);
         k += 1;
     }

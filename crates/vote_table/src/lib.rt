@@ -120,7 +120,7 @@ fn table_votes(store: &[u8], order: &[u64], votes: &mut [u64], rejecting: bool) 
     while k < order.len() {
         let at = order[k] as usize;
         let start = at + 8;
-        let end = store_order::record_end(store, at);
+        let end = store_entries::record_end(store, at);
         let tabled = table_record(&store[start..end], k, votes, m, rejecting);
         let Tabling::Now(n) = tabled else {
             return TableSize { blocks: k, held: m };

@@ -1,5 +1,5 @@
 use borrow.Author.Needs.{needs}
-use Rattle.store_order.proofs.Placed.{order-ascends, order-at, order-misses}
+use Rattle.store_entries.proofs.Placed.{order-ascends, order-at, order-misses}
 use Rattle.store_layout.specs.Store.{recordsOf}
 use Rattle.store_layout.proofs.Search.{referenceIn}
 use Rattle.types.specs.Values.{asReference}

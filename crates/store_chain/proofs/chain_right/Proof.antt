@@ -7,8 +7,8 @@ use borrow.Author.Tests.{not-true, not-false}
 use Rattle.store_layout.specs.Store.{recordsOf}
 use Rattle.store_layout.proofs.Check.{is-readable}
 use Rattle.store_layout.proofs.Loops.{entry-room, positions-ascend, refuses, Visiting, visiting-start, place-entry, visiting-outside, visiting-falls, visiting-on, visiting-latest, visiting-done}
-use Rattle.store_order.proofs.chain_right.Statement.{statement}
-use Rattle.store_order.proofs.chain_right.Tie as tie
+use Rattle.store_chain.proofs.chain_right.Statement.{statement}
+use Rattle.store_chain.proofs.chain_right.Tie as tie
 
 abbrev Inv-loop : tie.InvT-loop
 Inv-loop store starts order₀ at₀ last₀ k₀ order at last k = Visiting store (recordsOf store) k at last order × ((length order ≡ length order₀) × (k ≤ length starts))

@@ -6,8 +6,8 @@ use borrow.Author.Tests.{eqb-true, eq-eqb}
 use Rattle.base.proofs.Tests.{same-test}
 use Rattle.store_layout.specs.Store.{usedLength, blockCount}
 use Rattle.store_layout.proofs.Check.{HeaderRight, header-right, right-header, header-wrong}
-use Rattle.store_order.proofs.header_right.Statement.{statement}
-use Rattle.store_order.proofs.header_right.Tie as tie
+use Rattle.store_form.proofs.header_right.Statement.{statement}
+use Rattle.store_form.proofs.header_right.Tie as tie
 
 returns : tie.Need-returns
 unfolding usedLength blockCount

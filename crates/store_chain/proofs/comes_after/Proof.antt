@@ -9,8 +9,8 @@ use Rattle.types.specs.Values.{asReference}
 use Rattle.store_layout.specs.Entry.{follows}
 use Rattle.types.proofs.Words.{compared-less, compared-equal, compared-greater}
 use Rattle.store_layout.proofs.Loops.{none-entry, follows-by}
-use Rattle.store_order.proofs.comes_after.Statement.{statement}
-use Rattle.store_order.proofs.comes_after.Tie as tie
+use Rattle.store_chain.proofs.comes_after.Statement.{statement}
+use Rattle.store_chain.proofs.comes_after.Tie as tie
 
 returns : tie.Need-returns
 unfolding follows

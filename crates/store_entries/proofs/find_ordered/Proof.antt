@@ -1,9 +1,9 @@
 use borrow.Author.Needs.{needs}
 use native.Mathlib.Omega.{arith}
 use Rattle.store_layout.proofs.Search.{found-there}
-use Rattle.store_order.proofs.Placed.{order-ascends, order-at, order-misses}
-use Rattle.store_order.proofs.find_ordered.Statement.{statement}
-use Rattle.store_order.proofs.find_ordered.Tie as tie
+use Rattle.store_entries.proofs.Placed.{order-ascends, order-at, order-misses}
+use Rattle.store_entries.proofs.find_ordered.Statement.{statement}
+use Rattle.store_entries.proofs.find_ordered.Tie as tie
 
 find-place-requires : tie.Need-find-place-requires
 find-place-requires c κs = let start = c .before .before in order-ascends _ (start .pre .0) _ (start .pre .1)

@@ -7,8 +7,8 @@ use native.Mathlib.Omega.{arith}
 use lib.ListN.{length, getD}
 use Rattle.base.proofs.Narrowed.{Narrowed, narrowed-start, narrowed-up, narrowed-down, narrowed-all}
 use Rattle.store_layout.proofs.Sorted.{sorted-at, is-in, not-in}
-use Rattle.store_order.proofs.contains.Statement.{statement}
-use Rattle.store_order.proofs.contains.Tie as tie
+use Rattle.store_chain.proofs.contains.Statement.{statement}
+use Rattle.store_chain.proofs.contains.Tie as tie
 
 abbrev Inv-loop : tie.InvT-loop
 Inv-loop sorted x low₀ high₀ low high = Narrowed (length sorted) (λ j. getD sorted j 0 < x) (λ j. x < getD sorted j 0) low high

@@ -9,8 +9,8 @@ use Rattle.blocks.specs.Record.{wellFormed}
 use Rattle.store_layout.specs.Store.{blockCount, usedLength}
 use Rattle.store_layout.proofs.Check.{header-right}
 use Rattle.store_layout.proofs.Loops.{formed-at, record-part, refuses, walking-done, Walking, walking-start, walking-on, walking-stop}
-use Rattle.store_order.proofs.entries_readable.Statement.{statement}
-use Rattle.store_order.proofs.entries_readable.Tie as tie
+use Rattle.store_form.proofs.entries_readable.Statement.{statement}
+use Rattle.store_form.proofs.entries_readable.Tie as tie
 
 abbrev Inv-loop : tie.InvT-loop
 Inv-loop store starts₀ used count at₀ i₀ starts at i = Walking store i at starts × ((length starts ≡ length starts₀) × ((i ≤ count) × (at ≤ length store)))

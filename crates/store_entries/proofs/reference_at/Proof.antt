@@ -5,8 +5,8 @@ use Rattle.base.specs.Le.{Bytes}
 use Rattle.blocks.specs.Record.{blockIn}
 use Rattle.store_layout.specs.Entry.{blockAt}
 use Rattle.store_layout.proofs.Loops.{entry-room, record-part}
-use Rattle.store_order.proofs.reference_at.Statement.{statement}
-use Rattle.store_order.proofs.reference_at.Tie as tie
+use Rattle.store_entries.proofs.reference_at.Statement.{statement}
+use Rattle.store_entries.proofs.reference_at.Tie as tie
 
 add-from : tie.Need-add-from
 add-from c = omega (arith, entry-room (c .before .args .store .now) (c .before .args .at) (c .before .pre) .inside)

@@ -1,8 +1,8 @@
 use borrow.Author.Needs.{needs}
 use native.Mathlib.Omega.{arith}
 use Rattle.store_layout.proofs.Loops.{entry-room}
-use Rattle.store_order.proofs.record_end.Statement.{statement}
-use Rattle.store_order.proofs.record_end.Tie as tie
+use Rattle.store_entries.proofs.record_end.Statement.{statement}
+use Rattle.store_entries.proofs.record_end.Tie as tie
 
 add-result : tie.Need-add-result
 add-result c = omega (arith, entry-room (c .before .args .store .now) (c .before .args .at) (c .before .pre) .inside)
