@@ -19,47 +19,9 @@ use Rattle.blocks.specs.Reference.{BlockReference}
 use Rattle.blocks.specs.Block.{Statement, Block}
 use Rattle.blocks.specs.Record.{readReference, readStatement, Edition, Timed, editionBytes, readTime, readIn, editionOf, timedOf, blockOf, wellFormed, bodyStart}
 use Rattle.block_record.specs.Step.{statementsOnly, editionRight}
-use Rattle.block_record.proofs.Steps.{fixed-reference}
+use Rattle.types.proofs.Fixed.{fixed-reference}
+use Rattle.block_record.proofs.Only.{Whole, whole-map}
 use Rattle.block_record.proofs.Editions.{TimeRead, time-read}
-
--- all of it is read
-abbrev Whole : {A : Type 0} → Option (Part A) → Bool
-Whole o = not (isNone (complete o))
-
-module _ {A B : Type 0} where
-  -- what is made of the value does not matter
-  whole-map : (m : Read A) (f : A → B) (s : List ℕ) → Whole ((m >>= (λ a. give (f a))) s) ≡ Whole (m s)
-  unfolding complete isNone _>>=_ onward give
-  whole-map m f s = go (m s)
-    where
-      ends : (t : Bool) (a : A) → isNone (pick t (some (f a)) none) ≡ isNone (pick t (some a) none)
-      ends true a = refl
-      ends false a = refl
-
-      go : (o : Option (Part A)) → Whole (onward o (λ a. give (f a))) ≡ Whole o
-      go none = refl
-      go (some p) = ap not (ends (isEmpty (p .rest)) (p .value))
-
--- ---- statements and nothing after
-
-pub only-on : (n : ℕ) (s : List ℕ) (p : Part Statement) → 0 < n → readStatement s ≡ some p → statementsOnly n s ≡ statementsOnly (n - 1) (p .rest)
-unfolding statementsOnly repeated _>>=_ onward
-only-on zero s p h e = absurd (omega arith)
-only-on (suc n) s p h e = rw (sub-one (suc n), e) (whole-map (repeated n readStatement) (λ rest. p .value ∷ rest) (p .rest))
-
-pub only-stop : (n : ℕ) (s : List ℕ) → 0 < n → readStatement s ≡ none → statementsOnly n s ≡ false
-unfolding statementsOnly repeated _>>=_ onward complete isNone
-only-stop zero s h e = absurd (omega arith)
-only-stop (suc n) s h e = rw e
-
-pub only-done : (n : ℕ) (s : List ℕ) (p : ℕ) → n ≤ 0 → p ≤ length s → statementsOnly n (drop p s) ≡ eqb p (length s)
-unfolding statementsOnly repeated give complete isNone
-only-done zero s p h k = rw (empty-drop s p k) (go (eqb p (length s)))
-  where
-    go : (t : Bool) → not (isNone (pick {A = Option (List Statement)} t (some []) none)) ≡ t
-    go true = refl
-    go false = refl
-only-done (suc n) s p h k = absurd (omega arith)
 
 -- ---- the first 56 bytes
 

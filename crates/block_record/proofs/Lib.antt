@@ -1,4 +1,5 @@
 pub mod Steps
+pub mod Only
 pub mod Editions
 pub mod Formed
 pub mod Shape

@@ -20,7 +20,7 @@ use Rattle.blocks.specs.Block.{Statement, Block}
 use Rattle.blocks.specs.Record.{readReference, readStatement, Timed, readIn, editionOf, timedOf, timeIn, wellFormed, noReference, blockIn, bodyStart}
 use Rattle.blocks.proofs.Records.{block-of, timed-of}
 use Rattle.types.specs.Step.{referenceAt}
-use Rattle.block_record.proofs.Steps.{fixed-reference, reference-value}
+use Rattle.types.proofs.Fixed.{fixed-reference, reference-value}
 use Rattle.block_record.proofs.Editions.{time-read, body-inside}
 use Rattle.block_record.proofs.Formed.{Head, whole-head, block-short, block-rest, block-cut}
 
@@ -102,15 +102,11 @@ reference-front xs ys h =
       take-append-le 32 (drop 16 xs) ys (omega (arith, length-drop 16 xs)),
     )
 
-reference-on : (s : Bytes) (p : ℕ) → referenceAt (drop p s) 0 ≡ referenceAt s p
-unfolding referenceAt leAt
-reference-on s p = rw (drop-drop 8 p s, drop-drop 16 p s)
-
 -- its reference stands where it begins
 pub reference-within : (s : Bytes) (p n : ℕ) → wellFormed (take n (drop p s)) ≡ true → (p + 48 ≤ length s) × (referenceAt s p ≡ blockIn (take n (drop p s)) .reference)
 reference-within s p n w =
     let h : Shape (take n (drop p s)) (blockIn (take n (drop p s))) = shape-in (take n (drop p s)) w in
     let whole : take n (drop p s) ++ drop n (drop p s) ≡ drop p s = take-append-drop n (drop p s) in (
       omega (arith, h .long, ap length whole, length-append (take n (drop p s)) (drop n (drop p s)), length-drop p s),
-      sym (reference-on s p) ∙ ap (λ (l : Bytes). referenceAt l 0) (sym whole) ∙ reference-front (take n (drop p s)) (drop n (drop p s)) (omega (arith, h .long)) ∙ sym (h .reference),
+      sym (reference-value s p) ∙ reference-value (drop p s) 0 ∙ ap (λ (l : Bytes). referenceAt l 0) (sym whole) ∙ reference-front (take n (drop p s)) (drop n (drop p s)) (omega (arith, h .long)) ∙ sym (h .reference),
     )

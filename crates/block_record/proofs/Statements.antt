@@ -18,8 +18,7 @@ use Rattle.blocks.specs.Record.{readStatement, Timed, timedOf, timeIn, wellForm
 use Rattle.blocks.proofs.Records.{BlockFits, statement-reads, blockOf-fits, block-of, timed-of}
 use Rattle.blocks.proofs.Places.{statements-place}
 use Rattle.block_record.specs.Values.{asStatement}
-use Rattle.block_record.specs.Cursor.{payloadBetween}
-use Rattle.block_record.specs.Step.{Took}
+use Rattle.block_record.specs.Step.{payloadBetween, Took}
 use Rattle.block_record.specs.declared.BaseStatement.{BaseStatement}
 use Rattle.block_record.specs.declared.Taken as taken
 use Rattle.block_record.proofs.Shape.{shape-in, include-count}

@@ -16,21 +16,9 @@ use Rattle.blocks.specs.Reference.{locator, newRange}
 use Rattle.blocks.specs.Block.{Statement, share, accept, reject, voteRange}
 use Rattle.blocks.specs.Record.{readReference, readLocator, readShare, readAccept, readOther, readReject, readRange, readKind, readStatement}
 use Rattle.types.specs.Step.{referenceAt, locatorAt}
+use Rattle.types.proofs.Fixed.{fixed-reference, fixed-locator, reference-value, locator-value}
 
 -- ---- readers of a fixed number of bytes
-
-unfoldable pub fixed-reference : Fixed 48 readReference
-unfolding readReference
-fixed-reference =
-    fixed-bind _ _ 8 40 (fixed-number 8) λ a.
-    fixed-bind _ _ 8 32 (fixed-number 8) λ r.
-    fixed-map _ (λ d. record { authority = a; round = r; digest = d }) 32 (fixed-items 32)
-
-unfoldable pub fixed-locator : Fixed 56 readLocator
-unfolding readLocator
-fixed-locator =
-    fixed-bind _ _ 48 8 fixed-reference λ b.
-    fixed-map _ (λ o. record { block = b; offset = o }) 8 (fixed-number 8)
 
 unfoldable pub fixed-accept : Fixed 56 readAccept
 unfolding readAccept
@@ -44,16 +32,6 @@ fixed-range =
     fixed-map _ (λ e. voteRange (newRange b s e)) 8 (fixed-number 8)
 
 module _ (s : List ℕ) (p : ℕ) where
-  pub reference-value : fixed-reference .value (drop p s) ≡ referenceAt s p
-  unfolding fixed-reference fixed-bind fixed-map fixed-number fixed-items referenceAt leAt
-  reference-value =
-      let e : p + 8 + 8 ≡ p + 16 = omega arith in
-      rw (drop-drop 8 p s, drop-drop 8 (p + 8) s, e)
-
-  pub locator-value : fixed-locator .value (drop p s) ≡ locatorAt s p
-  unfolding fixed-locator fixed-bind fixed-map fixed-number fixed-items locatorAt locator leAt
-  locator-value = rw (drop-drop 48 p s, reference-value)
-
   range-value : fixed-range .value (drop p s) ≡ voteRange (newRange (referenceAt s p) (leAt 8 s (p + 48)) (leAt 8 s (p + 56)))
   unfolding fixed-range fixed-bind fixed-map fixed-number fixed-items leAt
   range-value =

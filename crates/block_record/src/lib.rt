@@ -7,8 +7,8 @@ ghost use Prim.Native.Nat.{_+_, _≤_, _<_};
 ghost use lib.ListN.{length, getD, drop};
 ghost use mathlib.Core.Bool.{true};
 ghost use Rattle.blocks.specs.Record.{wellFormed, blockIn, timeIn, bodyStart, noReference, noStatement};
-ghost use Rattle.block_record.specs.Cursor.{cursorAt, payloadBetween};
-ghost use Rattle.block_record.specs.Step.{Took, statementsOnly, editionRight};
+ghost use Rattle.block_record.specs.Cursor.{cursorAt};
+ghost use Rattle.block_record.specs.Step.{payloadBetween, Took, statementsOnly, editionRight};
 ghost use Rattle.types.specs.Values.{asReference};
 ghost use Rattle.block_record.specs.Values.{asStatement, asTime};
 

@@ -16,7 +16,7 @@ use Rattle.committee.specs.Committee.{Committee, broken}
 use Rattle.blocks.specs.Reference.{TransactionLocator}
 use Rattle.blocks.specs.Record.{readLocator}
 use Rattle.types.specs.Step.{locatorAt}
-use Rattle.block_record.proofs.Steps.{fixed-locator, locator-value}
+use Rattle.types.proofs.Fixed.{fixed-locator, locator-value}
 use Rattle.store_layout.specs.Store.{storeInOrder}
 use Rattle.store_layout.specs.Payload.{payloadChecks, payloadLength}
 use Rattle.payload.specs.Answers.{payloadPlace}

@@ -16,7 +16,7 @@ use Rattle.committee.specs.Committee.{Committee}
 use Rattle.blocks.specs.Reference.{BlockReference}
 use Rattle.blocks.specs.Record.{readReference}
 use Rattle.types.specs.Step.{referenceAt}
-use Rattle.block_record.proofs.Steps.{fixed-reference, reference-value}
+use Rattle.types.proofs.Fixed.{fixed-reference, reference-value}
 use Rattle.block_time.specs.Times.{timeChecks, askTime}
 use Rattle.host_calls.proofs.Numbers.{checked-most}
 use Rattle.host_lib.specs.Payload.{refusalBefore}

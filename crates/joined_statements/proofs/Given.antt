@@ -18,8 +18,7 @@ use Rattle.base.proofs.UpTo.{to-end-done, to-end-stops, falls, to-end-goes-on}
 use Rattle.blocks.specs.Block.{Statement, share}
 use Rattle.blocks.specs.Record.{readStatement}
 use Rattle.block_record.specs.Values.{asStatement}
-use Rattle.block_record.specs.Cursor.{payloadBetween}
-use Rattle.block_record.specs.Step.{Took}
+use Rattle.block_record.specs.Step.{payloadBetween, Took}
 use Rattle.block_record.specs.declared.Taken as taken
 use Rattle.block_record.specs.declared.BaseStatement.{BaseStatement}
 use Rattle.block_record.specs.declared.BaseStatement.the-variants.{Share, Accept, Reject, RejectFor, VoteRange}

@@ -19,7 +19,7 @@ use Rattle.blocks.specs.Claims.{fitsReference, fitsLocator}
 use Rattle.types.specs.Step.{locatorAt}
 use Rattle.blocks.proofs.Records.{ReferenceFits, LocatorFits, locator-reads, length-reference}
 use Rattle.blocks.proofs.Claimed.{bytes-fit}
-use Rattle.block_record.proofs.Steps.{fixed-locator, locator-value}
+use Rattle.types.proofs.Fixed.{fixed-locator, locator-value}
 use Rattle.loadable.specs.Needs.{neededBy}
 
 pub needs-short : (p : Bytes) → length p < 57 → neededBy p ≡ none

@@ -12,7 +12,7 @@ use Rattle.base.proofs.Le.{AllBytes}
 use Rattle.base.proofs.Tests.{and-right}
 use Rattle.blocks.specs.Block.{share, Block, isShare}
 use Rattle.blocks.specs.Record.{wellFormed, noStatement, statementStart}
-use Rattle.block_record.specs.Cursor.{payloadBetween}
+use Rattle.block_record.specs.Step.{payloadBetween}
 use Rattle.block_record.specs.Values.{asStatement}
 use Rattle.block_record.specs.declared.BaseStatement.{BaseStatement}
 use Rattle.block_record.specs.declared.BaseStatement.the-variants.{Share, Accept, Reject, RejectFor, VoteRange}

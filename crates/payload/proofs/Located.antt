@@ -20,7 +20,8 @@ use Rattle.blocks.specs.Reference.{TransactionLocator}
 use Rattle.blocks.specs.Block.{Statement, share, accept, reject, voteRange, Block}
 use Rattle.blocks.specs.Record.{wellFormed, blockIn, noStatement, statementStart}
 use Rattle.block_record.specs.Values.{asStatement}
-use Rattle.block_record.specs.Cursor.{cursorAt, payloadBetween}
+use Rattle.block_record.specs.Cursor.{cursorAt}
+use Rattle.block_record.specs.Step.{payloadBetween}
 use Rattle.block_record.specs.declared.StatementCursor.{StatementCursor}
 use Rattle.block_record.specs.declared.NextStatement.{NextStatement}
 use Rattle.block_record.specs.declared.BaseStatement.{BaseStatement}

@@ -20,7 +20,8 @@ use Rattle.blocks.specs.Block.{Statement, share, accept, reject, voteRange, Blo
 use Rattle.blocks.specs.Verify.{statementChecks}
 use Rattle.blocks.specs.Record.{noStatement}
 use Rattle.block_record.specs.Values.{asStatement}
-use Rattle.block_record.specs.Cursor.{cursorAt, payloadBetween}
+use Rattle.block_record.specs.Cursor.{cursorAt}
+use Rattle.block_record.specs.Step.{payloadBetween}
 use Rattle.shared_ranges.specs.Cursor.{runsLeft}
 use Rattle.shared_ranges.specs.Step.{isOfKind, leading}
 use Rattle.block_record.specs.declared.StatementCursor.{StatementCursor}

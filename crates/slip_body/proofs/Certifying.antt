@@ -18,7 +18,7 @@ use Rattle.base.proofs.Fixed.{fixed-number, Least, least-zero, least-bind, read
 use Rattle.blocks.specs.Record.{readLocator}
 use Rattle.readings.specs.Readings.{Reading, readingOf}
 use Rattle.types.specs.Step.{locatorAt}
-use Rattle.block_record.proofs.Steps.{fixed-locator, locator-value}
+use Rattle.types.proofs.Fixed.{fixed-locator, locator-value}
 use Rattle.slips.specs.Slip.{SlipCertifier, Slip, certifiersAscend, readCertifier, readBody, readFirst, namesReading, readSlip}
 use Rattle.slip_body.specs.Step.{headRight, readingAt}
 

@@ -13,7 +13,7 @@ use Rattle.base.proofs.Read.{part}
 use Rattle.base.proofs.Fixed.{fixed-number, least-zero, least-bind, reads-at, number-at}
 use Rattle.blocks.specs.Record.{readReference}
 use Rattle.types.specs.Step.{referenceAt}
-use Rattle.block_record.proofs.Steps.{fixed-reference, reference-value}
+use Rattle.types.proofs.Fixed.{fixed-reference, reference-value}
 use Rattle.slips.specs.Slip.{SlipVoter, SlipCertifier, votersAscend, readVoter, readCertifier}
 
 -- ---- a certifier

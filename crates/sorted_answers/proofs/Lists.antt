@@ -23,7 +23,7 @@ use Rattle.blocks.specs.Reference.{TransactionLocator, locator, locatorBefore}
 use Rattle.blocks.specs.Record.{readLocator, noReference}
 use Rattle.blocks.proofs.References.{locator-trans, locator-total}
 use Rattle.types.specs.Step.{locatorAt}
-use Rattle.block_record.proofs.Steps.{fixed-locator, locator-value}
+use Rattle.types.proofs.Fixed.{fixed-locator, locator-value}
 use Rattle.sorted_replies.specs.Sorted.{sortedLocators, locatorsOf, listOf, asked}
 use Rattle.sorted_step.specs.Step.{Listed}
 

@@ -1,3 +1,4 @@
+pub mod Fixed
 pub mod References
 pub mod Words
 pub mod Written

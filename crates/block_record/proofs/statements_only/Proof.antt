@@ -5,7 +5,7 @@ use Rattle.base.proofs.Read.{part}
 use Rattle.block_record.specs.Values.{asStatement}
 use Rattle.block_record.specs.Step.{Took, statementsOnly}
 use Rattle.block_record.specs.declared.Taken.the-variants.{Statement, Malformed}
-use Rattle.block_record.proofs.Formed.{only-on, only-stop, only-done}
+use Rattle.block_record.proofs.Only.{only-on, only-stop, only-done}
 use borrow.Author.Needs.{needs}
 use Rattle.block_record.proofs.statements_only.Statement.{statement}
 use Rattle.block_record.proofs.statements_only.Tie as tie

@@ -1,8 +1,7 @@
 use mathlib.Core.Path.{refl}
 use native.Mathlib.Omega.{arith}
 use Rattle.block_record.specs.Values.{asStatement}
-use Rattle.block_record.specs.Cursor.{payloadBetween}
-use Rattle.block_record.specs.Step.{Took}
+use Rattle.block_record.specs.Step.{payloadBetween, Took}
 use Rattle.block_record.proofs.Steps.{reject-cut, reject-reads, reject-bad, reject-short, reject-for-reads}
 use borrow.Author.Needs.{needs}
 use Rattle.block_record.proofs.take_reject.Statement.{statement}

@@ -2,8 +2,7 @@ use mathlib.Core.Path.{refl}
 use Prim.Native.Nat.{_+_}
 use native.Mathlib.Omega.{arith}
 use Rattle.block_record.specs.Values.{asStatement}
-use Rattle.block_record.specs.Cursor.{payloadBetween}
-use Rattle.block_record.specs.Step.{Took}
+use Rattle.block_record.specs.Step.{payloadBetween, Took}
 use lib.Dec.{eqb}
 use borrow.Author.Tests.{eq-eqb}
 use Rattle.base.proofs.Tests.{and-both}

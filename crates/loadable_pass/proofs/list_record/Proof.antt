@@ -15,7 +15,8 @@ use Rattle.blocks.specs.Reference.{BlockReference, locator}
 use Rattle.blocks.specs.Block.{isShare, isShareAt}
 use Rattle.blocks.specs.Record.{blockIn}
 use Rattle.types.specs.Values.{asLocator}
-use Rattle.block_record.specs.Cursor.{cursorAt, payloadBetween}
+use Rattle.block_record.specs.Cursor.{cursorAt}
+use Rattle.block_record.specs.Step.{payloadBetween}
 use Rattle.block_record.specs.Values.{asStatement}
 use Rattle.block_record.specs.declared.BaseStatement.{BaseStatement}
 use Rattle.block_record.specs.declared.BaseStatement.the-variants.{Share}
