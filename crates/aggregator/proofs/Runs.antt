@@ -13,11 +13,11 @@ use Rattle.base.proofs.Tests.{and-both, and-left, and-right, not-both}
 use Rattle.committee.specs.Committee.{AuthorityIndex, Committee}
 use Rattle.blocks.specs.Reference.{newRange}
 use Rattle.blocks.specs.Block.{Block, sharedRanges}
-use Rattle.block_record.specs.Cursor.{cursorAt}
+use Rattle.statement_cursor.specs.Cursor.{cursorAt}
 use Rattle.shared_ranges.specs.Cursor.{runsLeft, runsTold}
 use Rattle.shared_ranges.specs.declared.SharedRange.{SharedRange}
 use Rattle.shared_ranges.specs.declared.SharedRange.the-variants.{Run, End}
-use Rattle.block_record.specs.declared.StatementCursor.{StatementCursor}
+use Rattle.statement_cursor.specs.declared.StatementCursor.{StatementCursor}
 use Rattle.pending_items.specs.Items.{Item, itemBefore, itemFull, firstVote, registered, register}
 use Rattle.pending_items.specs.Table.{tableOf, itemsOf, room, HoldsItems}
 use Rattle.pending_items.proofs.Items.{Ordered}

@@ -19,10 +19,10 @@ use Rattle.base.proofs.Checks.{passes-first}
 use Rattle.blocks.specs.Reference.{TransactionLocatorRange, locator, offsets}
 use Rattle.blocks.specs.Verify.{statementChecks}
 use Rattle.types.specs.Values.{asLocator}
-use Rattle.block_record.specs.Values.{asStatement}
+use Rattle.statement_reader.specs.Values.{asStatement}
 use Rattle.types.specs.declared.TransactionLocator.{TransactionLocator}
-use Rattle.block_record.specs.declared.BaseStatement.{BaseStatement}
-use Rattle.block_record.specs.declared.BaseStatement.the-variants.{Accept}
+use Rattle.statement_reader.specs.declared.BaseStatement.{BaseStatement}
+use Rattle.statement_reader.specs.declared.BaseStatement.the-variants.{Accept}
 use Rattle.blocks.specs.Block.{author}
 use Rattle.blocks.specs.Record.{blockIn}
 use Rattle.store_layout.specs.Layout.{Entry, positionOf, lookup}

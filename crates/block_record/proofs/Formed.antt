@@ -1,27 +1,26 @@
 -- A block in a record, in positions, as code tests it. Assumes nothing.
-use mathlib.Core.Path.{_≡_, refl, ap, _∙_}
-use mathlib.Core.List.{List, [], _∷_}
+use mathlib.Core.Path.{_≡_, refl, _∙_}
+use mathlib.Core.List.{List}
 use mathlib.Core.Option.{Option, none, some, Option·map}
 use mathlib.Core.Bool.{Bool, true, false, not, _&&_}
-use Prim.Native.Nat.{ℕ, zero, suc, _+_, _-_, _*_, _≤_, _<_}
-use native.Mathlib.Numerals.{sub-one}
+use Prim.Native.Nat.{ℕ, _+_, _-_, _*_, _≤_, _<_}
 use native.Mathlib.Omega.{arith}
 use lib.Dec.{leb, eqb}
 use lib.ListN.{length, getD, take, drop}
 use borrow.Author.Tests.{le-leb, leb-true}
-use Rattle.base.specs.Lists.{pick, same, isEmpty, isNone}
+use Rattle.base.specs.Lists.{same, isNone}
 use Rattle.base.specs.Le.{leAt}
 use Rattle.base.specs.Read.{Part, Read, give, fail, onward, _>>=_, items, number, given, repeated, complete}
 use Rattle.base.proofs.Tests.{and-left, and-right, and-both, fails, not-both}
 use Rattle.base.proofs.Le.{leAt-byte}
-use Rattle.base.proofs.Fixed.{fixed-items, fixed-number, fixed-repeated, Least, least-zero, least-bind, reads-at, short-at, items-at, number-at, empty-drop}
+use Rattle.base.proofs.Fixed.{fixed-items, fixed-number, fixed-repeated, Least, least-zero, least-bind, reads-at, short-at, items-at, number-at}
 use Rattle.blocks.specs.Reference.{BlockReference}
-use Rattle.blocks.specs.Block.{Statement, Block}
 use Rattle.blocks.specs.Record.{readReference, readStatement, Edition, Timed, editionBytes, readTime, readIn, editionOf, timedOf, blockOf, wellFormed, bodyStart}
-use Rattle.block_record.specs.Step.{statementsOnly, editionRight}
+use Rattle.statement_reader.specs.Step.{statementsOnly}
+use Rattle.record_edition.specs.Step.{editionRight}
 use Rattle.types.proofs.Fixed.{fixed-reference}
-use Rattle.block_record.proofs.Only.{Whole, whole-map}
-use Rattle.block_record.proofs.Editions.{TimeRead, time-read}
+use Rattle.statement_reader.proofs.Only.{Whole, whole-map}
+use Rattle.record_edition.proofs.Editions.{TimeRead, time-read}
 
 -- ---- the first 56 bytes
 

@@ -1,8 +1,8 @@
 -- A record that is well formed: where each part of its block stands in it. Assumes nothing.
-use mathlib.Core.Path.{_≡_, refl, sym, ap, _∙_}
+use mathlib.Core.Path.{_≡_, sym, ap, _∙_}
 use mathlib.Core.List.{List, [], _++_}
-use mathlib.Core.Option.{Option, none, some}
-use mathlib.Core.Bool.{Bool, true, false, not}
+use mathlib.Core.Option.{Option, some}
+use mathlib.Core.Bool.{true}
 use Prim.Native.Nat.{ℕ, _+_, _*_, _≤_, _<_}
 use native.Mathlib.Omega.{arith}
 use native.Mathlib.Decide.{decLe}
@@ -21,7 +21,7 @@ use Rattle.blocks.specs.Record.{readReference, readStatement, Timed, readIn, ed
 use Rattle.blocks.proofs.Records.{block-of, timed-of}
 use Rattle.types.specs.Step.{referenceAt}
 use Rattle.types.proofs.Fixed.{fixed-reference, reference-value}
-use Rattle.block_record.proofs.Editions.{time-read, body-inside}
+use Rattle.record_edition.proofs.Editions.{time-read, body-inside}
 use Rattle.block_record.proofs.Formed.{Head, whole-head, block-short, block-rest, block-cut}
 
 pub record Shape (s : List ℕ) (b : Block) : Type 0 where

@@ -1,6 +1,6 @@
 // The rejects of one stored block, and whom it speaks for: its votes or its rejects. The Rust knows no withdrawing; the loops follow block_votes.
 use authority_set::AuthoritySet;
-use block_record::BaseStatement;
+use statement_reader::BaseStatement;
 use types::TransactionLocator;
 ghost use mathlib.Core.Path.{_≡_};
 ghost use mathlib.Core.Bool.{true};
@@ -9,7 +9,7 @@ ghost use Rattle.base.specs.Le.{Bytes};
 ghost use Rattle.blocks.specs.Reference.{sameLocator};
 ghost use Rattle.blocks.specs.Record.{wellFormed, blockIn};
 ghost use Rattle.types.specs.Values.{asLocator};
-ghost use Rattle.block_record.specs.Values.{asStatement};
+ghost use Rattle.statement_reader.specs.Values.{asStatement};
 ghost use Rattle.store_layout.specs.Entry.{blockAt, isEntry};
 ghost use Rattle.readings.specs.Rejecting.{rejects, ownReject, without};
 ghost use Rattle.block_rejects.specs.Speeches.{statementRejects, says, speechOf};
@@ -53,9 +53,9 @@ pub fn rejects(rec: &[u8], locator: TransactionLocator) -> bool
     ensures { λ r. ⌜ r ≡ rejects (blockIn (now (rec .entry))) (asLocator locator) ⌝ }
 {
     let count = block_record::statement_count(rec);
-    let mut cursor = block_record::first_statement(rec);
+    let mut cursor = statement_cursor::first_statement(rec);
     while cursor.index < count {
-        let next = block_record::next_statement(rec, cursor);
+        let next = statement_cursor::next_statement(rec, cursor);
         let statement = next.statement;
         if statement_rejects(statement, locator) {
             return true;

@@ -32,9 +32,9 @@ use Rattle.finality.specs.Voters.{votesFor, isFinal}
 use Rattle.finality.specs.Finality.{blocksOf}
 use Rattle.finality.proofs.Votes.{spanned}
 use Rattle.finality.proofs.Growing.{final-votes}
-use Rattle.block_record.specs.Values.{asStatement}
-use Rattle.block_record.specs.declared.BaseStatement.{BaseStatement}
-use Rattle.block_record.specs.declared.BaseStatement.the-variants.{Share, Accept, Reject, RejectFor, VoteRange}
+use Rattle.statement_reader.specs.Values.{asStatement}
+use Rattle.statement_reader.specs.declared.BaseStatement.{BaseStatement}
+use Rattle.statement_reader.specs.declared.BaseStatement.the-variants.{Share, Accept, Reject, RejectFor, VoteRange}
 use Rattle.block_spans.specs.Joined.{VoteFits, VotesFit}
 
 -- ---- what fits

@@ -19,8 +19,8 @@ use Rattle.blocks.specs.Block.{Statement, Block}
 use Rattle.blocks.specs.Record.{noStatement}
 use Rattle.blocks.proofs.References.{same-locator}
 use Rattle.finality.proofs.Votes.{covered, is-covered}
-use Rattle.block_record.specs.Cursor.{cursorAt}
-use Rattle.block_record.specs.declared.StatementCursor.{StatementCursor}
+use Rattle.statement_cursor.specs.Cursor.{cursorAt}
+use Rattle.statement_cursor.specs.declared.StatementCursor.{StatementCursor}
 use Rattle.readings.specs.Rejecting.{rejectedIn, rejections, rejects}
 use Rattle.readings.proofs.Rejecting.{listed}
 use Rattle.block_spans.specs.declared.Vote.{Vote}

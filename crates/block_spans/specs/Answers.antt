@@ -7,8 +7,8 @@ use Rattle.base.specs.Le.{Bytes}
 use Rattle.blocks.specs.Reference.{TransactionLocatorRange}
 use Rattle.blocks.specs.Block.{Block}
 use Rattle.types.specs.Values.{asRange}
-use Rattle.block_record.specs.Cursor.{cursorAt}
-use Rattle.block_record.specs.declared.StatementCursor.{StatementCursor}
+use Rattle.statement_cursor.specs.Cursor.{cursorAt}
+use Rattle.statement_cursor.specs.declared.StatementCursor.{StatementCursor}
 use Rattle.block_spans.specs.declared.Vote.{Vote}
 use Rattle.block_spans.specs.declared.Vote.the-variants.{Range, Nothing}
 

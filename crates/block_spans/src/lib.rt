@@ -1,7 +1,7 @@
 // The ranges for which the block of a record votes, or those that it rejects, one after the other: a run of neighbouring shares is one. Follows types.rs; the
 // Rust asks for votes alone.
-use block_record::BaseStatement;
-use block_record::StatementCursor;
+use statement_cursor::StatementCursor;
+use statement_reader::BaseStatement;
 use types::BlockReference;
 use types::TransactionLocator;
 use types::TransactionLocatorRange;
@@ -14,8 +14,8 @@ ghost use Rattle.base.specs.Le.{Bytes};
 ghost use Rattle.blocks.specs.Block.{votedRange};
 ghost use Rattle.blocks.specs.Record.{wellFormed, blockIn};
 ghost use Rattle.types.specs.Values.{asReference, asLocator};
-ghost use Rattle.block_record.specs.Values.{asStatement};
-ghost use Rattle.block_record.specs.Cursor.{cursorAt};
+ghost use Rattle.statement_reader.specs.Values.{asStatement};
+ghost use Rattle.statement_cursor.specs.Cursor.{cursorAt};
 ghost use Rattle.block_spans.specs.Joined.{VoteFits, VotesFit};
 ghost use Rattle.block_spans.specs.Ranges.{rejectedRange, rejectRanges, rangesAt};
 ghost use Rattle.block_spans.specs.Answers.{votedBy, OnwardIn};
@@ -80,7 +80,7 @@ pub fn next_span(
     requires { ⌜ ((wellFormed (now rec) ≡ true) × VotesFit (blockIn (now rec))) × ((asReference block ≡ blockIn (now rec) .reference) × ((cursor ≡ cursorAt (now rec) (cursor .index)) × (cursor .index < length (blockIn (now rec) .statements)))) ⌝ }
     ensures { λ r. ⌜ (rangesAt rejecting (blockIn (now (rec .entry))) (cursor .index) ≡ votedBy (r .vote) ++ rangesAt rejecting (blockIn (now (rec .entry))) (r .next .index)) × OnwardIn (blockIn (now (rec .entry))) (now (rec .entry)) (cursor .index) (r .next) ⌝ }
 {
-    let found = block_record::next_statement(rec, cursor);
+    let found = statement_cursor::next_statement(rec, cursor);
     let statement = found.statement;
     if rejecting {
         let vote = rejected(statement);

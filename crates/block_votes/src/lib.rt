@@ -1,7 +1,7 @@
 // The vote of one stored block, and the stored blocks in ascending reference order. Follows finalization_interpreter.rs.
 use authority_set::AuthoritySet;
-use block_record::BaseStatement;
 use reference_search::FoundPlace;
+use statement_reader::BaseStatement;
 use types::BlockReference;
 use types::Ordering;
 use types::TransactionLocator;
@@ -14,7 +14,7 @@ ghost use Rattle.base.specs.Le.{Bytes};
 ghost use Rattle.blocks.specs.Reference.{locator as newLocator, oneRange, covers, sameReference};
 ghost use Rattle.blocks.specs.Record.{wellFormed, blockIn, noReference};
 ghost use Rattle.types.specs.Values.{asReference, asLocator, asRange};
-ghost use Rattle.block_record.specs.Values.{asStatement};
+ghost use Rattle.statement_reader.specs.Values.{asStatement};
 ghost use Rattle.store_layout.specs.Store.{recordsOf};
 ghost use Rattle.store_layout.specs.Accept.{isStored};
 ghost use Rattle.store_layout.specs.Entry.{blockAt, laidOut, sortedPositions, isEntry};
@@ -83,9 +83,9 @@ pub fn votes_for(rec: &[u8], locator: TransactionLocator) -> bool
 {
     let count = block_record::statement_count(rec);
     let block = block_record::reference(rec);
-    let mut cursor = block_record::first_statement(rec);
+    let mut cursor = statement_cursor::first_statement(rec);
     while cursor.index < count {
-        let next = block_record::next_statement(rec, cursor);
+        let next = statement_cursor::next_statement(rec, cursor);
         let statement = next.statement;
         if statement_votes(block, cursor.index as u64, statement, locator) {
             return true;

@@ -75,7 +75,7 @@ fn missed_in(
     requires { ⌜ (wellFormed (now rec) ≡ true) × (start ≤ end) × (3 * (n + (end - start)) ≤ length (now events)) ⌝ }
     ensures { λ r. ⌜ (r ≡ n + (end - start)) × (now (events .exit) ≡ sets (now (events .entry)) (3 * n) (wordsOf (eventsBy (λ o. pick (isShareAt (blockIn (now (rec .entry))) o) 2 3) statement start end))) ⌝ }
 {
-    let mut cursor = block_record::first_statement(rec);
+    let mut cursor = statement_cursor::first_statement(rec);
     let mut k = n;
     let mut o = start;
     while o < end {

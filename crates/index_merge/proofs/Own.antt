@@ -17,9 +17,9 @@ use Rattle.authority_set.proofs.Words.{united-nobody, united-assoc}
 use Rattle.blocks.specs.Reference.{BlockReference, TransactionLocator, TransactionLocatorRange}
 use Rattle.blocks.specs.Block.{Block, author, isShare, spansFrom, spans}
 use Rattle.blocks.specs.Record.{noStatement}
-use Rattle.block_record.specs.Values.{asStatement}
-use Rattle.block_record.specs.declared.BaseStatement.{BaseStatement}
-use Rattle.block_record.specs.declared.BaseStatement.the-variants.{Share, Accept, Reject, RejectFor, VoteRange}
+use Rattle.statement_reader.specs.Values.{asStatement}
+use Rattle.statement_reader.specs.declared.BaseStatement.{BaseStatement}
+use Rattle.statement_reader.specs.declared.BaseStatement.the-variants.{Share, Accept, Reject, RejectFor, VoteRange}
 use Rattle.finality.specs.Voters.{ownVote}
 use Rattle.block_votes.specs.Walk.{spanOf}
 use Rattle.block_votes.proofs.Reading.{spans-on, spans-end}

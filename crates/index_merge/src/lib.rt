@@ -1,9 +1,9 @@
 // The parts of a block's includes and its own votes merged, one run after the other: a part of the index.
 use authority_set::AuthoritySet;
-use block_record::BaseStatement;
 use index_runs::MaybeRun;
 use index_runs::Place;
 use index_runs::Run;
+use statement_reader::BaseStatement;
 use types::BlockReference;
 use types::TransactionLocator;
 use types::TransactionLocatorRange;
@@ -18,7 +18,7 @@ ghost use Rattle.blocks.specs.Reference.{TransactionLocator as Locator};
 ghost use Rattle.blocks.specs.Block.{author, spans};
 ghost use Rattle.blocks.specs.Record.{wellFormed, blockIn};
 ghost use Rattle.types.specs.Values.{asReference};
-ghost use Rattle.block_record.specs.Values.{asStatement};
+ghost use Rattle.statement_reader.specs.Values.{asStatement};
 ghost use Rattle.finality.specs.Voters.{ownVote};
 ghost use Rattle.voters_index.specs.Walk.{Place as SomePlace, beyond, NextRun, runsFrom};
 ghost use Rattle.block_votes.specs.Walk.{spanOf};
@@ -157,10 +157,10 @@ pub fn own_piece(rec: &[u8], place: Place) -> MaybeRun
     let count = block_record::statement_count(rec);
     let block = block_record::reference(rec);
     let votes = AuthoritySet::new().insert(block.authority);
-    let mut cursor = block_record::first_statement(rec);
+    let mut cursor = statement_cursor::first_statement(rec);
     let mut piece = MaybeRun::Nothing;
     while cursor.index < count {
-        let next = block_record::next_statement(rec, cursor);
+        let next = statement_cursor::next_statement(rec, cursor);
         let statement = next.statement;
         let vote = vote_run(block, cursor.index as u64, statement, votes);
         cursor = next.next;

@@ -17,12 +17,12 @@ use Rattle.base.proofs.Fixed.{fixed-number, least-zero, least-bind, number-at}
 use Rattle.base.proofs.UpTo.{to-end-done, to-end-stops, falls, to-end-goes-on}
 use Rattle.blocks.specs.Block.{Statement, share}
 use Rattle.blocks.specs.Record.{readStatement}
-use Rattle.block_record.specs.Values.{asStatement}
-use Rattle.block_record.specs.Step.{payloadBetween, Took}
-use Rattle.block_record.specs.declared.Taken as taken
-use Rattle.block_record.specs.declared.BaseStatement.{BaseStatement}
-use Rattle.block_record.specs.declared.BaseStatement.the-variants.{Share, Accept, Reject, RejectFor, VoteRange}
-use Rattle.block_record.proofs.Steps.{readPayload, payload-cut, payload-short, payload-reads}
+use Rattle.statement_reader.specs.Values.{asStatement}
+use Rattle.statement_reader.specs.Step.{payloadBetween, Took}
+use Rattle.statement_reader.specs.declared.Taken as taken
+use Rattle.statement_reader.specs.declared.BaseStatement.{BaseStatement}
+use Rattle.statement_reader.specs.declared.BaseStatement.the-variants.{Share, Accept, Reject, RejectFor, VoteRange}
+use Rattle.statement_reader.proofs.Steps.{readPayload, payload-cut, payload-short, payload-reads}
 use Rattle.drafts.specs.Draft.{readLongShare, readGiven, statementsIn, givenBytes}
 use Rattle.drafts.proofs.Given.{GivenFits, some-bytes, given-back}
 use Rattle.joined_statements.specs.Step.{payloadInside, TookGiven}

@@ -16,13 +16,13 @@ use Rattle.base.proofs.Read.{part}
 use Rattle.blocks.specs.Reference.{BlockReference, TransactionLocator, TransactionLocatorRange, locator, newRange, oneRange, sameReference}
 use Rattle.blocks.specs.Block.{Statement, share, accept, reject, voteRange}
 use Rattle.blocks.proofs.References.{reference-same, same-reference}
-use Rattle.block_record.specs.Values.{asStatement}
-use Rattle.block_record.specs.declared.BaseStatement.{BaseStatement}
-use Rattle.block_record.specs.declared.BaseStatement.the-variants.{Share, Accept, Reject, RejectFor, VoteRange}
-use Rattle.block_record.proofs.BaseStatement.{the-type}
+use Rattle.statement_reader.specs.Values.{asStatement}
+use Rattle.statement_reader.specs.declared.BaseStatement.{BaseStatement}
+use Rattle.statement_reader.specs.declared.BaseStatement.the-variants.{Share, Accept, Reject, RejectFor, VoteRange}
+use Rattle.statement_reader.proofs.BaseStatement.{the-type}
 use denote.Enum.Declared.{tagOf}
 use types.Run.{OneOf}
-use Rattle.block_record.specs.declared.Taken as taken
+use Rattle.statement_reader.specs.declared.Taken as taken
 use Rattle.drafts.specs.Draft.{readGiven, statementsIn}
 use Rattle.drafts.specs.Joining.{Piece, apart, run, touches, fronted, attached, pieces, runStatement, pieceStatement, joined, isAccept, rightPiece}
 use Rattle.drafts.proofs.Joining.{Touching, touching, touching-yes, RightRun, right-run, run-right, one-right, pieces-right}

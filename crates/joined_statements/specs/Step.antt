@@ -10,10 +10,10 @@ use Rattle.base.specs.Le.{Bytes}
 use Rattle.blocks.specs.Reference.{TransactionLocator, TransactionLocatorRange, newRange, oneRange}
 use Rattle.blocks.specs.Block.{Statement, accept}
 use Rattle.types.specs.Values.{asLocator}
-use Rattle.block_record.specs.Values.{asStatement}
-use Rattle.block_record.specs.declared.BaseStatement.{BaseStatement}
-use Rattle.block_record.specs.declared.BaseStatement.the-variants.{Share, Accept, Reject, RejectFor, VoteRange}
-use Rattle.block_record.specs.declared.Taken as taken
+use Rattle.statement_reader.specs.Values.{asStatement}
+use Rattle.statement_reader.specs.declared.BaseStatement.{BaseStatement}
+use Rattle.statement_reader.specs.declared.BaseStatement.the-variants.{Share, Accept, Reject, RejectFor, VoteRange}
+use Rattle.statement_reader.specs.declared.Taken as taken
 use Rattle.drafts.specs.Draft.{readGiven, statementsIn}
 use Rattle.drafts.specs.Joining.{run, fronted, pieces, runStatement, pieceStatement, joined, rightPiece}
 use Rattle.joined_statements.specs.declared.NextAccept.{NextAccept}

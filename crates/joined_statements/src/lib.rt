@@ -1,6 +1,6 @@
 // The given statements of a block of our own, one after the other, with neighbouring accepts joined. Follows types.rs, `VoteRangeBuilder`.
-use block_record::BaseStatement;
-use block_record::Taken;
+use statement_reader::BaseStatement;
+use statement_reader::Taken;
 use types::BlockReference;
 use types::Ordering;
 use types::TransactionLocator;
@@ -12,7 +12,7 @@ ghost use lib.ListN.{length, getD};
 ghost use Rattle.base.specs.Le.{Bytes};
 ghost use Rattle.blocks.specs.Reference.{locator, newRange, oneRange};
 ghost use Rattle.types.specs.Values.{asReference, asLocator};
-ghost use Rattle.block_record.specs.Values.{asStatement};
+ghost use Rattle.statement_reader.specs.Values.{asStatement};
 ghost use Rattle.drafts.specs.Joining.{run, rightPiece, touches, runStatement};
 ghost use Rattle.joined_statements.specs.Step.{TookGiven, payloadInside, TookAccept, RunFrom, TookJoined};
 
@@ -55,7 +55,7 @@ fn take_given(s: &[u8], at: usize) -> Taken
     if s[at] == 0 {
         return take_long_share(s, at);
     }
-    block_record::take_statement(s, at)
+    statement_reader::take_statement(s, at)
 }
 
 // ---- runs of accepts

@@ -12,11 +12,11 @@ use Rattle.base.proofs.Le.{AllBytes}
 use Rattle.base.proofs.Tests.{and-right}
 use Rattle.blocks.specs.Block.{share, Block, isShare}
 use Rattle.blocks.specs.Record.{wellFormed, noStatement, statementStart}
-use Rattle.block_record.specs.Step.{payloadBetween}
-use Rattle.block_record.specs.Values.{asStatement}
-use Rattle.block_record.specs.declared.BaseStatement.{BaseStatement}
-use Rattle.block_record.specs.declared.BaseStatement.the-variants.{Share, Accept, Reject, RejectFor, VoteRange}
-use Rattle.block_record.proofs.Statements.{start-inside}
+use Rattle.statement_reader.specs.Step.{payloadBetween}
+use Rattle.statement_reader.specs.Values.{asStatement}
+use Rattle.statement_reader.specs.declared.BaseStatement.{BaseStatement}
+use Rattle.statement_reader.specs.declared.BaseStatement.the-variants.{Share, Accept, Reject, RejectFor, VoteRange}
+use Rattle.statement_cursor.proofs.Statements.{start-inside}
 use Rattle.payload.specs.declared.SharePlace.the-variants.{Payload, NoShare}
 use Rattle.share_count.proofs.Statements.{element-at}
 use Rattle.loadable_pass.specs.Answers.{sharedBy}

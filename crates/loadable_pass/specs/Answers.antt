@@ -1,6 +1,6 @@
 -- Machinery for the contracts of inner functions: what a statement shares. Assumes nothing: these are definitions.
-use Rattle.block_record.specs.declared.BaseStatement.{BaseStatement}
-use Rattle.block_record.specs.declared.BaseStatement.the-variants.{Share, Accept, Reject, RejectFor, VoteRange}
+use Rattle.statement_reader.specs.declared.BaseStatement.{BaseStatement}
+use Rattle.statement_reader.specs.declared.BaseStatement.the-variants.{Share, Accept, Reject, RejectFor, VoteRange}
 use Rattle.payload.specs.declared.SharePlace.{SharePlace}
 use Rattle.payload.specs.declared.SharePlace.the-variants.{Payload, NoShare}
 

@@ -1,8 +1,8 @@
 // The stored shares gone through in ascending order, and the loadable ones listed.
-use block_record::BaseStatement;
 use committee::Stake;
 use loadable_runs::FinalRun;
 use payload::SharePlace;
+use statement_reader::BaseStatement;
 use types::TransactionLocator;
 use vote_table::TableSizes;
 ghost use mathlib.Core.Path.{_≡_};
@@ -51,7 +51,7 @@ fn list_record(
     let at = order[k] as usize;
     let block = block_record::reference(rec);
     let count = block_record::statement_count(rec);
-    let mut cursor = block_record::first_statement(rec);
+    let mut cursor = statement_cursor::first_statement(rec);
     let mut run = FinalRun {
         end: 0,
         finals: false,
@@ -59,7 +59,7 @@ fn list_record(
     let mut found = n;
     while cursor.index < count {
         let offset = cursor.index as u64;
-        let next = block_record::next_statement(rec, cursor);
+        let next = statement_cursor::next_statement(rec, cursor);
         cursor = next.next;
         let statement = next.statement;
         let SharePlace::Payload(start, len) = shared(statement) else {

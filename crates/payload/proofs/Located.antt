@@ -19,14 +19,14 @@ use Rattle.committee.specs.Committee.{Committee, broken}
 use Rattle.blocks.specs.Reference.{TransactionLocator}
 use Rattle.blocks.specs.Block.{Statement, share, accept, reject, voteRange, Block}
 use Rattle.blocks.specs.Record.{wellFormed, blockIn, noStatement, statementStart}
-use Rattle.block_record.specs.Values.{asStatement}
-use Rattle.block_record.specs.Cursor.{cursorAt}
-use Rattle.block_record.specs.Step.{payloadBetween}
-use Rattle.block_record.specs.declared.StatementCursor.{StatementCursor}
-use Rattle.block_record.specs.declared.NextStatement.{NextStatement}
-use Rattle.block_record.specs.declared.BaseStatement.{BaseStatement}
-use Rattle.block_record.specs.declared.BaseStatement.the-variants.{Share, Accept, Reject, RejectFor, VoteRange}
-use Rattle.block_record.proofs.Statements.{start-inside}
+use Rattle.statement_reader.specs.Values.{asStatement}
+use Rattle.statement_cursor.specs.Cursor.{cursorAt}
+use Rattle.statement_reader.specs.Step.{payloadBetween}
+use Rattle.statement_cursor.specs.declared.StatementCursor.{StatementCursor}
+use Rattle.statement_cursor.specs.declared.NextStatement.{NextStatement}
+use Rattle.statement_reader.specs.declared.BaseStatement.{BaseStatement}
+use Rattle.statement_reader.specs.declared.BaseStatement.the-variants.{Share, Accept, Reject, RejectFor, VoteRange}
+use Rattle.statement_cursor.proofs.Statements.{start-inside}
 use Rattle.store_layout.specs.Layout.{blocks, Entry, entries, positionOf, lookup}
 use Rattle.store_layout.specs.Shares.{isStoredShare}
 use Rattle.store_layout.specs.Store.{recordsOf, storeInOrder}

@@ -1,6 +1,6 @@
 // A stored share's payload, as the part of the store that holds it. Follows block_store.rs.
-use block_record::BaseStatement;
 use committee::NewCommittee;
+use statement_reader::BaseStatement;
 use types::TransactionLocator;
 ghost use mathlib.Core.Path.{_≡_};
 ghost use mathlib.Core.Bool.{true};
@@ -38,14 +38,14 @@ fn find_share(rec: &[u8], offset: u64) -> SharePlace
     if block_record::statement_count(rec) as u64 <= offset {
         return SharePlace::NoShare;
     }
-    let mut cursor = block_record::first_statement(rec);
+    let mut cursor = statement_cursor::first_statement(rec);
     let mut i: u64 = 0;
     while i < offset {
-        let passed = block_record::next_statement(rec, cursor);
+        let passed = statement_cursor::next_statement(rec, cursor);
         cursor = passed.next;
         i = i + 1;
     }
-    let found = block_record::next_statement(rec, cursor);
+    let found = statement_cursor::next_statement(rec, cursor);
     let statement = found.statement;
     match statement {
         BaseStatement::Share(start, len) => SharePlace::Payload(start, len),

@@ -16,8 +16,8 @@ use Rattle.base.proofs.Tests.{fails, not-both}
 use Rattle.base.proofs.Places.{every-place, places-every, pairs-places}
 use Rattle.base.proofs.Lists.{append-nil, find-passes, find-in, every-in, every-all, all-every}
 use Rattle.blocks.specs.Record.{blockIn}
-use Rattle.block_record.specs.Cursor.{cursorAt}
-use Rattle.block_record.specs.declared.StatementCursor.{StatementCursor}
+use Rattle.statement_cursor.specs.Cursor.{cursorAt}
+use Rattle.statement_cursor.specs.declared.StatementCursor.{StatementCursor}
 use Rattle.store_layout.specs.Layout.{Entry, entries, usedBy}
 use Rattle.store_layout.specs.Store.{recordsOf}
 use Rattle.store_layout.specs.Entry.{readable, isEntry, recordAt, blockAt}

@@ -12,8 +12,8 @@ use Rattle.base.proofs.Lists.{every-all, all-every, every-countFrom, countFrom-
 use Rattle.blocks.specs.Block.{Statement, Block, isShare, isShareAt}
 use Rattle.base.specs.Le.{Bytes}
 use Rattle.blocks.specs.Record.{noStatement, blockIn}
-use Rattle.block_record.specs.Cursor.{cursorAt}
-use Rattle.block_record.specs.declared.StatementCursor.{StatementCursor}
+use Rattle.statement_cursor.specs.Cursor.{cursorAt}
+use Rattle.statement_cursor.specs.declared.StatementCursor.{StatementCursor}
 use Rattle.shared_ranges.proofs.Walk.{placed-index, placed}
 use Rattle.pending_items.specs.Table.{sharesIn}
 use Rattle.pending.specs.Step.{NotPast}

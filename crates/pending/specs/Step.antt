@@ -7,8 +7,8 @@ use lib.ListN.{length}
 use Rattle.base.specs.Lists.{_∈_}
 use Rattle.base.specs.Le.{Bytes}
 use Rattle.blocks.specs.Record.{blockIn}
-use Rattle.block_record.specs.Cursor.{cursorAt}
-use Rattle.block_record.specs.declared.StatementCursor.{StatementCursor}
+use Rattle.statement_cursor.specs.Cursor.{cursorAt}
+use Rattle.statement_cursor.specs.declared.StatementCursor.{StatementCursor}
 use Rattle.store_layout.specs.Layout.{Entry, entries, usedBy}
 use Rattle.store_layout.specs.Store.{recordsOf}
 use Rattle.store_layout.specs.Entry.{recordAt, isEntry}

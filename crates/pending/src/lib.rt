@@ -1,7 +1,7 @@
 // A pending table beside its store (11), and the pending question.
-use block_record::StatementCursor;
 use committee::NewCommittee;
 use committee::Stake;
+use statement_cursor::StatementCursor;
 use table_words::Found;
 use table_words::Item;
 use types::TransactionLocator;
@@ -12,7 +12,7 @@ ghost use Rattle.base.specs.Lists.{pick};
 ghost use Rattle.committee.specs.Committee.{broken};
 ghost use Rattle.blocks.specs.Block.{isShareAt};
 ghost use Rattle.blocks.specs.Record.{wellFormed, blockIn};
-ghost use Rattle.block_record.specs.Cursor.{cursorAt};
+ghost use Rattle.statement_cursor.specs.Cursor.{cursorAt};
 ghost use Rattle.types.specs.Values.{asLocator};
 ghost use Rattle.store_layout.specs.Layout.{entries};
 ghost use Rattle.store_layout.specs.Store.{recordsOf};
@@ -65,10 +65,10 @@ pub fn share_at(rec: &[u8], from: StatementCursor, o: u64) -> ShareAt
     }
     let mut cursor = from;
     while (cursor.index as u64) < o {
-        let found = block_record::next_statement(rec, cursor);
+        let found = statement_cursor::next_statement(rec, cursor);
         cursor = found.next;
     }
-    let found = block_record::next_statement(rec, cursor);
+    let found = statement_cursor::next_statement(rec, cursor);
     let statement = found.statement;
     let share = shared_ranges::is_share(statement);
     ShareAt { share, cursor }
@@ -134,7 +134,7 @@ fn place_in(rec: &[u8], same: bool, cursor: StatementCursor) -> StatementCursor
     if same {
         return cursor;
     }
-    block_record::first_statement(rec)
+    statement_cursor::first_statement(rec)
 }
 
 // Whether an item is of a stored block, with shares at its offsets and the sharer among its votes. The walk has not passed it.

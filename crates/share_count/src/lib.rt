@@ -14,10 +14,10 @@ fn shares_in(rec: &[u8]) -> usize
     ensures { λ r. ⌜ (r ≡ length (sharesOf (blockIn (now (rec .entry))))) × (r ≤ 1024) ⌝ }
 {
     let count = block_record::statement_count(rec);
-    let mut cursor = block_record::first_statement(rec);
+    let mut cursor = statement_cursor::first_statement(rec);
     let mut n: usize = 0;
     while cursor.index < count {
-        let next = block_record::next_statement(rec, cursor);
+        let next = statement_cursor::next_statement(rec, cursor);
         cursor = next.next;
         let statement = next.statement;
         if shared_ranges::is_share(statement) {

@@ -1,6 +1,6 @@
 // The first run of offsets of a block, from a given one on, that a list of final locators may show: stored shares in the ordinary list,
 // every offset in the wide one.
-use block_record::StatementCursor;
+use statement_cursor::StatementCursor;
 use types::BlockReference;
 use types::TransactionLocator;
 ghost use mathlib.Core.Path.{_≡_};
@@ -15,7 +15,7 @@ ghost use Rattle.store_layout.specs.Shares.{isStoredShare};
 ghost use Rattle.store_layout.specs.Store.{storeInOrder};
 ghost use Rattle.committee.specs.Committee.{Committee};
 ghost use Rattle.finality.specs.Finality.{blocksOf};
-ghost use Rattle.block_record.specs.Cursor.{cursorAt};
+ghost use Rattle.statement_cursor.specs.Cursor.{cursorAt};
 ghost use Rattle.share_runs.specs.Runs.{RunFrom};
 
 const LAST: u64 = 18446744073709551615;
@@ -31,10 +31,10 @@ fn statement_place(rec: &[u8], index: usize) -> StatementCursor
     requires { ⌜ (wellFormed (now rec) ≡ true) × (index ≤ length (blockIn (now rec) .statements)) ⌝ }
     ensures { λ r. ⌜ r ≡ cursorAt (now (rec .entry)) index ⌝ }
 {
-    let mut cursor = block_record::first_statement(rec);
+    let mut cursor = statement_cursor::first_statement(rec);
     let mut i: usize = 0;
     while i < index {
-        let passed = block_record::next_statement(rec, cursor);
+        let passed = statement_cursor::next_statement(rec, cursor);
         cursor = passed.next;
         i += 1;
     }

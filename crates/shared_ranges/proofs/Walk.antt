@@ -19,14 +19,14 @@ use Rattle.blocks.specs.Reference.{BlockReference, TransactionLocatorRange, new
 use Rattle.blocks.specs.Block.{Statement, share, accept, reject, voteRange, Block, isShare, votedRange, countedOffsets, joined, runsFrom}
 use Rattle.blocks.specs.Verify.{statementChecks}
 use Rattle.blocks.specs.Record.{noStatement}
-use Rattle.block_record.specs.Values.{asStatement}
-use Rattle.block_record.specs.Cursor.{cursorAt}
-use Rattle.block_record.specs.Step.{payloadBetween}
+use Rattle.statement_reader.specs.Values.{asStatement}
+use Rattle.statement_cursor.specs.Cursor.{cursorAt}
+use Rattle.statement_reader.specs.Step.{payloadBetween}
 use Rattle.shared_ranges.specs.Cursor.{runsLeft}
 use Rattle.shared_ranges.specs.Step.{isOfKind, leading}
-use Rattle.block_record.specs.declared.StatementCursor.{StatementCursor}
-use Rattle.block_record.specs.declared.BaseStatement.{BaseStatement}
-use Rattle.block_record.specs.declared.BaseStatement.the-variants.{Share, Accept, Reject, RejectFor, VoteRange}
+use Rattle.statement_cursor.specs.declared.StatementCursor.{StatementCursor}
+use Rattle.statement_reader.specs.declared.BaseStatement.{BaseStatement}
+use Rattle.statement_reader.specs.declared.BaseStatement.the-variants.{Share, Accept, Reject, RejectFor, VoteRange}
 use Rattle.blocks.proofs.Runs.{Run, runs-from}
 
 -- ---- places

@@ -9,7 +9,7 @@ use Rattle.blocks.specs.Block.{Block, runsFrom}
 use Rattle.blocks.specs.Record.{blockIn}
 use Rattle.shared_ranges.specs.declared.SharedRange.{SharedRange}
 use Rattle.shared_ranges.specs.declared.SharedRange.the-variants.{Run, End}
-use Rattle.block_record.specs.Cursor.{cursorAt}
+use Rattle.statement_cursor.specs.Cursor.{cursorAt}
 
 -- the runs of shares from the statement of that index on: all of `sharedRanges` where it is the first
 unfoldable pub runsLeft : Block → ℕ → List TransactionLocatorRange

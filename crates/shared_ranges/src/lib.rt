@@ -1,6 +1,6 @@
 // Runs of neighbouring shares of a record, and the room that its events need. Follows types.rs.
-use block_record::BaseStatement;
-use block_record::StatementCursor;
+use statement_cursor::StatementCursor;
+use statement_reader::BaseStatement;
 ghost use mathlib.Core.Path.{_≡_};
 ghost use Prim.Native.Nat.{_+_, _≤_};
 ghost use lib.ListN.{length, drop};
@@ -11,10 +11,10 @@ ghost use Rattle.base.specs.Checks.{passes};
 ghost use Rattle.blocks.specs.Block.{isShare, votedRange, countedOffsets, eventRoom};
 ghost use Rattle.blocks.specs.Verify.{statementChecks};
 ghost use Rattle.blocks.specs.Record.{wellFormed, blockIn};
-ghost use Rattle.block_record.specs.Cursor.{cursorAt};
+ghost use Rattle.statement_cursor.specs.Cursor.{cursorAt};
 ghost use Rattle.shared_ranges.specs.Cursor.{runsLeft, runsTold, FurtherOn};
 ghost use Rattle.shared_ranges.specs.Step.{leading};
-ghost use Rattle.block_record.specs.Values.{asStatement};
+ghost use Rattle.statement_reader.specs.Values.{asStatement};
 
 // A run of neighbouring shares, its start and its end, and the place after it; or there is none any more.
 pub enum SharedRange {
@@ -45,7 +45,7 @@ pub fn skip_statements(rec: &[u8], from: StatementCursor, shares: bool) -> State
     let count = block_record::statement_count(rec);
     let mut cursor = from;
     while cursor.index < count {
-        let found = block_record::next_statement(rec, cursor);
+        let found = statement_cursor::next_statement(rec, cursor);
         let statement = found.statement;
         if is_share(statement) != shares {
             return cursor;
@@ -92,10 +92,10 @@ pub fn event_words(rec: &[u8]) -> u64
     ensures { λ r. ⌜ r ≡ eventRoom (blockIn (now (rec .entry))) ⌝ }
 {
     let count = block_record::statement_count(rec);
-    let mut cursor = block_record::first_statement(rec);
+    let mut cursor = statement_cursor::first_statement(rec);
     let mut offsets: u64 = 0;
     while cursor.index < count {
-        let found = block_record::next_statement(rec, cursor);
+        let found = statement_cursor::next_statement(rec, cursor);
         let statement = found.statement;
         offsets = offsets + counted_offsets(statement);
         cursor = found.next;

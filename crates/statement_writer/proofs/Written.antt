@@ -20,9 +20,9 @@ use Rattle.types.specs.Values.{asReference, asLocator, asRange}
 use Rattle.types.specs.declared.TransactionLocator.{TransactionLocator}
 use Rattle.types.specs.declared.TransactionLocatorRange.{TransactionLocatorRange}
 use Rattle.types.proofs.Written.{length-referenceBytes, length-locatorBytes}
-use Rattle.block_record.specs.Values.{asStatement}
-use Rattle.block_record.specs.declared.BaseStatement.{BaseStatement}
-use Rattle.block_record.specs.declared.BaseStatement.the-variants.{Share, Accept, Reject, RejectFor, VoteRange}
+use Rattle.statement_reader.specs.Values.{asStatement}
+use Rattle.statement_reader.specs.declared.BaseStatement.{BaseStatement}
+use Rattle.statement_reader.specs.declared.BaseStatement.the-variants.{Share, Accept, Reject, RejectFor, VoteRange}
 use Rattle.drafts.specs.Writing.{isLong}
 use Rattle.joined_statements.specs.Step.{payloadInside}
 use Rattle.statement_writer.specs.Step.{sizeOf}

@@ -2,8 +2,8 @@
 use Prim.Native.Nat.{_+_}
 use lib.Dec.{ltb}
 use Rattle.base.specs.Lists.{pick}
-use Rattle.block_record.specs.declared.BaseStatement.{BaseStatement}
-use Rattle.block_record.specs.declared.BaseStatement.the-variants.{Share, Accept, Reject, RejectFor, VoteRange}
+use Rattle.statement_reader.specs.declared.BaseStatement.{BaseStatement}
+use Rattle.statement_reader.specs.declared.BaseStatement.the-variants.{Share, Accept, Reject, RejectFor, VoteRange}
 use Rattle.statement_writer.specs.declared.Size.{Size}
 use Rattle.statement_writer.specs.declared.Size.the-variants.{Bytes, Long}
 

@@ -1,5 +1,5 @@
-// The statements of a record written, and their sizes: beside the readers of block_record. Follows types.rs.
-use block_record::BaseStatement;
+// The statements of a record written, and their sizes: beside the readers of statement_reader. Follows types.rs.
+use statement_reader::BaseStatement;
 use types::TransactionLocator;
 use types::TransactionLocatorRange;
 ghost use mathlib.Core.Path.{_≡_};
@@ -11,7 +11,7 @@ ghost use lib.Seq.{sets};
 ghost use Rattle.blocks.specs.Block.{share, voteRange};
 ghost use Rattle.blocks.specs.Record.{locatorBytes, statementBytes};
 ghost use Rattle.types.specs.Values.{asLocator, asRange};
-ghost use Rattle.block_record.specs.Values.{asStatement};
+ghost use Rattle.statement_reader.specs.Values.{asStatement};
 ghost use Rattle.drafts.specs.Writing.{isLong};
 ghost use Rattle.joined_statements.specs.Step.{payloadInside};
 ghost use Rattle.statement_writer.specs.Step.{sizeOf};

@@ -1,9 +1,9 @@
 // What is checked of a record by itself: 21, 22, 24 to 28, and the clock, 29. Follows threshold_clock.rs, and `verify` of types.rs.
 use authority_set::AuthoritySet;
-use block_record::BaseStatement;
 use committee::FoundStake;
 use committee::RoundNumber;
 use committee::Stake;
+use statement_reader::BaseStatement;
 use types::BlockReference;
 use types::TransactionLocatorRange;
 ghost use mathlib.Core.Path.{_≡_};
@@ -18,7 +18,7 @@ ghost use Rattle.base.specs.Checks.{refusal, passes};
 ghost use Rattle.committee.specs.Committee.{broken, totalStake};
 ghost use Rattle.authority_set.specs.AuthoritySet.{inserted};
 ghost use Rattle.blocks.specs.Record.{wellFormed, blockIn};
-ghost use Rattle.block_record.specs.Values.{asStatement};
+ghost use Rattle.statement_reader.specs.Values.{asStatement};
 ghost use Rattle.blocks.specs.Verify.{headChecks, includeChecks, statementChecks, previousAuthors, clockValid, bodyChecks};
 
 // 21 and 22 of a well-formed record, or 0.
@@ -106,9 +106,9 @@ fn statements_refusal(rec: &[u8]) -> u64
     ensures { λ r. ⌜ r ≡ refusal (flatten (map statementChecks (blockIn (now (rec .entry)) .statements))) ⌝ }
 {
     let count = block_record::statement_count(rec);
-    let mut cursor = block_record::first_statement(rec);
+    let mut cursor = statement_cursor::first_statement(rec);
     while cursor.index < count {
-        let found = block_record::next_statement(rec, cursor);
+        let found = statement_cursor::next_statement(rec, cursor);
         let statement = found.statement;
         let refused = statement_refusal(statement);
         if refused != 0 {

@@ -68,7 +68,7 @@ fn print_run(start: u64, end: u64) {
 fn print_runs(rec: &[u8])
     requires { ⌜ wellFormed (now rec) ≡ true ⌝ }
 {
-    let mut cursor = block_record::first_statement(rec);
+    let mut cursor = statement_cursor::first_statement(rec);
     loop {
         let SharedRange::Run(start, end, next) = shared_ranges::next_shared_range(rec, cursor)
         else {

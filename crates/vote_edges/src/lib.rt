@@ -53,7 +53,7 @@ fn record_edges(rec: &[u8], block: BlockReference, offset: u64, best: u64, rejec
 {
     let count = block_record::statement_count(rec);
     let of = block_record::reference(rec);
-    let mut cursor = block_record::first_statement(rec);
+    let mut cursor = statement_cursor::first_statement(rec);
     let mut near = best;
     while cursor.index < count {
         let found = block_spans::next_span(rec, of, cursor, rejecting);

@@ -95,7 +95,7 @@ fn least_start_in(
 {
     let count = block_record::statement_count(rec);
     let block = block_record::reference(rec);
-    let mut cursor = block_record::first_statement(rec);
+    let mut cursor = statement_cursor::first_statement(rec);
     let mut least = best;
     while cursor.index < count {
         let found = block_spans::next_span(rec, block, cursor, rejecting);

@@ -92,7 +92,7 @@ fn table_record(rec: &[u8], k: usize, votes: &mut [u64], m: usize, rejecting: bo
 {
     let count = block_record::statement_count(rec);
     let block = block_record::reference(rec);
-    let mut cursor = block_record::first_statement(rec);
+    let mut cursor = statement_cursor::first_statement(rec);
     let mut n = m;
     while cursor.index < count {
         let found = block_spans::next_span(rec, block, cursor, rejecting);

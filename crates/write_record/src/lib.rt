@@ -1,9 +1,9 @@
 // Writes one record of our own from author, round, digest, mark, includes and statements, and the time of its creation where one is given.
 // Follows types.rs.
 use block_record::CreationTime;
-use block_record::Taken;
 use committee::AuthorityIndex;
 use committee::RoundNumber;
+use statement_reader::Taken;
 use statement_writer::Size;
 ghost use mathlib.Core.Path.{_≡_};
 ghost use mathlib.Core.Bool.{true};

@@ -9,7 +9,7 @@ use borrow.Author.Needs.{needs}
 use Rattle.blocks.specs.Reference.{BlockReference}
 use Rattle.blocks.specs.Record.{blockIn}
 use Rattle.types.specs.Values.{asReference}
-use Rattle.block_record.specs.Cursor.{cursorAt}
+use Rattle.statement_cursor.specs.Cursor.{cursorAt}
 use Rattle.shared_ranges.specs.Cursor.{runsTold, FurtherOn}
 use Rattle.shared_ranges.proofs.Walk.{placed-index, placed}
 use Rattle.aggregator.proofs.Runs.{Adding, adding-start, adding-written, adding-on, adding-stop, adding-end}

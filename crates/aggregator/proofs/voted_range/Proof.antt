@@ -2,7 +2,7 @@ use Rattle.aggregator.proofs.Votes.{accept-low}
 use mathlib.Core.Path.{_≡_, ap}
 use mathlib.Core.Option.{some}
 use Rattle.blocks.specs.Block.{votedRange}
-use Rattle.block_record.specs.Values.{asStatement}
+use Rattle.statement_reader.specs.Values.{asStatement}
 use Rattle.aggregator.specs.Step.{asVoted}
 use borrow.Author.Needs.{needs}
 use Rattle.aggregator.proofs.voted_range.Statement.{statement}

@@ -2,9 +2,8 @@ use mathlib.Core.Path.{ap, sym, _∙_}
 use mathlib.Core.Option.{some}
 use native.Mathlib.Omega.{arith}
 use Rattle.base.proofs.Le.{bytes-of}
-use Rattle.blocks.specs.Record.{blockIn}
 use Rattle.block_record.specs.Values.{asTime}
-use Rattle.block_record.proofs.Editions.{time-none, time-some, body-timed}
+use Rattle.record_edition.proofs.Editions.{time-none, time-some, body-timed}
 use Rattle.block_record.proofs.Shape.{shape-in}
 use Rattle.block_record.proofs.creation_time.Statement.{statement}
 use Rattle.block_record.proofs.creation_time.Tie as tie

@@ -2,7 +2,7 @@ use mathlib.Core.Path.{sym, _∙_}
 use Rattle.blocks.specs.Record.{blockIn}
 use native.Mathlib.Omega.{arith}
 use Rattle.block_record.proofs.Shape.{shape-in, include-count, include-at}
-use Rattle.block_record.proofs.Editions.{body-small}
+use Rattle.record_edition.proofs.Editions.{body-small}
 use Rattle.block_record.proofs.include.Statement.{statement}
 use Rattle.block_record.proofs.include.Tie as tie
 

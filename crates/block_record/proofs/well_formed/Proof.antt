@@ -3,9 +3,9 @@ use mathlib.Core.Bool.{true, false}
 use native.Mathlib.Omega.{arith}
 use borrow.Author.Tests.{not-true, not-false}
 use Rattle.base.proofs.Tests.{not-both}
-use Rattle.block_record.specs.Step.{editionRight}
+use Rattle.record_edition.specs.Step.{editionRight}
 use Rattle.block_record.proofs.Formed.{Head, block-short, block-refused, block-cut, block-on}
-use Rattle.block_record.proofs.Editions.{body-inside}
+use Rattle.record_edition.proofs.Editions.{body-inside}
 use borrow.Author.Needs.{needs}
 use Rattle.block_record.proofs.well_formed.Statement.{statement}
 use Rattle.block_record.proofs.well_formed.Tie as tie

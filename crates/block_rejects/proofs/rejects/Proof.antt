@@ -10,7 +10,7 @@ use native.Mathlib.Omega.{arith}
 use lib.ListN.{length}
 use Rattle.blocks.specs.Record.{blockIn}
 use Rattle.types.specs.Values.{asLocator}
-use Rattle.block_record.specs.Cursor.{cursorAt}
+use Rattle.statement_cursor.specs.Cursor.{cursorAt}
 use Rattle.readings.specs.Rejecting.{rejects}
 use Rattle.block_rejects.proofs.Reading.{rejectsFrom, rejects-start, rejects-found, rejects-passed, rejects-end}
 use Rattle.block_rejects.proofs.rejects.Statement.{statement}

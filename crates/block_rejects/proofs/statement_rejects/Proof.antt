@@ -1,7 +1,7 @@
 use mathlib.Core.Path.{sym, _∙_}
 use Rattle.base.specs.Lists.{anyOf}
 use Rattle.types.specs.Values.{asLocator}
-use Rattle.block_record.specs.Values.{asStatement}
+use Rattle.statement_reader.specs.Values.{asStatement}
 use Rattle.readings.specs.Rejecting.{rejectedIn}
 use Rattle.block_rejects.specs.Speeches.{statementRejects}
 use Rattle.block_rejects.proofs.Reading.{rejects-first}

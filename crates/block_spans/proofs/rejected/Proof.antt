@@ -2,7 +2,7 @@ use mathlib.Core.Path.{_≡_, sym, ap, _∙_}
 use mathlib.Core.List.{List, flatten, map}
 use Rattle.base.proofs.Lists.{append-nil}
 use Rattle.types.specs.Values.{asLocator}
-use Rattle.block_record.specs.Values.{asStatement}
+use Rattle.statement_reader.specs.Values.{asStatement}
 use Rattle.readings.specs.Rejecting.{rejectedIn}
 use Rattle.block_spans.specs.Answers.{votedBy}
 use Rattle.block_spans.specs.Ranges.{rejectedRange, rejectRanges}

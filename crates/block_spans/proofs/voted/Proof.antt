@@ -4,7 +4,7 @@ use native.Mathlib.Omega.{arith}
 use Rattle.blocks.specs.Reference.{locator, newRange, oneRange}
 use Rattle.blocks.specs.Block.{votedRange}
 use Rattle.types.specs.Values.{asLocator}
-use Rattle.block_record.specs.Values.{asStatement}
+use Rattle.statement_reader.specs.Values.{asStatement}
 use Rattle.block_spans.specs.Joined.{VoteFits}
 use Rattle.block_spans.specs.Answers.{votedBy}
 use borrow.Author.Needs.{needs}

@@ -2,7 +2,7 @@ use Prim.Native.Nat.{_<_}
 use mathlib.Core.Bool.{true, false}
 use lib.ListN.{getD}
 use Rattle.blocks.specs.Record.{noStatement}
-use Rattle.block_record.specs.Values.{asStatement}
+use Rattle.statement_reader.specs.Values.{asStatement}
 use Rattle.block_votes.specs.Walk.{statementVotes}
 use borrow.Author.Needs.{needs}
 use mathlib.Core.Path.{_≡_, refl, sym, _∙_}
@@ -11,7 +11,7 @@ use native.Mathlib.Omega.{arith}
 use lib.ListN.{length}
 use Rattle.blocks.specs.Record.{blockIn}
 use Rattle.types.specs.Values.{asLocator}
-use Rattle.block_record.specs.Cursor.{cursorAt}
+use Rattle.statement_cursor.specs.Cursor.{cursorAt}
 use Rattle.finality.specs.Voters.{votesFor}
 use Rattle.block_votes.proofs.Reading.{votesFrom, votes-start, votes-found, votes-passed, votes-end}
 use Rattle.block_votes.proofs.votes_for.Statement.{statement}

@@ -10,8 +10,8 @@ use Rattle.blocks.specs.Reference.{BlockReference, TransactionLocatorRange}
 use Rattle.blocks.specs.Block.{author}
 use Rattle.blocks.specs.Record.{blockIn, noStatement}
 use Rattle.types.specs.Values.{asReference}
-use Rattle.block_record.specs.Values.{asStatement}
-use Rattle.block_record.specs.Cursor.{cursorAt}
+use Rattle.statement_reader.specs.Values.{asStatement}
+use Rattle.statement_cursor.specs.Cursor.{cursorAt}
 use Rattle.block_votes.specs.Walk.{spanOf}
 use Rattle.voters_index.specs.Runs.{run}
 use Rattle.index_runs.specs.Values.{asRun, asMaybe, asPlace}

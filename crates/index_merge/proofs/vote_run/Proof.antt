@@ -3,7 +3,7 @@ use Rattle.base.specs.Lists.{here}
 use Rattle.blocks.specs.Reference.{locator, newRange, oneRange}
 use Rattle.blocks.specs.Block.{isShare, votedRange}
 use Rattle.types.specs.Values.{asReference, asLocator, asRange}
-use Rattle.block_record.specs.Values.{asStatement}
+use Rattle.statement_reader.specs.Values.{asStatement}
 use Rattle.block_votes.specs.Walk.{spanOf}
 use Rattle.voters_index.specs.Runs.{run}
 use Rattle.index_runs.specs.Values.{asRun, asMaybe}

@@ -1,7 +1,7 @@
 use native.Mathlib.Omega.{arith}
 use Rattle.base.proofs.Le.{bytes-of}
-use Rattle.block_record.specs.Values.{asStatement}
-use Rattle.block_record.specs.declared.Taken.the-variants.{Statement, Malformed}
+use Rattle.statement_reader.specs.Values.{asStatement}
+use Rattle.statement_reader.specs.declared.Taken.the-variants.{Statement, Malformed}
 use Rattle.drafts.specs.Joining.{isAccept}
 use Rattle.joined_statements.specs.Step.{TookGiven, TookAccept}
 use Rattle.joined_statements.proofs.Runs.{ends-none, other-there}

@@ -4,9 +4,9 @@ use lib.ListN.{length}
 use Rattle.base.proofs.Le.{bytes-of}
 use Rattle.blocks.specs.Reference.{locator}
 use Rattle.types.specs.Values.{asLocator}
-use Rattle.block_record.specs.Values.{asStatement}
-use Rattle.block_record.specs.declared.BaseStatement.the-variants.{Accept}
-use Rattle.block_record.specs.declared.Taken.the-variants.{Statement, Malformed}
+use Rattle.statement_reader.specs.Values.{asStatement}
+use Rattle.statement_reader.specs.declared.BaseStatement.the-variants.{Accept}
+use Rattle.statement_reader.specs.declared.Taken.the-variants.{Statement, Malformed}
 use Rattle.joined_statements.specs.Step.{TookGiven, TookJoined}
 use Rattle.joined_statements.proofs.Given.{inside-none}
 use Rattle.joined_statements.proofs.Runs.{joined-none, joined-there, joined-accept, no-accept}

@@ -1,7 +1,7 @@
 use mathlib.Core.Path.{refl, sym}
 use native.Mathlib.Omega.{arith}
 use Rattle.types.specs.Values.{asReference, asLocator}
-use Rattle.block_record.specs.Values.{asStatement}
+use Rattle.statement_reader.specs.Values.{asStatement}
 use Rattle.joined_statements.specs.Step.{payloadInside}
 use Rattle.joined_statements.proofs.Runs.{run-alone, run-longer, run-low}
 use borrow.Author.Needs.{needs}

@@ -2,7 +2,7 @@ use Prim.Native.Nat.{_+_}
 use native.Mathlib.Omega.{arith}
 use lib.ListN.{length}
 use borrow.Author.Tests.{le-leb}
-use Rattle.block_record.specs.Values.{asStatement}
+use Rattle.statement_reader.specs.Values.{asStatement}
 use Rattle.joined_statements.specs.Step.{TookGiven, payloadInside}
 use Rattle.joined_statements.proofs.Given.{share-cut, share-short, share-reads}
 use borrow.Author.Needs.{needs}

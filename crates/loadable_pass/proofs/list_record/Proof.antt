@@ -15,12 +15,12 @@ use Rattle.blocks.specs.Reference.{BlockReference, locator}
 use Rattle.blocks.specs.Block.{isShare, isShareAt}
 use Rattle.blocks.specs.Record.{blockIn}
 use Rattle.types.specs.Values.{asLocator}
-use Rattle.block_record.specs.Cursor.{cursorAt}
-use Rattle.block_record.specs.Step.{payloadBetween}
-use Rattle.block_record.specs.Values.{asStatement}
-use Rattle.block_record.specs.declared.BaseStatement.{BaseStatement}
-use Rattle.block_record.specs.declared.BaseStatement.the-variants.{Share}
-use Rattle.block_record.specs.declared.StatementCursor.{StatementCursor}
+use Rattle.statement_cursor.specs.Cursor.{cursorAt}
+use Rattle.statement_reader.specs.Step.{payloadBetween}
+use Rattle.statement_reader.specs.Values.{asStatement}
+use Rattle.statement_reader.specs.declared.BaseStatement.{BaseStatement}
+use Rattle.statement_reader.specs.declared.BaseStatement.the-variants.{Share}
+use Rattle.statement_cursor.specs.declared.StatementCursor.{StatementCursor}
 use Rattle.finality.specs.Voters.{isFinal}
 use Rattle.finality.specs.Finality.{blocksOf}
 use Rattle.loadable_places.specs.Listed.{metBy}

@@ -4,8 +4,8 @@ use mathlib.Core.Path.{_≡_, refl, sym, ap, _∙_}
 use native.Mathlib.Omega.{arith}
 use Rattle.blocks.specs.Record.{blockIn}
 use Rattle.base.proofs.Le.{bytes-of}
-use Rattle.block_record.specs.Cursor.{cursorAt}
-use Rattle.block_record.specs.declared.StatementCursor.{StatementCursor}
+use Rattle.statement_cursor.specs.Cursor.{cursorAt}
+use Rattle.statement_cursor.specs.declared.StatementCursor.{StatementCursor}
 use Rattle.payload.specs.Answers.{shareWithin}
 use Rattle.payload.proofs.Located.{share-past, shareTold, share-found}
 use Rattle.payload.proofs.find_share.Statement.{statement}

@@ -9,9 +9,9 @@ use Rattle.base.proofs.Le.{bytes-of}
 use Rattle.blocks.specs.Reference.{locator}
 use Rattle.blocks.specs.Block.{isShareAt}
 use Rattle.blocks.specs.Record.{blockIn}
-use Rattle.block_record.specs.Cursor.{cursorAt}
-use Rattle.block_record.specs.Values.{asStatement}
-use Rattle.block_record.specs.declared.StatementCursor.{StatementCursor}
+use Rattle.statement_cursor.specs.Cursor.{cursorAt}
+use Rattle.statement_reader.specs.Values.{asStatement}
+use Rattle.statement_cursor.specs.declared.StatementCursor.{StatementCursor}
 use Rattle.share_count.specs.Through.{sharesBelow}
 use Rattle.share_count.proofs.Through.{below-none, below-all, below-share, below-other}
 use Rattle.share_count.proofs.Statements.{share-here, few-statements}

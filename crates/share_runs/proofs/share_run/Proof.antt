@@ -5,8 +5,8 @@ use native.Mathlib.Omega.{arith}
 use lib.ListN.{drop}
 use borrow.Author.Needs.{needs}
 use Rattle.blocks.specs.Record.{blockIn}
-use Rattle.block_record.specs.Cursor.{cursorAt}
-use Rattle.block_record.specs.declared.StatementCursor.{StatementCursor}
+use Rattle.statement_cursor.specs.Cursor.{cursorAt}
+use Rattle.statement_cursor.specs.declared.StatementCursor.{StatementCursor}
 use Rattle.shared_ranges.specs.Step.{leading}
 use Rattle.share_runs.proofs.Leading.{none-past, none-left, run-found}
 use Rattle.share_runs.proofs.share_run.Statement.{statement}

@@ -2,8 +2,8 @@ use Prim.Native.Nat.{ℕ, _≤_, _-_, _+_}
 use mathlib.Core.Path.{_≡_, sym, ap, _∙_}
 use native.Mathlib.Omega.{arith}
 use borrow.Author.Needs.{needs}
-use Rattle.block_record.specs.Cursor.{cursorAt}
-use Rattle.block_record.specs.declared.StatementCursor.{StatementCursor}
+use Rattle.statement_cursor.specs.Cursor.{cursorAt}
+use Rattle.statement_cursor.specs.declared.StatementCursor.{StatementCursor}
 use Rattle.share_runs.proofs.statement_place.Statement.{statement}
 use Rattle.share_runs.proofs.statement_place.Tie as tie
 

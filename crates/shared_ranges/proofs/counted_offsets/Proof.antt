@@ -4,7 +4,7 @@ use native.Mathlib.Omega.{arith}
 use Rattle.blocks.specs.Reference.{newRange, oneRange}
 use Rattle.blocks.specs.Block.{votedRange, countedOffsets}
 use Rattle.types.specs.Values.{asLocator, asRange}
-use Rattle.block_record.specs.Values.{asStatement}
+use Rattle.statement_reader.specs.Values.{asStatement}
 use Rattle.shared_ranges.proofs.Walk.{range-passes}
 use borrow.Author.Needs.{needs}
 use Rattle.shared_ranges.proofs.counted_offsets.Statement.{statement}

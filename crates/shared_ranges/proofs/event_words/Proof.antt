@@ -4,7 +4,7 @@ use native.Mathlib.Omega.{arith}
 use lib.ListN.{length, getD, drop}
 use Rattle.blocks.specs.Block.{Statement, votedRange, countedOffsets, eventRoom}
 use Rattle.blocks.specs.Record.{blockIn, noStatement}
-use Rattle.block_record.specs.Cursor.{cursorAt}
+use Rattle.statement_cursor.specs.Cursor.{cursorAt}
 use Rattle.block_record.proofs.Shape.{shape-in, statement-count}
 use Rattle.shared_ranges.proofs.Walk.{placed-index, placed, checks-any, passes-at, counted-most, offsetsCounted, counted-on, counted-end}
 use borrow.Author.Needs.{needs}

@@ -1,5 +1,5 @@
 use Rattle.blocks.specs.Block.{isShare}
-use Rattle.block_record.specs.Values.{asStatement}
+use Rattle.statement_reader.specs.Values.{asStatement}
 use borrow.Author.Needs.{needs}
 use Rattle.shared_ranges.proofs.is_share.Statement.{statement}
 use Rattle.shared_ranges.proofs.is_share.Tie as tie

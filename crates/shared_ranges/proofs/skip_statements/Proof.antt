@@ -4,7 +4,7 @@ use native.Mathlib.Omega.{arith}
 use lib.ListN.{length, getD, drop}
 use Rattle.blocks.specs.Block.{isShare}
 use Rattle.blocks.specs.Record.{blockIn, noStatement}
-use Rattle.block_record.specs.Cursor.{cursorAt}
+use Rattle.statement_cursor.specs.Cursor.{cursorAt}
 use Rattle.shared_ranges.specs.Step.{leading}
 use Rattle.shared_ranges.proofs.Walk.{placed-index, placed, kind-same, kind-other, leading-on, leading-stop, leading-end}
 use borrow.Author.Needs.{needs}

@@ -2,8 +2,8 @@ use mathlib.Core.Path.{_∙_}
 use native.Mathlib.Omega.{arith}
 use lib.ListN.{length}
 use Rattle.blocks.specs.Record.{statementBytes}
-use Rattle.block_record.specs.Values.{asStatement}
-use Rattle.block_record.specs.declared.BaseStatement.the-variants.{Accept, Reject, RejectFor, VoteRange}
+use Rattle.statement_reader.specs.Values.{asStatement}
+use Rattle.statement_reader.specs.declared.BaseStatement.the-variants.{Accept, Reject, RejectFor, VoteRange}
 use Rattle.statement_writer.proofs.Written.{bytesOf, room-for, share-room, reject-written, reject-for-written}
 use borrow.Author.Needs.{needs}
 use Rattle.statement_writer.proofs.write_statement.Statement.{statement}

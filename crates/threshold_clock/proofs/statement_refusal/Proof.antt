@@ -1,7 +1,7 @@
 use Rattle.base.specs.Checks.{refusal}
 use Rattle.blocks.specs.Reference.{locator, newRange}
 use Rattle.types.specs.Values.{asLocator, asRange}
-use Rattle.block_record.specs.Values.{asStatement}
+use Rattle.statement_reader.specs.Values.{asStatement}
 use Rattle.blocks.specs.Verify.{statementChecks}
 use borrow.Author.Needs.{needs}
 use Rattle.threshold_clock.proofs.statement_refusal.Statement.{statement}

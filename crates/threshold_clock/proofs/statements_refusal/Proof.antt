@@ -5,7 +5,7 @@ use lib.ListN.{length, drop}
 use Rattle.base.specs.Checks.{refusal}
 use Rattle.blocks.specs.Block.{Statement}
 use Rattle.blocks.specs.Record.{blockIn}
-use Rattle.block_record.specs.Cursor.{cursorAt}
+use Rattle.statement_cursor.specs.Cursor.{cursorAt}
 use Rattle.blocks.specs.Verify.{statementChecks}
 use Rattle.shared_ranges.proofs.Walk.{placed-index, placed}
 use Rattle.threshold_clock.proofs.Checking.{ofStatements, statement-refused, statement-on, statement-end}

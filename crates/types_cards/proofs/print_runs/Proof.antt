@@ -3,7 +3,7 @@ use Prim.Native.Nat.{_-_, _≤_}
 use native.Mathlib.Omega.{arith}
 use lib.ListN.{length}
 use Rattle.blocks.specs.Record.{blockIn}
-use Rattle.block_record.specs.Cursor.{cursorAt}
+use Rattle.statement_cursor.specs.Cursor.{cursorAt}
 use Rattle.shared_ranges.specs.Cursor.{FurtherOn}
 use Rattle.shared_ranges.specs.declared.SharedRange.the-variants.{Run}
 use Rattle.shared_ranges.proofs.Walk.{placed-index, placed}

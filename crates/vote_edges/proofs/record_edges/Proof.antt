@@ -4,7 +4,7 @@ use Rattle.stretches.specs.Stretches.{nearest}
 use Rattle.block_spans.specs.declared.Vote.{Vote}
 use Rattle.block_spans.specs.Ranges.{rangesAt, rangesOf}
 use Rattle.block_spans.specs.Answers.{votedBy, OnwardIn}
-use Rattle.block_record.specs.Cursor.{cursorAt}
+use Rattle.statement_cursor.specs.Cursor.{cursorAt}
 use Rattle.types.specs.Values.{asReference, asRange}
 use Rattle.blocks.specs.Record.{blockIn}
 use lib.ListN.{length}

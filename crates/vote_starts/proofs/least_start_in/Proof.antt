@@ -5,7 +5,7 @@ use Rattle.block_spans.specs.declared.Vote.{Vote}
 use Rattle.block_spans.specs.Ranges.{rangesAt, rangesOf}
 use Rattle.block_spans.specs.Answers.{votedBy, OnwardIn}
 use Rattle.finality.specs.NextFinal.{isAfter, leastLocator}
-use Rattle.block_record.specs.Cursor.{cursorAt}
+use Rattle.statement_cursor.specs.Cursor.{cursorAt}
 use Rattle.types.specs.Values.{asRange}
 use Rattle.blocks.specs.Record.{blockIn}
 use Rattle.blocks.specs.Reference.{TransactionLocator}

@@ -3,7 +3,7 @@ use Rattle.vote_table.specs.Table.{Recorded, RecordedBy}
 use Rattle.block_spans.specs.declared.Vote.{Vote}
 use Rattle.block_spans.specs.Ranges.{rangesAt}
 use Rattle.block_spans.specs.Answers.{votedBy, OnwardIn}
-use Rattle.block_record.specs.Cursor.{cursorAt}
+use Rattle.statement_cursor.specs.Cursor.{cursorAt}
 use Rattle.types.specs.Values.{asRange}
 use Rattle.blocks.specs.Record.{blockIn}
 use lib.ListN.{length}
