@@ -3,7 +3,7 @@ use Rattle.voters_index.specs.Runs.{run}
 use Rattle.voters_index.specs.Walk.{digestOf}
 use Rattle.types.specs.Values.{asReference, digestBytes}
 use Rattle.index_runs.specs.Values.{asRun}
-use Rattle.index_runs.proofs.Turning.{run-at}
+use Rattle.index_runs.proofs.Words.{run-at}
 use borrow.Author.Needs.{needs}
 use Rattle.index_runs.proofs.read_run.Statement.{statement}
 use Rattle.index_runs.proofs.read_run.Tie as tie

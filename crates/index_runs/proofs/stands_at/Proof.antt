@@ -7,7 +7,7 @@ use Rattle.voters_index.specs.Runs.{run}
 use Rattle.voters_index.specs.Index.{runWords}
 use Rattle.types.specs.Values.{asReference}
 use Rattle.index_runs.specs.Values.{asRun, startsWith}
-use Rattle.index_runs.proofs.Turning.{digest-turned, six-words}
+use Rattle.index_runs.proofs.Words.{digest-turned, six-words}
 use borrow.Author.Needs.{needs}
 use native.Mathlib.Omega.{arith}
 use Rattle.index_runs.proofs.stands_at.Statement.{statement}

@@ -7,7 +7,7 @@ use Rattle.voters_index.specs.Runs.{run}
 use Rattle.voters_index.specs.Index.{runWords}
 use Rattle.types.specs.Values.{asReference}
 use Rattle.index_runs.specs.Values.{asRun}
-use Rattle.index_runs.proofs.Turning.{digest-turned, ten-stores}
+use Rattle.index_runs.proofs.Words.{digest-turned, ten-stores}
 use borrow.Author.Needs.{needs}
 use native.Mathlib.Omega.{arith}
 use Rattle.index_runs.proofs.write_run.Statement.{statement}

@@ -1,11 +1,11 @@
 use mathlib.Core.Path.{_≡_, refl, sym, _∙_}
 use borrow.Author.Tests.{le-leb, lt-leb}
 use Rattle.voters_index.specs.Runs.{run}
 use Rattle.index_runs.specs.Values.{asRun, asMaybe, asPlace}
-use Rattle.index_runs.specs.Pieces.{fromPlace, fromOffset}
+use Rattle.index_pieces.specs.Pieces.{fromPlace, fromOffset}
 use borrow.Author.Needs.{needs}
-use Rattle.index_runs.proofs.from_place.Statement.{statement}
-use Rattle.index_runs.proofs.from_place.Tie as tie
+use Rattle.index_pieces.proofs.from_place.Statement.{statement}
+use Rattle.index_pieces.proofs.from_place.Tie as tie
 
 enum-known-place : tie.Need-enum-known-place
 enum-known-place c = search needs

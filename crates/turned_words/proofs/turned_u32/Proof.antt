@@ -1,8 +1,8 @@
-use Rattle.index_runs.proofs.Turning.{turned-halves}
+use Rattle.turned_words.proofs.Turning.{turned-halves}
 use borrow.Author.Needs.{needs}
 use native.Mathlib.Omega.{arith}
-use Rattle.index_runs.proofs.turned_u32.Statement.{statement}
-use Rattle.index_runs.proofs.turned_u32.Tie as tie
+use Rattle.turned_words.proofs.turned_u32.Statement.{statement}
+use Rattle.turned_words.proofs.turned_u32.Tie as tie
 
 cast-turned-u16 : tie.Need-cast-turned-u16
 cast-turned-u16 c = search needs

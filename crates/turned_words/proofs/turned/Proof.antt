@@ -1,8 +1,8 @@
-use Rattle.index_runs.proofs.Turning.{turned-halves}
+use Rattle.turned_words.proofs.Turning.{turned-halves}
 use borrow.Author.Needs.{needs}
 use native.Mathlib.Omega.{arith}
-use Rattle.index_runs.proofs.turned.Statement.{statement}
-use Rattle.index_runs.proofs.turned.Tie as tie
+use Rattle.turned_words.proofs.turned.Statement.{statement}
+use Rattle.turned_words.proofs.turned.Tie as tie
 
 cast-turned-u32 : tie.Need-cast-turned-u32
 cast-turned-u32 c = search needs

@@ -1,16 +1,16 @@
--- Words with their bytes the other way round, and runs against words. Assumes nothing.
+-- Runs against words. Assumes nothing.
 use mathlib.Core.Path.{_≡_, refl, sym, ap, _∙_}
-use mathlib.Core.Bool.{Bool, true, false, _&&_}
-use mathlib.Core.List.{List, [], _∷_, _++_, reverse, reverse-append, reverse-reverse, append-assoc}
-use Prim.Native.Nat.{ℕ, suc, _+_, _*_, _/_, _%_, _^_, _≤_, _<_}
+use mathlib.Core.Bool.{Bool, _&&_, and-true}
+use mathlib.Core.List.{List, [], _∷_, _++_, reverse, reverse-reverse}
+use Prim.Native.Nat.{ℕ, suc, _+_, _^_, _≤_, _<_}
 use native.Mathlib.Omega.{arith}
 use native.Mathlib.Numerals.{towards-suc}
-use native.Mathlib.Nat.{add-zero, add-assoc, mul-add-div-right, mul-add-mod-self-right, div-eq-of-lt, mod-eq-of-lt}
+use native.Mathlib.Nat.{add-zero, add-assoc}
 use lib.Dec.{eqb}
 use lib.ListN.{length, getD, take, drop, set}
 use lib.Seq.{sets, getD-drop, take-at, drop-at, drop-drop, take-length}
-use Rattle.base.specs.Le.{Bytes, leNumber, leBytes}
-use Rattle.base.proofs.Le.{leNumber-leBytes, leBytes-add, leBytes-mod}
+use Rattle.base.specs.Le.{leNumber, leBytes}
+use Rattle.base.proofs.Le.{leNumber-leBytes}
 use Rattle.base.proofs.Loops.{drop-next}
 use Rattle.types.specs.Values.{beBytes, digestBytes}
 use Rattle.types.proofs.Written.{length-beBytes}
@@ -19,19 +19,6 @@ use Rattle.voters_index.specs.Runs.{run}
 use Rattle.voters_index.specs.Index.{digestWords}
 use Rattle.voters_index.specs.Walk.{digestOf, runFrom}
 use Rattle.index_runs.specs.Values.{startsWith}
-
-be-double : (n h l : ℕ) → l < 256 ^ n → beBytes (n + n) (h * 256 ^ n + l) ≡ beBytes n h ++ beBytes n l
-unfolding beBytes
-be-double n h l k =
-    let v : ℕ = h * 256 ^ n + l in
-    let high : v / 256 ^ n ≡ h = mul-add-div-right (omega (arith, k)) h l ∙ ap (λ (x : ℕ). h + x) (div-eq-of-lt k) ∙ add-zero h in
-    let low : v % 256 ^ n ≡ l = mul-add-mod-self-right h (256 ^ n) l ∙ mod-eq-of-lt k in
-    rw (leBytes-add n n v, reverse-append (leBytes n v) (leBytes n (v / 256 ^ n)), high, ← leBytes-mod n v, low)
-
--- the two halves turned and in each other's place
-pub turned-halves : (n v h l : ℕ) → l < 256 ^ n → beBytes n h ≡ leBytes n (v % 256 ^ n) → beBytes n l ≡ leBytes n (v / 256 ^ n)
-    → beBytes (n + n) (h * 256 ^ n + l) ≡ leBytes (n + n) v
-turned-halves n v h l k e f = rw (be-double n h l k, e, f, leBytes-mod n v, leBytes-add n n v)
 
 next-word : (n v : ℕ) (xs : List ℕ) → drop (8 + n) (beBytes 8 v ++ xs) ≡ drop n xs
 next-word n v xs = sym (drop-drop n 8 (beBytes 8 v ++ xs)) ∙ ap (drop n) (drop-at (beBytes 8 v) xs 8 (length-beBytes 8 v))
@@ -80,10 +67,6 @@ pub starts-on : (v : ℕ) (vs ws : List ℕ) (i : ℕ) → i < length ws → sta
 unfolding startsWith
 starts-on v vs ws i h = rw (drop-next ws i h)
 
-pub and-false : (t : Bool) → t && false ≡ false
-and-false true = refl
-and-false false = refl
-
 -- ---- a run at a position
 
 pub run-at : (ix : List ℕ) (p : ℕ)
@@ -120,11 +103,7 @@ module _ (ix : List ℕ) (p : ℕ) where
   four-words a b c d h =
       starts-on a (b ∷ c ∷ d ∷ []) ix p (omega arith)
       ∙ and (eqb (getD ix p 0) a)
-      (on 1 b (c ∷ d ∷ []) (omega arith) (on 2 c (d ∷ []) (omega arith) (starts-on d [] ix (p + 3) (omega arith) ∙ ends (eqb (getD ix (p + 3) 0) d))))
-    where
-      ends : (t : Bool) → t && true ≡ t
-      ends true = refl
-      ends false = refl
+      (on 1 b (c ∷ d ∷ []) (omega arith) (on 2 c (d ∷ []) (omega arith) (starts-on d [] ix (p + 3) (omega arith) ∙ and-true (eqb (getD ix (p + 3) 0) d))))
 
   pub six-words : (a b c d e f : ℕ) (vs : List ℕ) → p + 6 ≤ length ix
       → startsWith (a ∷ b ∷ c ∷ d ∷ e ∷ f ∷ vs) (drop p ix)

@@ -1,7 +1,7 @@
 use mathlib.Core.Path.{refl}
 use Rattle.authority_set.specs.AuthoritySet.{united}
-use Rattle.index_runs.proofs.united.Statement.{statement}
-use Rattle.index_runs.proofs.united.Tie as tie
+use Rattle.index_pieces.proofs.united.Statement.{statement}
+use Rattle.index_pieces.proofs.united.Tie as tie
 
 returns : tie.Need-returns
 unfolding united

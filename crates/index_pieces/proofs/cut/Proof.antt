@@ -1,9 +1,9 @@
 use Rattle.voters_index.specs.Runs.{run}
 use Rattle.index_runs.specs.Values.{asRun}
-use Rattle.index_runs.specs.Pieces.{cut}
+use Rattle.index_pieces.specs.Pieces.{cut}
 use borrow.Author.Needs.{needs}
-use Rattle.index_runs.proofs.cut.Statement.{statement}
-use Rattle.index_runs.proofs.cut.Tie as tie
+use Rattle.index_pieces.proofs.cut.Statement.{statement}
+use Rattle.index_pieces.proofs.cut.Tie as tie
 
 nearer-requires : tie.Need-nearer-requires
 nearer-requires c κs = search needs

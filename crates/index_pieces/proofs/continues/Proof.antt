@@ -1,15 +1,14 @@
 use mathlib.Core.Path.{_≡_, refl, sym, _∙_}
-use mathlib.Core.Bool.{Bool, true, false, _&&_}
+use mathlib.Core.Bool.{Bool, true, false, _&&_, and-false}
 use lib.Dec.{eqb}
 use borrow.Author.Tests.{eq-eqb, ne-eqb}
 use Rattle.types.specs.Values.{asReference}
 use Rattle.types.proofs.Words.{compared-equal, compared-less, compared-greater}
 use Rattle.voters_index.specs.Runs.{run, touches, sameVoters}
 use Rattle.index_runs.specs.Values.{asRun}
-use Rattle.index_runs.proofs.Turning.{and-false}
 use borrow.Author.Needs.{needs}
-use Rattle.index_runs.proofs.continues.Statement.{statement}
-use Rattle.index_runs.proofs.continues.Tie as tie
+use Rattle.index_pieces.proofs.continues.Statement.{statement}
+use Rattle.index_pieces.proofs.continues.Tie as tie
 
 returns : tie.Need-returns
 unfolding touches sameVoters asRun run

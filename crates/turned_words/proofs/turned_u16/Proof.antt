@@ -2,11 +2,11 @@ use mathlib.Core.Path.{refl}
 use Prim.Native.Nat.{_/_, _%_}
 use Rattle.types.specs.Values.{beBytes}
 use Rattle.base.specs.Le.{leBytes}
-use Rattle.index_runs.proofs.Turning.{turned-halves}
+use Rattle.turned_words.proofs.Turning.{turned-halves}
 use borrow.Author.Needs.{needs}
 use native.Mathlib.Omega.{arith}
-use Rattle.index_runs.proofs.turned_u16.Statement.{statement}
-use Rattle.index_runs.proofs.turned_u16.Tie as tie
+use Rattle.turned_words.proofs.turned_u16.Statement.{statement}
+use Rattle.turned_words.proofs.turned_u16.Tie as tie
 
 mul-result : tie.Need-mul-result
 mul-result c = search needs

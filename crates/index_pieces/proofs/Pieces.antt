@@ -22,7 +22,7 @@ use Rattle.voters_index.specs.Part.{Stretch}
 use Rattle.voters_index.specs.Walk.{Past, byBlock, byOffset, Place, anywhere, beyond, At}
 use Rattle.voters_index.proofs.Sets.{united-comm, nobody-united, united-nobody-left}
 use Rattle.voters_index.proofs.Chain.{past-trans, Covered, Good, Chain, end, link, past-head, chain-from, nobody-before, at-head}
-use Rattle.index_runs.specs.Pieces.{Ahead, Piece, NobodyFrom, AheadOr, PieceOr, fromOffset, fromPlace, nearer, cut, overlaidBy, overlaid, both, orElse, firstPiece, keptIf, skipped}
+use Rattle.index_pieces.specs.Pieces.{Ahead, Piece, NobodyFrom, AheadOr, PieceOr, fromOffset, fromPlace, nearer, cut, overlaidBy, overlaid, both, orElse, firstPiece, keptIf, skipped}
 
 -- ---- places
 

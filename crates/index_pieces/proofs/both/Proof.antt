@@ -1,9 +1,9 @@
 use mathlib.Core.Path.{_≡_, refl, sym, _∙_}
 use Rattle.index_runs.specs.Values.{asRun, asMaybe}
-use Rattle.index_runs.specs.Pieces.{both}
+use Rattle.index_pieces.specs.Pieces.{both}
 use borrow.Author.Needs.{needs}
-use Rattle.index_runs.proofs.both.Statement.{statement}
-use Rattle.index_runs.proofs.both.Tie as tie
+use Rattle.index_pieces.proofs.both.Statement.{statement}
+use Rattle.index_pieces.proofs.both.Tie as tie
 
 enum-known-x : tie.Need-enum-known-x
 enum-known-x c = search needs

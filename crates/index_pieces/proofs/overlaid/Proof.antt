@@ -1,11 +1,11 @@
 use mathlib.Core.Path.{_≡_, refl, sym, _∙_}
 use borrow.Author.Tests.{lt-ltb, le-ltb}
 use Rattle.voters_index.specs.Runs.{run}
 use Rattle.index_runs.specs.Values.{asRun}
-use Rattle.index_runs.specs.Pieces.{overlaid, overlaidBy}
+use Rattle.index_pieces.specs.Pieces.{overlaid, overlaidBy}
 use borrow.Author.Needs.{needs}
-use Rattle.index_runs.proofs.overlaid.Statement.{statement}
-use Rattle.index_runs.proofs.overlaid.Tie as tie
+use Rattle.index_pieces.proofs.overlaid.Statement.{statement}
+use Rattle.index_pieces.proofs.overlaid.Tie as tie
 
 compare-requires : tie.Need-compare-requires
 compare-requires c κs = search needs

@@ -1,8 +1,8 @@
 use borrow.Author.Tests.{lt-ltb, le-ltb}
-use Rattle.index_runs.specs.Pieces.{nearer}
+use Rattle.index_pieces.specs.Pieces.{nearer}
 use native.Mathlib.Omega.{arith}
-use Rattle.index_runs.proofs.nearer.Statement.{statement}
-use Rattle.index_runs.proofs.nearer.Tie as tie
+use Rattle.index_pieces.proofs.nearer.Statement.{statement}
+use Rattle.index_pieces.proofs.nearer.Tie as tie
 
 returns : tie.Need-returns
 unfolding nearer
