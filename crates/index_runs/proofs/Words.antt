@@ -1,6 +1,6 @@
 -- Runs against words. Assumes nothing.
 use mathlib.Core.Path.{_≡_, refl, sym, ap, _∙_}
-use mathlib.Core.Bool.{Bool, _&&_, and-true}
+use mathlib.Core.Bool.{Bool, _&&_, and-true, and-assoc}
 use mathlib.Core.List.{List, [], _∷_, _++_, reverse, reverse-reverse}
 use Prim.Native.Nat.{ℕ, suc, _+_, _^_, _≤_, _<_}
 use native.Mathlib.Omega.{arith}
@@ -10,15 +10,15 @@ use lib.Dec.{eqb}
 use lib.ListN.{length, getD, take, drop, set}
 use lib.Seq.{sets, getD-drop, take-at, drop-at, drop-drop, take-length}
 use Rattle.base.specs.Le.{leNumber, leBytes}
-use Rattle.base.proofs.Le.{leNumber-leBytes}
+use Rattle.base.proofs.Le.{leNumber-leBytes, sets-append}
 use Rattle.base.proofs.Loops.{drop-next}
 use Rattle.types.specs.Values.{beBytes, digestBytes}
 use Rattle.types.proofs.Written.{length-beBytes}
 use Rattle.types.specs.declared.BlockDigest as digest
-use Rattle.voters_index.specs.Runs.{run}
-use Rattle.voters_index.specs.Index.{digestWords}
-use Rattle.voters_index.specs.Walk.{digestOf, runFrom}
-use Rattle.index_runs.specs.Values.{startsWith}
+use Rattle.voters_index.specs.Runs.{Run, run}
+use Rattle.voters_index.specs.Index.{digestWords, runWords}
+use Rattle.voters_index.specs.Walk.{runFrom}
+use Rattle.index_runs.specs.Values.{digestAt, startsWith}
 
 next-word : (n v : ℕ) (xs : List ℕ) → drop (8 + n) (beBytes 8 v ++ xs) ≡ drop n xs
 next-word n v xs = sym (drop-drop n 8 (beBytes 8 v ++ xs)) ∙ ap (drop n) (drop-at (beBytes 8 v) xs 8 (length-beBytes 8 v))
@@ -71,9 +71,9 @@ starts-on v vs ws i h = rw (drop-next ws i h)
 
 pub run-at : (ix : List ℕ) (p : ℕ)
     → runFrom (drop p ix)
-    ≡ run (record { authority = getD ix p 0; round = getD ix (p + 1) 0; digest = digestOf (getD ix (p + 2) 0) (getD ix (p + 3) 0) (getD ix (p + 4) 0) (getD ix (p + 5) 0) })
-    (getD ix (p + 6) 0) (getD ix (p + 7) 0) (record { low = getD ix (p + 8) 0; high = getD ix (p + 9) 0 })
-unfolding runFrom run
+    ≡ run (record { authority = getD ix p 0; round = getD ix (p + 1) 0; digest = digestAt ix (p + 2) }) (getD ix (p + 6) 0) (getD ix (p + 7) 0)
+    (record { low = getD ix (p + 8) 0; high = getD ix (p + 9) 0 })
+unfolding runFrom run digestAt
 run-at ix p =
     rw (
       getD-drop p ix 0 0,
@@ -87,6 +87,9 @@ run-at ix p =
       getD-drop p ix 7 0,
       getD-drop p ix 8 0,
       getD-drop p ix 9 0,
+      add-assoc p 2 1,
+      add-assoc p 2 2,
+      add-assoc p 2 3,
     )
 
 -- the tests of the words, one after the other
@@ -105,22 +108,40 @@ module _ (ix : List ℕ) (p : ℕ) where
       ∙ and (eqb (getD ix p 0) a)
       (on 1 b (c ∷ d ∷ []) (omega arith) (on 2 c (d ∷ []) (omega arith) (starts-on d [] ix (p + 3) (omega arith) ∙ and-true (eqb (getD ix (p + 3) 0) d))))
 
-  pub six-words : (a b c d e f : ℕ) (vs : List ℕ) → p + 6 ≤ length ix
-      → startsWith (a ∷ b ∷ c ∷ d ∷ e ∷ f ∷ vs) (drop p ix)
-      ≡ eqb (getD ix p 0) a
-      && (eqb (getD ix (p + 1) 0) b
-      && (eqb (getD ix (p + 2) 0) c
-      && (eqb (getD ix (p + 3) 0) d && (eqb (getD ix (p + 4) 0) e && (eqb (getD ix (p + 5) 0) f && startsWith vs (drop (p + 6) ix))))))
-  six-words a b c d e f vs h =
-      starts-on a (b ∷ c ∷ d ∷ e ∷ f ∷ vs) ix p (omega arith)
-      ∙ and (eqb (getD ix p 0) a)
-      (on 1 b (c ∷ d ∷ e ∷ f ∷ vs) (omega arith)
-      (on 2 c (d ∷ e ∷ f ∷ vs) (omega arith)
-      (on 3 d (e ∷ f ∷ vs) (omega arith)
-      (on 4 e (f ∷ vs) (omega arith)
-      (on 5 f vs (omega arith) refl)))))
+starts-append : (vs us ws : List ℕ) → startsWith (vs ++ us) ws ≡ startsWith vs ws && startsWith us (drop (length vs) ws)
+unfolding startsWith
+starts-append [] us ws = refl
+starts-append (v ∷ vs) us [] = refl
+starts-append (v ∷ vs) us (w ∷ ws) = ap (λ (t : Bool). eqb w v && t) (starts-append vs us ws) ∙ sym (and-assoc (eqb w v) (startsWith vs ws) (startsWith us (drop (length vs) ws)))
 
-module _ (ix : List ℕ) (p : ℕ) (v₀ v₁ v₂ v₃ v₄ v₅ v₆ v₇ v₈ v₉ : ℕ) where
-  pub ten-stores : set (set (set (set (set (set (set (set (set (set ix p v₀) (p + 1) v₁) (p + 2) v₂) (p + 3) v₃) (p + 4) v₄) (p + 5) v₅) (p + 6) v₆) (p + 7) v₇) (p + 8) v₈) (p + 9) v₉
-      ≡ sets ix p (v₀ ∷ v₁ ∷ v₂ ∷ v₃ ∷ v₄ ∷ v₅ ∷ v₆ ∷ v₇ ∷ v₈ ∷ v₉ ∷ [])
-  ten-stores = let nine : p + 9 ≡ suc (p + 8) = omega arith in rw nine (simp towards-suc)
+-- author, round, digest, and the four words after it
+pub run-starts : (ix : List ℕ) (p : ℕ) (x : Run) → p + 10 ≤ length ix
+    → startsWith (runWords x) (drop p ix)
+    ≡ eqb (getD ix p 0) (x .reference .authority)
+    && (eqb (getD ix (p + 1) 0) (x .reference .round)
+    && (startsWith (digestWords (x .reference .digest)) (drop (p + 2) ix) && startsWith (x .start ∷ x .end ∷ x .votes .low ∷ x .votes .high ∷ []) (drop (p + 6) ix)))
+unfolding runWords startsWith digestWords
+run-starts ix p x h =
+    let ds = digestWords (x .reference .digest) in
+    let vs : List ℕ = x .start ∷ x .end ∷ x .votes .low ∷ x .votes .high ∷ [] in
+    rw (
+      starts-on (x .reference .authority) (x .reference .round ∷ (ds ++ vs)) ix p (omega arith),
+      starts-on (x .reference .round) (ds ++ vs) ix (p + 1) (omega arith),
+      add-assoc p 1 1,
+      starts-append ds vs (drop (p + 2) ix),
+      drop-drop 4 (p + 2) ix,
+      add-assoc p 2 4,
+    )
+
+-- ---- a run stored
+
+pub four-stores : (ix : List ℕ) (p a b c d : ℕ) → set (set (set (set ix p a) (p + 1) b) (p + 2) c) (p + 3) d ≡ sets ix p (a ∷ b ∷ c ∷ d ∷ [])
+four-stores ix p a b c d = simp towards-suc
+
+-- author and round, the words of the digest, and the four words after them
+pub run-stores : (ix : List ℕ) (p a r s e l h : ℕ) (ds : List ℕ) → length ds ≡ 4
+    → set (set (set (set (sets (set (set ix p a) (p + 1) r) (p + 2) ds) (p + 6) s) (p + 7) e) (p + 8) l) (p + 9) h ≡ sets ix p ((a ∷ r ∷ ds) ++ (s ∷ e ∷ l ∷ h ∷ []))
+run-stores ix p a r s e l h ds k =
+    let six : p + length (a ∷ r ∷ ds) ≡ p + 6 = omega arith in
+    let nine : p + 9 ≡ suc (p + 8) = omega arith in
+    rw (sets-append (a ∷ r ∷ ds) (s ∷ e ∷ l ∷ h ∷ []) ix p, six, nine) (simp towards-suc)

@@ -9,9 +9,10 @@ ghost use mathlib.Core.List.{[], _∷_};
 ghost use Prim.Native.Nat.{_+_, _≤_};
 ghost use lib.ListN.{length, drop};
 ghost use lib.Seq.{sets};
-ghost use Rattle.voters_index.specs.Index.{runWords};
+ghost use Rattle.types.specs.Values.{digestBytes};
+ghost use Rattle.voters_index.specs.Index.{digestWords, runWords};
 ghost use Rattle.voters_index.specs.Walk.{runFrom};
-ghost use Rattle.index_runs.specs.Values.{asRun, startsWith};
+ghost use Rattle.index_runs.specs.Values.{asRun, digestAt, startsWith};
 
 // Offsets of one block with the same voters.
 pub struct Run {
@@ -32,6 +33,20 @@ pub enum Place {
     Beyond(BlockReference, u64),
 }
 
+// ---- read
+
+// The digest in the four words at a position.
+fn read_digest(index: &[u64], at: usize) -> BlockDigest
+    requires { ⌜ at + 4 ≤ length (now index) ⌝ }
+    ensures { λ r. ⌜ digestBytes r ≡ digestAt (now (index .entry)) at ⌝ }
+{
+    let first = turned_words::turned(index[at]);
+    let second = turned_words::turned(index[at + 1]);
+    let third = turned_words::turned(index[at + 2]);
+    let fourth = turned_words::turned(index[at + 3]);
+    BlockDigest(first, second, third, fourth)
+}
+
 // The run in the ten words at a position.
 pub fn read_run(index: &[u64], at: usize) -> Run
     requires { ⌜ at + 10 ≤ length (now index) ⌝ }
@@ -39,11 +54,7 @@ pub fn read_run(index: &[u64], at: usize) -> Run
 {
     let authority = AuthorityIndex(index[at]);
     let round = RoundNumber(index[at + 1]);
-    let first = turned_words::turned(index[at + 2]);
-    let second = turned_words::turned(index[at + 3]);
-    let third = turned_words::turned(index[at + 4]);
-    let fourth = turned_words::turned(index[at + 5]);
-    let digest = BlockDigest(first, second, third, fourth);
+    let digest = read_digest(index, at + 2);
     let block = BlockReference {
         authority,
         round,
@@ -61,21 +72,35 @@ pub fn read_run(index: &[u64], at: usize) -> Run
     }
 }
 
-// Whether the four words at a position are the offsets and the voters of a run.
-fn voters_stand_at(index: &[u64], at: usize, x: Run) -> bool
+// ---- held against a run
+
+// Whether the four words at a position are these.
+fn stand_at(index: &[u64], at: usize, first: u64, second: u64, third: u64, fourth: u64) -> bool
     requires { ⌜ at + 4 ≤ length (now index) ⌝ }
-    ensures { λ r. ⌜ r ≡ startsWith (x .start ∷ x .end ∷ x .votes .low ∷ x .votes .high ∷ []) (drop at (now (index .entry))) ⌝ }
+    ensures { λ r. ⌜ r ≡ startsWith (first ∷ second ∷ third ∷ fourth ∷ []) (drop at (now (index .entry))) ⌝ }
 {
-    if index[at] != x.start {
+    if index[at] != first {
         return false;
     }
-    if index[at + 1] != x.end {
+    if index[at + 1] != second {
         return false;
     }
-    if index[at + 2] != x.votes.low {
+    if index[at + 2] != third {
         return false;
     }
-    index[at + 3] == x.votes.high
+    index[at + 3] == fourth
+}
+
+// Whether the four words at a position are those of a digest.
+fn digest_stands_at(index: &[u64], at: usize, digest: BlockDigest) -> bool
+    requires { ⌜ at + 4 ≤ length (now index) ⌝ }
+    ensures { λ r. ⌜ r ≡ startsWith (digestWords (digestBytes digest)) (drop at (now (index .entry))) ⌝ }
+{
+    let first = turned_words::turned(digest.0);
+    let second = turned_words::turned(digest.1);
+    let third = turned_words::turned(digest.2);
+    let fourth = turned_words::turned(digest.3);
+    stand_at(index, at, first, second, third, fourth)
 }
 
 // Whether the ten words at a position are those of a run.
@@ -85,29 +110,29 @@ pub fn stands_at(index: &[u64], at: usize, x: Run) -> bool
 {
     let block = x.block;
     let digest = block.digest;
-    let first = turned_words::turned(digest.0);
-    let second = turned_words::turned(digest.1);
-    let third = turned_words::turned(digest.2);
-    let fourth = turned_words::turned(digest.3);
     if index[at] != block.authority.0 {
         return false;
     }
     if index[at + 1] != block.round.0 {
         return false;
     }
-    if index[at + 2] != first {
+    if !digest_stands_at(index, at + 2, digest) {
         return false;
     }
-    if index[at + 3] != second {
-        return false;
-    }
-    if index[at + 4] != third {
-        return false;
-    }
-    if index[at + 5] != fourth {
-        return false;
-    }
-    voters_stand_at(index, at + 6, x)
+    stand_at(index, at + 6, x.start, x.end, x.votes.low, x.votes.high)
+}
+
+// ---- written
+
+// Writes the four words of a digest.
+fn write_digest(index: &mut [u64], at: usize, digest: BlockDigest)
+    requires { ⌜ at + 4 ≤ length (now index) ⌝ }
+    ensures { λ _. ⌜ now (index .exit) ≡ sets (now (index .entry)) at (digestWords (digestBytes digest)) ⌝ }
+{
+    index[at] = turned_words::turned(digest.0);
+    index[at + 1] = turned_words::turned(digest.1);
+    index[at + 2] = turned_words::turned(digest.2);
+    index[at + 3] = turned_words::turned(digest.3);
 }
 
 // Writes the ten words of a run.
@@ -119,10 +144,7 @@ pub fn write_run(index: &mut [u64], at: usize, x: Run)
     let digest = block.digest;
     index[at] = block.authority.0;
     index[at + 1] = block.round.0;
-    index[at + 2] = turned_words::turned(digest.0);
-    index[at + 3] = turned_words::turned(digest.1);
-    index[at + 4] = turned_words::turned(digest.2);
-    index[at + 5] = turned_words::turned(digest.3);
+    write_digest(index, at + 2, digest);
     index[at + 6] = x.start;
     index[at + 7] = x.end;
     index[at + 8] = x.votes.low;
