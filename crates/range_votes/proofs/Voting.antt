@@ -1,5 +1,5 @@
 -- Votes over items in a table: what the loops leave is what the definitions say. Assumes nothing.
-use mathlib.Core.Path.{_≡_, refl, sym, ap, _∙_}
+use mathlib.Core.Path.{_≡_, refl, ap, _∙_}
 use mathlib.Core.Bool.{Bool, true, false}
 use mathlib.Core.List.{List, [], _∷_, map, flatten}
 use Prim.Native.Nat.{ℕ, _+_, _*_, _≤_, _<_}
@@ -10,15 +10,14 @@ use borrow.Author.Tests.{lt-ltb, le-ltb, leb-true}
 use Rattle.base.specs.Lists.{pick, allOf, pairwise, same}
 use Rattle.base.proofs.Tests.{and-left, and-right, fails}
 use Rattle.base.proofs.Lists.{Every, none-of, and, every, all-every, every-all, pairs-pairwise}
-use Rattle.base.proofs.Orders.{same-true, same-refl}
+use Rattle.base.proofs.Orders.{same-true}
 use Rattle.base.proofs.Places.{every-place}
 use Rattle.committee.specs.Committee.{AuthorityIndex, Stake, Committee, broken, known, getStake}
-use Rattle.stake_aggregator.specs.StakeAggregator.{StakeAggregator, noVotes, withVote, counted, aggregatorInOrder}
-use Rattle.stake_aggregator.specs.Answers.{asAggregator}
+use Rattle.stake_aggregator.specs.StakeAggregator.{counted, aggregatorInOrder}
 use Rattle.stake_aggregator.proofs.Adding.{vote-fits}
 use Rattle.stake_aggregator.proofs.Aggregators.{noVotes-order}
 use Rattle.table_words.specs.declared.Item as declared
-use Rattle.pending_items.specs.Items.{Item, noItem, itemBefore, itemFull, cutItem, cutAt, bothCuts, itemWithin, votedItem, voteOver, firstVote}
+use Rattle.pending_items.specs.Items.{Item, noItem, itemBefore, itemFull, cutItem, cutAt, bothCuts, itemWithin, votedItem, voteOver}
 use Rattle.pending_items.specs.Table.{tableOf, room, itemsOf, HoldsItems, tableFormed}
 use Rattle.table_words.specs.Answers.{asItem}
 use Rattle.table_words.specs.Step.{slot, Countable, votedIn}
@@ -132,13 +131,6 @@ cut-grows p o (x ∷ xs) = omega (arith, cut-grows p o xs, length-append (cutIte
     one : (ys : List Item) → Cut p o x ys → 1 ≤ length ys
     one ys (two a b d) = omega arith
     one ys (complete f) = omega arith
-
--- ---- a first vote
-
-pub first-vote : (c : Committee) (a : AuthorityIndex) (x : declared.Item) (s : Stake) (g : StakeAggregator) → asAggregator (x .aggregator) ≡ withVote s g a → g ≡ noVotes → s ≡ getStake c a
-    → asItem x ≡ firstVote c a (x .position) (x .start) (x .end)
-unfolding asItem firstVote counted
-first-vote c a x s g e d k = rw (e, d, k)
 
 -- ---- the steps of a vote over a range
 

@@ -5,11 +5,11 @@ use lib.ListN.{length}
 use borrow.Author.Needs.{needs}
 use Rattle.pending_items.specs.Table.{itemsOf}
 use Rattle.table_words.specs.Step.{votedIn}
-use Rattle.range_map.proofs.Voting.{vote-item-fits}
+use Rattle.range_votes.proofs.Voting.{vote-item-fits}
 use Rattle.table_words.proofs.Moves.{Mapped, mapped-none, mapped-more, mapped-table}
 use Rattle.table_words.proofs.Slots.{holds-holding, item-fits}
-use Rattle.range_map.proofs.vote_items.Statement.{statement}
-use Rattle.range_map.proofs.vote_items.Tie as tie
+use Rattle.range_votes.proofs.vote_items.Statement.{statement}
+use Rattle.range_votes.proofs.vote_items.Tie as tie
 
 abbrev Inv-loop : tie.InvT-loop
 Inv-loop t₀ a stake p start end n k₀ t k = (k ≤ n) × Mapped (votedIn (stake .0) (a .0) p start end) t₀ k t

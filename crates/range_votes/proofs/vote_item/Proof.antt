@@ -3,8 +3,8 @@ use borrow.Author.Tests.{not-true, not-false}
 use borrow.Author.Needs.{needs}
 use Rattle.table_words.specs.Answers.{asItem}
 use Rattle.table_words.specs.Step.{votedIn}
-use Rattle.range_map.proofs.vote_item.Statement.{statement}
-use Rattle.range_map.proofs.vote_item.Tie as tie
+use Rattle.range_votes.proofs.vote_item.Statement.{statement}
+use Rattle.range_votes.proofs.vote_item.Tie as tie
 
 item-within-requires : tie.Need-item-within-requires
 item-within-requires c κs = search needs

@@ -3,10 +3,10 @@ use native.Mathlib.Omega.{arith}
 use lib.ListN.{length-set}
 use borrow.Author.Needs.{needs}
 use Rattle.pending_items.specs.Items.{frontOf, backOf}
-use Rattle.range_map.proofs.Cuts.{split-table}
+use Rattle.range_cuts.proofs.Cuts.{split-table}
 use Rattle.table_words.proofs.Slots.{holds-holding}
-use Rattle.range_map.proofs.split_item.Statement.{statement}
-use Rattle.range_map.proofs.split_item.Tie as tie
+use Rattle.range_cuts.proofs.split_item.Statement.{statement}
+use Rattle.range_cuts.proofs.split_item.Tie as tie
 
 item-count-requires : tie.Need-item-count-requires
 item-count-requires c κs = search needs

@@ -3,9 +3,9 @@ use native.Mathlib.Omega.{arith}
 use lib.ListN.{length}
 use borrow.Author.Needs.{needs}
 use Rattle.table_words.proofs.Slots.{holds-holding}
-use Rattle.range_map.proofs.Cuts.{uncut, length-bothCuts}
-use Rattle.range_map.proofs.count_after_cuts.Statement.{statement}
-use Rattle.range_map.proofs.count_after_cuts.Tie as tie
+use Rattle.range_cuts.proofs.Cuts.{uncut, length-bothCuts}
+use Rattle.range_cuts.proofs.count_after_cuts.Statement.{statement}
+use Rattle.range_cuts.proofs.count_after_cuts.Tie as tie
 
 item-count-requires : tie.Need-item-count-requires
 item-count-requires c κs = search needs

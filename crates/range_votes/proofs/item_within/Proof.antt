@@ -1,8 +1,8 @@
 use borrow.Author.Tests.{eq-eqb, ne-eqb, le-leb, lt-leb}
 use Rattle.pending_items.specs.Items.{itemWithin}
 use Rattle.table_words.specs.Answers.{asItem}
-use Rattle.range_map.proofs.item_within.Statement.{statement}
-use Rattle.range_map.proofs.item_within.Tie as tie
+use Rattle.range_votes.proofs.item_within.Statement.{statement}
+use Rattle.range_votes.proofs.item_within.Tie as tie
 
 returns : tie.Need-returns
 unfolding itemWithin asItem

@@ -1,8 +1,8 @@
 use native.Mathlib.Omega.{arith}
 use borrow.Author.Needs.{needs}
-use Rattle.range_map.proofs.Cuts.{cut-absent, cut-index, cut-present, length-present}
-use Rattle.range_map.proofs.cut_at.Statement.{statement}
-use Rattle.range_map.proofs.cut_at.Tie as tie
+use Rattle.range_cuts.proofs.Cuts.{cut-absent, cut-index, cut-present, length-present}
+use Rattle.range_cuts.proofs.cut_at.Statement.{statement}
+use Rattle.range_cuts.proofs.cut_at.Tie as tie
 
 inside-requires : tie.Need-inside-requires
 inside-requires c κs = search needs

@@ -1,7 +1,7 @@
 use mathlib.Core.Path.{refl}
 use Rattle.table_words.specs.Answers.{asItem}
-use Rattle.range_map.proofs.front_of.Statement.{statement}
-use Rattle.range_map.proofs.front_of.Tie as tie
+use Rattle.range_cuts.proofs.front_of.Statement.{statement}
+use Rattle.range_cuts.proofs.front_of.Tie as tie
 
 returns : tie.Need-returns
 unfolding asItem
