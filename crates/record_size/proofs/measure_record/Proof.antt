@@ -2,15 +2,15 @@ use mathlib.Core.Path.{_≡_, sym, _∙_}
 use native.Mathlib.Omega.{arith}
 use borrow.Author.Tests.{leb-true}
 use Rattle.base.proofs.Le.{bytes-of}
-use Rattle.write_record.specs.Answers.{requested}
-use Rattle.write_record.specs.Step.{low}
-use Rattle.write_record.proofs.Sizing.{sized-digest, sized-mark, sized-cut, sized-includes, sized-statements, sized-fits}
+use Rattle.record_size.specs.Asked.{requested}
+use Rattle.record_size.specs.Step.{low}
+use Rattle.record_size.proofs.Sizing.{sized-digest, sized-mark, sized-cut, sized-includes, sized-statements, sized-fits}
 use borrow.Author.Needs.{needs}
-use Rattle.write_record.proofs.measure_record.Statement.{statement}
-use Rattle.write_record.proofs.measure_record.Tie as tie
-use Rattle.write_record.proofs.measure_record.Reads as reads
-use Rattle.write_record.proofs.measure_record.Lts as lts
-use Rattle.write_record.proofs.measure.Reads as measure-reads
+use Rattle.record_size.proofs.measure_record.Statement.{statement}
+use Rattle.record_size.proofs.measure_record.Tie as tie
+use Rattle.record_size.proofs.measure_record.Reads as reads
+use Rattle.record_size.proofs.measure_record.Lts as lts
+use Rattle.record_size.proofs.measure.Reads as measure-reads
 
 -- src/lib.rt:61:9
 returns : tie.Need-returns

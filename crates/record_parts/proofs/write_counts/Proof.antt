@@ -1,10 +1,10 @@
 use mathlib.Core.Path.{_≡_, _∙_}
 use native.Mathlib.Omega.{arith}
 use lib.ListN.{length, length-set}
-use Rattle.write_record.proofs.Recorded.{counts-written}
+use Rattle.record_parts.proofs.PartsWritten.{counts-written}
 use borrow.Author.Needs.{needs}
-use Rattle.write_record.proofs.write_counts.Statement.{statement}
-use Rattle.write_record.proofs.write_counts.Tie as tie
+use Rattle.record_parts.proofs.write_counts.Statement.{statement}
+use Rattle.record_parts.proofs.write_counts.Tie as tie
 
 slice-write-out : tie.Need-slice-write-out
 slice-write-out c = search needs

@@ -32,8 +32,8 @@ use Rattle.drafts.proofs.Joining.{joins}
 use Rattle.drafts.proofs.Given.{includes-back}
 use Rattle.drafts.proofs.Written.{Writable, writable}
 use Rattle.joined_statements.specs.Step.{joinedFrom}
-use Rattle.write_record.specs.Step.{measuredOn, sizedUp, bytesIn, writable as canWrite, frontBytes, countBytes, partBytes}
-use Rattle.write_record.specs.declared.Measured.the-variants.{Fits, Malformed}
+use Rattle.record_size.specs.Step.{measuredOn, sizedUp, bytesIn, writable as canWrite, frontBytes, countBytes, partBytes}
+use Rattle.record_size.specs.declared.Measured.the-variants.{Fits, Malformed}
 
 -- ---- what is given, in parts
 

@@ -1,11 +1,11 @@
 use mathlib.Core.Path.{_∙_}
-use Rattle.write_record.specs.Step.{frontBytes}
-use Rattle.write_record.proofs.Recorded.{front-written}
+use Rattle.record_size.specs.Step.{frontBytes}
+use Rattle.record_parts.proofs.PartsWritten.{front-written}
 use borrow.Author.Needs.{needs}
-use Rattle.write_record.proofs.write_front.Statement.{statement}
-use Rattle.write_record.proofs.write_front.Tie as tie
-use Rattle.write_record.proofs.write_front.Reads as reads
-use Rattle.write_record.proofs.write_front.Lts as lts
+use Rattle.record_parts.proofs.write_front.Statement.{statement}
+use Rattle.record_parts.proofs.write_front.Tie as tie
+use Rattle.record_parts.proofs.write_front.Reads as reads
+use Rattle.record_parts.proofs.write_front.Lts as lts
 use Rattle.base.proofs.copy_to.Reads as copy-to-reads
 use Rattle.base.proofs.write_u64.Reads as write-u64-reads
 

@@ -6,10 +6,10 @@ use Rattle.base.proofs.Le.{length-leBytes}
 use Rattle.blocks.specs.Record.{timeBytes}
 use Rattle.block_record.specs.Values.{asTime}
 use Rattle.block_record.specs.declared.CreationTime.{CreationTime}
-use Rattle.write_record.proofs.Recorded.{old-written, time-written}
+use Rattle.record_parts.proofs.PartsWritten.{old-written, time-written}
 use borrow.Author.Needs.{needs}
-use Rattle.write_record.proofs.write_edition.Statement.{statement}
-use Rattle.write_record.proofs.write_edition.Tie as tie
+use Rattle.record_parts.proofs.write_edition.Statement.{statement}
+use Rattle.record_parts.proofs.write_edition.Tie as tie
 
 enum-known-time : tie.Need-enum-known-time
 enum-known-time c = search needs

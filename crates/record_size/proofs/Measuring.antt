@@ -16,9 +16,9 @@ use Rattle.drafts.specs.Joining.{pieces, joined}
 use Rattle.drafts.specs.Writing.{isLong}
 use Rattle.joined_statements.specs.Step.{joinedFrom, followed}
 use Rattle.joined_statements.proofs.Given.{all-given}
-use Rattle.write_record.specs.Step.{measuredOn, bytesIn, writable}
-use Rattle.write_record.specs.declared.Measured.{Measured}
-use Rattle.write_record.specs.declared.Measured.the-variants.{Fits, Malformed}
+use Rattle.record_size.specs.Step.{measuredOn, bytesIn, writable}
+use Rattle.record_size.specs.declared.Measured.{Measured}
+use Rattle.record_size.specs.declared.Measured.the-variants.{Fits, Malformed}
 
 -- nothing is left
 pub joined-done : (s : List ℕ) (p : ℕ) → length s ≤ p → joinedFrom s p ≡ some []

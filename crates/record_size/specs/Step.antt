@@ -13,8 +13,8 @@ use Rattle.blocks.specs.Record.{statementBytes, editionBytes, timeBytes, editio
 use Rattle.drafts.specs.Draft.{Draft}
 use Rattle.drafts.specs.Joining.{joined}
 use Rattle.drafts.specs.Writing.{recordBytes, isLong, formChecks}
-use Rattle.write_record.specs.declared.Measured.{Measured}
-use Rattle.write_record.specs.declared.Measured.the-variants.{Fits, Malformed}
+use Rattle.record_size.specs.declared.Measured.{Measured}
+use Rattle.record_size.specs.declared.Measured.the-variants.{Fits, Malformed}
 
 -- statements as they are written, after so many of so many bytes
 unfoldable pub measuredOn : ℕ → ℕ → Option (List Statement) → Measured

@@ -3,8 +3,8 @@ use Rattle.base.proofs.Le.{length-leBytes}
 use Rattle.blocks.specs.Record.{timeBytes}
 use Rattle.block_record.specs.Values.{asTime}
 use borrow.Author.Needs.{needs}
-use Rattle.write_record.proofs.time_size.Statement.{statement}
-use Rattle.write_record.proofs.time_size.Tie as tie
+use Rattle.record_parts.proofs.time_size.Statement.{statement}
+use Rattle.record_parts.proofs.time_size.Tie as tie
 
 enum-told : tie.Need-enum-told
 enum-told c = search needs

@@ -9,10 +9,10 @@ use Rattle.block_record.specs.Values.{asStatement}
 use Rattle.block_record.specs.declared.Taken.the-variants.{Statement, Malformed}
 use Rattle.joined_statements.specs.Step.{joinedFrom, TookJoined}
 use Rattle.statement_writer.proofs.Written.{length-written, size-bytes, size-long}
-use Rattle.write_record.specs.Step.{measuredOn, low}
-use Rattle.write_record.proofs.Measuring.{joined-done, measured-done, measured-long, measured-many, measured-on}
-use Rattle.write_record.proofs.measure.Statement.{statement}
-use Rattle.write_record.proofs.measure.Tie as tie
+use Rattle.record_size.specs.Step.{measuredOn, low}
+use Rattle.record_size.proofs.Measuring.{joined-done, measured-done, measured-long, measured-many, measured-on}
+use Rattle.record_size.proofs.measure.Statement.{statement}
+use Rattle.record_size.proofs.measure.Tie as tie
 
 abbrev Inv-loop : tie.InvT-loop
 Inv-loop s at₀ count₀ bytes₀ at count bytes =

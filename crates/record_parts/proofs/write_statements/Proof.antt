@@ -12,12 +12,12 @@ use Rattle.block_record.specs.Values.{asStatement}
 use Rattle.block_record.specs.declared.Taken.the-variants.{Statement, Malformed}
 use Rattle.joined_statements.specs.Step.{joinedFrom, followed, TookJoined}
 use Rattle.statement_writer.proofs.Written.{length-written, size-bytes, size-long}
-use Rattle.write_record.specs.Step.{bytesIn, writable}
-use Rattle.write_record.proofs.Measuring.{joined-done, writes-short, writes-others, writes-first, writes-none, writes-done}
-use Rattle.write_record.proofs.write_statements.Statement.{statement}
-use Rattle.write_record.proofs.write_statements.Tie as tie
-use Rattle.write_record.proofs.write_statements.Reads as reads
-use Rattle.write_record.proofs.write_statements.Lts as lts
+use Rattle.record_size.specs.Step.{bytesIn, writable}
+use Rattle.record_size.proofs.Measuring.{joined-done, writes-short, writes-others, writes-first, writes-none, writes-done}
+use Rattle.record_parts.proofs.write_statements.Statement.{statement}
+use Rattle.record_parts.proofs.write_statements.Tie as tie
+use Rattle.record_parts.proofs.write_statements.Reads as reads
+use Rattle.record_parts.proofs.write_statements.Lts as lts
 use Rattle.joined_statements.proofs.next_joined.Reads as next-joined-reads
 use Rattle.statement_writer.proofs.statement_size.Reads as statement-size-reads
 use Rattle.statement_writer.proofs.write_statement.Reads as write-statement-reads
