@@ -4,8 +4,8 @@ use Rattle.types.specs.Values.{asLocator, asRange}
 use Rattle.block_record.specs.Values.{asStatement}
 use Rattle.blocks.specs.Verify.{statementChecks}
 use borrow.Author.Needs.{needs}
-use Rattle.threshold_clock.proofs.statement_refusal.Statement.{statement}
-use Rattle.threshold_clock.proofs.statement_refusal.Tie as tie
+use Rattle.statement_checks.proofs.statement_refusal.Statement.{statement}
+use Rattle.statement_checks.proofs.statement_refusal.Tie as tie
 
 enum-told : tie.Need-enum-told
 enum-told c = search needs

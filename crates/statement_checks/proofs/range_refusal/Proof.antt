@@ -1,7 +1,7 @@
 use native.Mathlib.Omega.{arith}
 use borrow.Author.Tests.{lt-ltb, le-ltb, le-leb, lt-leb}
-use Rattle.threshold_clock.proofs.range_refusal.Statement.{statement}
-use Rattle.threshold_clock.proofs.range_refusal.Tie as tie
+use Rattle.statement_checks.proofs.range_refusal.Statement.{statement}
+use Rattle.statement_checks.proofs.range_refusal.Tie as tie
 
 returns : tie.Need-returns
 returns c = rw (lt-ltb (c .before .args .end) (c .before .args .start) (omega arith))

@@ -8,10 +8,10 @@ use Rattle.blocks.specs.Record.{blockIn}
 use Rattle.block_record.specs.Cursor.{cursorAt}
 use Rattle.blocks.specs.Verify.{statementChecks}
 use Rattle.shared_ranges.proofs.Walk.{placed-index, placed}
-use Rattle.threshold_clock.proofs.Checking.{ofStatements, statement-refused, statement-on, statement-end}
+use Rattle.statement_checks.proofs.Statements.{ofStatements, statement-refused, statement-on, statement-end}
 use borrow.Author.Needs.{needs}
-use Rattle.threshold_clock.proofs.statements_refusal.Statement.{statement}
-use Rattle.threshold_clock.proofs.statements_refusal.Tie as tie
+use Rattle.statement_checks.proofs.statements_refusal.Statement.{statement}
+use Rattle.statement_checks.proofs.statements_refusal.Tie as tie
 
 abbrev Inv-loop : tie.InvT-loop
 Inv-loop rec count cursor₀ cursor =

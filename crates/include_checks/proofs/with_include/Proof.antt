@@ -2,8 +2,8 @@ use mathlib.Core.Path.{_∙_}
 use Prim.Native.Nat.{_+_}
 use borrow.Author.Tests.{eq-eqb, ne-eqb}
 use borrow.Author.Needs.{needs}
-use Rattle.threshold_clock.proofs.with_include.Statement.{statement}
-use Rattle.threshold_clock.proofs.with_include.Tie as tie
+use Rattle.include_checks.proofs.with_include.Statement.{statement}
+use Rattle.include_checks.proofs.with_include.Tie as tie
 
 add-if1 : tie.Need-add-if1
 add-if1 c = search needs

@@ -4,10 +4,10 @@ use native.Mathlib.Omega.{arith}
 use lib.ListN.{length, getD, drop}
 use Rattle.blocks.specs.Record.{blockIn, noReference}
 use Rattle.types.proofs.References.{as-author, as-round}
-use Rattle.threshold_clock.proofs.Checking.{lookup-known, lookup-unknown, ofIncludes, include-unknown, include-high, include-on, include-end}
+use Rattle.include_checks.proofs.Includes.{lookup-known, lookup-unknown, ofIncludes, include-unknown, include-high, include-on, include-end}
 use borrow.Author.Needs.{needs}
-use Rattle.threshold_clock.proofs.includes_refusal.Statement.{statement}
-use Rattle.threshold_clock.proofs.includes_refusal.Tie as tie
+use Rattle.include_checks.proofs.includes_refusal.Statement.{statement}
+use Rattle.include_checks.proofs.includes_refusal.Tie as tie
 
 abbrev Inv-loop : tie.InvT-loop
 Inv-loop stakes rec reference count k₀ k =

@@ -6,10 +6,10 @@ use Rattle.committee.proofs.Bounds.{few-members}
 use Rattle.blocks.specs.Record.{blockIn, noReference}
 use Rattle.blocks.specs.Verify.{previousAuthors}
 use Rattle.types.proofs.References.{as-author, as-round}
-use Rattle.threshold_clock.proofs.Checking.{include-passes, authors-on, authors-none}
+use Rattle.include_checks.proofs.Includes.{include-passes, authors-on, authors-none}
 use borrow.Author.Needs.{needs}
-use Rattle.threshold_clock.proofs.previous_authors.Statement.{statement}
-use Rattle.threshold_clock.proofs.previous_authors.Tie as tie
+use Rattle.include_checks.proofs.previous_authors.Statement.{statement}
+use Rattle.include_checks.proofs.previous_authors.Tie as tie
 
 abbrev Inv-loop : tie.InvT-loop
 Inv-loop stakes rec reference voters₀ left₀ voters left =

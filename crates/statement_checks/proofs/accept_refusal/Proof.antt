@@ -1,7 +1,7 @@
 use native.Mathlib.Omega.{arith}
 use borrow.Author.Tests.{eq-eqb, ne-eqb}
-use Rattle.threshold_clock.proofs.accept_refusal.Statement.{statement}
-use Rattle.threshold_clock.proofs.accept_refusal.Tie as tie
+use Rattle.statement_checks.proofs.accept_refusal.Statement.{statement}
+use Rattle.statement_checks.proofs.accept_refusal.Tie as tie
 
 returns : tie.Need-returns
 returns c = rw (eq-eqb (c .before .args .offset) 18446744073709551615 (omega arith))
