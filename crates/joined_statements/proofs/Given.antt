@@ -26,7 +26,8 @@ use Rattle.block_record.specs.declared.BaseStatement.the-variants.{Share, Accep
 use Rattle.block_record.proofs.Steps.{readPayload, payload-cut, payload-short, payload-reads}
 use Rattle.drafts.specs.Draft.{readLongShare, readGiven, statementsIn, givenBytes}
 use Rattle.drafts.proofs.Given.{GivenFits, some-bytes, given-back}
-use Rattle.joined_statements.specs.Step.{payloadInside, TookGiven}
+use Rattle.accept_runs.specs.Step.{payloadInside}
+use Rattle.joined_statements.specs.Step.{TookGiven}
 
 -- ---- the kind byte
 

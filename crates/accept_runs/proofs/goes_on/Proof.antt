@@ -4,10 +4,10 @@ use native.Mathlib.Omega.{arith}
 use Rattle.blocks.specs.Reference.{locator}
 use Rattle.types.specs.Values.{asReference, asLocator}
 use Rattle.types.proofs.Words.{compared-equal, compared-less, compared-greater}
-use Rattle.joined_statements.proofs.Runs.{far-high, far-gap, far-block, near}
+use Rattle.accept_runs.proofs.Accepts.{far-high, far-gap, far-block, near}
 use borrow.Author.Needs.{needs}
-use Rattle.joined_statements.proofs.goes_on.Statement.{statement}
-use Rattle.joined_statements.proofs.goes_on.Tie as tie
+use Rattle.accept_runs.proofs.goes_on.Statement.{statement}
+use Rattle.accept_runs.proofs.goes_on.Tie as tie
 
 sub-if1 : tie.Need-sub-if1
 sub-if1 c = search needs

@@ -2,11 +2,11 @@ use mathlib.Core.Path.{refl, sym}
 use native.Mathlib.Omega.{arith}
 use Rattle.types.specs.Values.{asReference, asLocator}
 use Rattle.block_record.specs.Values.{asStatement}
-use Rattle.joined_statements.specs.Step.{payloadInside}
-use Rattle.joined_statements.proofs.Runs.{run-alone, run-longer, run-low}
+use Rattle.accept_runs.specs.Step.{payloadInside}
+use Rattle.accept_runs.proofs.Accepts.{run-alone, run-longer, run-low}
 use borrow.Author.Needs.{needs}
-use Rattle.joined_statements.proofs.run_statement.Statement.{statement}
-use Rattle.joined_statements.proofs.run_statement.Tie as tie
+use Rattle.accept_runs.proofs.run_statement.Statement.{statement}
+use Rattle.accept_runs.proofs.run_statement.Tie as tie
 
 returns : tie.Need-returns
 unfolding asStatement asLocator payloadInside
