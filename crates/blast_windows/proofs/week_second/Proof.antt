@@ -1,7 +1,7 @@
-use Rattle.blast_calendar.proofs.Weeks.{week-small}
+use Rattle.blast_windows.proofs.Weeks.{week-small}
 use borrow.Author.Needs.{needs}
-use Rattle.blast_calendar.proofs.week_second.Statement.{statement}
-use Rattle.blast_calendar.proofs.week_second.Tie as tie
+use Rattle.blast_windows.proofs.week_second.Statement.{statement}
+use Rattle.blast_windows.proofs.week_second.Tie as tie
 
 add-result : tie.Need-add-result
 add-result c = search needs

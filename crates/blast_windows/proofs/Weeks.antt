@@ -5,8 +5,8 @@ use mathlib.Core.List.{List}
 use Prim.Native.Nat.{ℕ, _+_, _-_, _%_, _≤_, _<_}
 use native.Mathlib.Omega.{arith}
 use native.Mathlib.Decide.{decLe}
-use Rattle.blast_calendar.specs.Calendar.{Window, week, weekSecond, blasting, isOpen}
-use Rattle.blast_calendar.specs.Claims.{WeekMeant, OpenWeekly}
+use Rattle.blast_windows.specs.Calendar.{Window, week, weekSecond, blasting, isOpen}
+use Rattle.blast_windows.specs.Claims.{WeekMeant, OpenWeekly}
 
 pub week-below : (t : ℕ) → weekSecond t < week
 unfolding weekSecond

@@ -7,11 +7,11 @@ use mathlib.Core.Option.{none, some}
 use Prim.Native.Nat.{ℕ, _+_, _-_, _≤_, _<_}
 use native.Mathlib.Omega.{arith}
 use native.Mathlib.Decide.{decLt}
-use Rattle.blast_calendar.specs.Calendar.{Window, week, lastSecond, weekSecond, isOpen, FirstOpen, firstOpen}
-use Rattle.blast_calendar.specs.Free.{Free}
-use Rattle.blast_calendar.specs.Claims.{FoundMeant, FillWeek, PassesCount, NoneMeant}
-use Rattle.blast_calendar.proofs.Weeks.{week-below, week-same, week-next, closed-at, open-at}
-use Rattle.blast_calendar.proofs.First.{found-meant, none-meant}
+use Rattle.blast_windows.specs.Calendar.{Window, week, lastSecond, weekSecond, isOpen, FirstOpen, firstOpen}
+use Rattle.blast_windows.specs.Free.{Free}
+use Rattle.blast_windows.specs.Claims.{FoundMeant, FillWeek, PassesCount, NoneMeant}
+use Rattle.blast_windows.proofs.Weeks.{week-below, week-same, week-next, closed-at, open-at}
+use Rattle.blast_windows.proofs.First.{found-meant, none-meant}
 
 module _ (ws : List Window) where
   -- open where the second itself is free

@@ -6,7 +6,7 @@ use mathlib.Core.Bool.{true, false}
 use mathlib.Core.List.{List}
 use mathlib.Core.Option.{none, some}
 use Rattle.base.specs.Checks.{refused}
-use Rattle.blast_calendar.specs.Calendar.{Window, week, lastSecond, goodCalendar, weekSecond, blasting, isOpen, FirstOpen, firstOpen, askOpen, askNextOpen}
+use Rattle.blast_windows.specs.Calendar.{Window, week, lastSecond, goodCalendar, weekSecond, blasting, isOpen, FirstOpen, firstOpen, askOpen, askNextOpen}
 
 -- 02: "Second 0 of the week is second 0 of the count since 1970 plus 345,600 .., weeks repeating both ways": after it, and in the week before
 unfoldable pub WeekMeant : Type 0

@@ -11,9 +11,9 @@ use borrow.Author.Tests.{le-leb, lt-leb, le-ltb, lt-ltb, eq-eqb, ne-eqb, eqb-tru
 use Rattle.base.specs.Lists.{pick}
 use Rattle.base.proofs.Loops.{drop-next}
 use Rattle.base.proofs.Tests.{and-left, and-right}
-use Rattle.blast_calendar.specs.Calendar.{Window, week, windows, inRange, inOrder, goodCalendar, within}
-use Rattle.blast_calendar.proofs.Freed.{freeFrom}
-use Rattle.blast_calendar.proofs.Order.{inOrderFrom, order-from}
+use Rattle.blast_windows.specs.Calendar.{Window, week, windows, inRange, inOrder, goodCalendar, within}
+use Rattle.blast_windows.proofs.Freed.{freeFrom}
+use Rattle.blast_windows.proofs.Order.{inOrderFrom, order-from}
 
 -- ---- the words of a window
 

@@ -11,12 +11,12 @@ use borrow.Author.Tests.{lt-ltb, le-ltb, le-leb, lt-leb}
 use Rattle.base.specs.Lists.{pick}
 use Rattle.base.specs.Checks.{answered}
 use Rattle.base.proofs.Computing.{computing as computing-base}
-use Rattle.blast_calendar.specs.Calendar.{Window, week, lastSecond, windows, inRange, inOrder, goodCalendar, calendarChecks, weekSecond, within, blasting, isOpen, FirstOpen, firstOpen, askOpen, askNextOpen}
-use Rattle.blast_calendar.specs.Cards.{Cards}
-use Rattle.blast_calendar.proofs.Freed.{freeFrom, freed}
-use Rattle.blast_calendar.proofs.Steps.{good-in-order}
-use Rattle.blast_calendar.proofs.Waits.{full-week, this-week, next-week, in-count, past-count}
-use Rattle.blast_calendar.proofs.Asked.{next-answered, next-refused}
+use Rattle.blast_windows.specs.Calendar.{Window, week, lastSecond, windows, inRange, inOrder, goodCalendar, calendarChecks, weekSecond, within, blasting, isOpen, FirstOpen, firstOpen, askOpen, askNextOpen}
+use Rattle.blast_windows.specs.Cards.{Cards}
+use Rattle.blast_windows.proofs.Freed.{freeFrom, freed}
+use Rattle.blast_windows.proofs.Steps.{good-in-order}
+use Rattle.blast_windows.proofs.Waits.{full-week, this-week, next-week, in-count, past-count}
+use Rattle.blast_windows.proofs.Asked.{next-answered, next-refused}
 
 -- the seconds to wait, and the first open second, without a walk over seconds
 unfoldable waitFrom : List Window → ℕ → ℕ

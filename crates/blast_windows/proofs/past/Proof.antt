@@ -1,9 +1,9 @@
 use Prim.Native.Nat.{_<_}
 use mathlib.Core.Logic.{⊎-elim}
 use borrow.Author.Tests.{lt-ltb, le-ltb, le-leb, lt-leb, ltb-true, ltb-false}
-use Rattle.blast_calendar.specs.Calendar.{within}
-use Rattle.blast_calendar.proofs.past.Statement.{statement}
-use Rattle.blast_calendar.proofs.past.Tie as tie
+use Rattle.blast_windows.specs.Calendar.{within}
+use Rattle.blast_windows.proofs.past.Statement.{statement}
+use Rattle.blast_windows.proofs.past.Tie as tie
 
 returns : tie.Need-returns
 unfolding within

@@ -9,9 +9,9 @@ use native.Mathlib.Omega.{arith}
 use native.Mathlib.Decide.{decLt, decLe}
 use Rattle.base.specs.Lists.{pick}
 use Rattle.base.proofs.Tests.{not-both}
-use Rattle.blast_calendar.specs.Calendar.{Window, week, lastSecond, weekSecond, blasting, isOpen, FirstOpen, firstAmong, firstOpen}
-use Rattle.blast_calendar.specs.Claims.{FoundMeant, FillWeek, PassesCount, NoneMeant, WithinWeek, OpenWeekly, FoundWeekly, NoneWeekly}
-use Rattle.blast_calendar.proofs.Weeks.{week-below, comes, Comes, closed-at, open-at, open-weekly}
+use Rattle.blast_windows.specs.Calendar.{Window, week, lastSecond, weekSecond, blasting, isOpen, FirstOpen, firstAmong, firstOpen}
+use Rattle.blast_windows.specs.Claims.{FoundMeant, FillWeek, PassesCount, NoneMeant, WithinWeek, OpenWeekly, FoundWeekly, NoneWeekly}
+use Rattle.blast_windows.proofs.Weeks.{week-below, comes, Comes, closed-at, open-at, open-weekly}
 
 -- ---- among n seconds
 

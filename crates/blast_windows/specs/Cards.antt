@@ -5,7 +5,7 @@ use mathlib.Core.Bool.{true, false}
 use mathlib.Core.List.{List, [], _∷_}
 use mathlib.Core.Option.{none, some}
 use Rattle.base.specs.Checks.{refused, answered}
-use Rattle.blast_calendar.specs.Calendar.{weekSecond, askOpen, askNextOpen}
+use Rattle.blast_windows.specs.Calendar.{weekSecond, askOpen, askNextOpen}
 
 -- two touching windows at the week's beginning, one at its end
 abbrev pub three : List ℕ

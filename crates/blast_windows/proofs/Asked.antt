@@ -5,7 +5,7 @@ use mathlib.Core.List.{List}
 use Prim.Native.Nat.{ℕ}
 use Rattle.base.specs.Lists.{allOf}
 use Rattle.base.specs.Checks.{passes, refusal, checked, refused, answered}
-use Rattle.blast_calendar.specs.Calendar.{windows, goodCalendar, calendarChecks, isOpen, firstOpen, askOpen, askNextOpen}
+use Rattle.blast_windows.specs.Calendar.{windows, goodCalendar, calendarChecks, isOpen, firstOpen, askOpen, askNextOpen}
 
 module _ (ns : List ℕ) (t : ℕ) where
   module _ (h : goodCalendar ns ≡ false) where

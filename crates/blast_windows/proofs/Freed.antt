@@ -10,8 +10,8 @@ use borrow.Author.Tests.{lt-ltb, le-leb, lt-leb, ltb-true, leb-true}
 use Rattle.base.specs.Lists.{pick, anyOf, allOf}
 use Rattle.base.proofs.Lists.{Every, none-of, and, Pairs, no-pairs, with-later, all-every, pairwise-pairs, every}
 use Rattle.base.proofs.Tests.{fails, not-both, and-left, and-right, or-left, or-right}
-use Rattle.blast_calendar.specs.Calendar.{Window, week, inRange, endsBefore, inOrder, within, blasting}
-use Rattle.blast_calendar.specs.Free.{Free}
+use Rattle.blast_windows.specs.Calendar.{Window, week, inRange, endsBefore, inOrder, within, blasting}
+use Rattle.blast_windows.specs.Free.{Free}
 
 -- each window that the second lies in moves it to its end
 unfoldable pub freeFrom : List Window → ℕ → ℕ

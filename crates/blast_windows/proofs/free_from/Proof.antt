@@ -1,13 +1,13 @@
 use mathlib.Core.Path.{refl, _∙_, _≡_}
-use Rattle.blast_calendar.proofs.Steps.{free-on, free-end, good-even, good-in-order}
+use Rattle.blast_windows.proofs.Steps.{free-on, free-end, good-even, good-in-order}
 use borrow.Author.Needs.{needs}
 use Prim.Native.Nat.{_%_, _≤_, _-_}
 use lib.ListN.{length, drop}
 use native.Mathlib.Omega.{arith}
-use Rattle.blast_calendar.specs.Calendar.{windows}
-use Rattle.blast_calendar.proofs.Freed.{freeFrom, freed}
-use Rattle.blast_calendar.proofs.free_from.Statement.{statement}
-use Rattle.blast_calendar.proofs.free_from.Tie as tie
+use Rattle.blast_windows.specs.Calendar.{windows}
+use Rattle.blast_windows.proofs.Freed.{freeFrom, freed}
+use Rattle.blast_windows.proofs.free_from.Statement.{statement}
+use Rattle.blast_windows.proofs.free_from.Tie as tie
 
 abbrev Inv-loop : tie.InvT-loop
 Inv-loop calendar second free₀ i₀ free i = (i % 2 ≡ 0) × ((i ≤ length calendar) × (freeFrom (windows calendar) second ≡ freeFrom (windows (drop i calendar)) free))

@@ -9,7 +9,7 @@ use borrow.Author.Tests.{le-leb, ltb-true, leb-true}
 use Rattle.base.specs.Lists.{allOf, pairwise}
 use Rattle.base.proofs.Lists.{all-every, every-all, every}
 use Rattle.base.proofs.Tests.{not-both, and-left}
-use Rattle.blast_calendar.specs.Calendar.{Window, inRange, endsBefore, inOrder}
+use Rattle.blast_windows.specs.Calendar.{Window, inRange, endsBefore, inOrder}
 
 -- each start is at or above the end before it
 unfoldable pub inOrderFrom : ℕ → List Window → Bool

@@ -3,7 +3,7 @@ use Prim.Native.Nat.{ℕ, _≤_, _<_}
 use mathlib.Core.Path.{_≡_}
 use mathlib.Core.Bool.{true, false}
 use mathlib.Core.List.{List}
-use Rattle.blast_calendar.specs.Calendar.{Window, week, blasting}
+use Rattle.blast_windows.specs.Calendar.{Window, week, blasting}
 
 -- r is the first second from s on that lies in no window
 pub record Free (ws : List Window) (s r : ℕ) : Type 0 where

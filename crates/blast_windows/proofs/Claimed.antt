@@ -6,11 +6,11 @@ use Prim.Native.Nat.{ℕ}
 use native.Mathlib.Omega.{arith}
 use Rattle.base.specs.Checks.{Answer, refused, answered}
 use Rattle.base.proofs.Tests.{not-both}
-use Rattle.blast_calendar.specs.Calendar.{goodCalendar, askOpen, askNextOpen}
-use Rattle.blast_calendar.specs.Claims.{RefusedMeant, Claims}
-use Rattle.blast_calendar.proofs.Weeks.{week-meant, open-weekly}
-use Rattle.blast_calendar.proofs.First.{found-meant, none-meant, within-week, found-weekly, none-weekly}
-use Rattle.blast_calendar.proofs.Asked.{open-refused, open-answered, next-refused, next-answered}
+use Rattle.blast_windows.specs.Calendar.{goodCalendar, askOpen, askNextOpen}
+use Rattle.blast_windows.specs.Claims.{RefusedMeant, Claims}
+use Rattle.blast_windows.proofs.Weeks.{week-meant, open-weekly}
+use Rattle.blast_windows.proofs.First.{found-meant, none-meant, within-week, found-weekly, none-weekly}
+use Rattle.blast_windows.proofs.Asked.{open-refused, open-answered, next-refused, next-answered}
 
 apart : {A : Type 0} {B : Type 0} {x : Answer A} {a : A} {n : ℕ} → x ≡ answered a → x ≡ refused n → B
 apart h k = let z : _≡_ {A = ℕ} 0 1 = cc in absurd (omega arith)
