@@ -21,7 +21,7 @@ use Rattle.statement_cursor.specs.declared.StatementCursor.{StatementCursor}
 use Rattle.pending_items.specs.Items.{Item, itemBefore, itemFull, firstVote, registered, register}
 use Rattle.pending_items.specs.Table.{tableOf, itemsOf, room, HoldsItems}
 use Rattle.pending_items.proofs.Items.{Ordered}
-use Rattle.range_map.proofs.Voting.{Written, written}
+use Rattle.range_votes.proofs.Voting.{Written, written}
 use Rattle.table_words.proofs.Slots.{table-holding}
 use Rattle.aggregator.specs.Step.{Orderly, Registered}
 use borrow.Author.Tests.{ltb-true}

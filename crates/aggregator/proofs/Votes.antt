@@ -31,7 +31,7 @@ use Rattle.pending_items.specs.Table.{HoldsItems, tableOf, itemsOf, room, table
 use Rattle.pending_items.proofs.Items.{ordered-voteOver}
 use Rattle.pending_items.proofs.Order.{Pending, InOrder, in-order, room-fits, pending-voteOver, length-voteOver}
 use Rattle.table_order.proofs.Forming.{order-parts}
-use Rattle.range_map.proofs.Voting.{Formed, formed, Written, written}
+use Rattle.range_votes.proofs.Voting.{Formed, formed, Written, written}
 use Rattle.feeds.specs.ProcessBlock.{Event, wordsOf, eventOf, Processing, vote}
 use Rattle.events.specs.Step.{withNew, toldAt, eventsBetween, StatedAt, told}
 use Rattle.aggregator.specs.Step.{startingWith, Voting, VotesCounted}

@@ -1,5 +1,1 @@
-pub mod Calendar
 pub mod Answers
-pub mod Free
-pub mod Claims
-pub mod Cards

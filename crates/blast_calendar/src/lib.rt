@@ -1,20 +1,12 @@
 // The blast calendar: weekly windows in which quarries fire and no station may load a change.
 // A calendar is words, two a window: its start and its end (excluded) in seconds of the week. No function loops over seconds.
+use blast_windows::WEEK;
 ghost use mathlib.Core.Path.{_≡_};
 ghost use mathlib.Core.Bool.{true};
 ghost use Prim.Native.Nat.{_+_, _<_};
-ghost use Rattle.base.specs.Lists.{pick};
-ghost use Rattle.blast_calendar.specs.Calendar.{week, windows, within, goodCalendar, weekSecond, FirstOpen, askOpen, askNextOpen};
+ghost use Rattle.blast_windows.specs.Calendar.{week, windows, goodCalendar, FirstOpen, askOpen, askNextOpen};
 ghost use Rattle.blast_calendar.specs.Answers.{asOpen, asNextOpen};
-ghost use Rattle.blast_calendar.specs.Free.{Free};
-ghost use Rattle.blast_calendar.specs.Claims.{Claims};
-ghost use Rattle.blast_calendar.specs.Cards.{Cards};
-
-// The seconds of a week.
-const WEEK: u64 = 604800;
-
-// Second 0 of the count since 1970 is this second of its week, a Thursday: weeks begin on Mondays.
-const THURSDAY: u64 = 259200;
+ghost use Rattle.blast_windows.specs.Free.{Free};
 
 // The last second of the count.
 const LAST_SECOND: u64 = 18446744073709551615;
@@ -63,37 +55,6 @@ pub fn is_good(calendar: &[u64]) -> bool
     true
 }
 
-// The second of the week of a time.
-fn week_second(time: u64) -> u64
-    ensures { λ r. ⌜ r ≡ weekSecond time ⌝ }
-{
-    (time % WEEK + THURSDAY) % WEEK
-}
-
-// The end of a window where the second lies in it, else the second.
-fn past(start: u64, end: u64, second: u64) -> u64
-    ensures { λ r. ⌜ r ≡ pick (within second (record { start = start; end = end })) end second ⌝ }
-{
-    if start <= second && second < end {
-        return end;
-    }
-    second
-}
-
-// The first second of the week from `second` on that lies in no window; the week's end where they last until then.
-fn free_from(calendar: &[u64], second: u64) -> u64
-    requires { ⌜ goodCalendar (now calendar) ≡ true ⌝ }
-    ensures { λ r. ⌜ Free (windows (now (calendar .entry))) second r ⌝ }
-{
-    let mut free = second;
-    let mut i = 0;
-    while i < calendar.len() {
-        free = past(calendar[i], calendar[i + 1], free);
-        i += 2;
-    }
-    free
-}
-
 // Whether loading is open at a time.
 pub fn is_open(calendar: &[u64], time: u64) -> OpenAnswer
     ensures { λ r. ⌜ asOpen r ≡ askOpen (now (calendar .entry)) time ⌝ }
@@ -101,8 +62,8 @@ pub fn is_open(calendar: &[u64], time: u64) -> OpenAnswer
     if !is_good(calendar) {
         return OpenAnswer::Refused(59);
     }
-    let second = week_second(time);
-    if free_from(calendar, second) == second {
+    let second = blast_windows::week_second(time);
+    if blast_windows::free_from(calendar, second) == second {
         return OpenAnswer::Open;
     }
     OpenAnswer::Closed
@@ -113,8 +74,8 @@ fn wait(calendar: &[u64], time: u64, opening: u64) -> u64
     requires { ⌜ (goodCalendar (now calendar) ≡ true) × (Free (windows (now calendar)) 0 opening × (opening < week)) ⌝ }
     ensures { λ r. ⌜ FirstOpen (windows (now (calendar .entry))) time (time + r) ⌝ }
 {
-    let second = week_second(time);
-    let free = free_from(calendar, second);
+    let second = blast_windows::week_second(time);
+    let free = blast_windows::free_from(calendar, second);
     if free < WEEK {
         return free - second;
     }
@@ -128,7 +89,7 @@ pub fn next_open(calendar: &[u64], time: u64) -> NextOpenAnswer
     if !is_good(calendar) {
         return NextOpenAnswer::Refused(59);
     }
-    let opening = free_from(calendar, 0);
+    let opening = blast_windows::free_from(calendar, 0);
     if WEEK <= opening {
         return NextOpenAnswer::NoneLeft;
     }
@@ -138,13 +99,3 @@ pub fn next_open(calendar: &[u64], time: u64) -> NextOpenAnswer
     }
     NextOpenAnswer::Found(time + seconds)
 }
-
-// What the answers mean. The function does nothing: its contract is the claims, so that no check passes without their proofs.
-pub fn claims()
-    ensures { λ _. ⌜ Claims ⌝ }
-{}
-
-// The calendar at its edges, evaluated.
-pub fn cards()
-    ensures { λ _. ⌜ Cards ⌝ }
-{}

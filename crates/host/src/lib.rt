@@ -17,7 +17,7 @@ ghost use Rattle.host_calendar.specs.Calendar.{isOpenCall, nextOpenCall};
 ghost use Rattle.host_stakes.specs.LoadStakes.{loadStakesCall};
 ghost use mathlib.Core.Option.{some};
 ghost use Rattle.drafts.specs.Writing.{writeTimed, writeRecord};
-ghost use Rattle.write_record.specs.Answers.{requested};
+ghost use Rattle.record_size.specs.Asked.{requested};
 ghost use Rattle.host_times.specs.Times.{creationTimeCall};
 ghost use Rattle.host_ring.specs.Ring.{whomToRingCall};
 ghost use Rattle.slips.specs.Reading.{readAnswer};

@@ -5,7 +5,7 @@ use write_record::WriteAnswer;
 ghost use mathlib.Core.Path.{_≡_};
 ghost use mathlib.Core.Option.{some};
 ghost use Rattle.drafts.specs.Writing.{writeTimed, writeRecord};
-ghost use Rattle.write_record.specs.Answers.{requested};
+ghost use Rattle.record_size.specs.Asked.{requested};
 ghost use Rattle.host_calls.specs.Calls.{encoded};
 
 const REFUSED: u64 = 9223372036854775808;

@@ -14,8 +14,8 @@ use Rattle.blocks.specs.Reference.{TransactionLocator}
 use Rattle.voters_index.specs.Runs.{Run, votersIn}
 use Rattle.voters_index.specs.Walk.{Place, anywhere, At, runFrom, runsFrom}
 use Rattle.voters_index.proofs.Chain.{Anything, Chain}
-use Rattle.index_runs.specs.Pieces.{PieceOr, fromPlace, both, orElse, firstPiece, keptIf, skipped}
-use Rattle.index_runs.proofs.Pieces.{pieces-same, both-pieces, first-piece, skipped-chain, skipped-names}
+use Rattle.index_pieces.specs.Pieces.{PieceOr, fromPlace, both, orElse, firstPiece, keptIf, skipped}
+use Rattle.index_pieces.proofs.Pieces.{pieces-same, both-pieces, first-piece, skipped-chain, skipped-names}
 use Rattle.index_merge.specs.Sources.{cursorAt, cursorLeft, source, namedBy, Ready, Moved}
 
 -- ---- one source

@@ -17,8 +17,8 @@ use Rattle.voters_index.specs.Walk.{Past, byBlock, byOffset, Place, beyond, At,
 use Rattle.voters_index.proofs.Sets.{same-voters, voters-same}
 use Rattle.voters_index.proofs.Chain.{past-itself, past-trans, touching, touched}
 use Rattle.voters_index.proofs.Unique.{Placed, earlier, later, alike, placed}
-use Rattle.index_runs.specs.Pieces.{Ahead, Piece, NobodyFrom, AheadOr, PieceOr}
-use Rattle.index_runs.proofs.Pieces.{past-not, pieces-same}
+use Rattle.index_pieces.specs.Pieces.{Ahead, Piece, NobodyFrom, AheadOr, PieceOr}
+use Rattle.index_pieces.proofs.Pieces.{past-not, pieces-same}
 use Rattle.index_merge.specs.Sources.{namedBy, Ready, Moved, Merging, ended, GrownFrom}
 
 -- what is ahead of a place is ahead of every later one

@@ -30,8 +30,8 @@ use Rattle.voters_index.proofs.Sets.{nobody-united, one-not-nobody}
 use Rattle.voters_index.proofs.Chain.{Covered, Good, Anything, Chain, end, link, past-head}
 use Rattle.voters_index.proofs.Pointwise.{append-names}
 use Rattle.voters_index.proofs.Parts.{own-runs}
-use Rattle.index_runs.specs.Pieces.{NobodyFrom, PieceOr, fromPlace, both, orElse, firstPiece}
-use Rattle.index_runs.proofs.Pieces.{pieces-same, both-pieces, first-piece}
+use Rattle.index_pieces.specs.Pieces.{NobodyFrom, PieceOr, fromPlace, both, orElse, firstPiece}
+use Rattle.index_pieces.proofs.Pieces.{pieces-same, both-pieces, first-piece}
 use Rattle.index_merge.specs.Sources.{spanRun, spanPiece}
 
 -- what is left of one vote

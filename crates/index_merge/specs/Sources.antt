@@ -17,7 +17,7 @@ use Rattle.finality.specs.Voters.{ownVote}
 use Rattle.voters_index.specs.Runs.{Run, run, votersIn}
 use Rattle.voters_index.specs.Walk.{Place, anywhere, beyond, At, NextRun, runsFrom}
 use Rattle.voters_index.proofs.Chain.{Anything, Chain}
-use Rattle.index_runs.specs.Pieces.{Piece, AheadOr, PieceOr, fromPlace}
+use Rattle.index_pieces.specs.Pieces.{Piece, AheadOr, PieceOr, fromPlace}
 
 -- where a source's next run stands, and how many are left
 unfoldable pub cursorAt : List ℕ → ℕ → ℕ

@@ -23,7 +23,7 @@ ghost use Rattle.finality.specs.Voters.{ownVote};
 ghost use Rattle.voters_index.specs.Walk.{Place as SomePlace, beyond, NextRun, runsFrom};
 ghost use Rattle.block_votes.specs.Walk.{spanOf};
 ghost use Rattle.index_runs.specs.Values.{asRun, asMaybe, asPlace};
-ghost use Rattle.index_runs.specs.Pieces.{Piece, AheadOr, PieceOr, firstPiece, skipped};
+ghost use Rattle.index_pieces.specs.Pieces.{Piece, AheadOr, PieceOr, firstPiece, skipped};
 ghost use Rattle.index_merge.specs.Sources.{namedBy, Ready, Moved, EndsFit, spanRun, spanPiece, Voting, ended, GrownFrom};
 
 // ---- sources: parts of the index, each with a cursor of two words, where its next run stands and how many are left
@@ -45,7 +45,7 @@ fn source_piece(index: &[u64], from: usize, count: usize, place: Place) -> Found
     let mut at = from;
     let mut left = count;
     while 0 < left {
-        let found = index_runs::from_place(place, index_runs::read_run(index, at));
+        let found = index_pieces::from_place(place, index_runs::read_run(index, at));
         match found {
             MaybeRun::Here(x) => {
                 return Found {
@@ -91,7 +91,7 @@ fn sources_piece(
         cursors[2 * k] = found.at as u64;
         cursors[2 * k + 1] = found.left as u64;
         let more = found.piece;
-        piece = index_runs::both(piece, more);
+        piece = index_pieces::both(piece, more);
         k = k + 1;
     }
     piece
@@ -146,7 +146,7 @@ fn vote_piece(place: Place, x: Run) -> MaybeRun
     if x.end <= x.start {
         return MaybeRun::Nothing;
     }
-    index_runs::from_place(place, x)
+    index_pieces::from_place(place, x)
 }
 
 // The first piece of the votes of a record's block from a place on.
@@ -168,7 +168,7 @@ pub fn own_piece(rec: &[u8], place: Place) -> MaybeRun
             continue;
         };
         let more = vote_piece(place, x);
-        piece = index_runs::both(piece, more);
+        piece = index_pieces::both(piece, more);
     }
     piece
 }
@@ -181,7 +181,7 @@ fn own_ahead(rec: &[u8], own: MaybeRun, place: Place) -> MaybeRun
     let MaybeRun::Here(x) = own else {
         return MaybeRun::Nothing;
     };
-    let left = index_runs::from_place(place, x);
+    let left = index_pieces::from_place(place, x);
     let MaybeRun::Here(y) = left else {
         return own_piece(rec, place);
     };
@@ -265,7 +265,7 @@ pub fn whole_run(
                 next: MaybeRun::Nothing,
             };
         };
-        if !index_runs::continues(run, y) {
+        if !index_pieces::continues(run, y) {
             return Grown {
                 run,
                 own: mine,

@@ -20,7 +20,7 @@ use Rattle.voters_index.specs.Walk.{Past, byBlock, byOffset, Place, anywhere, b
 use Rattle.voters_index.proofs.Chain.{past-trans, Chain, end, link, Differs, past-head, chain-from, nobody-before}
 use Rattle.voters_index.proofs.Unique.{Placed, earlier, later, alike, placed}
 use Rattle.voters_index.proofs.Relation.{runs-chain, runs-told, chain-runs}
-use Rattle.index_runs.proofs.Pieces.{past-not, at-beyond}
+use Rattle.index_pieces.proofs.Pieces.{past-not, at-beyond}
 use Rattle.index_merge.specs.Sources.{namedBy}
 use Rattle.index_prefix.specs.Prefix.{Nexts, here, onward, PassedOn}
 use Rattle.index_prefix.proofs.Chains.{out, not-past, chain-rest}

@@ -14,9 +14,9 @@ use Rattle.finality.specs.Voters.{ownVote}
 use Rattle.voters_index.specs.Runs.{Run}
 use Rattle.voters_index.specs.Part.{RunsOf}
 use Rattle.voters_index.specs.Walk.{Past, Place, anywhere, beyond, At, NextRun, Unfolded, done, more}
-use Rattle.index_runs.specs.Pieces.{NobodyFrom, Piece, AheadOr, PieceOr}
+use Rattle.index_pieces.specs.Pieces.{NobodyFrom, Piece, AheadOr, PieceOr}
 use Rattle.voters_index.proofs.Relation.{runs-chain, runs-told, chain-runs}
-use Rattle.index_runs.proofs.Pieces.{at-beyond, pieces-same}
+use Rattle.index_pieces.proofs.Pieces.{at-beyond, pieces-same}
 use Rattle.index_merge.specs.Sources.{namedBy, Ready, Moved, Merging, GrownFrom}
 use Rattle.index_merge.proofs.Merged.{ahead-later, piece-ahead}
 use Rattle.index_parts.specs.Parts.{merged}

@@ -14,7 +14,7 @@ use Rattle.voters_index.specs.Walk.{Past, byBlock, byOffset, Place, anywhere, b
 use Rattle.voters_index.proofs.Chain.{Covered, Chain, end, link, Differs, past-head, nobody-before, at-head}
 use Rattle.voters_index.proofs.Unique.{Placed, earlier, later, alike, placed, at-end}
 use Rattle.voters_index.proofs.Relation.{runs-chain, runs-told}
-use Rattle.index_runs.proofs.Pieces.{at-beyond}
+use Rattle.index_pieces.proofs.Pieces.{at-beyond}
 
 -- the next run is the first of those that are left
 pub record First (f : TransactionLocator → AuthoritySet) (x : Run) (xs : List Run) : Type 0 where

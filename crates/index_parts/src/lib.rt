@@ -14,7 +14,7 @@ ghost use Rattle.index_merge.specs.Sources.{Ready, Voting};
 ghost use Rattle.finality.specs.Voters.{ownVote};
 ghost use Rattle.voters_index.specs.Walk.{anywhere};
 ghost use Rattle.index_runs.specs.Values.{asMaybe};
-ghost use Rattle.index_runs.specs.Pieces.{PieceOr};
+ghost use Rattle.index_pieces.specs.Pieces.{PieceOr};
 ghost use Rattle.index_parts.specs.Parts.{merged, Compared, Rested, Counted};
 
 // Where a part ends; or the words are not those of the part.

@@ -15,7 +15,7 @@ use Rattle.voters_index.specs.Runs.{Run, votesAt, votersIn}
 use Rattle.voters_index.specs.Walk.{Past, byBlock, byOffset, Place, anywhere, beyond, At, NextRun}
 use Rattle.voters_index.proofs.Chain.{past-trans, Covered, Good, Chain, end, link, Differs, past-head, chain-from, nobody-before, at-head}
 use Rattle.voters_index.proofs.Unique.{Placed, earlier, later, alike, placed, at-end}
-use Rattle.index_runs.proofs.Pieces.{at-later, at-beyond}
+use Rattle.index_pieces.proofs.Pieces.{at-later, at-beyond}
 use Rattle.index_prefix.specs.Prefix.{PastRun, Nexts, here, onward}
 
 -- ---- places

@@ -10,7 +10,7 @@ ghost use Rattle.authority_set.specs.AuthoritySet.{AuthoritySet as Voters};
 ghost use Rattle.blocks.specs.Reference.{TransactionLocator as Locator};
 ghost use Rattle.voters_index.specs.Walk.{Place, anywhere, runsFrom};
 ghost use Rattle.index_runs.specs.Values.{asRun, asMaybe};
-ghost use Rattle.index_runs.specs.Pieces.{PieceOr};
+ghost use Rattle.index_pieces.specs.Pieces.{PieceOr};
 ghost use Rattle.index_merge.specs.Sources.{Ready};
 ghost use Rattle.index_prefix.specs.Prefix.{Shared, GoesOn, Apart, PastRun, Movable, MovedBy, PassedOn};
 

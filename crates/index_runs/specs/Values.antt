@@ -1,9 +1,11 @@
 -- What the code's values mean: for each declared type its one conversion. Assumes nothing: these are definitions.
-use Prim.Native.Nat.{ℕ}
+use Prim.Native.Nat.{ℕ, _+_}
 use mathlib.Core.Bool.{Bool, true, false, _&&_}
 use mathlib.Core.List.{List, [], _∷_}
 use mathlib.Core.Option.{Option, none, some}
 use lib.Dec.{eqb}
+use lib.ListN.{getD}
+use Rattle.base.specs.Le.{Bytes}
 use Rattle.types.specs.Values.{asReference}
 use Rattle.voters_index.specs.Runs as runs
 use Rattle.voters_index.specs.Walk as walk
@@ -23,6 +25,10 @@ asMaybe Nothing = none
 unfoldable pub asPlace : Place → walk.Place
 asPlace Anywhere = walk.anywhere
 asPlace (Beyond r o) = walk.beyond (asReference r) o
+
+-- the digest in the four words at p
+unfoldable pub digestAt : List ℕ → ℕ → Bytes
+digestAt ix p = walk.digestOf (getD ix p 0) (getD ix (p + 1) 0) (getD ix (p + 2) 0) (getD ix (p + 3) 0)
 
 -- some words begin with these
 unfoldable pub startsWith : List ℕ → List ℕ → Bool

@@ -1,24 +1,18 @@
-// Runs of the index in words, and the first stretch from a place on in one run or in two: what a merge of parts is made of.
+// Runs of the index, and their ten words: read, held against a run, and written.
 use authority_set::AuthoritySet;
 use committee::AuthorityIndex;
 use committee::RoundNumber;
 use types::BlockDigest;
 use types::BlockReference;
-use types::Ordering;
 ghost use mathlib.Core.Path.{_≡_};
-ghost use mathlib.Core.Bool.{_&&_};
 ghost use mathlib.Core.List.{[], _∷_};
 ghost use Prim.Native.Nat.{_+_, _≤_};
 ghost use lib.ListN.{length, drop};
 ghost use lib.Seq.{sets};
-ghost use Rattle.base.specs.Le.{leBytes};
-ghost use Rattle.authority_set.specs.AuthoritySet.{united};
-ghost use Rattle.types.specs.Values.{beBytes};
-ghost use Rattle.voters_index.specs.Runs.{touches, sameVoters};
-ghost use Rattle.voters_index.specs.Index.{runWords};
+ghost use Rattle.types.specs.Values.{digestBytes};
+ghost use Rattle.voters_index.specs.Index.{digestWords, runWords};
 ghost use Rattle.voters_index.specs.Walk.{runFrom};
-ghost use Rattle.index_runs.specs.Values.{asRun, asMaybe, asPlace, startsWith};
-ghost use Rattle.index_runs.specs.Pieces.{nearer, cut, overlaid, both, fromPlace};
+ghost use Rattle.index_runs.specs.Values.{asRun, digestAt, startsWith};
 
 // Offsets of one block with the same voters.
 pub struct Run {
@@ -39,26 +33,18 @@ pub enum Place {
     Beyond(BlockReference, u64),
 }
 
-// ---- words: the digest stands there lowest byte first, in `BlockDigest` highest first
+// ---- read
 
-// The bytes of a number the other way round.
-fn turned_u16(v: u16) -> u16
-    ensures { λ r. ⌜ beBytes 2 r ≡ leBytes 2 v ⌝ }
+// The digest in the four words at a position.
+fn read_digest(index: &[u64], at: usize) -> BlockDigest
+    requires { ⌜ at + 4 ≤ length (now index) ⌝ }
+    ensures { λ r. ⌜ digestBytes r ≡ digestAt (now (index .entry)) at ⌝ }
 {
-    v % 256 * 256 + v / 256
-}
-
-fn turned_u32(v: u32) -> u32
-    ensures { λ r. ⌜ beBytes 4 r ≡ leBytes 4 v ⌝ }
-{
-    (turned_u16((v % 65536) as u16) as u32) * 65536 + (turned_u16((v / 65536) as u16) as u32)
-}
-
-fn turned(v: u64) -> u64
-    ensures { λ r. ⌜ beBytes 8 r ≡ leBytes 8 v ⌝ }
-{
-    (turned_u32((v % 4294967296) as u32) as u64) * 4294967296
-        + (turned_u32((v / 4294967296) as u32) as u64)
+    let first = turned_words::turned(index[at]);
+    let second = turned_words::turned(index[at + 1]);
+    let third = turned_words::turned(index[at + 2]);
+    let fourth = turned_words::turned(index[at + 3]);
+    BlockDigest(first, second, third, fourth)
 }
 
 // The run in the ten words at a position.
@@ -68,11 +54,7 @@ pub fn read_run(index: &[u64], at: usize) -> Run
 {
     let authority = AuthorityIndex(index[at]);
     let round = RoundNumber(index[at + 1]);
-    let first = turned(index[at + 2]);
-    let second = turned(index[at + 3]);
-    let third = turned(index[at + 4]);
-    let fourth = turned(index[at + 5]);
-    let digest = BlockDigest(first, second, third, fourth);
+    let digest = read_digest(index, at + 2);
     let block = BlockReference {
         authority,
         round,
@@ -90,150 +72,35 @@ pub fn read_run(index: &[u64], at: usize) -> Run
     }
 }
 
-// ---- pieces
+// ---- held against a run
 
-// What is left of a run from a place on.
-pub fn from_place(place: Place, x: Run) -> MaybeRun
-    ensures { λ r. ⌜ asMaybe r ≡ fromPlace (asPlace place) (asRun x) ⌝ }
-{
-    let Place::Beyond(block, offset) = place else {
-        return MaybeRun::Here(x);
-    };
-    let order = types::compare(block, x.block);
-    match order {
-        Ordering::Less => MaybeRun::Here(x),
-        Ordering::Greater => MaybeRun::Nothing,
-        Ordering::Equal => {
-            if x.end <= offset {
-                return MaybeRun::Nothing;
-            }
-            if offset <= x.start {
-                return MaybeRun::Here(x);
-            }
-            let of = x.block;
-            let votes = x.votes;
-            MaybeRun::Here(Run {
-                block: of,
-                start: offset,
-                end: x.end,
-                votes,
-            })
-        }
-    }
-}
-
-// The voters of either set.
-fn united(v: AuthoritySet, w: AuthoritySet) -> AuthoritySet
-    ensures { λ r. ⌜ r ≡ united v w ⌝ }
-{
-    AuthoritySet {
-        low: v.low | w.low,
-        high: v.high | w.high,
-    }
-}
-
-// The nearer of two offsets.
-fn nearer(a: u64, b: u64) -> u64
-    ensures { λ r. ⌜ r ≡ nearer a b ⌝ }
-{
-    if a < b {
-        return a;
-    }
-    b
-}
-
-// A run up to an offset.
-fn cut(x: Run, offset: u64) -> Run
-    ensures { λ r. ⌜ asRun r ≡ cut (asRun x) offset ⌝ }
-{
-    let block = x.block;
-    let votes = x.votes;
-    Run {
-        block,
-        start: x.start,
-        end: nearer(x.end, offset),
-        votes,
-    }
-}
-
-// Of the first piece of one list of runs and that of another, from the same place on, the first piece of both.
-fn overlaid(x: Run, y: Run) -> Run
-    ensures { λ r. ⌜ asRun r ≡ overlaid (asRun x) (asRun y) ⌝ }
-{
-    let order = types::compare(x.block, y.block);
-    match order {
-        Ordering::Less => x,
-        Ordering::Greater => y,
-        Ordering::Equal => {
-            if x.start < y.start {
-                return cut(x, y.start);
-            }
-            if y.start < x.start {
-                return cut(y, x.start);
-            }
-            let block = x.block;
-            let votes = united(x.votes, y.votes);
-            Run {
-                block,
-                start: x.start,
-                end: nearer(x.end, y.end),
-                votes,
-            }
-        }
-    }
-}
-
-// The same where either may have none.
-pub fn both(x: MaybeRun, y: MaybeRun) -> MaybeRun
-    ensures { λ r. ⌜ asMaybe r ≡ both (asMaybe x) (asMaybe y) ⌝ }
-{
-    let MaybeRun::Here(a) = x else {
-        return y;
-    };
-    let MaybeRun::Here(b) = y else {
-        return x;
-    };
-    MaybeRun::Here(overlaid(a, b))
-}
-
-// Whether a run begins where another ends and has its voters.
-pub fn continues(x: Run, y: Run) -> bool
-    ensures { λ r. ⌜ r ≡ touches (asRun x) (asRun y) && sameVoters (x .votes) (y .votes) ⌝ }
-{
-    if x.end != y.start {
-        return false;
-    }
-    if x.votes.low != y.votes.low {
-        return false;
-    }
-    if x.votes.high != y.votes.high {
-        return false;
-    }
-    let order = types::compare(x.block, y.block);
-    match order {
-        Ordering::Equal => true,
-        Ordering::Less => false,
-        Ordering::Greater => false,
-    }
-}
-
-// ---- held against words, and written
-
-// Whether the four words at a position are the offsets and the voters of a run.
-fn voters_stand_at(index: &[u64], at: usize, x: Run) -> bool
+// Whether the four words at a position are these.
+fn stand_at(index: &[u64], at: usize, first: u64, second: u64, third: u64, fourth: u64) -> bool
     requires { ⌜ at + 4 ≤ length (now index) ⌝ }
-    ensures { λ r. ⌜ r ≡ startsWith (x .start ∷ x .end ∷ x .votes .low ∷ x .votes .high ∷ []) (drop at (now (index .entry))) ⌝ }
+    ensures { λ r. ⌜ r ≡ startsWith (first ∷ second ∷ third ∷ fourth ∷ []) (drop at (now (index .entry))) ⌝ }
 {
-    if index[at] != x.start {
+    if index[at] != first {
         return false;
     }
-    if index[at + 1] != x.end {
+    if index[at + 1] != second {
         return false;
     }
-    if index[at + 2] != x.votes.low {
+    if index[at + 2] != third {
         return false;
     }
-    index[at + 3] == x.votes.high
+    index[at + 3] == fourth
+}
+
+// Whether the four words at a position are those of a digest.
+fn digest_stands_at(index: &[u64], at: usize, digest: BlockDigest) -> bool
+    requires { ⌜ at + 4 ≤ length (now index) ⌝ }
+    ensures { λ r. ⌜ r ≡ startsWith (digestWords (digestBytes digest)) (drop at (now (index .entry))) ⌝ }
+{
+    let first = turned_words::turned(digest.0);
+    let second = turned_words::turned(digest.1);
+    let third = turned_words::turned(digest.2);
+    let fourth = turned_words::turned(digest.3);
+    stand_at(index, at, first, second, third, fourth)
 }
 
 // Whether the ten words at a position are those of a run.
@@ -243,29 +110,29 @@ pub fn stands_at(index: &[u64], at: usize, x: Run) -> bool
 {
     let block = x.block;
     let digest = block.digest;
-    let first = turned(digest.0);
-    let second = turned(digest.1);
-    let third = turned(digest.2);
-    let fourth = turned(digest.3);
     if index[at] != block.authority.0 {
         return false;
     }
     if index[at + 1] != block.round.0 {
         return false;
     }
-    if index[at + 2] != first {
+    if !digest_stands_at(index, at + 2, digest) {
         return false;
     }
-    if index[at + 3] != second {
-        return false;
-    }
-    if index[at + 4] != third {
-        return false;
-    }
-    if index[at + 5] != fourth {
-        return false;
-    }
-    voters_stand_at(index, at + 6, x)
+    stand_at(index, at + 6, x.start, x.end, x.votes.low, x.votes.high)
+}
+
+// ---- written
+
+// Writes the four words of a digest.
+fn write_digest(index: &mut [u64], at: usize, digest: BlockDigest)
+    requires { ⌜ at + 4 ≤ length (now index) ⌝ }
+    ensures { λ _. ⌜ now (index .exit) ≡ sets (now (index .entry)) at (digestWords (digestBytes digest)) ⌝ }
+{
+    index[at] = turned_words::turned(digest.0);
+    index[at + 1] = turned_words::turned(digest.1);
+    index[at + 2] = turned_words::turned(digest.2);
+    index[at + 3] = turned_words::turned(digest.3);
 }
 
 // Writes the ten words of a run.
@@ -277,10 +144,7 @@ pub fn write_run(index: &mut [u64], at: usize, x: Run)
     let digest = block.digest;
     index[at] = block.authority.0;
     index[at + 1] = block.round.0;
-    index[at + 2] = turned(digest.0);
-    index[at + 3] = turned(digest.1);
-    index[at + 4] = turned(digest.2);
-    index[at + 5] = turned(digest.3);
+    write_digest(index, at + 2, digest);
     index[at + 6] = x.start;
     index[at + 7] = x.end;
     index[at + 8] = x.votes.low;

@@ -25,7 +25,8 @@ use Rattle.statement_reader.specs.declared.BaseStatement.the-variants.{Share, A
 use Rattle.statement_reader.proofs.Steps.{readPayload, payload-cut, payload-short, payload-reads}
 use Rattle.drafts.specs.Draft.{readLongShare, readGiven, statementsIn, givenBytes}
 use Rattle.drafts.proofs.Given.{GivenFits, some-bytes, given-back}
-use Rattle.joined_statements.specs.Step.{payloadInside, TookGiven}
+use Rattle.accept_runs.specs.Step.{payloadInside}
+use Rattle.joined_statements.specs.Step.{TookGiven}
 
 -- ---- the kind byte
 

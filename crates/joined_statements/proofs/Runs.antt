@@ -1,5 +1,5 @@
 -- Runs of accepts from the first on, and what is written after them. Assumes nothing.
-use mathlib.Core.Path.{_≡_, refl, sym}
+use mathlib.Core.Path.{_≡_, refl}
 use mathlib.Core.List.{List, [], _∷_, map}
 use mathlib.Core.Option.{Option, none, some, Option·map}
 use mathlib.Core.Bool.{Bool, true, false}
@@ -7,15 +7,13 @@ use Prim.Native.Nat.{ℕ, _+_, _≤_, _<_}
 use mathlib.Core.Logic.{inl, inr}
 use native.Mathlib.Omega.{arith}
 use native.Mathlib.Decide.{decLt}
-use borrow.Author.Tests.{eq-eqb, ne-eqb}
 use lib.ListN.{length, drop}
 use Rattle.base.specs.Lists.{pick, allOf}
 use Rattle.base.proofs.Tests.{not-both, fails, and-left}
 use Rattle.base.proofs.Le.{AllBytes}
 use Rattle.base.proofs.Read.{part}
-use Rattle.blocks.specs.Reference.{BlockReference, TransactionLocator, TransactionLocatorRange, locator, newRange, oneRange, sameReference}
+use Rattle.blocks.specs.Reference.{TransactionLocator, TransactionLocatorRange, newRange, oneRange}
 use Rattle.blocks.specs.Block.{Statement, share, accept, reject, voteRange}
-use Rattle.blocks.proofs.References.{reference-same, same-reference}
 use Rattle.statement_reader.specs.Values.{asStatement}
 use Rattle.statement_reader.specs.declared.BaseStatement.{BaseStatement}
 use Rattle.statement_reader.specs.declared.BaseStatement.the-variants.{Share, Accept, Reject, RejectFor, VoteRange}
@@ -29,25 +27,6 @@ use Rattle.drafts.proofs.Joining.{Touching, touching, touching-yes, RightRun, r
 use Rattle.joined_statements.specs.Step.{TookGiven, joinedFrom, joinedAfter, followed, TookAccept, TookJoined}
 use Rattle.joined_statements.specs.declared.NextAccept.the-variants.{Other}
 use Rattle.joined_statements.proofs.Given.{none-given, all-given, one-given}
-
--- ---- the test, as code makes it
-
-module _ (l m : TransactionLocator) where
-  pub far-high : 1048575 ≤ m .offset → touches (oneRange l) (oneRange m) ≡ false
-  unfolding oneRange newRange
-  far-high h = fails _ (λ e. let t = touching (oneRange l) (oneRange m) e in omega (arith, t .low))
-
-  pub far-gap : (m .offset ≡ l .offset + 1 → ⊥) → touches (oneRange l) (oneRange m) ≡ false
-  unfolding oneRange newRange
-  far-gap h = fails _ (λ e. h (sym (touching (oneRange l) (oneRange m) e .meets)))
-
-  pub far-block : sameReference (l .block) (m .block) ≡ false → touches (oneRange l) (oneRange m) ≡ false
-  unfolding oneRange newRange
-  far-block h = fails _ (λ e. not-both (same-reference (touching (oneRange l) (oneRange m) e .block)) h)
-
-  pub near : m .offset < 1048575 → m .offset ≡ l .offset + 1 → sameReference (l .block) (m .block) ≡ true → touches (oneRange l) (oneRange m) ≡ true
-  unfolding oneRange newRange
-  near h k e = touching-yes (oneRange l) (oneRange m) (record { block = reference-same (l .block) (m .block) e; meets = sym k; low = omega arith })
 
 -- ---- a run in front of an accept
 
@@ -180,22 +159,6 @@ module _ (s : List ℕ) (p : ℕ) where
 -- a run of one
 pub alone-right : (l : TransactionLocator) → rightPiece (run (oneRange l)) ≡ true
 alone-right l = run-right (oneRange l) (one-right l)
-
--- a lone accept stays one
-pub run-alone : (r : BlockReference) (first last : ℕ) → first ≡ last → runStatement (newRange r first (last + 1)) ≡ accept (locator r first)
-unfolding runStatement newRange
-run-alone r first last e = rw (eq-eqb (first + 1) (last + 1) (omega arith))
-
-pub run-longer : (r : BlockReference) (first last : ℕ) → (first ≡ last → ⊥) → runStatement (newRange r first (last + 1)) ≡ voteRange (newRange r first (last + 1))
-unfolding runStatement newRange
-run-longer r first last e = rw (ne-eqb (first + 1) (last + 1) (λ k. e (omega arith)))
-
--- its end stays below the limit
-pub run-low : (r : BlockReference) (first last : ℕ) → (first ≡ last → ⊥) → rightPiece (run (newRange r first (last + 1))) ≡ true → last + 1 < 1048576
-unfolding newRange
-run-low r first last e h =
-    let f = right-run (newRange r first (last + 1)) h in
-    f .low (omega (arith, f .filled, e))
 
 -- ---- what code finds at a position
 

@@ -1,31 +1,21 @@
 -- Machinery for the contracts: what stands at a position of the given statements, and what is written from there on. Assumes nothing: these are definitions.
 use Prim.Native.Nat.{ℕ, _+_, _≤_, _<_}
 use mathlib.Core.Path.{_≡_}
-use mathlib.Core.Bool.{Bool, true}
+use mathlib.Core.Bool.{true}
 use mathlib.Core.List.{List, _∷_, map}
 use mathlib.Core.Option.{Option, none, some, Option·map}
-use lib.Dec.{leb}
 use lib.ListN.{length, drop}
 use Rattle.base.specs.Le.{Bytes}
 use Rattle.blocks.specs.Reference.{TransactionLocator, TransactionLocatorRange, newRange, oneRange}
 use Rattle.blocks.specs.Block.{Statement, accept}
 use Rattle.types.specs.Values.{asLocator}
 use Rattle.statement_reader.specs.Values.{asStatement}
-use Rattle.statement_reader.specs.declared.BaseStatement.{BaseStatement}
-use Rattle.statement_reader.specs.declared.BaseStatement.the-variants.{Share, Accept, Reject, RejectFor, VoteRange}
-use Rattle.statement_reader.specs.declared.Taken as taken
+use Rattle.block_record.specs.declared.Taken as taken
 use Rattle.drafts.specs.Draft.{readGiven, statementsIn}
 use Rattle.drafts.specs.Joining.{run, fronted, pieces, runStatement, pieceStatement, joined, rightPiece}
 use Rattle.joined_statements.specs.declared.NextAccept.{NextAccept}
 use Rattle.joined_statements.specs.declared.NextAccept.the-variants.{At, Other}
-
--- a share's payload lies in so many bytes
-unfoldable pub payloadInside : ℕ → BaseStatement → Bool
-payloadInside n (Share start len) = leb (start + len) n
-payloadInside n (Accept l) = true
-payloadInside n (Reject l) = true
-payloadInside n (RejectFor l other) = true
-payloadInside n (VoteRange r) = true
+use Rattle.accept_runs.specs.Step.{payloadInside}
 
 -- what was taken at a position is the statement that is given there, and ends where the rest begins; or none is given there
 unfoldable pub TookGiven : Bytes → ℕ → taken.Taken → Type 0
@@ -35,7 +25,6 @@ TookGiven s p (taken.the-variants.Statement st next) =
 TookGiven s p taken.the-variants.Malformed = readGiven (drop p s) ≡ none
 
 -- ---- what is written
-
 -- the statements from a position on, as they are written
 unfoldable pub joinedFrom : Bytes → ℕ → Option (List Statement)
 joinedFrom s p = Option·map joined (statementsIn (drop p s))

@@ -1,20 +1,12 @@
 // The given statements of a block of our own, one after the other, with neighbouring accepts joined. Follows types.rs, `VoteRangeBuilder`.
 use statement_reader::BaseStatement;
 use statement_reader::Taken;
-use types::BlockReference;
-use types::Ordering;
 use types::TransactionLocator;
-use types::TransactionLocatorRange;
 ghost use mathlib.Core.Path.{_≡_};
-ghost use mathlib.Core.Bool.{true};
-ghost use Prim.Native.Nat.{_+_, _≤_, _<_};
+ghost use Prim.Native.Nat.{_≤_, _<_};
 ghost use lib.ListN.{length, getD};
-ghost use Rattle.base.specs.Le.{Bytes};
-ghost use Rattle.blocks.specs.Reference.{locator, newRange, oneRange};
-ghost use Rattle.types.specs.Values.{asReference, asLocator};
-ghost use Rattle.statement_reader.specs.Values.{asStatement};
-ghost use Rattle.drafts.specs.Joining.{run, rightPiece, touches, runStatement};
-ghost use Rattle.joined_statements.specs.Step.{TookGiven, payloadInside, TookAccept, RunFrom, TookJoined};
+ghost use Rattle.types.specs.Values.{asLocator};
+ghost use Rattle.joined_statements.specs.Step.{TookGiven, TookAccept, RunFrom, TookJoined};
 
 // The accept at a position of the given statements with the position after it, or something else is there.
 enum NextAccept {
@@ -76,26 +68,6 @@ fn next_accept(s: &[u8], at: usize) -> NextAccept
     }
 }
 
-// An accept goes on with a run: the same block, the offset one above the last, and the end stays below the limit.
-fn goes_on(block: BlockReference, last: u64, other: TransactionLocator) -> bool
-    ensures { λ r. ⌜ r ≡ touches (oneRange (locator (asReference block) last)) (oneRange (asLocator other)) ⌝ }
-{
-    if TransactionLocatorRange::MAX_LEN - 1 <= other.offset {
-        return false;
-    }
-    if other.offset <= last {
-        return false;
-    }
-    if other.offset != last + 1 {
-        return false;
-    }
-    match types::compare(block, other.block) {
-        Ordering::Equal => true,
-        Ordering::Less => false,
-        Ordering::Greater => false,
-    }
-}
-
 // The run of accepts that begins with `first`; the statement after it stands at `from`.
 fn run_of(s: &[u8], first: TransactionLocator, from: usize) -> Run
     requires { ⌜ from ≤ length (now s) ⌝ }
@@ -107,26 +79,12 @@ fn run_of(s: &[u8], first: TransactionLocator, from: usize) -> Run
         let NextAccept::At(other, next) = next_accept(s, at) else {
             return Run { last, at };
         };
-        if !goes_on(first.block, last, other) {
+        if !accept_runs::goes_on(first.block, last, other) {
             return Run { last, at };
         }
         last = other.offset;
         at = next;
     }
-}
-
-// A run as it is written: a lone accept stays a vote.
-fn run_statement(block: BlockReference, first: u64, last: u64) -> BaseStatement
-    requires { ⌜ rightPiece (run (newRange (asReference block) first (last + 1))) ≡ true ⌝ }
-    ensures { λ r. ⌜ ((s : Bytes) → asStatement s r ≡ runStatement (newRange (asReference block) first (last + 1))) × (payloadInside 0 r ≡ true) ⌝ }
-{
-    if first == last {
-        return BaseStatement::Accept(TransactionLocator {
-            block,
-            offset: first,
-        });
-    }
-    BaseStatement::VoteRange(TransactionLocatorRange::new(block, first, last + 1))
 }
 
 // ---- the statements as they are written
@@ -143,5 +101,8 @@ pub fn next_joined(s: &[u8], at: usize) -> Taken
         return Taken::Statement(statement, next);
     };
     let run = run_of(s, first, next);
-    Taken::Statement(run_statement(first.block, first.offset, run.last), run.at)
+    Taken::Statement(
+        accept_runs::run_statement(first.block, first.offset, run.last),
+        run.at,
+    )
 }

@@ -1,6 +1,6 @@
 // The records of an input of `listing`, read, fed and printed one by one.
 use feeding::FeedAnswer;
-use listing_lib::Size;
+use listing_input::Size;
 ghost use mathlib.Core.Path.{_≡_};
 ghost use Prim.Native.Nat.{_≤_};
 ghost use lib.ListN.{length, replicate};

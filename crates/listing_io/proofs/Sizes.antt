@@ -9,8 +9,8 @@ use lib.ListN.{length}
 use borrow.Author.Tests.{ltb-false}
 use Rattle.base.specs.Lists.{pick}
 use Rattle.base.specs.Le.{leAt}
-use Rattle.listing_lib.specs.declared.Size.the-variants.{End, Broken, Of}
-use Rattle.listing_lib.specs.Input.{sizeOf}
+use Rattle.listing_input.specs.declared.Size.the-variants.{End, Broken, Of}
+use Rattle.listing_input.specs.Input.{sizeOf}
 use Rattle.listing_io.specs.Sizes.{sizeAtMost}
 
 pub size-bound : (s : List ℕ) → sizeAtMost 8192 (sizeOf s)

@@ -4,7 +4,7 @@ ghost use Prim.Native.Nat.{_+_, _≤_, _<_};
 ghost use lib.ListN.{length};
 ghost use Rattle.listing_io.specs.Sizes.{sizeAtMost};
 use libc::STDOUT_FILENO;
-use listing_lib::Size;
+use listing_input::Size;
 
 // How far the buffer is filled, and the number of what was counted in printing: events that are processed ones, or final locators.
 pub struct Printed {
@@ -26,7 +26,7 @@ fn read_size(fd: i32) -> Size
 {
     let mut head = [0u8; 4];
     let got = io::read_full(fd, &mut head);
-    listing_lib::size_of(&head[..got])
+    listing_input::size_of(&head[..got])
 }
 
 // Reads the next record to the front of `rec`.
@@ -70,7 +70,7 @@ pub fn print_refused(out: &mut [u8], from: usize, k: u64, number: u64) -> usize
     ensures { λ r. ⌜ (r ≤ length (now (out .entry))) × (length (now (out .exit)) ≡ length (now (out .entry))) ⌝ }
 {
     let at = room(out, from);
-    listing_lib::put_refused(out, at, k, number)
+    listing_lines::put_refused(out, at, k, number)
 }
 
 // Prints one event of record k: three words from i on.
@@ -79,7 +79,7 @@ fn print_event(out: &mut [u8], from: usize, k: u64, events: &[u64], i: usize) ->
     ensures { λ r. ⌜ (r ≤ length (now (out .entry))) × (length (now (out .exit)) ≡ length (now (out .entry))) ⌝ }
 {
     let at = room(out, from);
-    listing_lib::put_event(out, at, events[i], k, events[i + 1], events[i + 2])
+    listing_lines::put_event(out, at, events[i], k, events[i + 1], events[i + 2])
 }
 
 fn one_if_processed(kind: u64) -> u64 {
@@ -116,7 +116,7 @@ fn print_final(
     ensures { λ r. ⌜ (r ≤ length (now (out .entry))) × (length (now (out .exit)) ≡ length (now (out .entry))) ⌝ }
 {
     let at = room(out, from);
-    listing_lib::put_final(out, at, round, author, digest, offset, blocks, stake)
+    listing_lines::put_final(out, at, round, author, digest, offset, blocks, stake)
 }
 
 // A line for each offset from `first` to `end`.
@@ -193,6 +193,6 @@ pub fn print_end(
     requires { ⌜ (from ≤ length (now out)) × (128 ≤ length (now out)) ⌝ }
 {
     let at = room(out, from);
-    let end = listing_lib::put_end(out, at, accepted, refused, processed, pending, finals);
+    let end = listing_lines::put_end(out, at, accepted, refused, processed, pending, finals);
     flush(out, end);
 }

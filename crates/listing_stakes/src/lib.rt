@@ -50,11 +50,11 @@ fn read_stakes(fd: i32, count: u8, name: &[u8], stakes: &mut [u64]) -> LoadAnswe
     ensures { λ r. ⌜ membersAtMost 254 r ⌝ }
 {
     let mut bytes = [0u8; 2032];
-    let size = listing_lib::stake_bytes(count);
+    let size = listing_input::stake_bytes(count);
     let got = listing_io::read_front(fd, &mut bytes, size);
     let mut file = [0u8; 65537];
     let n = read_table(count, name, &mut file);
-    listing_lib::committee_of(count, &bytes[..got], &file[..n], stakes)
+    listing_input::committee_of(count, &bytes[..got], &file[..n], stakes)
 }
 
 // Reads the committee's stakes, and puts them in front.
@@ -64,6 +64,6 @@ pub fn read_committee(fd: i32, name: &[u8], stakes: &mut [u64]) -> LoadAnswer
 {
     let mut head = [0u8; 1];
     let got = io::read_full(fd, &mut head);
-    let count = listing_lib::member_count(&head[..got]);
+    let count = listing_input::member_count(&head[..got]);
     read_stakes(fd, count, name, stakes)
 }

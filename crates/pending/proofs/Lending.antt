@@ -30,7 +30,7 @@ use Rattle.pending_items.proofs.Items.{Ordered}
 use Rattle.table_words.proofs.Halves.{holds-ordered}
 use Rattle.table_words.proofs.Finds.{found-item}
 use Rattle.table_order.proofs.Forming.{order-parts}
-use Rattle.range_map.proofs.Voting.{formed}
+use Rattle.range_votes.proofs.Voting.{formed}
 use Rattle.feeds.specs.Pending.{Standing, pendingChecks, standingOf, standingAt, pending}
 use borrow.Author.Tests.{not-false}
 

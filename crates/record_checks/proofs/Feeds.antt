@@ -18,7 +18,8 @@ use Rattle.blocks.specs.Reference.{BlockReference}
 use Rattle.blocks.specs.Block.{Block, eventRoom}
 use Rattle.blocks.specs.Record.{wellFormed, blockIn}
 use Rattle.blocks.specs.Verify.{headChecks, includeChecks, statementChecks, bodyChecks}
-use Rattle.threshold_clock.proofs.Checking.{includes-numbered, statements-numbered}
+use Rattle.include_checks.proofs.Includes.{includes-numbered}
+use Rattle.statement_checks.proofs.Statements.{statements-numbered}
 use Rattle.store_layout.specs.Layout.{Record, Entry, entries, positionOf, lookup}
 use Rattle.store_layout.specs.Accept.{isStored, firstMissing, blockChecks}
 use Rattle.store_layout.specs.Store.{recordsOf, recordIn, storeFull}

@@ -24,7 +24,7 @@ use Rattle.statement_reader.specs.Values.{asStatement}
 use Rattle.statement_reader.specs.declared.BaseStatement.{BaseStatement}
 use Rattle.statement_reader.specs.declared.BaseStatement.the-variants.{Share, Accept, Reject, RejectFor, VoteRange}
 use Rattle.drafts.specs.Writing.{isLong}
-use Rattle.joined_statements.specs.Step.{payloadInside}
+use Rattle.accept_runs.specs.Step.{payloadInside}
 use Rattle.statement_writer.specs.Step.{sizeOf}
 use Rattle.statement_writer.specs.declared.Size.{Size}
 use Rattle.statement_writer.specs.declared.Size.the-variants.{Bytes, Long}

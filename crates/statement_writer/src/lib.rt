@@ -13,7 +13,7 @@ ghost use Rattle.blocks.specs.Record.{locatorBytes, statementBytes};
 ghost use Rattle.types.specs.Values.{asLocator, asRange};
 ghost use Rattle.statement_reader.specs.Values.{asStatement};
 ghost use Rattle.drafts.specs.Writing.{isLong};
-ghost use Rattle.joined_statements.specs.Step.{payloadInside};
+ghost use Rattle.accept_runs.specs.Step.{payloadInside};
 ghost use Rattle.statement_writer.specs.Step.{sizeOf};
 
 // The bytes of a statement; or its payload is longer than 65,535.

@@ -1,3 +1,1 @@
-pub mod Measuring
-pub mod Sizing
-pub mod Recorded
+mod Recorded

@@ -1,11 +1,11 @@
 use mathlib.Core.Path.{sym, _∙_, _≡_}
-use Rattle.blast_calendar.proofs.Steps.{good-odd, good-many, good-start, order-overlaps, order-empty, order-late, order-on, order-end}
+use Rattle.blast_windows.proofs.Steps.{good-odd, good-many, good-start, order-overlaps, order-empty, order-late, order-on, order-end}
 use borrow.Author.Needs.{needs}
 use Prim.Native.Nat.{_%_, _≤_, _-_}
 use lib.ListN.{length, drop}
 use native.Mathlib.Omega.{arith}
-use Rattle.blast_calendar.specs.Calendar.{windows, goodCalendar}
-use Rattle.blast_calendar.proofs.Order.{inOrderFrom}
+use Rattle.blast_windows.specs.Calendar.{windows, goodCalendar}
+use Rattle.blast_windows.proofs.Order.{inOrderFrom}
 use Rattle.blast_calendar.proofs.is_good.Statement.{statement}
 use Rattle.blast_calendar.proofs.is_good.Tie as tie
 

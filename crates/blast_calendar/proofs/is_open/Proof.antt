@@ -2,10 +2,10 @@ use borrow.Author.Tests.{not-true, not-false}
 use mathlib.Core.Path.{_≡_, sym, ap, _∙_}
 use mathlib.Core.Bool.{true}
 use Rattle.base.specs.Checks.{answered}
-use Rattle.blast_calendar.specs.Calendar.{windows, goodCalendar}
+use Rattle.blast_windows.specs.Calendar.{windows, goodCalendar}
 use Rattle.blast_calendar.specs.Answers.{asOpen}
-use Rattle.blast_calendar.proofs.Asked.{open-refused, open-answered}
-use Rattle.blast_calendar.proofs.Waits.{open-free, closed-later}
+use Rattle.blast_windows.proofs.Asked.{open-refused, open-answered}
+use Rattle.blast_windows.proofs.Waits.{open-free, closed-later}
 use borrow.Author.Needs.{needs}
 use Rattle.blast_calendar.proofs.is_open.Statement.{statement}
 use Rattle.blast_calendar.proofs.is_open.Tie as tie

@@ -3,10 +3,10 @@ use mathlib.Core.Path.{_≡_, sym, ap, _∙_}
 use mathlib.Core.Bool.{true}
 use native.Mathlib.Omega.{arith}
 use Rattle.base.specs.Checks.{answered}
-use Rattle.blast_calendar.specs.Calendar.{windows, goodCalendar}
+use Rattle.blast_windows.specs.Calendar.{windows, goodCalendar}
 use Rattle.blast_calendar.specs.Answers.{asNextOpen}
-use Rattle.blast_calendar.proofs.Asked.{next-refused, next-answered}
-use Rattle.blast_calendar.proofs.Waits.{full-week, in-count, past-count}
+use Rattle.blast_windows.proofs.Asked.{next-refused, next-answered}
+use Rattle.blast_windows.proofs.Waits.{full-week, in-count, past-count}
 use borrow.Author.Needs.{needs}
 use Rattle.blast_calendar.proofs.next_open.Statement.{statement}
 use Rattle.blast_calendar.proofs.next_open.Tie as tie

@@ -1,7 +1,7 @@
 use native.Mathlib.Omega.{arith}
-use Rattle.blast_calendar.specs.Calendar.{windows}
-use Rattle.blast_calendar.proofs.Weeks.{week-below}
-use Rattle.blast_calendar.proofs.Waits.{this-week, next-week}
+use Rattle.blast_windows.specs.Calendar.{windows}
+use Rattle.blast_windows.proofs.Weeks.{week-below}
+use Rattle.blast_windows.proofs.Waits.{this-week, next-week}
 use borrow.Author.Needs.{needs}
 use Rattle.blast_calendar.proofs.wait.Statement.{statement}
 use Rattle.blast_calendar.proofs.wait.Tie as tie

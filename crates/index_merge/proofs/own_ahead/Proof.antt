@@ -2,8 +2,8 @@ use mathlib.Core.Path.{_≡_, refl, sym, ap, subst, _∙_}
 use Rattle.blocks.specs.Record.{blockIn}
 use Rattle.finality.specs.Voters.{ownVote}
 use Rattle.index_runs.specs.Values.{asRun, asMaybe, asPlace}
-use Rattle.index_runs.specs.Pieces.{AheadOr, PieceOr}
-use Rattle.index_runs.proofs.Pieces.{from-piece}
+use Rattle.index_pieces.specs.Pieces.{AheadOr, PieceOr}
+use Rattle.index_pieces.proofs.Pieces.{from-piece}
 use borrow.Author.Needs.{needs}
 use Rattle.index_merge.proofs.own_ahead.Statement.{statement}
 use Rattle.index_merge.proofs.own_ahead.Tie as tie

@@ -1,4 +1,4 @@
-use Rattle.index_runs.specs.Pieces.{both}
+use Rattle.index_pieces.specs.Pieces.{both}
 use mathlib.Core.Path.{_≡_, refl, sym, ap, subst, _∙_}
 use mathlib.Core.List.{List, [], _∷_, map, Option·toList}
 use mathlib.Core.Option.{none}

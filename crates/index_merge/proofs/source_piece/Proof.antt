@@ -3,7 +3,7 @@ use Prim.Native.Nat.{_+_, _*_}
 use lib.ListN.{drop}
 use Rattle.voters_index.specs.Walk.{runsFrom}
 use Rattle.index_runs.specs.Values.{asRun, asMaybe, asPlace}
-use Rattle.index_runs.specs.Pieces.{fromPlace, firstPiece, skipped}
+use Rattle.index_pieces.specs.Pieces.{fromPlace, firstPiece, skipped}
 use Rattle.index_merge.proofs.Cursors.{skip-stop, skip-on, skip-end, piece-stop, piece-on, piece-end}
 use borrow.Author.Needs.{needs}
 use native.Mathlib.Omega.{arith}

@@ -8,7 +8,7 @@ use Rattle.voters_index.specs.Part.{RunsOf}
 use Rattle.finality.specs.Voters.{ownVote}
 use Rattle.voters_index.specs.Walk.{anywhere}
 use Rattle.index_runs.specs.Values.{asRun, asMaybe, asPlace}
-use Rattle.index_runs.specs.Pieces.{AheadOr, PieceOr}
+use Rattle.index_pieces.specs.Pieces.{AheadOr, PieceOr}
 use Rattle.index_parts.specs.Parts.{merged, Compared, Counted}
 use Rattle.index_parts.proofs.Stepping.{Stepping, runs-moved, stepping-start, stepping-none, stepping-ahead, stepping-more, stepping-next, stepping-on}
 use Rattle.index_merge.proofs.Merged.{piece-ahead}

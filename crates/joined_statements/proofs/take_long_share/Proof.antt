@@ -3,7 +3,8 @@ use native.Mathlib.Omega.{arith}
 use lib.ListN.{length}
 use borrow.Author.Tests.{le-leb}
 use Rattle.statement_reader.specs.Values.{asStatement}
-use Rattle.joined_statements.specs.Step.{TookGiven, payloadInside}
+use Rattle.accept_runs.specs.Step.{payloadInside}
+use Rattle.joined_statements.specs.Step.{TookGiven}
 use Rattle.joined_statements.proofs.Given.{share-cut, share-short, share-reads}
 use borrow.Author.Needs.{needs}
 use Rattle.joined_statements.proofs.take_long_share.Statement.{statement}

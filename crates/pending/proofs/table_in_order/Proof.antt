@@ -1,7 +1,7 @@
 use mathlib.Core.Path.{_≡_, sym, _∙_}
 use borrow.Author.Tests.{not-true, not-false}
 use Rattle.table_order.proofs.Forming.{order-parts}
-use Rattle.range_map.proofs.Voting.{formed}
+use Rattle.range_votes.proofs.Voting.{formed}
 use borrow.Author.Needs.{needs}
 use Rattle.pending.proofs.table_in_order.Statement.{statement}
 use Rattle.pending.proofs.table_in_order.Tie as tie

@@ -6,7 +6,8 @@ use Rattle.stake_aggregator.specs.StakeAggregator.{noVotes}
 use Rattle.stake_aggregator.proofs.Adding.{vote-fits}
 use Rattle.stake_aggregator.proofs.Aggregators.{noVotes-order}
 use Rattle.committee.proofs.Answers.{known-sound, unknown-sound}
-use Rattle.range_map.proofs.Voting.{room-words, first-vote}
+use Rattle.range_votes.proofs.Voting.{room-words}
+use Rattle.range_map.proofs.Registering.{first-vote}
 use Rattle.table_words.proofs.Moves.{added-table}
 use Rattle.table_words.proofs.Slots.{holds-holding}
 use Rattle.range_map.proofs.register.Statement.{statement}

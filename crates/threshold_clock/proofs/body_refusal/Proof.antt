@@ -3,7 +3,9 @@ use borrow.Author.Tests.{eq-eqb, ne-eqb}
 use Rattle.base.proofs.Refusals.{zero-passes}
 use Rattle.blocks.specs.Record.{blockIn}
 use Rattle.types.proofs.References.{as-round}
-use Rattle.threshold_clock.proofs.Checking.{ofIncludes, ofStatements, includes-numbered, body-includes, body-statements, body-clock}
+use Rattle.include_checks.proofs.Includes.{ofIncludes, includes-numbered}
+use Rattle.statement_checks.proofs.Statements.{ofStatements}
+use Rattle.threshold_clock.proofs.Checking.{body-includes, body-statements, body-clock}
 use borrow.Author.Needs.{needs}
 use Rattle.threshold_clock.proofs.body_refusal.Statement.{statement}
 use Rattle.threshold_clock.proofs.body_refusal.Tie as tie

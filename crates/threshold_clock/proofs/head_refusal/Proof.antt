@@ -3,7 +3,8 @@ use lib.ListN.{length}
 use borrow.Author.Tests.{eq-eqb, ne-eqb}
 use Rattle.blocks.specs.Record.{blockIn}
 use Rattle.types.proofs.References.{as-author, as-round}
-use Rattle.threshold_clock.proofs.Checking.{lookup-known, lookup-unknown, head-is}
+use Rattle.include_checks.proofs.Includes.{lookup-known, lookup-unknown}
+use Rattle.threshold_clock.proofs.Checking.{head-is}
 use borrow.Author.Needs.{needs}
 use Rattle.threshold_clock.proofs.head_refusal.Statement.{statement}
 use Rattle.threshold_clock.proofs.head_refusal.Tie as tie

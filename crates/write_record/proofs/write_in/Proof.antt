@@ -7,9 +7,10 @@ use Rattle.blocks.specs.Record.{timeBytes}
 use Rattle.block_record.specs.Values.{asTime}
 use Rattle.drafts.specs.Writing.{Written}
 use Rattle.joined_statements.specs.Step.{joinedFrom}
-use Rattle.write_record.specs.Answers.{requested, asWriteAnswer}
-use Rattle.write_record.specs.Step.{bytesIn, frontBytes, countBytes, partBytes}
-use Rattle.write_record.proofs.Sizing.{Plan, planned, length-front, length-counts, length-part}
+use Rattle.record_size.specs.Asked.{requested}
+use Rattle.write_record.specs.Answers.{asWriteAnswer}
+use Rattle.record_size.specs.Step.{bytesIn, frontBytes, countBytes, partBytes}
+use Rattle.record_size.proofs.Sizing.{Plan, planned, length-front, length-counts, length-part}
 use Rattle.write_record.proofs.Recorded.{record-written, refuses-form, refuses-short, writes-record}
 use borrow.Author.Needs.{needs}
 use Rattle.write_record.proofs.write_in.Statement.{statement}

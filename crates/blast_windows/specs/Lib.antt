@@ -1,0 +1,4 @@
+pub mod Calendar
+pub mod Free
+pub mod Claims
+pub mod Cards

@@ -1,0 +1,63 @@
+// What one record of our own takes: how many statements are written, and its bytes. Follows types.rs.
+use statement_reader::Taken;
+use statement_writer::Size;
+ghost use mathlib.Core.Path.{_≡_};
+ghost use mathlib.Core.Bool.{true};
+ghost use Prim.Native.Nat.{ℕ};
+ghost use Rattle.drafts.specs.Draft.{draftIn};
+ghost use Rattle.joined_statements.specs.Step.{joinedFrom};
+ghost use Rattle.record_size.specs.Asked.{requested};
+ghost use Rattle.record_size.specs.Step.{measuredOn, low, sizedUp};
+
+// How many statements are written and in how many bytes; or what is given has another form.
+pub enum Measured {
+    Fits(usize, usize),
+    Malformed,
+}
+
+// The statements as they are written: their number and their bytes.
+fn measure(s: &[u8]) -> Measured
+    ensures { λ r. ⌜ r ≡ measuredOn 0 0 (joinedFrom (now (s .entry)) 0) ⌝ }
+    ensures { λ r. ⌜ low r ≡ true ⌝ }
+{
+    let mut at: usize = 0;
+    let mut count: usize = 0;
+    let mut bytes: usize = 0;
+    while at < s.len() {
+        let Taken::Statement(statement, next) = joined_statements::next_joined(s, at) else {
+            return Measured::Malformed;
+        };
+        let Size::Bytes(size) = statement_writer::statement_size(statement) else {
+            return Measured::Malformed;
+        };
+        if count == 1024 {
+            return Measured::Malformed;
+        }
+        count = count + 1;
+        bytes = bytes + size;
+        at = next;
+    }
+    Measured::Fits(count, bytes)
+}
+
+// The record: the number of its statements and its bytes; or 51 applies.
+pub fn measure_record(digest: &[u8], mark: u64, includes: &[u8], statements: &[u8]) -> Measured
+    ensures { λ r. ⌜ ((author round : ℕ) → r ≡ sizedUp (draftIn (requested author round (now (digest .entry)) mark (now (includes .entry)) (now (statements .entry))))) ⌝ }
+{
+    if digest.len() != 32 {
+        return Measured::Malformed;
+    }
+    if 1 < mark {
+        return Measured::Malformed;
+    }
+    if includes.len() % 48 != 0 {
+        return Measured::Malformed;
+    }
+    if 256 < includes.len() / 48 {
+        return Measured::Malformed;
+    }
+    let Measured::Fits(count, bytes) = measure(statements) else {
+        return Measured::Malformed;
+    };
+    Measured::Fits(count, 56 + includes.len() + bytes)
+}
