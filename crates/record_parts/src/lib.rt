@@ -1,8 +1,8 @@
 // The parts of one record of our own written: its front, counts, edition and time, and statements. Follows types.rs.
 use block_record::CreationTime;
-use statement_reader::Taken;
 use committee::AuthorityIndex;
 use committee::RoundNumber;
+use statement_reader::Taken;
 use statement_writer::Size;
 ghost use mathlib.Core.Path.{_≡_};
 ghost use mathlib.Core.Bool.{true};
