@@ -21,12 +21,12 @@ use Rattle.blocks.proofs.References as order
 use Rattle.store_layout.specs.Store.{storeInOrder}
 use Rattle.finality.specs.Voters.{certifies, certifiers}
 use Rattle.finality.specs.Finality.{blocksOf}
-use Rattle.finality.specs.NextFinal.{isAfter}
+use Rattle.finality.specs.NextFinal.{isAfter, least, nothing}
+use Rattle.finality.proofs.LeastOf.{one-least}
 use Rattle.block_spans.proofs.Fits.{final-offset}
 use Rattle.stretches.specs.Stretches.{Listing, wide, agree, certifiedAlike, goesOn, EndsAt, stretchEnd, stretchAt}
-use Rattle.stretches.specs.Claims.{least, nothing, Lawful}
+use Rattle.stretches.specs.Claims.{Lawful}
 use Rattle.stretches.proofs.Ends.{agrees, all-in, in-all, end-meant}
-use Rattle.stretches.proofs.Spreading.{one-shown}
 use Rattle.listed.specs.Listed.{listed}
 use Rattle.listed.proofs.Listed.{listed-lawful, listed-certifies, listed-alike, listed-final}
 use Rattle.voters_index.specs.Walk.{Past, byBlock, byOffset, Place, beyond, At}
@@ -98,11 +98,11 @@ module _ (c : Committee) (s : Bytes) (bytes : AllBytes s) (in-order : storeInOrd
 
   module _ (last : Option TransactionLocator) (p : Place) (w : Onward k last p) where
     pub next-none : ((m : TransactionLocator) → At p (m .block) (m .offset) → k .shows m ≡ false) → k .next last ≡ none
-    next-none f = one-shown k last (law .next last) (nothing (λ m a. f m (w .from m a)))
+    next-none f = one-least (k .shows) last (law .next last) (nothing (λ m a. f m (w .from m a)))
 
     module _ (ix ends cursors flags : List ℕ) (l : TransactionLocator) (edge limit n : ℕ) (v : AuthoritySet) (f : ShownAt c bs k ix ends p cursors flags l edge limit n v) where
       pub next-some : k .next last ≡ some l
-      next-some = one-shown k last (law .next last) (least l (f .shown) (w .after l (f .there) (f .shown)) (λ m t a. f .first m (w .from m a) t))
+      next-some = one-least (k .shows) last (law .next last) (least l (f .shown) (w .after l (f .there) (f .shown)) (λ m t a. f .first m (w .from m a) t))
 
       module _ (after : List ℕ) (end : ℕ) (e : Ended c bs ix ends l limit after end) where
         same-blocks : (x : ℕ) → l .offset ≤ x → x < end → certifiedAlike bs k l (locator (l .block) x) ≡ true

@@ -31,8 +31,8 @@ use Rattle.finality.specs.NextFinal.{nextFinal, FinalList, finalList}
 use Rattle.finality.proofs.Claimed.{final-meant}
 use Rattle.finality.proofs.FinalList.{Ascending, none-left, and-then, final-list-ascending, final-list-in, final-list-order}
 use Rattle.finality.proofs.Asked.{in-order-stored, asked-on, asked-once}
-use Rattle.stored_finals.specs.FinalShares.{FinalShareList, finalShares}
-use Rattle.stored_finals.proofs.Asked.{shares-once, shares-asked}
+use Rattle.stored_finals.specs.FinalShares.{nextFinalShare, FinalShareList, finalShares}
+use Rattle.stored_finals.proofs.Asked.{shares-asked}
 use Rattle.stored_finals.proofs.Lists.{exactly-finals, same-shares}
 use Rattle.promises.specs.Feeds.{Engine, fresh, Accepted, storedBlocks, storedRecords}
 use Rattle.promises.specs.ThirdStatement.{AnsweredFinal, GivesFinal, GivesFinalShares, Start, engineOf, acceptedOf, SameRecords}
@@ -171,6 +171,6 @@ same-share-list c b t u f ls ms x y =
     let k = store-of c u in
     let s : Bytes = engineOf c t .store in
     let r : Bytes = engineOf c u .store in
-    shares-once c s x (shares-asked c s b (h .order))
+    asked-once (nextFinalShare c s) x (shares-asked c s b (h .order))
     ∙ same-shares c (in-order-stored c s (h .order)) (in-order-stored c r (k .order)) (same-blocks c t u f) .final
-    ∙ shares-once c r (shares-asked c r b (k .order)) y
+    ∙ asked-once (nextFinalShare c r) (shares-asked c r b (k .order)) y

@@ -32,7 +32,7 @@ use Rattle.stored_finals.proofs.Lists.{same-stored}
 use Rattle.reading_lists.specs.Lists.{isListed, leastListed, listEdges, listing, allListed, nextListed}
 use Rattle.reading_lists.specs.Claims.{OldLists, ListsLawful, ListsGive, ListsAsked, ListsExactly, SameLists, SameWithoutRejects, SameInAnyOrder, InAnyOrder, Claims}
 use Rattle.reading_lists.proofs.Least.{least-listed, lists-lawful}
-use Rattle.reading_lists.proofs.Whole.{all-ascending, all-in, asked-whole, gives-asked, asked-gives, whole-exactly}
+use Rattle.reading_lists.proofs.Whole.{all-ascending, all-in, asked-whole, gives-whole, whole-exactly}
 use Rattle.reading_lists.proofs.Orders.{stretches-same}
 
 old-lists : OldLists
@@ -130,7 +130,7 @@ claimed =
     record {
       old = old-lists;
       lawful = lists-lawful;
-      gives = λ shared reading c s b h after ls. (gives-asked shared reading c s b h, asked-gives shared reading c s b h);
+      gives = λ shared reading c s b h after ls. gives-whole shared reading c s b h;
       asked = asked-whole;
       exactly = λ shared reading c bs h. whole-exactly shared reading c (well-stored c bs h);
       noRejects = same-without-rejects;
