@@ -20,6 +20,7 @@ use Rattle.finality.specs.Finality.{blocksOf}
 use Rattle.finality.specs.NextFinal.{nextFinalChecks, AskedOf}
 use Rattle.finality.proofs.Asked.{asked-all}
 use Rattle.finality.proofs.FinalList.{Ascending, keep-ascending}
+use Rattle.stretches.specs.Bulk.{listNext}
 use Rattle.stretches.specs.Claims.{Gives}
 use Rattle.stretches.proofs.Wide.{gives-asked}
 use Rattle.readings.specs.Readings.{Reading}
@@ -51,7 +52,7 @@ all-in false reading c bs l = list-in reading c bs l
 module _ (shared : Bool) (reading : Reading) (c : Committee) (s : Bytes) (b : broken c ≡ false) (h : storeInOrder c s ≡ true) where
   -- a question that is not refused gives the least locator
   next-answers : (after : Option TransactionLocator) → nextListed shared reading c s after ≡ answered (leastListed shared reading c (blocksOf s) after)
-  unfolding nextListed nextFinalChecks checked passes refusal allOf
+  unfolding listing listNext nextFinalChecks checked passes refusal allOf
   next-answers after = rw (b, h)
 
   pub asked-whole : AskedOf (nextListed shared reading c s) none (allListed shared reading c (blocksOf s))
