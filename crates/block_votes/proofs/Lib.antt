@@ -1,4 +1,3 @@
-pub mod Compared
 pub mod Reading
 pub mod Sorting
 pub mod Along

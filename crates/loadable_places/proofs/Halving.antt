@@ -17,7 +17,7 @@ use Rattle.blocks.proofs.References.{locator-same, same-locator, locator-irrefl
 use Rattle.types.specs.Values.{locatorOrder}
 use Rattle.types.specs.declared.Ordering.the-variants.{Less, Equal, Greater}
 use Rattle.store_layout.specs.Entry.{blockAt}
-use Rattle.block_votes.proofs.Compared.{order-less, order-equal, order-greater}
+use Rattle.types.proofs.Words.{order-less, order-equal, order-greater}
 use Rattle.loadable.specs.Question.{namedBy}
 use Rattle.loadable_places.specs.Listed.{placeAt}
 

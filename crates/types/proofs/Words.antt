@@ -118,21 +118,21 @@ module _ (a b : declared.BlockReference) where
           ≡ pick (eqb (a .authority .0) (b .authority .0)) (keyOrder (digestBytes (a .digest)) (digestBytes (b .digest))) (wordOrder (a .authority .0) (b .authority .0))
       by-author = key-step (a .authority .0) (b .authority .0) (digestBytes (a .digest)) (digestBytes (b .digest))
 
--- ---- answers, and locators
+-- ---- what an order says of the tests that it was told from, and locators
 
-order-equal : (s t : Bool) → orderOf s t ≡ Equal → s ≡ true
+pub order-equal : (s t : Bool) → orderOf s t ≡ Equal → s ≡ true
 unfolding orderOf
 order-equal true t h = refl
 order-equal false true h = absurd (let z : _≡_ {A = ℕ} 0 1 = cc in omega arith)
 order-equal false false h = absurd (let z : _≡_ {A = ℕ} 0 1 = cc in omega arith)
 
-order-less : (s t : Bool) → orderOf s t ≡ Less → (s ≡ false) × (t ≡ true)
+pub order-less : (s t : Bool) → orderOf s t ≡ Less → (s ≡ false) × (t ≡ true)
 unfolding orderOf
 order-less true t h = absurd (let z : _≡_ {A = ℕ} 0 1 = cc in omega arith)
 order-less false true h = (refl, refl)
 order-less false false h = absurd (let z : _≡_ {A = ℕ} 0 1 = cc in omega arith)
 
-order-greater : (s t : Bool) → orderOf s t ≡ Greater → (s ≡ false) × (t ≡ false)
+pub order-greater : (s t : Bool) → orderOf s t ≡ Greater → (s ≡ false) × (t ≡ false)
 unfolding orderOf
 order-greater true t h = absurd (let z : _≡_ {A = ℕ} 0 1 = cc in omega arith)
 order-greater false true h = absurd (let z : _≡_ {A = ℕ} 0 1 = cc in omega arith)

@@ -1,7 +1,7 @@
 use mathlib.Core.Path.{sym, _∙_}
 use Rattle.types.specs.Values.{asReference, referenceOrder}
 use Rattle.blocks.specs.Reference.{sameReference, referenceBefore}
-use Rattle.block_votes.proofs.Compared.{order-less, order-equal, order-greater}
+use Rattle.types.proofs.Words.{order-less, order-equal, order-greater}
 use borrow.Author.Needs.{needs}
 use Rattle.block_votes.proofs.same_reference.Statement.{statement}
 use Rattle.block_votes.proofs.same_reference.Tie as tie
