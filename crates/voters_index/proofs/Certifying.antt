@@ -14,7 +14,7 @@ use Rattle.base.proofs.Members.{any-in, in-any}
 use Rattle.committee.specs.Committee.{AuthorityIndex, Committee, totalStake, isQuorum}
 use Rattle.authority_set.specs.AuthoritySet.{AuthoritySet, nobody, inserted, united, setOf, stakeFrom, stakeOf}
 use Rattle.authority_set.proofs.Words.{united-nobody}
-use Rattle.authority_set.proofs.Votes.{member-nobody}
+use Rattle.authority_set.proofs.Votes.{stake-nobody}
 use Rattle.blocks.specs.Reference.{TransactionLocator}
 use Rattle.blocks.specs.Block.{Block, author}
 use Rattle.store_layout.proofs.Stored.{WellStored, fresh, stored}
@@ -30,11 +30,6 @@ use Rattle.voters_index.proofs.Pointwise.{append-names}
 use Rattle.voters_index.proofs.Ascending.{stretched-runs}
 use Rattle.voters_index.proofs.Parts.{part-names, part-runs}
 use Rattle.voters_index.proofs.Grown.{voters-stay}
-
-pub stake-nobody : (c : Committee) (i : AuthorityIndex) → stakeFrom i c nobody ≡ 0
-unfolding stakeFrom
-stake-nobody [] i = refl
-stake-nobody (s ∷ c) i = rw (member-nobody i, stake-nobody c (i + 1))
 
 pub keep-same : {A : Type 0} (p q : A → Bool) (xs : List A) → ((x : A) → x ∈ xs → p x ≡ q x) → keep p xs ≡ keep q xs
 unfolding keep
