@@ -78,7 +78,7 @@ placed-other l x (m ∷ ms) k = split (locatorBefore l m) (sameLocator l m) (λ 
     split false false ih (inl e) = in-first e
     split false false ih (inr j) = there (ih j)
 
-placed-in : (l x : TransactionLocator) (ms : List TransactionLocator) → x ∈ placedLocator l ms → (x ≡ l) ⊎ (x ∈ ms)
+pub placed-in : (l x : TransactionLocator) (ms : List TransactionLocator) → x ∈ placedLocator l ms → (x ≡ l) ⊎ (x ∈ ms)
 unfolding placedLocator
 placed-in l x [] k = in-cases k
 placed-in l x (m ∷ ms) k = split (locatorBefore l m) (sameLocator l m) (λ j. placed-in l x ms j) k
@@ -144,7 +144,7 @@ in-count o start (suc n) h k = split (ℕ-discrete o start) (λ l. in-count o (s
 abbrev pub voted : Block → List TransactionLocator
 voted b = flatten (map locators (spans b))
 
-covered-in : (r : TransactionLocatorRange) (l : TransactionLocator) → Covered r l → l ∈ locators r
+pub covered-in : (r : TransactionLocatorRange) (l : TransactionLocator) → Covered r l → l ∈ locators r
 unfolding locators offsets locator
 covered-in r l k =
     let e : r .block ≡ l .block = k .of in

@@ -29,7 +29,6 @@ use Rattle.reading_lists.specs.Lists.{listing}
 use Rattle.reading_lists.proofs.Old.{old-shows, old-final}
 use Rattle.voters_index.specs.Walk.{Past, byBlock, byOffset, Place, beyond, At}
 use Rattle.voters_index.proofs.Chain.{past-itself}
-use Rattle.voters_index.proofs.Certifying.{keep-same}
 use Rattle.voters_index.proofs.Fitting.{past-sorted}
 use Rattle.index_cursors.specs.Cursors.{Settled}
 use Rattle.index_watch.specs.Watch.{Watched}
@@ -37,6 +36,7 @@ use Rattle.index_watch.proofs.Standing.{at-past, watched-settled}
 use Rattle.index_search.specs.Search.{Flags, Alike, FoundAt}
 use Rattle.index_search.proofs.Counting.{final-alike}
 use Rattle.share_runs.specs.Runs.{RunFrom}
+use Rattle.base.proofs.Lists.{keep-same}
 use Rattle.index_listed.specs.Shown.{ShownAt}
 
 -- how the search has come from one place to another: nothing shown was left behind

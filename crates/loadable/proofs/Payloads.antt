@@ -21,13 +21,12 @@ use Rattle.store_layout.specs.Payload.{Stretch, payloadAt, payloadChecks, stret
 use Rattle.store_layout.proofs.Stored.{WellStored}
 use Rattle.store_layout.proofs.Store.{in-order}
 use Rattle.store_layout.proofs.Chain.{distinct}
-use Rattle.store_layout.proofs.Lookups.{lookup-hit}
+use Rattle.store_layout.proofs.Lookups.{lookup-hit, block-entry}
 use Rattle.store_layout.proofs.Payloads.{payload-is}
 use Rattle.finality.specs.Finality.{blocksOf}
 use Rattle.finality.proofs.Asked.{in-order-stored}
 use Rattle.store_layout.specs.Shares.{isStoredShare, StoredShare}
 use Rattle.store_layout.proofs.Shares.{share-stored, share-has-payload}
-use Rattle.stored_finals.proofs.Through.{block-entry}
 use Rattle.loadable.specs.Needs.{SharedAs, storedBlock, sharedPayload, payloadOf, payloadIn}
 use Rattle.loadable.proofs.Blocks.{block-found, found-block, of-stored-block}
 

@@ -31,6 +31,7 @@ use Rattle.store_layout.specs.Shares.{isStoredShare}
 use Rattle.store_layout.specs.Store.{recordsOf, storeInOrder}
 use Rattle.store_layout.specs.Entry.{recordAt, blockAt, laidOut, isEntry}
 use Rattle.store_layout.specs.Payload.{Stretch, shareStretch, payloadOf, payloadAt, payloadChecks, stretchOf, payload, payloadLength}
+use Rattle.base.proofs.Lists.{element-at}
 use Rattle.payload.specs.Answers.{asShare, shareWithin, payloadPlace}
 use Rattle.payload.specs.declared.SharePlace.{SharePlace}
 use Rattle.payload.specs.declared.SharePlace.the-variants.{Payload as PayloadOf, NoShare}
@@ -45,11 +46,6 @@ element-past : {A : Type 0} (xs : List A) (i : ℕ) → length xs ≤ i → getE
 element-past [] i h = refl
 element-past (x ∷ xs) zero h = absurd (omega arith)
 element-past (x ∷ xs) (suc i) h = element-past xs i (omega arith)
-
-element-at : {A : Type 0} (xs : List A) (i : ℕ) (d : A) → i < length xs → getElem? xs i ≡ some (getD xs i d)
-element-at [] i d h = absurd (omega arith)
-element-at (x ∷ xs) zero d h = refl
-element-at (x ∷ xs) (suc i) d h = element-at xs i d (omega arith)
 
 pub share-past : (rec : Bytes) (o : ℕ) → length (blockIn rec .statements) ≤ o → asShare NoShare ≡ shareStretch (statementStart rec o) (getElem? (blockIn rec .statements) o)
 unfolding asShare shareStretch

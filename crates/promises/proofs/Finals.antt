@@ -34,6 +34,7 @@ use Rattle.finality.proofs.Asked.{in-order-stored, asked-on, asked-once}
 use Rattle.stored_finals.specs.FinalShares.{nextFinalShare, FinalShareList, finalShares}
 use Rattle.stored_finals.proofs.Asked.{shares-asked}
 use Rattle.stored_finals.proofs.Lists.{exactly-finals, same-shares}
+use Rattle.stored_finals.proofs.Orders.{ascending-pairwise}
 use Rattle.promises.specs.Feeds.{Engine, fresh, Accepted, storedBlocks, storedRecords}
 use Rattle.promises.specs.ThirdStatement.{AnsweredFinal, GivesFinal, GivesFinalShares, Start, engineOf, acceptedOf, SameRecords}
 use Rattle.promises.proofs.Storing.{asRecord, StoreOf, fresh-holds, run-holds}
@@ -74,11 +75,6 @@ short-refused : (c : Committee) (g : Engine) (as′ : List Accepted) → broken 
     → length ps < length as′ → finality c (g .store) ps l .answer ≡ refused 40
 unfolding finality finalityChecks checked passes refusal allOf
 short-refused c g as′ b h l ps k = rw (b, h .order, lt-ltb (length ps) (length (recordsOf (g .store))) (omega (arith, as-many c (g .store) as′ h)))
-
-ascending-pairwise : {ls : List TransactionLocator} → Ascending ls → pairwise locatorBefore ls ≡ true
-unfolding pairwise
-ascending-pairwise none-left = refl
-ascending-pairwise (and-then {l = l} {ls = ls} h a) = and-both _ _ (in-all (locatorBefore l) ls h) (ascending-pairwise a)
 
 -- "the final list gives exactly these, ascending"
 gives-final : (c : Committee) (g : Engine) (as′ : List Accepted) → broken c ≡ false → StoreOf c (g .store) as′ → GivesFinal c g (storedBlocks as′)

@@ -23,8 +23,9 @@ use Rattle.store_layout.proofs.Stored.{WellStored, fresh, stored}
 use Rattle.finality.specs.Voters.{certifies, certifiers, isFinal}
 use Rattle.voters_index.specs.Part.{partIn}
 use Rattle.voters_index.specs.Index.{indexed}
+use Rattle.base.proofs.Lists.{keep-same}
 use Rattle.sorted_replies.specs.Sorted.{Reply, replyWords, singleReply, noReply, replyOf, stepReply, step, repliesAfter, asked, sortedChecks, answerSorted}
-use Rattle.voters_index.proofs.Certifying.{stake-nobody, keep-same, older-certify, part-certifies}
+use Rattle.voters_index.proofs.Certifying.{stake-nobody, older-certify, part-certifies}
 
 -- ---- no blocks
 

@@ -29,6 +29,8 @@ use Rattle.finality.proofs.Candidates.{least-final}
 use Rattle.finality.proofs.Certifying.{ascending-in, certifying-meant}
 use Rattle.finality.proofs.Growing.{certifies-mono, final-votes}
 use Rattle.finality.proofs.Votes.{Covered, spanned, is-spanned}
+use Rattle.base.proofs.Lists.{keep-same}
+use Rattle.store_layout.proofs.Lookups.{entry-block}
 use Rattle.stretches.specs.Stretches.{Listing, edgesBy, wide, FinalStretch, stretchLocators, agree, certifiedAlike, goesOn, stretchEnd, stretchAt, stretches}
 use Rattle.stretches.specs.Claims.{SameBefore, Edges, Lawful, Gives, done, onward, WideGives, Alike, StretchesAlike}
 use Rattle.stretches.proofs.Nearest.{edge-start, edge-end}
@@ -145,25 +147,6 @@ wide-gives c s b h after ls = gives-asked (wide c (blocksOf s)) (nextFinal c s) 
 
 -- ---- its stretches are alike throughout
 
-keep-same : {A : Type 0} (p q : A → Bool) (xs : List A) → ((x : A) → x ∈ xs → p x ≡ q x) → keep p xs ≡ keep q xs
-unfolding keep
-keep-same p q [] f = refl
-keep-same {A} p q (x ∷ xs) f = go (p x) (q x) (f x here) (keep-same p q xs (λ y m. f y (there m)))
-  where
-    go : (t u : Bool) → t ≡ u → keep p xs ≡ keep q xs → pick t (x ∷ keep p xs) (keep p xs) ≡ pick u (x ∷ keep q xs) (keep q xs)
-    go true true e h = ap (λ (ys : List A). x ∷ ys) h
-    go true false e h = absurd (true≢false e)
-    go false true e h = absurd (true≢false (sym e))
-    go false false e h = h
-
-entry-stored : (rs : List Record) (e : Entry) → e ∈ entries rs → e .block ∈ map (λ r. r .block) rs
-unfolding entries
-entry-stored (r ∷ rs) e m = go (in-cases m) (entry-stored rs e)
-  where
-    go : (e ≡ record { position = usedBy rs; bytes = r .bytes; block = r .block }) ⊎ (e ∈ entries rs) → (e ∈ entries rs → e .block ∈ map (λ x. x .block) rs) → e .block ∈ (r .block ∷ map (λ x. x .block) rs)
-    go (inl q) ih = in-first (ap (λ (x : Entry). x .block) q)
-    go (inr i) ih = there (ih i)
-
 module _ (c : Committee) (s : Bytes) (l m : TransactionLocator) (h : certifiedAlike (blocksOf s) (wide c (blocksOf s)) l m ≡ true) where
   alike-block : (b : Block) → b ∈ blocksOf s → certifies c (blocksOf s) m b ≡ certifies c (blocksOf s) l b
   unfolding certifiedAlike
@@ -178,7 +161,7 @@ module _ (c : Committee) (s : Bytes) (l m : TransactionLocator) (h : certifiedAl
   alike-positions =
       ap (map (λ (e : Entry). e .position))
       (keep-same (λ (e : Entry). certifies c (blocksOf s) m (e .block)) (λ (e : Entry). certifies c (blocksOf s) l (e .block)) (ascending (entries (recordsOf s)))
-      (λ e i. alike-block (e .block) (entry-stored (recordsOf s) e (ascending-in e (entries (recordsOf s)) i))))
+      (λ e i. alike-block (e .block) (entry-block (recordsOf s) e (ascending-in e (entries (recordsOf s)) i))))
 
 -- as many positions as certifying blocks
 pub positions-many : (c : Committee) (s : Bytes) (l : TransactionLocator) → storeInOrder c s ≡ true → length (certifyingPositions c s l) ≡ length (certifiers c (blocksOf s) l)

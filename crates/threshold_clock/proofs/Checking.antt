@@ -24,6 +24,7 @@ use Rattle.blocks.specs.Reference.{BlockReference}
 use Rattle.blocks.specs.Block.{Statement, share, accept, reject, voteRange, Block, round}
 use Rattle.blocks.specs.Record.{noReference, noStatement}
 use Rattle.blocks.specs.Verify.{headChecks, includeChecks, statementChecks, previousAuthors, clockValid, bodyChecks}
+use Rattle.committee.proofs.Answers.{unknown-sound}
 
 -- ---- the lookup of a stake
 
@@ -34,14 +35,6 @@ lookup-known c a s h = go (known c a) h
     go : (t : Bool) → pick t (Known (record { 0 = getStake c a })) Unknown ≡ Known s → t ≡ true
     go true e = refl
     go false e = absurd (let z : _≡_ {A = ℕ} 0 1 = cc in omega arith)
-
-pub lookup-unknown : (c : Committee) (a : AuthorityIndex) → foundStake c a ≡ Unknown → known c a ≡ false
-unfolding foundStake
-lookup-unknown c a h = go (known c a) h
-  where
-    go : (t : Bool) → pick t (Known (record { 0 = getStake c a })) Unknown ≡ Unknown → t ≡ false
-    go true e = absurd (let z : _≡_ {A = ℕ} 0 1 = cc in omega arith)
-    go false e = refl
 
 -- ---- 21 and 22
 

@@ -14,13 +14,13 @@ use Rattle.readings.specs.Readings.{Reading, certifiesIn, certifiersIn}
 use Rattle.readings.specs.Finality.{certifyingPositionsIn}
 use Rattle.block_votes.specs.Walk.{blockAtPlace}
 use Rattle.block_votes.proofs.Sorting.{some-committee, place-entry, place-stored, place-author}
-use Rattle.block_spans.proofs.Fits.{block-fits}
 use Rattle.voters.specs.Walk.{spokenAt}
 use Rattle.finalization_interpreter.proofs.Finding.{found, found-all, authors-all}
 use Rattle.include_places.specs.Places.{GatheredAt, setAt}
 use Rattle.include_places.proofs.Noting.{before-few}
 use Rattle.speakers.specs.Heard.{Owned, HeardBelow}
 use Rattle.speakers.proofs.Spreading.{all-heard, heard-more}
+use Rattle.finality.proofs.Fits.{block-fits}
 use Rattle.final_walk.specs.Walk.{counted, CountedRight, Certify, Flags, CertifyMarked}
 use Rattle.final_walk.proofs.Walking.{Going, Walking, going-start, going-more, walking-start, walking-no, walking-yes}
 use borrow.Author.Needs.{needs}
