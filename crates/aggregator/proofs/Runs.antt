@@ -6,7 +6,7 @@ use Prim.Native.Nat.{ℕ, _+_, _*_, _≤_, _<_}
 use native.Mathlib.Omega.{arith}
 use lib.Dec.{leb}
 use lib.ListN.{length, length-append}
-use borrow.Author.Tests.{le-leb, lt-leb}
+use borrow.Author.Tests.{le-leb, lt-leb, ltb-true}
 use Rattle.base.specs.Lists.{allOf, pairwise}
 use Rattle.base.proofs.Lists.{append-nil, all-left, pairwise-pairs, all-every, every}
 use Rattle.base.proofs.Tests.{and-both, and-left, and-right, not-both}
@@ -24,7 +24,6 @@ use Rattle.pending_items.proofs.Items.{Ordered}
 use Rattle.range_votes.proofs.Voting.{Written, written}
 use Rattle.table_words.proofs.Slots.{table-holding}
 use Rattle.aggregator.specs.Step.{Orderly, Registered}
-use borrow.Author.Tests.{ltb-true}
 
 pairwise-left : {A : Type 0} (p : A → A → Bool) (xs ys : List A) → pairwise p (xs ++ ys) ≡ true → pairwise p xs ≡ true
 unfolding pairwise

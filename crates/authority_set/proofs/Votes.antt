@@ -2,15 +2,15 @@
 use mathlib.Core.Path.{_≡_, refl, sym}
 use mathlib.Core.Bool.{Bool, true, false, _||_, or-false}
 use mathlib.Core.List.{List, [], _∷_}
-use Prim.Native.Nat.{_-_, _^_, _<_}
+use Prim.Native.Nat.{_+_, _-_, _^_, _<_}
 use native.Mathlib.Omega.{arith}
 use native.Mathlib.Decide.{decLt}
 use lib.Dec.{eqb, ltb}
 use borrow.Author.Tests.{lt-ltb, le-ltb, eq-eqb, ne-eqb, eqb-true}
 use Rattle.base.specs.Lists.{pick, anyOf}
 use Rattle.base.proofs.Tests.{same-test}
-use Rattle.committee.specs.Committee.{AuthorityIndex}
-use Rattle.authority_set.specs.AuthoritySet.{AuthoritySet, nobody, bit, member, inserted, united, setOf}
+use Rattle.committee.specs.Committee.{AuthorityIndex, Committee}
+use Rattle.authority_set.specs.AuthoritySet.{AuthoritySet, nobody, bit, member, inserted, united, setOf, stakeFrom}
 use Rattle.authority_set.proofs.Bits.{bit-or, bit-zero, bit-pow}
 
 -- nobody is in the empty set
@@ -21,6 +21,12 @@ member-nobody a = split (ltb a 64)
     split : (t : Bool) → pick t (bit 0 a) (bit 0 (a - 64)) ≡ false
     split true = bit-zero a
     split false = bit-zero (a - 64)
+
+-- nobody holds no stake
+pub stake-nobody : (c : Committee) (i : AuthorityIndex) → stakeFrom i c nobody ≡ 0
+unfolding stakeFrom
+stake-nobody [] i = refl
+stake-nobody (s ∷ c) i = rw (member-nobody i, stake-nobody c (i + 1))
 
 -- in the union of two sets is who is in one of them
 pub member-united : (v w : AuthoritySet) (a : AuthorityIndex) → member (united v w) a ≡ member v a || member w a

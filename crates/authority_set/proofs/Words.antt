@@ -8,7 +8,7 @@ use native.Mathlib.Omega.{arith}
 use native.Mathlib.Decide.{decLt}
 use lib.Dec.{eqb}
 use lib.Pow.{pow-pos, pow-lt, shr-shr}
-use lib.Bits.{bitOr, or-lt, or-zero-r}
+use lib.Bits.{bitOr, or-lt, or-zero-l, or-zero-r}
 use borrow.Author.Tests.{lt-ltb, le-ltb, eq-eqb, eqb-true}
 use Rattle.committee.specs.Committee.{AuthorityIndex}
 use Rattle.authority_set.specs.AuthoritySet.{AuthoritySet, nobody, bit, member, inserted, united}
@@ -105,6 +105,13 @@ unfolding united
 united-assoc u v w =
     let e = or-assoc (u .low) (v .low) (w .low) in
     let f = or-assoc (u .high) (v .high) (w .high) in
+    λ i. record { low = e i; high = f i }
+
+pub nobody-united : (v : AuthoritySet) → united nobody v ≡ v
+unfolding united
+nobody-united v =
+    let e = or-zero-l (v .low) in
+    let f = or-zero-l (v .high) in
     λ i. record { low = e i; high = f i }
 
 pub united-nobody : (v : AuthoritySet) → united v nobody ≡ v

@@ -10,7 +10,7 @@ use Rattle.base.specs.Lists.{pick, allOf, _∈_}
 use Rattle.base.proofs.Members.{all-in}
 use Rattle.base.proofs.Tests.{and-left, and-right}
 use Rattle.base.proofs.Lists.{all-left, all-right, Every, none-of, and}
-use Rattle.base.specs.Checks.{Check, refusal, passes, refused, answered, checked}
+use Rattle.base.specs.Checks.{Check, refusal, passes, Answer, refused, answered, checked}
 
 -- the first check does not apply, and no other does
 pub passes-first : (k : Check) (ks : List Check) → passes (k ∷ ks) ≡ true → k .applies ≡ false
@@ -73,3 +73,7 @@ checked-refused {A} ks a n h = go (passes ks) h
     go : (t : Bool) → pick t (answered a) (refused (refusal ks)) ≡ refused n → t ≡ false
     go true k = let z : _≡_ {A = ℕ} 0 1 = cc in absurd (omega arith)
     go false k = refl
+
+-- an answer is no refusal
+pub refused-answered : {A : Type 0} {a : Answer A} {n : ℕ} {x : A} → a ≡ refused n → a ≡ answered x → ⊥
+refused-answered h k = let z : _≡_ {A = ℕ} 0 1 = cc in omega arith

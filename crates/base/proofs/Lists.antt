@@ -1,15 +1,15 @@
 -- Laws of lists that every crate's proofs use. Assumes nothing.
-use mathlib.Core.Path.{_≡_, refl, ap}
-use mathlib.Core.List.{List, [], _∷_, _++_, map, flatten}
+use mathlib.Core.Path.{_≡_, refl, ap, ap₂}
+use mathlib.Core.List.{List, [], _∷_, _++_, map, flatten, append-assoc}
 use mathlib.Core.Option.{Option, none, some, Option·some-injective, Option·none-ne-some}
-use mathlib.Core.Bool.{Bool, true, false}
+use mathlib.Core.Bool.{Bool, true, false, _||_}
 use Prim.Native.Nat.{ℕ, zero, suc, _+_, _≤_, _<_}
 use native.Mathlib.Nat.{zero-add, suc-add}
 use native.Mathlib.Omega.{arith}
 use native.Mathlib.Decide.{decLt}
-use lib.ListN.{length, length-append}
+use lib.ListN.{length, getD, getElem?, replicate, length-append, length-replicate, getD-replicate, List·getD-eq-default}
 use Rattle.base.proofs.Tests.{not-both, and-left, and-right}
-use Rattle.base.specs.Lists.{pick, allOf, pairwise, keep, find, holds, isEmpty, countFrom, _∈_, here, there}
+use Rattle.base.specs.Lists.{pick, anyOf, allOf, pairwise, keep, find, holds, isEmpty, countFrom, _∈_, here, there}
 
 module _ {A : Type 0} where
   pub append-nil : (s : List A) → s ++ [] ≡ s
@@ -249,3 +249,41 @@ keep-append {A} p (x ∷ xs) ys = each (p x) (keep-append p xs ys)
         → pick t (x ∷ keep p (xs ++ ys)) (keep p (xs ++ ys)) ≡ pick t (x ∷ keep p xs) (keep p xs) ++ keep p ys
     each true e = ap {B = List A} (λ l. x ∷ l) e
     each false e = e
+
+-- ---- of lists of lists, and of what holds at each element
+
+pub flatten-append : {A : Type 0} (xss yss : List (List A)) → flatten (xss ++ yss) ≡ flatten xss ++ flatten yss
+unfolding flatten
+flatten-append [] yss = refl
+flatten-append (xs ∷ xss) yss = rw (flatten-append xss yss, append-assoc)
+
+pub any-append : {A : Type 0} (p : A → Bool) (xs ys : List A) → anyOf p (xs ++ ys) ≡ anyOf p xs || anyOf p ys
+unfolding anyOf
+any-append p [] ys = refl
+any-append p (x ∷ xs) ys = go (p x) (any-append p xs ys)
+  where
+    go : (t : Bool) → anyOf p (xs ++ ys) ≡ anyOf p xs || anyOf p ys → t || anyOf p (xs ++ ys) ≡ (t || anyOf p xs) || anyOf p ys
+    go true h = refl
+    go false h = h
+
+pub keep-same : {A : Type 0} (p q : A → Bool) (xs : List A) → ((x : A) → x ∈ xs → p x ≡ q x) → keep p xs ≡ keep q xs
+unfolding keep
+keep-same p q [] h = refl
+keep-same p q (x ∷ xs) h = rw (h x here, keep-same p q xs (λ y m. h y (there m)))
+
+pub map-same : {A B : Type 0} (f g : A → B) (xs : List A) → ((x : A) → x ∈ xs → f x ≡ g x) → map f xs ≡ map g xs
+map-same f g [] h = refl
+map-same {B = B} f g (x ∷ xs) h = ap₂ {C = List B} (λ y ys. y ∷ ys) (h x here) (map-same f g xs (λ y m. h y (there m)))
+
+pub element-at : {A : Type 0} (xs : List A) (i : ℕ) (d : A) → i < length xs → getElem? xs i ≡ some (getD xs i d)
+element-at [] i d h = absurd (omega arith)
+element-at (x ∷ xs) zero d h = refl
+element-at (x ∷ xs) (suc i) d h = element-at xs i d (omega arith)
+
+-- zeros, and past them the 0 that stands for nothing
+pub zeros-at : (n k : ℕ) → getD (replicate {A = ℕ} n 0) k 0 ≡ 0
+zeros-at n k = go (decLt k n)
+  where
+    go : Dec (k < n) → getD (replicate {A = ℕ} n 0) k 0 ≡ 0
+    go (yes h) = getD-replicate {A = ℕ} n k 0 0 h
+    go (no h) = List·getD-eq-default (replicate {A = ℕ} n 0) 0 (omega (arith, length-replicate {A = ℕ} n 0))

@@ -21,7 +21,7 @@ not-empty [] e = absurd (not-both refl e)
 not-empty (x ∷ s) e = omega arith
 
 module _ {A : Type 0} (m : Read A) (w : A → List ℕ) (full : (a : A) (t : List ℕ) → isEmpty (w a ++ t) ≡ false) where
-  up-to-reads : (n : ℕ) (xs : List A) → length xs ≤ n → Every (ReadsBack m w) xs → upTo n m (flatten (map w xs)) ≡ some xs
+  pub up-to-reads : (n : ℕ) (xs : List A) → length xs ≤ n → Every (ReadsBack m w) xs → upTo n m (flatten (map w xs)) ≡ some xs
   unfolding upTo flatten isEmpty andOthers
   up-to-reads zero [] l none-of = refl
   up-to-reads (suc n) [] l none-of = refl

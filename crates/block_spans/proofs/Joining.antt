@@ -17,11 +17,11 @@ use Rattle.blocks.proofs.Ranges.{within-parts}
 use Rattle.finality.specs.Voters.{votesFor}
 use Rattle.finality.proofs.Votes.{covered, is-covered}
 use Rattle.shared_ranges.specs.Step.{isOfKind, leading}
-use Rattle.block_votes.proofs.Reading.{any-append}
 use Rattle.stretches.proofs.Wide.{Over, Telling}
 use Rattle.base.specs.Le.{Bytes}
 use Rattle.statement_cursor.specs.Cursor.{cursorAt}
 use Rattle.statement_cursor.specs.declared.StatementCursor.{StatementCursor}
+use Rattle.base.proofs.Lists.{any-append}
 use Rattle.block_spans.specs.declared.Vote.{Vote}
 use Rattle.block_spans.specs.Answers.{votedBy, OnwardIn}
 use Rattle.block_spans.specs.Joined.{beginsShare, lengthened, joinedFrom, joinedAt, joinedSpans}

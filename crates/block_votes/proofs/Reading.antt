@@ -16,6 +16,7 @@ use Rattle.blocks.specs.Reference.{BlockReference, TransactionLocator, Transact
 use Rattle.blocks.specs.Block.{Statement, share, accept, reject, voteRange, Block, isShare, votedRange, spansFrom, spans}
 use Rattle.blocks.specs.Record.{noStatement}
 use Rattle.finality.specs.Voters.{votesFor}
+use Rattle.base.proofs.Lists.{any-append}
 use Rattle.block_votes.specs.Walk.{spanOf, statementVotes}
 
 -- ---- one locator, one range
@@ -71,15 +72,6 @@ module _ (r : BlockReference) (o : ℕ) (l : TransactionLocator) where
   votes-range q = or-false _
 
 -- ---- the statements from one on
-
-pub any-append : {A : Type 0} (p : A → Bool) (xs ys : List A) → anyOf p (xs ++ ys) ≡ anyOf p xs || anyOf p ys
-unfolding anyOf
-any-append p [] ys = refl
-any-append p (x ∷ xs) ys = go (p x) (any-append p xs ys)
-  where
-    go : (t : Bool) → anyOf p (xs ++ ys) ≡ anyOf p xs || anyOf p ys → t || anyOf p (xs ++ ys) ≡ (t || anyOf p xs) || anyOf p ys
-    go true h = refl
-    go false h = h
 
 -- the votes of the statements from index i on
 abbrev pub votesFrom : Block → TransactionLocator → ℕ → Bool

@@ -29,7 +29,7 @@ unfolding areBytes allOf
 bytes-fit [] h = tt
 bytes-fit (x ∷ s) h = (ltb-true x 256 (and-left (ltb x 256) _ h), bytes-fit s (and-right (ltb x 256) _ h))
 
-reference-fits : (r : BlockReference) → fitsReference r ≡ true → ReferenceFits r
+pub reference-fits : (r : BlockReference) → fitsReference r ≡ true → ReferenceFits r
 unfolding fitsReference
 reference-fits r h =
     let h₁ = and-right (ltb (r .authority) 18446744073709551616) _ h in
@@ -41,7 +41,7 @@ reference-fits r h =
       bytes = bytes-fit (r .digest) (and-right (eqb (length (r .digest)) 32) _ h₂);
     }
 
-locator-fits : (l : TransactionLocator) → fitsLocator l ≡ true → LocatorFits l
+pub locator-fits : (l : TransactionLocator) → fitsLocator l ≡ true → LocatorFits l
 unfolding fitsLocator
 locator-fits l h =
     record {

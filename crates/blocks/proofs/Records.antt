@@ -20,8 +20,7 @@ use Rattle.base.proofs.Le.{AllBytes, length-leBytes}
 use Rattle.base.proofs.Read.{part, items-reads, number-reads, ReadsBack, repeated-reads, complete-reads, Back, give-back, fail-back, given-back, bind-back, map-back, Items, items-back, Number, number-back, One, Many, repeated-back, complete-back}
 use Rattle.blocks.specs.Reference.{BlockReference, TransactionLocator, TransactionLocatorRange, newRange}
 use Rattle.blocks.specs.Block.{Statement, share, accept, reject, voteRange, Block}
-use Rattle.blocks.specs.Record.{readReference, readLocator, readShare, readAccept, readOther, readReject, readRange, readKind, readStatement, Edition, old, timed, Timed, editionBytes, readTime, readIn, editionOf, timedOf, blockOf, timeOf, timeIn, wellFormed, noBlock, blockIn}
-use Rattle.blocks.specs.Record.{referenceBytes, locatorBytes, otherBytes, statementBytes, timeBytes, bytesIn, editionFor, timedBytes, blockBytes}
+use Rattle.blocks.specs.Record.{readReference, readLocator, readShare, readAccept, readOther, readReject, readRange, readKind, readStatement, Edition, old, timed, Timed, editionBytes, readTime, readIn, editionOf, timedOf, blockOf, timeOf, timeIn, wellFormed, noBlock, blockIn, referenceBytes, locatorBytes, otherBytes, statementBytes, timeBytes, bytesIn, editionFor, timedBytes, blockBytes}
 
 -- ---- the limits: what fits a record
 

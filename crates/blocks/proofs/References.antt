@@ -129,3 +129,11 @@ locator-total l m h k = λ i. record { block = blocks i; offset = offsets i }
 
     offsets : l .offset ≡ m .offset
     offsets = omega (arith, not-less, not-more)
+
+-- of three, the later is not before the first
+pub not-before-trans : (l m n : TransactionLocator) → locatorBefore m l ≡ false → locatorBefore n m ≡ false → locatorBefore n l ≡ false
+not-before-trans l m n h k = fails (locatorBefore n l) (λ t. go t (holds-or-not (locatorBefore m n)))
+  where
+    go : locatorBefore n l ≡ true → (locatorBefore m n ≡ true) ⊎ (locatorBefore m n ≡ false) → ⊥
+    go t (inl e) = not-both (locator-trans m n l e t) h
+    go t (inr e) = not-both (subst (λ (x : TransactionLocator). locatorBefore x l ≡ true) (locator-total n m k e) t) h

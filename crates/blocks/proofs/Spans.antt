@@ -4,10 +4,11 @@ use mathlib.Core.Logic.{_⊎_, inl, inr}
 use mathlib.Core.Bool.{Bool, true, false, true≢false}
 use mathlib.Core.List.{List, [], _∷_, Option·toList}
 use mathlib.Core.Option.{Option, none, some}
-use Prim.Native.Nat.{ℕ, zero, suc, _+_}
+use Prim.Native.Nat.{ℕ, zero, suc, _+_, _<_}
 use native.Mathlib.Omega.{arith}
-use lib.ListN.{getElem?}
+use lib.ListN.{length, getElem?}
 use Rattle.base.specs.Lists.{pick, holds, _∈_, here, there}
+use Rattle.base.proofs.Tests.{not-both}
 use Rattle.base.proofs.Members.{in-empty, in-cases, in-right, in-append}
 use Rattle.blocks.specs.Reference.{BlockReference, TransactionLocatorRange, locator, oneRange}
 use Rattle.blocks.specs.Block.{Statement, isShare, votedRange, spansFrom}
@@ -62,3 +63,10 @@ span-of r o (s ∷ ss) q m = either (in-append (pick (isShare s) (oneRange (loca
         → (q ∈ spansFrom r (o + 1) ss → Span r (o + 1) ss q) → Span r o (s ∷ ss) q
     either (inl k) ih = first (isShare s) refl k
     either (inr k) ih = later (ih k)
+
+-- a share's index
+pub share-index : (ss : List Statement) (k : ℕ) → holds isShare (getElem? ss k) ≡ true → k < length ss
+unfolding holds
+share-index [] k h = absurd (not-both h refl)
+share-index (s ∷ ss) zero h = omega arith
+share-index (s ∷ ss) (suc k) h = omega (arith, share-index ss k h)

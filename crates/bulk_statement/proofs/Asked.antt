@@ -7,12 +7,10 @@ use mathlib.Core.Option.{Option}
 use Prim.Native.Nat.{ℕ, _/_}
 use native.Mathlib.Omega.{arith}
 use lib.ListN.{length}
-use Rattle.base.specs.Lists.{_∈_}
+use Rattle.base.specs.Lists.{_∈_, allOf}
 use Rattle.base.specs.Le.{Bytes}
-use Rattle.base.specs.Checks.{answered}
-use Rattle.base.specs.Lists.{allOf}
-use Rattle.base.specs.Checks.{checked, passes}
-use Rattle.base.proofs.Lists.{append-nil}
+use Rattle.base.specs.Checks.{answered, checked, passes}
+use Rattle.base.proofs.Lists.{append-nil, flatten-append}
 use Rattle.base.proofs.Members.{in-append}
 use Rattle.committee.specs.Committee.{Committee, broken}
 use Rattle.blocks.specs.Reference.{TransactionLocator}
@@ -32,11 +30,6 @@ use Rattle.stored_finals.specs.Claims.{OrdinaryGives}
 use Rattle.stored_finals.proofs.Ordinary.{ordinary-lawful, ordinary-gives, goes-share}
 use Rattle.bulk_statement.specs.Bulk.{held, Answered, StretchesOn, last, onward, spreadOut}
 
-flat-append : {A : Type 0} (xss yss : List (List A)) → flatten (xss ++ yss) ≡ flatten xss ++ flatten yss
-unfolding flatten
-flat-append [] yss = refl
-flat-append (xs ∷ xss) yss = rw (flat-append xss yss, append-assoc)
-
 -- the answer says whether more follow
 says-more : (c : Committee) (s : Bytes) (k : Listing) (out : List ℕ) (after : Option TransactionLocator) (more : Bool) → broken c ≡ false → storeInOrder c s ≡ true
     → Answered c s k out after more → moreFollow k (reached after (held c s k out after)) ≡ more
@@ -45,7 +38,7 @@ says-more c s k out after more b h e = let z : givenAfter k after (held c s k ou
 
 spread-append : (ts us : List FinalStretch) → spreadOut (ts ++ us) ≡ spreadOut ts ++ spreadOut us
 unfolding spreadOut
-spread-append ts us = rw (map-append stretchLocators ts us) (flat-append (map stretchLocators ts) (map stretchLocators us))
+spread-append ts us = rw (map-append stretchLocators ts us) (flatten-append (map stretchLocators ts) (map stretchLocators us))
 
 module _ (c : Committee) (s : Bytes) (b : broken c ≡ false) (h : storeInOrder c s ≡ true) where
   abbrev bs : List Block

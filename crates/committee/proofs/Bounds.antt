@@ -2,14 +2,14 @@
 use mathlib.Core.Path.{_≡_}
 use mathlib.Core.Bool.{true, false}
 use mathlib.Core.List.{[], _∷_}
-use Prim.Native.Nat.{zero, suc, _≤_, _<_}
+use Prim.Native.Nat.{zero, suc, _*_, _≤_, _<_}
 use native.Mathlib.Omega.{arith}
 use lib.ListN.{length}
-use borrow.Author.Tests.{ltb-false, not-false, ltb-true}
+use borrow.Author.Tests.{lt-ltb, ltb-false, not-false, ltb-true}
 use Rattle.base.specs.Lists.{sumOf}
 use Rattle.base.specs.Checks.{passes}
 use Rattle.base.proofs.Checks.{passes-first, passes-others}
-use Rattle.committee.specs.Committee.{AuthorityIndex, Committee, totalStake, committeeChecks, broken, known, getStake}
+use Rattle.committee.specs.Committee.{AuthorityIndex, Stake, Committee, totalStake, committeeChecks, broken, isQuorum, known, getStake}
 
 -- a committee that is not broken has at most 128 members
 pub few-members : (c : Committee) → broken c ≡ false → length c ≤ 128
@@ -35,3 +35,8 @@ unfolding getStake totalStake sumOf
 member-most [] a = omega arith
 member-most (s ∷ c) zero = omega arith
 member-most (s ∷ c) (suc a) = omega (arith, member-most c a)
+
+-- more stake holds quorum too
+pub more-quorum : (c : Committee) (s t : Stake) → s ≤ t → isQuorum c s ≡ true → isQuorum c t ≡ true
+unfolding isQuorum
+more-quorum c s t h k = lt-ltb (2 * totalStake c) (3 * t) (omega (arith, ltb-true (2 * totalStake c) (3 * s) k))

@@ -24,8 +24,8 @@ use Rattle.finality.specs.Voters.{isFinal}
 use Rattle.finality.specs.NextFinal.{nextFinal, finalList}
 use Rattle.finality.specs.Finality.{blocksOf}
 use Rattle.finality.proofs.Asked.{asked-on, asked-once}
-use Rattle.stored_finals.specs.FinalShares.{finalShares}
-use Rattle.stored_finals.proofs.Asked.{shares-once, shares-asked}
+use Rattle.stored_finals.specs.FinalShares.{nextFinalShare, finalShares}
+use Rattle.stored_finals.proofs.Asked.{shares-asked}
 use Rattle.promises.specs.Feeds.{Feed, Engine, fresh, outcome, left, run, Accepted, acceptedIn, accepted, storedBlocks}
 use Rattle.promises.specs.ThirdStatement.{Start, engineOf, acceptedOf}
 use Rattle.promises.proofs.Feeds.{taken, feed-cases}
@@ -144,5 +144,5 @@ same-counts c t u apart =
       blocks = e;
       final = λ l. ap (λ (bs : List Block). isFinal c bs l) e;
       list = λ b ls ms x y. asked-once (nextFinal c s) x (asked-on c s b (store-of c t .order)) ∙ ap (finalList c) e ∙ asked-once (nextFinal c r) (asked-on c r b (store-of c u .order)) y;
-      shares = λ b ls ms x y. shares-once c s x (shares-asked c s b (store-of c t .order)) ∙ ap (finalShares c) e ∙ shares-once c r (shares-asked c r b (store-of c u .order)) y;
+      shares = λ b ls ms x y. asked-once (nextFinalShare c s) x (shares-asked c s b (store-of c t .order)) ∙ ap (finalShares c) e ∙ asked-once (nextFinalShare c r) (shares-asked c r b (store-of c u .order)) y;
     }

@@ -10,7 +10,7 @@ use lib.ListN.{length, length-map, length-append}
 use lib.Seq.{sets, length-sets}
 use Rattle.base.specs.Lists.{pick, countFrom}
 use Rattle.base.proofs.Le.{sets-append}
-use Rattle.base.proofs.Lists.{length-flatten, length-countFrom, countFrom-add}
+use Rattle.base.proofs.Lists.{length-flatten, length-countFrom, countFrom-add, flatten-append}
 use Rattle.committee.specs.Committee.{Committee, Stake, totalStake, isQuorum, quorumOf}
 use Rattle.stake_aggregator.specs.StakeAggregator.{hasQuorum}
 use Rattle.blocks.specs.Reference.{BlockReference}
@@ -25,14 +25,9 @@ event kind i o = record { kind = kind; statement = i; offset = o }
 
 -- ---- words
 
-flat-append : {A : Type 0} (xss yss : List (List A)) → flatten (xss ++ yss) ≡ flatten xss ++ flatten yss
-unfolding flatten
-flat-append [] yss = refl
-flat-append (xs ∷ xss) yss = rw (flat-append xss yss, append-assoc)
-
 words-append : (vs ws : List Event) → wordsOf (vs ++ ws) ≡ wordsOf vs ++ wordsOf ws
 unfolding wordsOf
-words-append vs ws = rw (map-append eventWords vs ws) (flat-append (map eventWords vs) (map eventWords ws))
+words-append vs ws = rw (map-append eventWords vs ws) (flatten-append (map eventWords vs) (map eventWords ws))
 
 one-event : (k j i o : ℕ) → k ≡ j → _≡_ {A = List ℕ} (k ∷ i ∷ o ∷ []) (wordsOf (event j i o ∷ []))
 unfolding wordsOf flatten eventWords event
@@ -128,7 +123,7 @@ module _ (total : Stake) (es : List Entry) (r : BlockReference) (i : ℕ) (xs : 
       let e : end - start ≡ (middle - start) + (end - middle) = omega arith in
       let u : start + (middle - start) ≡ middle = omega arith in
       rw (e, countFrom-add start (middle - start) (end - middle), u, map-append g (countFrom start (middle - start)) (countFrom middle (end - middle)))
-      (flat-append (map g (countFrom start (middle - start))) (map g (countFrom middle (end - middle))))
+      (flatten-append (map g (countFrom start (middle - start))) (map g (countFrom middle (end - middle))))
 
   pub between-empty : (start end : ℕ) → end ≤ start → eventsBetween total es r i xs p start end ≡ []
   unfolding eventsBetween flatten countFrom

@@ -1,5 +1,5 @@
 -- What the question in bulk answers, refusal by refusal. Assumes nothing.
-use mathlib.Core.Path.{_≡_, refl}
+use mathlib.Core.Path.{_≡_, ap}
 use mathlib.Core.Bool.{true, false}
 use mathlib.Core.List.{List}
 use mathlib.Core.Option.{Option}
@@ -11,16 +11,14 @@ use Rattle.base.specs.Checks.{refusal, passes, Answer, refused, answered, check
 use Rattle.committee.specs.Committee.{Committee, broken}
 use Rattle.blocks.specs.Reference.{TransactionLocator}
 use Rattle.store_layout.specs.Store.{storeInOrder}
-use Rattle.finality.specs.Voters.{certifies, certifiers, isFinal}
-use Rattle.finality.specs.NextFinal.{leastFinal, nextFinalChecks}
+use Rattle.finality.specs.NextFinal.{nextFinalChecks}
 use Rattle.finality.specs.Finality.{blocksOf}
 use Rattle.stretches.specs.Stretches.{Listing, stretches}
 use Rattle.stretches.specs.Bulk.{Given, givenAfter, wordsAfter, listStretches, finalStretches}
-use Rattle.stored_finals.specs.FinalShares.{isFinalShare, leastFinalShare}
 use Rattle.stored_finals.specs.Ordinary.{shareStretches}
-use Rattle.readings.specs.Readings.{old, votersIn, certifiesIn, certifiersIn, isFinalIn}
-use Rattle.readings.specs.NextFinal.{candidatesIn, leastFinalIn}
-use Rattle.reading_lists.specs.Lists.{isListed, leastListed, listEdges, listing, listedStretches}
+use Rattle.readings.specs.Readings.{old}
+use Rattle.reading_lists.specs.Lists.{listedStretches}
+use Rattle.reading_lists.proofs.Old.{old-wide, old-ordinary}
 
 module _ (c : Committee) (s : Bytes) (k : Listing) (out : List ℕ) (after : Option TransactionLocator) where
   pub bulk-broken : broken c ≡ true → record { answer = refused 5; out = out } ≡ listStretches c s k out after
@@ -40,9 +38,7 @@ module _ (c : Committee) (s : Bytes) (k : Listing) (out : List ℕ) (after : Opt
 -- in the old reading these are the questions without one
 module _ (c : Committee) (s : Bytes) (out : List ℕ) (after : Option TransactionLocator) where
   pub old-shares : listedStretches true old c s out after ≡ shareStretches c s out after
-  unfolding listing isListed leastListed listEdges isFinalIn certifiersIn certifiesIn votersIn isFinal certifiers certifies isFinalShare leastFinalShare
-  old-shares = refl
+  old-shares = ap (λ (k : Listing). listStretches c s k out after) (old-ordinary c (blocksOf s))
 
-  pub old-wide : listedStretches false old c s out after ≡ finalStretches c s out after
-  unfolding listing isListed leastListed listEdges leastFinalIn candidatesIn isFinalIn certifiersIn certifiesIn votersIn leastFinal isFinal certifiers certifies
-  old-wide = refl
+  pub old-finals : listedStretches false old c s out after ≡ finalStretches c s out after
+  old-finals = ap (λ (k : Listing). listStretches c s k out after) (old-wide c (blocksOf s))

@@ -1,4 +1,5 @@
 pub mod Spans
+pub mod Runs
 pub mod Ways
 pub mod Onward
 pub mod Ending

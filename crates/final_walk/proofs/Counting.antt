@@ -27,14 +27,8 @@ use Rattle.voters.specs.Walk.{spokenAt}
 use Rattle.finalization_interpreter.proofs.Finding.{block-position}
 use Rattle.reading_lists.proofs.Between.{no-voters}
 use Rattle.speakers.specs.Heard.{Owned, HeardBelow}
+use Rattle.base.proofs.Lists.{zeros-at}
 use Rattle.final_walk.specs.Walk.{counted, CountedRight}
-
-pub all-zero : (n k : ℕ) → getD (replicate {A = ℕ} n 0) k 0 ≡ 0
-all-zero n k = go (decLt k n)
-  where
-    go : Dec (k < n) → getD (replicate {A = ℕ} n 0) k 0 ≡ 0
-    go (yes h) = getD-replicate {A = ℕ} n k 0 0 h
-    go (no h) = List·getD-eq-default (replicate {A = ℕ} n 0) 0 (omega (arith, length-replicate {A = ℕ} n 0))
 
 -- a number stands at a place of a list
 pub place-in : (xs : List ℕ) (x : ℕ) → x ∈ xs → (k : ℕ) × ((k < length xs) × (getD xs k 0 ≡ x))

@@ -22,12 +22,12 @@ use Rattle.include_places.specs.Places.{includesBefore}
 use Rattle.include_places.proofs.Noting.{before-next}
 use Rattle.speakers.specs.Heard.{withSet}
 use Rattle.speakers.proofs.Marking.{with-length}
-use Rattle.final_walk.specs.Walk.{Sure}
-use Rattle.final_walk.specs.declared.Checked as checked
+use Rattle.quorum_check.specs.declared.Checked.{Checked}
+use Rattle.quorum_check.specs.Sure.{Sure}
 
 -- ---- what is known when the blocks at the first k places are read
 
-pub record Going (c : Committee) (s : Bytes) (order memo flags : List ℕ) (n : ℕ) (last : checked.Checked) (i k : ℕ) : Type 0 where
+pub record Going (c : Committee) (s : Bytes) (order memo flags : List ℕ) (n : ℕ) (last : Checked) (i k : ℕ) : Type 0 where
   pub inside : k ≤ length order
   pub few : n ≤ k
   pub at : i ≡ includesBefore s order k
@@ -41,11 +41,11 @@ pub record Walking (reading : Reading) (c : Committee) (s : Bytes) (l : Transact
   pub flagged : (j : ℕ) → j < k → getD flags j 0 ≡ pick (holdsAt (certifiesIn reading c (blocksOf s) l) s (getD order j 0)) 1 0
 
 module _ (c : Committee) (s : Bytes) (order : List ℕ) where
-  pub going-start : (memo flags : List ℕ) (last : checked.Checked) → length memo ≡ 2048 → length flags ≡ 1024 → Sure c last → Going c s order memo flags 0 last 0 0
+  pub going-start : (memo flags : List ℕ) (last : Checked) → length memo ≡ 2048 → length flags ≡ 1024 → Sure c last → Going c s order memo flags 0 last 0 0
   unfolding includesBefore
   going-start memo flags last h f z = record { inside = omega arith; few = omega arith; at = refl; long = h; wide = f; sure = z }
 
-  pub going-more : (memo flags : List ℕ) (n : ℕ) (last : checked.Checked) (i k : ℕ) → Going c s order memo flags n last i k → k < length order → (v : AuthoritySet) (next : checked.Checked) → Sure c next
+  pub going-more : (memo flags : List ℕ) (n : ℕ) (last : Checked) (i k : ℕ) → Going c s order memo flags n last i k → k < length order → (v : AuthoritySet) (next : Checked) → Sure c next
       → (count : ℕ) → count ≡ length (blockAtPlace s order k .includes) → (m : ℕ) → m ≤ k + 1 → (x : ℕ) → Going c s order (withSet memo k v) (set flags k x) m next (i + count) (k + 1)
   going-more memo flags n last i k w h v next z count g m few x =
       record { inside = omega arith; few = few; at = before-next s order k i count (w .at) g; long = with-length memo k v ∙ w .long; wide = length-set flags k x ∙ w .wide; sure = z }
@@ -56,7 +56,7 @@ module _ (reading : Reading) (c : Committee) (s : Bytes) (l : TransactionLocator
   walking-start flags = record { many = refl; authored = authors-none s; flagged = λ j m. absurd (omega arith) }
 
   module _ (flags : List ℕ) (authors : AuthoritySet) (n k : ℕ) (w : Walking reading c s l order flags authors n k) (h : k < length order) (fit : k < length flags)
-      (v : AuthoritySet) (e : v ≡ votersIn reading (blocksOf s) l (blockAtPlace s order k .reference)) (next : checked.Checked) (f : next .voters ≡ v) (z : Sure c next) where
+      (v : AuthoritySet) (e : v ≡ votersIn reading (blocksOf s) l (blockAtPlace s order k .reference)) (next : Checked) (f : next .voters ≡ v) (z : Sure c next) where
     -- the voters of the block decide
     decides : holdsAt (certifiesIn reading c (blocksOf s) l) s (getD order k 0) ≡ not (blockAt s (getD order k 0) .marked) && next .quorum
     unfolding certifiesIn blockAtPlace Sure

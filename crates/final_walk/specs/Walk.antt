@@ -20,11 +20,6 @@ use Rattle.block_votes.specs.Walk.{blockAtPlace}
 use Rattle.voters.specs.Walk.{spokenAt}
 use Rattle.include_places.specs.Places.{setAt}
 use Rattle.speakers.specs.Heard.{Owned}
-use Rattle.final_walk.specs.declared.Checked as checked
-
--- whether a set of voters holds quorum, as it was found last
-unfoldable pub Sure : Committee → checked.Checked → Type 0
-Sure c x = x .quorum ≡ isQuorum c (stakeOf c (x .voters))
 
 -- those who vote, less those who reject where rejects are noted
 unfoldable pub counted : Bool → AuthoritySet → AuthoritySet → AuthoritySet

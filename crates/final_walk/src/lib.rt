@@ -17,29 +17,9 @@ ghost use Rattle.block_votes.specs.Walk.{Sorted};
 ghost use Rattle.include_places.specs.Places.{Placed, setAt};
 ghost use Rattle.vote_table.specs.Table.{BothTabled};
 ghost use Rattle.speakers.specs.Heard.{Owned};
-ghost use Rattle.final_walk.specs.Walk.{Sure, counted, SameWords, CertifyMarked, CertifyFlagged};
+ghost use Rattle.final_walk.specs.Walk.{counted, SameWords, CertifyMarked, CertifyFlagged};
 
 // ---- who certifies
-
-// A set of voters, and whether it holds quorum.
-struct Checked {
-    voters: AuthoritySet,
-    quorum: bool,
-}
-
-// Whether voters hold quorum; those that were asked for last are not counted again.
-fn check(stakes: &[u64], total: Stake, last: Checked, voters: AuthoritySet) -> Checked
-    requires { ⌜ ((broken (now stakes) ≡ false) × (total .0 ≡ totalStake (now stakes))) × Sure (now stakes) last ⌝ }
-    ensures { λ r. ⌜ (r .voters ≡ voters) × Sure (now (stakes .entry)) r ⌝ }
-{
-    if last.voters.low == voters.low {
-        if last.voters.high == voters.high {
-            return last;
-        }
-    }
-    let quorum = committee::is_quorum(total, authority_set::stake_of(stakes, voters));
-    Checked { voters, quorum }
-}
 
 // Whether the block at a position certifies, where its voters hold quorum or not.
 fn certifies_at(store: &[u8], at: usize, quorum: bool) -> bool
@@ -97,12 +77,7 @@ fn walk(
     let mut memo = [0u64; 2048];
     let mut authors = AuthoritySet::new();
     let mut blocks: usize = 0;
-    let none = AuthoritySet::new();
-    let quorum = committee::is_quorum(total, authority_set::stake_of(stakes, none));
-    let mut checked = Checked {
-        voters: none,
-        quorum,
-    };
+    let mut checked = quorum_check::nobody();
     let mut i: usize = 0;
     let mut k: usize = 0;
     while k < order.len() {
@@ -111,7 +86,7 @@ fn walk(
         let below = include_places::gather_at(store, order, places, noted, k, i, &memo);
         let voters = speakers::with_own(store, at, own[k], below);
         speakers::note_set(&mut memo, k, voters);
-        checked = check(
+        checked = quorum_check::check(
             stakes,
             total,
             checked,

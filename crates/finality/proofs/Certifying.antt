@@ -73,7 +73,7 @@ placed-count p e (d ∷ ds) = split (referenceBefore (referenceOf e) (referenceO
     split false true false a b ih = rw a (ap suc ih)
     split false false v a b ih = rw a ih
 
-ascending-count : (p : Entry → Bool) (es : List Entry) → length (keep p (ascending es)) ≡ length (keep p es)
+pub ascending-count : (p : Entry → Bool) (es : List Entry) → length (keep p (ascending es)) ≡ length (keep p es)
 unfolding ascending keep
 ascending-count p [] = refl
 ascending-count p (e ∷ es) = placed-count p e (ascending es) ∙ split (p e) (ascending-count p es)
@@ -82,7 +82,7 @@ ascending-count p (e ∷ es) = placed-count p e (ascending es) ∙ split (p e) (
     split true ih = ap suc ih
     split false ih = ih
 
-entries-count : (p : Block → Bool) (rs : List Record) → length (keep (λ e. p (e .block)) (entries rs)) ≡ length (keep p (blocks rs))
+pub entries-count : (p : Block → Bool) (rs : List Record) → length (keep (λ e. p (e .block)) (entries rs)) ≡ length (keep p (blocks rs))
 unfolding entries keep
 entries-count p [] = refl
 entries-count p (r ∷ rs) = split (p (r .block)) (entries-count p rs)

@@ -16,6 +16,7 @@ use Rattle.authority_set.proofs.Votes.{member-setOf}
 use Rattle.authority_set.proofs.Quorums.{stake-mono, counted-quorum, quorum-member}
 use Rattle.blocks.specs.Reference.{BlockReference, TransactionLocator}
 use Rattle.blocks.specs.Block.{Block, author}
+use Rattle.committee.proofs.Bounds.{more-quorum}
 use Rattle.finality.specs.Voters.{votesFor, ownVote, voters, certifies, certifiers, isFinal}
 use Rattle.finality.proofs.Voters.{own-votes, votes-own}
 use Rattle.finality.proofs.Spoken.{spoken-among, spoken-mono}
@@ -37,11 +38,6 @@ voters-mono l m bs f r a h = spoken-mono ownVote l m bs own r a h
   where
     own : (d : Block) → d ∈ bs → (x : AuthorityIndex) → member (ownVote d l) x ≡ true → member (ownVote d m) x ≡ true
     own d k x e = let v = own-votes d l x e in votes-own d m x (f d k (v .0)) (v .1)
-
--- more stake holds quorum too
-pub more-quorum : (c : Committee) (s t : Stake) → s ≤ t → isQuorum c s ≡ true → isQuorum c t ≡ true
-unfolding isQuorum
-more-quorum c s t h k = lt-ltb (2 * totalStake c) (3 * t) (omega (arith, ltb-true (2 * totalStake c) (3 * s) k))
 
 module _ (c : Committee) (bs : List Block) (l m : TransactionLocator) (f : (d : Block) → d ∈ bs → votesFor d l ≡ true → votesFor d m ≡ true) where
   pub certifies-mono : (b : Block) → certifies c bs l b ≡ true → certifies c bs m b ≡ true

@@ -3,7 +3,7 @@ use mathlib.Core.Path.{_≡_, refl, sym, ap, _∙_, subst}
 use mathlib.Core.Logic.{_⊎_, inl, inr}
 use mathlib.Core.Bool.{Bool, true, false, _&&_}
 use mathlib.Core.List.{List, [], _∷_}
-use mathlib.Core.Option.{Option, none, some}
+use mathlib.Core.Option.{Option, none, some, Option·some-injective, Option·none-ne-some}
 use Prim.Native.Nat.{ℕ, zero, suc, _+_, _≤_, _<_}
 use native.Mathlib.Nat.{suc-inj}
 use native.Mathlib.Omega.{arith}
@@ -100,10 +100,18 @@ module _ (test : TransactionLocator → Bool) (after : Option TransactionLocator
   pub least-among : LeastOf test after (leastLocator (keep (λ x. isAfter after x && test x) places))
   least-among = least-of (least-locator (keep (λ x. isAfter after x && test x) places))
 
--- there is one least
+-- there is one least, of one test or of two that say the same
 pub least-once : (p q : TransactionLocator → Bool) → ((l : TransactionLocator) → p l ≡ q l) → (after : Option TransactionLocator) {o u : Option TransactionLocator}
     → LeastOf p after o → LeastOf q after u → o ≡ u
 least-once p q e after (least l f h a) (least m g k b) = ap {B = Option TransactionLocator} some (locator-total l m (b l (sym (e l) ∙ f) h) (a m (e m ∙ g) k))
 least-once p q e after (least l f h a) (nothing b) = absurd (not-both (sym (e l) ∙ f) (b l h))
 least-once p q e after (nothing a) (least m g k b) = absurd (not-both (e m ∙ g) (a m k))
 least-once p q e after (nothing a) (nothing b) = refl
+
+pub one-least : (test : TransactionLocator → Bool) (after : Option TransactionLocator) {o u : Option TransactionLocator} → LeastOf test after o → LeastOf test after u → o ≡ u
+one-least test = least-once test test (λ l. refl)
+
+-- the test holds of it
+pub least-holds : (test : TransactionLocator → Bool) (after : Option TransactionLocator) (l : TransactionLocator) {o : Option TransactionLocator} → LeastOf test after o → o ≡ some l → test l ≡ true
+least-holds test after l (least x f h g) e = subst (λ (y : TransactionLocator). test y ≡ true) (Option·some-injective x l e) f
+least-holds test after l (nothing g) e = absurd (Option·none-ne-some l e)

@@ -12,5 +12,6 @@ pub mod LeastOf
 pub mod Candidates
 pub mod FinalList
 pub mod Asked
+pub mod Fits
 pub mod Certifying
 pub mod Claimed

@@ -2,18 +2,19 @@
 use mathlib.Core.Path.{_≡_, refl, sym, ap, ap₂, _∙_, subst}
 use mathlib.Core.Logic.{_⊎_, inl, inr}
 use mathlib.Core.Bool.{Bool, true, false, _||_}
-use mathlib.Core.List.{List, [], _∷_, map}
+use mathlib.Core.List.{List, [], _∷_, _++_, map}
 use Rattle.base.specs.Lists.{pick, anyOf, _∈_, here, there}
 use Rattle.base.proofs.Tests.{or-cases, or-left, or-right, not-both, same-test}
 use Rattle.base.proofs.Members.{in-empty, any-in, in-any, in-map, map-in}
 use Rattle.committee.specs.Committee.{AuthorityIndex}
 use Rattle.authority_set.specs.AuthoritySet.{AuthoritySet, nobody, member, united}
-use Rattle.authority_set.proofs.Words.{Small, small-nobody, small-united, set-ext}
+use Rattle.authority_set.proofs.Words.{Small, small-nobody, small-united, set-ext, united-nobody, nobody-united, united-assoc}
 use Rattle.authority_set.proofs.Votes.{member-nobody, member-united}
 use Rattle.blocks.specs.Reference.{BlockReference, TransactionLocator, sameReference}
 use Rattle.blocks.specs.Block.{Block}
 use Rattle.blocks.proofs.References.{reference-refl, other-reference}
 use Rattle.store_layout.proofs.Stored.{WellStored, fresh, stored, is-older, include-stored}
+use Rattle.base.proofs.Lists.{map-same}
 use Rattle.finality.specs.Voters.{Speech, unions, spoken}
 use Rattle.finality.specs.Ancestry.{Ancestor, itself, included}
 use Rattle.finality.proofs.Ancestors.{ancestor-grows, ancestor-older, descendant-stored, ancestor-kept, ancestor-only}
@@ -35,10 +36,6 @@ pub member-unions : (vs : List AuthoritySet) (a : AuthorityIndex) → member (un
 unfolding unions anyOf
 member-unions [] a = member-nobody a
 member-unions (v ∷ vs) a = rw (member-united v (unions vs) a, member-unions vs a)
-
-map-same : {A B : Type 0} (f g : A → B) (xs : List A) → ((x : A) → x ∈ xs → f x ≡ g x) → map f xs ≡ map g xs
-map-same f g [] h = refl
-map-same {B = B} f g (x ∷ xs) h = ap₂ {C = List B} (λ y ys. y ∷ ys) (h x here) (map-same f g xs (λ y m. h y (there m)))
 
 module _ (own : Speech) where
   together : (b : Block) (older : List Block) (l : TransactionLocator) (a : AuthorityIndex)
@@ -222,3 +219,9 @@ module _ (own : Speech) where
       split : (t : Bool) → ((i : BlockReference) → spoken own older l i ≡ nobody) → pick t (united nobody (unions (map (spoken own older l) (b .includes)))) (spoken own older l r) ≡ nobody
       split true g = rw (none-of (b .includes) g)
       split false g = g r
+
+-- one more set
+pub unions-more : (vs : List AuthoritySet) (v : AuthoritySet) → unions (vs ++ (v ∷ [])) ≡ united (unions vs) v
+unfolding unions
+unions-more [] v = united-nobody v ∙ sym (nobody-united v)
+unions-more (x ∷ vs) v = ap (united x) (unions-more vs v) ∙ sym (united-assoc x (unions vs) v)

@@ -11,13 +11,13 @@ use Rattle.committee.specs.Committee.{Committee}
 use Rattle.blocks.specs.Reference.{TransactionLocator}
 use Rattle.finality.specs.NextFinal.{nextFinalChecks}
 use Rattle.stretches.specs.Stretches.{Listing}
-use Rattle.listed.specs.Listed.{nextListed}
+use Rattle.stretches.specs.Bulk.{listNext}
 use Rattle.host_lib.specs.Payload.{refusalBefore}
 use Rattle.host_finals.specs.NextFinal.{foundIn, askedNextFinal}
 use Rattle.host_calls.proofs.Numbers.{checked-most}
 
-pub next-most : (c : Committee) (s : List ℕ) (k : Listing) (after : Option TransactionLocator) (n : ℕ) → nextListed c s k after ≡ refused n → n ≤ 10
-unfolding nextListed nextFinalChecks allOf
+pub next-most : (c : Committee) (s : List ℕ) (k : Listing) (after : Option TransactionLocator) (n : ℕ) → listNext c s k after ≡ refused n → n ≤ 10
+unfolding listNext nextFinalChecks allOf
 next-most c s k after n e = checked-most 10 (nextFinalChecks c s) _ n refl e
 
 module _ (c : Committee) (s : List ℕ) (k : Listing) (o : Option (Option TransactionLocator)) (out : List ℕ) where
@@ -31,7 +31,7 @@ module _ (c : Committee) (s : List ℕ) (k : Listing) (o : Option (Option Transa
   next-unsized after e h = rw (e, ne-eqb (length out) 56 h)
 
   -- a place and room for a locator: the engine's question
-  pub next-asked : (after : Option TransactionLocator) (a : Answer (Option TransactionLocator)) → o ≡ some after → length out ≡ 56 → nextListed c s k after ≡ a
+  pub next-asked : (after : Option TransactionLocator) (a : Answer (Option TransactionLocator)) → o ≡ some after → length out ≡ 56 → listNext c s k after ≡ a
       → askedNextFinal c s k o out ≡ foundIn out a
   unfolding askedNextFinal
   next-asked after a e h q = rw (e, eq-eqb (length out) 56 h, q)

@@ -13,10 +13,10 @@ use Rattle.blocks.specs.Record.{locatorBytes}
 use Rattle.vote_starts.specs.Answers.{asMaybe}
 use Rattle.finality.specs.Finality.{blocksOf}
 use Rattle.stretches.specs.Stretches.{Listing, wide}
+use Rattle.stretches.specs.Bulk.{listNext}
 use Rattle.stored_finals.specs.Ordinary.{ordinary}
 use Rattle.readings.specs.Readings.{withdrawing}
 use Rattle.reading_lists.specs.Lists.{listing}
-use Rattle.listed.specs.Listed.{nextListed}
 use Rattle.host_finals.specs.declared.After.{After}
 use Rattle.host_finals.specs.declared.After.the-variants.{Place, Malformed}
 use Rattle.host_calls.specs.Calls.{committeeOf}
@@ -50,7 +50,7 @@ foundIn out (refused n) = record { answer = refused n; found = out }
 unfoldable pub askedNextFinal : Committee → Bytes → Listing → Option (Option TransactionLocator) → Bytes → NextFinalCall
 askedNextFinal c s k none out = record { answer = refused (refusalBefore 20 c s); found = out }
 askedNextFinal c s k (some after) out =
-    pick (eqb (length out) 56) (foundIn out (nextListed c s k after)) (record { answer = refused (refusalBefore 40 c s); found = out })
+    pick (eqb (length out) 56) (foundIn out (listNext c s k after)) (record { answer = refused (refusalBefore 40 c s); found = out })
 
 -- of the ordinary list
 unfoldable pub nextFinalCall : Bytes → Bytes → Bytes → Bytes → NextFinalCall

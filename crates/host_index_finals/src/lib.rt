@@ -5,7 +5,8 @@ use vote_starts::MaybeLocator;
 ghost use mathlib.Core.Path.{_≡_};
 ghost use lib.ListN.{length};
 ghost use Rattle.finality.specs.Finality.{blocksOf};
-ghost use Rattle.listed.specs.Listed.{listed};
+ghost use Rattle.readings.specs.Readings.{old};
+ghost use Rattle.reading_lists.specs.Lists.{listing};
 ghost use Rattle.vote_starts.specs.Answers.{asMaybe};
 ghost use Rattle.final_list.specs.Answers.{asStretches};
 ghost use Rattle.host_calls.specs.Calls.{encoded};
@@ -36,7 +37,7 @@ fn indexed_words(
     out: &mut [u8],
 ) -> StretchesAnswer
     requires { ⌜ length (now out) ≡ 10240 ⌝ }
-    ensures asked { λ r. ⌜ (stretchesNumber (asStretches r) ≡ stretchesIndexedIn (now (stakes .entry)) (now (store .entry)) (now (index .entry)) (listed ordinary (now (stakes .entry)) (blocksOf (now (store .entry)))) (asMaybe after) (now (out .entry)) .answer) × (now (out .exit) ≡ stretchesIndexedIn (now (stakes .entry)) (now (store .entry)) (now (index .entry)) (listed ordinary (now (stakes .entry)) (blocksOf (now (store .entry)))) (asMaybe after) (now (out .entry)) .stretches) ⌝ }
+    ensures asked { λ r. ⌜ (stretchesNumber (asStretches r) ≡ stretchesIndexedIn (now (stakes .entry)) (now (store .entry)) (now (index .entry)) (listing ordinary old (now (stakes .entry)) (blocksOf (now (store .entry)))) (asMaybe after) (now (out .entry)) .answer) × (now (out .exit) ≡ stretchesIndexedIn (now (stakes .entry)) (now (store .entry)) (now (index .entry)) (listing ordinary old (now (stakes .entry)) (blocksOf (now (store .entry)))) (asMaybe after) (now (out .entry)) .stretches) ⌝ }
     ensures bounded { λ r. ⌜ indexedFit r ⌝ }
 {
     let mut words = [0u64; 1280];
@@ -61,7 +62,7 @@ pub fn stretches_of(
     after: &[u8],
     out: &mut [u8],
 ) -> u64
-    ensures { λ r. ⌜ (r ≡ encoded (askedStretchesIndexed (now (stakes .entry)) (now (store .entry)) (now (index .entry)) (listed ordinary (now (stakes .entry)) (blocksOf (now (store .entry)))) (afterOf (now (after .entry))) (now (out .entry)) .answer)) × (now (out .exit) ≡ askedStretchesIndexed (now (stakes .entry)) (now (store .entry)) (now (index .entry)) (listed ordinary (now (stakes .entry)) (blocksOf (now (store .entry)))) (afterOf (now (after .entry))) (now (out .entry)) .stretches) ⌝ }
+    ensures { λ r. ⌜ (r ≡ encoded (askedStretchesIndexed (now (stakes .entry)) (now (store .entry)) (now (index .entry)) (listing ordinary old (now (stakes .entry)) (blocksOf (now (store .entry)))) (afterOf (now (after .entry))) (now (out .entry)) .answer)) × (now (out .exit) ≡ askedStretchesIndexed (now (stakes .entry)) (now (store .entry)) (now (index .entry)) (listing ordinary old (now (stakes .entry)) (blocksOf (now (store .entry)))) (afterOf (now (after .entry))) (now (out .entry)) .stretches) ⌝ }
 {
     let After::Place(place) = host_finals::after_of(after) else {
         return REFUSED + refusal_indexed(20, stakes, store, index);

@@ -35,14 +35,6 @@ lookup-known c a s h = go (known c a) h
     go true e = refl
     go false e = absurd (let z : _≡_ {A = ℕ} 0 1 = cc in omega arith)
 
-pub lookup-unknown : (c : Committee) (a : AuthorityIndex) → foundStake c a ≡ Unknown → known c a ≡ false
-unfolding foundStake
-lookup-unknown c a h = go (known c a) h
-  where
-    go : (t : Bool) → pick t (Known (record { 0 = getStake c a })) Unknown ≡ Unknown → t ≡ false
-    go true e = absurd (let z : _≡_ {A = ℕ} 0 1 = cc in omega arith)
-    go false e = refl
-
 -- ---- 24 and 25
 
 yes-then : (t : Bool) → not t ≡ false → t ≡ true

@@ -10,7 +10,7 @@ use lib.ListN.{length, getD, set, take, length-set}
 use lib.Seq.{take-suc, take-length, getD-set-same, getD-set-other}
 use Rattle.base.specs.Le.{Bytes}
 use Rattle.authority_set.specs.AuthoritySet.{AuthoritySet, nobody, united}
-use Rattle.authority_set.proofs.Words.{united-assoc, united-nobody}
+use Rattle.authority_set.proofs.Words.{united-assoc, united-nobody, nobody-united}
 use Rattle.blocks.specs.Reference.{BlockReference, TransactionLocator}
 use Rattle.blocks.specs.Record.{noReference}
 use Rattle.finality.specs.Voters.{Speech, unions, spoken}
@@ -18,6 +18,7 @@ use Rattle.finality.specs.Finality.{blocksOf}
 use Rattle.block_votes.specs.Walk.{SortedStore, blockAtPlace}
 use Rattle.voters.specs.Walk.{spokenAt}
 use Rattle.block_votes.proofs.Sorting.{include-lower}
+use Rattle.finality.proofs.Spoken.{unions-more}
 use Rattle.include_places.specs.Places.{IsPlace, includesBefore, Noted, Placed, setAt, gathered}
 
 -- ---- places of includes
@@ -92,15 +93,6 @@ module _ (s : Bytes) (order : List ℕ) where
 pub gathered-on : (memo ps : List ℕ) (from j : ℕ) (v : AuthoritySet) → v ≡ gathered memo ps from j → united v (setAt memo (getD ps (from + j) 0)) ≡ gathered memo ps from (j + 1)
 unfolding gathered
 gathered-on memo ps from j v e = rw (add-one j, e)
-
-nobody-united : (v : AuthoritySet) → united nobody v ≡ v
-unfolding united
-nobody-united v = λ i. record { low = or-zero-l (v .low) i; high = or-zero-l (v .high) i }
-
-unions-more : (vs : List AuthoritySet) (v : AuthoritySet) → unions (vs ++ (v ∷ [])) ≡ united (unions vs) v
-unfolding unions
-unions-more [] v = united-nobody v ∙ sym (nobody-united v)
-unions-more (x ∷ vs) v = ap (united x) (unions-more vs v) ∙ sym (united-assoc x (unions vs) v)
 
 -- who speaks in the ancestry of the first n includes of the block at place k
 abbrev pub Upto : Speech → Bytes → List ℕ → TransactionLocator → ℕ → ℕ → AuthoritySet → Type 0

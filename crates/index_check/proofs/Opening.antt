@@ -11,7 +11,7 @@ use Rattle.base.specs.Lists.{_∈_, here, there}
 use Rattle.base.specs.Le.{Bytes}
 use Rattle.base.proofs.Places.{in-place}
 use Rattle.authority_set.specs.AuthoritySet.{AuthoritySet, nobody, united}
-use Rattle.authority_set.proofs.Words.{united-nobody, united-assoc}
+use Rattle.authority_set.proofs.Words.{united-nobody, united-assoc, nobody-united}
 use Rattle.blocks.specs.Reference.{BlockReference, TransactionLocator}
 use Rattle.blocks.specs.Block.{Block}
 use Rattle.blocks.specs.Record.{noReference}
@@ -20,19 +20,14 @@ use Rattle.block_votes.specs.Walk.{blockAtPlace}
 use Rattle.voters_index.specs.Runs.{Run, votersIn, stretched}
 use Rattle.voters_index.specs.Part.{RunsOf, ownRuns, partFrom, partIn}
 use Rattle.voters_index.specs.Walk.{Place, anywhere, runsFrom, partAt}
-use Rattle.voters_index.proofs.Sets.{nobody-united}
 use Rattle.voters_index.proofs.Chain.{Anything, Chain, end, link, Differs}
 use Rattle.voters_index.proofs.Relation.{runs-chain}
 use Rattle.voters_index.proofs.Ascending.{stretched-runs}
 use Rattle.voters_index.proofs.Parts.{part-runs, from-names}
 use Rattle.index_merge.specs.Sources.{cursorAt, cursorLeft, source, namedBy, Ready}
 use Rattle.index_parts.specs.Parts.{merged}
+use Rattle.finality.proofs.Spoken.{unions-more}
 use Rattle.index_check.specs.Known.{Stands, Known, Rooted, Opened}
-
-unions-last : (vs : List AuthoritySet) (v : AuthoritySet) → unions (vs ++ (v ∷ [])) ≡ united (unions vs) v
-unfolding unions
-unions-last [] v = united-nobody v ∙ sym (nobody-united v)
-unions-last (u ∷ vs) v = ap (united u) (unions-last vs v) ∙ sym (united-assoc u (unions vs) v)
 
 map-last : {A B : Type 0} (f : A → B) (xs : List A) (x : A) → map f (xs ++ (x ∷ [])) ≡ map f xs ++ (f x ∷ [])
 map-last f [] x = refl
@@ -121,7 +116,7 @@ module _ (s : Bytes) (order ix starts : List ℕ) (bs : List Block) (b : Block) 
           let i : BlockReference = getD (b .includes) k noReference in
           ap (λ (v : AuthoritySet). united v (votersIn (source ix cs k) l)) (all l k (omega arith))
           ∙ ap (λ (xs : List Run). united (unions (map (λ i. votersIn (partIn bs i) l) (take k (b .includes)))) (votersIn xs l)) (h .are k (omega arith))
-          ∙ sym (unions-last (map (λ i. votersIn (partIn bs i) l) (take k (b .includes))) (votersIn (partIn bs i) l))
+          ∙ sym (unions-more (map (λ i. votersIn (partIn bs i) l) (take k (b .includes))) (votersIn (partIn bs i) l))
           ∙ sym (ap unions (ap (map (λ i. votersIn (partIn bs i) l)) (take-suc (b .includes) k noReference (omega arith)) ∙ map-last (λ i. votersIn (partIn bs i) l) (take k (b .includes)) i))
 
 -- ---- the part

@@ -21,14 +21,16 @@ use Rattle.blocks.proofs.References as order
 use Rattle.store_layout.specs.Store.{storeInOrder}
 use Rattle.finality.specs.Voters.{certifies, certifiers}
 use Rattle.finality.specs.Finality.{blocksOf}
-use Rattle.finality.specs.NextFinal.{isAfter}
+use Rattle.finality.specs.NextFinal.{isAfter, least, nothing}
+use Rattle.finality.proofs.LeastOf.{one-least}
 use Rattle.block_spans.proofs.Fits.{final-offset}
 use Rattle.stretches.specs.Stretches.{Listing, wide, agree, certifiedAlike, goesOn, EndsAt, stretchEnd, stretchAt}
-use Rattle.stretches.specs.Claims.{least, nothing, Lawful}
+use Rattle.stretches.specs.Claims.{Lawful}
 use Rattle.stretches.proofs.Ends.{agrees, all-in, in-all, end-meant}
-use Rattle.stretches.proofs.Spreading.{one-shown}
-use Rattle.listed.specs.Listed.{listed}
-use Rattle.listed.proofs.Listed.{listed-lawful, listed-certifies, listed-alike, listed-final}
+use Rattle.readings.specs.Readings.{old}
+use Rattle.reading_lists.specs.Lists.{listing}
+use Rattle.reading_lists.proofs.Least.{lists-lawful}
+use Rattle.reading_lists.proofs.Old.{old-certifies, old-alike, old-final}
 use Rattle.voters_index.specs.Walk.{Past, byBlock, byOffset, Place, beyond, At}
 use Rattle.index_search.specs.Search.{Alike, Ended}
 use Rattle.index_search.proofs.Counting.{final-alike}
@@ -73,10 +75,10 @@ module _ (c : Committee) (s : Bytes) (bytes : AllBytes s) (in-order : storeInOrd
   bs = blocksOf s
 
   abbrev k : Listing
-  k = listed o c bs
+  k = listing o old c bs
 
   law : Lawful bs k
-  law = listed-lawful o c bs
+  law = lists-lawful o old c bs
 
   -- where the call begins
   pub onward-start : (after : Option TransactionLocator) → Onward k after (placeAfter after)
@@ -90,7 +92,7 @@ module _ (c : Committee) (s : Bytes) (bytes : AllBytes s) (in-order : storeInOrd
           (record { from = λ m b. before-past (l .block) (l .offset) (l .offset + 1) m (omega arith) b; after = λ m a t. past-before (l .block) (l .offset) (l .offset + 1) m (omega arith) a })
       go (yes e) =
           rw (eq-eqb (l .offset) 18446744073709551615 e)
-          (record { from = λ m b. before-past (l .block) (l .offset) (l .offset) m (omega arith) b; after = λ m a t. past-last m a (final-offset c s bytes in-order m (listed-final o c bs m t)) })
+          (record { from = λ m b. before-past (l .block) (l .offset) (l .offset) m (omega arith) b; after = λ m a t. past-last m a (final-offset c s bytes in-order m (old-final o c bs m t)) })
         where
           past-last : (m : TransactionLocator) → Past (l .block) (l .offset) (m .block) (m .offset) → m .offset < 18446744073709551615 → locatorBefore l m ≡ true
           past-last m (byBlock x) h = is-before l m (order.byBlock x)
@@ -98,17 +100,17 @@ module _ (c : Committee) (s : Bytes) (bytes : AllBytes s) (in-order : storeInOrd
 
   module _ (last : Option TransactionLocator) (p : Place) (w : Onward k last p) where
     pub next-none : ((m : TransactionLocator) → At p (m .block) (m .offset) → k .shows m ≡ false) → k .next last ≡ none
-    next-none f = one-shown k last (law .next last) (nothing (λ m a. f m (w .from m a)))
+    next-none f = one-least (k .shows) last (law .next last) (nothing (λ m a. f m (w .from m a)))
 
     module _ (ix ends cursors flags : List ℕ) (l : TransactionLocator) (edge limit n : ℕ) (v : AuthoritySet) (f : ShownAt c bs k ix ends p cursors flags l edge limit n v) where
       pub next-some : k .next last ≡ some l
-      next-some = one-shown k last (law .next last) (least l (f .shown) (w .after l (f .there) (f .shown)) (λ m t a. f .first m (w .from m a) t))
+      next-some = one-least (k .shows) last (law .next last) (least l (f .shown) (w .after l (f .there) (f .shown)) (λ m t a. f .first m (w .from m a) t))
 
       module _ (after : List ℕ) (end : ℕ) (e : Ended c bs ix ends l limit after end) where
         same-blocks : (x : ℕ) → l .offset ≤ x → x < end → certifiedAlike bs k l (locator (l .block) x) ≡ true
         unfolding certifiedAlike Alike
         same-blocks x h u =
-            listed-alike o c bs l (locator (l .block) x)
+            old-alike o c bs l (locator (l .block) x)
             ∙ in-all (λ b. agree (certifies c bs l b) (certifies c bs (locator (l .block) x) b)) bs (λ b m. agree-same (certifies c bs l b) (certifies c bs (locator (l .block) x) b) (e .alike x h u b m))
 
         ends-there : EndsAt bs k l end
@@ -116,7 +118,7 @@ module _ (c : Committee) (s : Bytes) (bytes : AllBytes s) (in-order : storeInOrd
         ends-there =
             record {
               longer = e .longer;
-              goes = λ x h u. and-both _ _ (f .shows x h (omega (arith, e .inside)) (final-alike c bs (locator (l .block) x) l (e .alike x h u) ∙ listed-final o c bs l (f .shown))) (same-blocks x h u);
+              goes = λ x h u. and-both _ _ (f .shows x h (omega (arith, e .inside)) (final-alike c bs (locator (l .block) x) l (e .alike x h u) ∙ old-final o c bs l (f .shown))) (same-blocks x h u);
               stops = stop (decLt end limit);
             }
           where
@@ -125,7 +127,7 @@ module _ (c : Committee) (s : Bytes) (bytes : AllBytes s) (in-order : storeInOrd
               where
                 other : end < limit → certifiedAlike bs k l (locator (l .block) end) ≡ false
                 other h =
-                    listed-alike o c bs l (locator (l .block) end)
+                    old-alike o c bs l (locator (l .block) end)
                     ∙ fails (certifiedAlike bs (wide c bs) l (locator (l .block) end)) (λ t. differs h t)
                   where
                     differs : end < limit → certifiedAlike bs (wide c bs) l (locator (l .block) end) ≡ true → ⊥
@@ -141,5 +143,5 @@ module _ (c : Committee) (s : Bytes) (bytes : AllBytes s) (in-order : storeInOrd
         unfolding certifiers
         stretch-right stake g =
             stretch-parts c bs k l end n stake end-right
-            (f .blocks ∙ ap (λ (q : TransactionLocator → Block → Bool). length (keep (q l) bs)) (sym (listed-certifies o c bs)))
-            (g ∙ ap (stakeOf c) (f .authors) ∙ ap (λ (q : TransactionLocator → Block → Bool). stakeOf c (setOf (map author (keep (q l) bs)))) (sym (listed-certifies o c bs)))
+            (f .blocks ∙ ap (λ (q : TransactionLocator → Block → Bool). length (keep (q l) bs)) (sym (old-certifies o c bs)))
+            (g ∙ ap (stakeOf c) (f .authors) ∙ ap (λ (q : TransactionLocator → Block → Bool). stakeOf c (setOf (map author (keep (q l) bs)))) (sym (old-certifies o c bs)))

@@ -8,7 +8,7 @@ use types::TransactionLocator;
 use vote_starts::MaybeLocator;
 ghost use mathlib.Core.Path.{_≡_};
 ghost use mathlib.Core.Bool.{true, false};
-ghost use Prim.Native.Nat.{_/_, _≤_};
+ghost use Prim.Native.Nat.{_/_, _≤_, ℕ};
 ghost use lib.ListN.{length};
 ghost use Rattle.base.specs.Checks.{refusal, answered};
 ghost use Rattle.committee.specs.Committee.{totalStake};
@@ -18,7 +18,8 @@ ghost use Rattle.vote_starts.specs.Answers.{asMaybe};
 ghost use Rattle.stretches.specs.Stretches.{wide, stretches};
 ghost use Rattle.stretches.specs.Bulk.{givenAfter, wordsAfter};
 ghost use Rattle.stored_finals.specs.Ordinary.{ordinary};
-ghost use Rattle.listed.specs.Listed.{listed};
+ghost use Rattle.readings.specs.Readings.{old};
+ghost use Rattle.reading_lists.specs.Lists.{listing};
 ghost use Rattle.final_list.specs.Answers.{asStretches};
 ghost use Rattle.indexed_lists.specs.Indexed.{indexedChecks, listStretchesIndexed};
 ghost use Rattle.index_runs.specs.Values.{asPlace};
@@ -26,7 +27,6 @@ ghost use Rattle.index_check.specs.Known.{Known};
 ghost use Rattle.index_watch.specs.Watch.{Watched, Owners};
 ghost use Rattle.index_list.specs.After.{placeAfter};
 ghost use mathlib.Core.List.{List};
-ghost use Prim.Native.Nat.{ℕ};
 
 // The place from which a list goes on: the start, or the offset after a locator; past the last offset nothing is final.
 fn place_after(after: MaybeLocator) -> Place
@@ -59,8 +59,8 @@ fn fill(
     requires sorted { ⌜ ((order : List ℕ) × Sorted (now stakes) (now store) order) × (total .0 ≡ totalStake (now stakes)) ⌝ }
     requires room { ⌜ length (now flags) ≡ length (now ends) ⌝ }
     requires watched { ⌜ Watched (now stakes) (blocksOf (now store)) (now index) (now ends) (placeAfter (asMaybe after)) (now cursors) × Owners (blocksOf (now store)) (now owners) ⌝ }
-    ensures { λ r. ⌜ asStretches r ≡ answered (givenAfter (listed ordinary (now (stakes .entry)) (blocksOf (now (store .entry)))) (asMaybe after) (stretches (now (stakes .entry)) (blocksOf (now (store .entry))) (listed ordinary (now (stakes .entry)) (blocksOf (now (store .entry)))) (length (now (out .entry)) / 10) (asMaybe after))) ⌝ }
-    ensures { λ r. ⌜ now (out .exit) ≡ wordsAfter (stretches (now (stakes .entry)) (blocksOf (now (store .entry))) (listed ordinary (now (stakes .entry)) (blocksOf (now (store .entry)))) (length (now (out .entry)) / 10) (asMaybe after)) (now (out .entry)) ⌝ }
+    ensures { λ r. ⌜ asStretches r ≡ answered (givenAfter (listing ordinary old (now (stakes .entry)) (blocksOf (now (store .entry)))) (asMaybe after) (stretches (now (stakes .entry)) (blocksOf (now (store .entry))) (listing ordinary old (now (stakes .entry)) (blocksOf (now (store .entry)))) (length (now (out .entry)) / 10) (asMaybe after))) ⌝ }
+    ensures { λ r. ⌜ now (out .exit) ≡ wordsAfter (stretches (now (stakes .entry)) (blocksOf (now (store .entry))) (listing ordinary old (now (stakes .entry)) (blocksOf (now (store .entry)))) (length (now (out .entry)) / 10) (asMaybe after)) (now (out .entry)) ⌝ }
 {
     let room = out.len() / 10;
     let mut n: usize = 0;
@@ -128,8 +128,8 @@ fn fill_opened(
     requires sorted { ⌜ Sorted (now stakes) (now store) (now order) × (total .0 ≡ totalStake (now stakes)) ⌝ }
     requires known { ⌜ Known (now store) (now order) (now index) (now starts) (blocksOf (now store)) ⌝ }
     requires room { ⌜ (length (now ends) ≡ length (now order)) × ((length (now cursors) ≡ length (now order)) × ((length (now owners) ≡ length (now order)) × (length (now flags) ≡ length (now order)))) ⌝ }
-    ensures { λ r. ⌜ asStretches r ≡ answered (givenAfter (listed ordinary (now (stakes .entry)) (blocksOf (now (store .entry)))) (asMaybe after) (stretches (now (stakes .entry)) (blocksOf (now (store .entry))) (listed ordinary (now (stakes .entry)) (blocksOf (now (store .entry)))) (length (now (out .entry)) / 10) (asMaybe after))) ⌝ }
-    ensures { λ r. ⌜ now (out .exit) ≡ wordsAfter (stretches (now (stakes .entry)) (blocksOf (now (store .entry))) (listed ordinary (now (stakes .entry)) (blocksOf (now (store .entry)))) (length (now (out .entry)) / 10) (asMaybe after)) (now (out .entry)) ⌝ }
+    ensures { λ r. ⌜ asStretches r ≡ answered (givenAfter (listing ordinary old (now (stakes .entry)) (blocksOf (now (store .entry)))) (asMaybe after) (stretches (now (stakes .entry)) (blocksOf (now (store .entry))) (listing ordinary old (now (stakes .entry)) (blocksOf (now (store .entry)))) (length (now (out .entry)) / 10) (asMaybe after))) ⌝ }
+    ensures { λ r. ⌜ now (out .exit) ≡ wordsAfter (stretches (now (stakes .entry)) (blocksOf (now (store .entry))) (listing ordinary old (now (stakes .entry)) (blocksOf (now (store .entry)))) (length (now (out .entry)) / 10) (asMaybe after)) (now (out .entry)) ⌝ }
 {
     let place = place_after(after);
     index_opening::open_cursors(
@@ -173,8 +173,8 @@ fn fill_watched(
 ) -> StretchesAnswer
     requires sorted { ⌜ (Sorted (now stakes) (now store) (now order) × (total .0 ≡ totalStake (now stakes))) × (length (now order) ≤ 1024) ⌝ }
     requires known { ⌜ Known (now store) (now order) (now index) (now starts) (blocksOf (now store)) ⌝ }
-    ensures { λ r. ⌜ asStretches r ≡ answered (givenAfter (listed ordinary (now (stakes .entry)) (blocksOf (now (store .entry)))) (asMaybe after) (stretches (now (stakes .entry)) (blocksOf (now (store .entry))) (listed ordinary (now (stakes .entry)) (blocksOf (now (store .entry)))) (length (now (out .entry)) / 10) (asMaybe after))) ⌝ }
-    ensures { λ r. ⌜ now (out .exit) ≡ wordsAfter (stretches (now (stakes .entry)) (blocksOf (now (store .entry))) (listed ordinary (now (stakes .entry)) (blocksOf (now (store .entry)))) (length (now (out .entry)) / 10) (asMaybe after)) (now (out .entry)) ⌝ }
+    ensures { λ r. ⌜ asStretches r ≡ answered (givenAfter (listing ordinary old (now (stakes .entry)) (blocksOf (now (store .entry)))) (asMaybe after) (stretches (now (stakes .entry)) (blocksOf (now (store .entry))) (listing ordinary old (now (stakes .entry)) (blocksOf (now (store .entry)))) (length (now (out .entry)) / 10) (asMaybe after))) ⌝ }
+    ensures { λ r. ⌜ now (out .exit) ≡ wordsAfter (stretches (now (stakes .entry)) (blocksOf (now (store .entry))) (listing ordinary old (now (stakes .entry)) (blocksOf (now (store .entry)))) (length (now (out .entry)) / 10) (asMaybe after)) (now (out .entry)) ⌝ }
 {
     let n = order.len();
     let mut ends = [0u64; 1024];
@@ -226,8 +226,8 @@ pub fn list_stretches_indexed(
     out: &mut [u64],
     after: MaybeLocator,
 ) -> StretchesAnswer
-    ensures { λ r. ⌜ asStretches r ≡ listStretchesIndexed (now (stakes .entry)) (now (store .entry)) (now (index .entry)) (listed ordinary (now (stakes .entry)) (blocksOf (now (store .entry)))) (now (out .entry)) (asMaybe after) .answer ⌝ }
-    ensures { λ r. ⌜ now (out .exit) ≡ listStretchesIndexed (now (stakes .entry)) (now (store .entry)) (now (index .entry)) (listed ordinary (now (stakes .entry)) (blocksOf (now (store .entry)))) (now (out .entry)) (asMaybe after) .out ⌝ }
+    ensures { λ r. ⌜ asStretches r ≡ listStretchesIndexed (now (stakes .entry)) (now (store .entry)) (now (index .entry)) (listing ordinary old (now (stakes .entry)) (blocksOf (now (store .entry)))) (now (out .entry)) (asMaybe after) .answer ⌝ }
+    ensures { λ r. ⌜ now (out .exit) ≡ listStretchesIndexed (now (stakes .entry)) (now (store .entry)) (now (index .entry)) (listing ordinary old (now (stakes .entry)) (blocksOf (now (store .entry)))) (now (out .entry)) (asMaybe after) .out ⌝ }
 {
     let NewCommittee::Taken(total) = committee::new_committee(stakes) else {
         return StretchesAnswer::Refused(5);

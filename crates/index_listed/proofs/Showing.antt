@@ -24,11 +24,11 @@ use Rattle.finality.specs.Voters.{certifies, certifiers, isFinal}
 use Rattle.finality.specs.Finality.{blocksOf}
 use Rattle.block_spans.proofs.Fits.{final-offset}
 use Rattle.stretches.specs.Stretches.{Listing}
-use Rattle.listed.specs.Listed.{listed}
-use Rattle.listed.proofs.Listed.{listed-shows, listed-final}
+use Rattle.readings.specs.Readings.{old}
+use Rattle.reading_lists.specs.Lists.{listing}
+use Rattle.reading_lists.proofs.Old.{old-shows, old-final}
 use Rattle.voters_index.specs.Walk.{Past, byBlock, byOffset, Place, beyond, At}
 use Rattle.voters_index.proofs.Chain.{past-itself}
-use Rattle.voters_index.proofs.Certifying.{keep-same}
 use Rattle.voters_index.proofs.Fitting.{past-sorted}
 use Rattle.index_cursors.specs.Cursors.{Settled}
 use Rattle.index_watch.specs.Watch.{Watched}
@@ -36,6 +36,7 @@ use Rattle.index_watch.proofs.Standing.{at-past, watched-settled}
 use Rattle.index_search.specs.Search.{Flags, Alike, FoundAt}
 use Rattle.index_search.proofs.Counting.{final-alike}
 use Rattle.share_runs.specs.Runs.{RunFrom}
+use Rattle.base.proofs.Lists.{keep-same}
 use Rattle.index_listed.specs.Shown.{ShownAt}
 
 -- how the search has come from one place to another: nothing shown was left behind
@@ -47,25 +48,25 @@ pub record Coming (c : Committee) (bs : List Block) (k : Listing) (ix ends : Lis
 pub coming-start : (c : Committee) (bs : List Block) (k : Listing) (ix ends : List ℕ) (p : Place) (cursors : List ℕ) → Watched c bs ix ends p cursors → Coming c bs k ix ends p p cursors
 coming-start c bs k ix ends p cursors w = record { watched = w; later = λ r o a. a; kept = λ m a t. a }
 
-module _ (c : Committee) (s : Bytes) (bytes : AllBytes s) (in-order : storeInOrder c s ≡ true) (o : Bool) (ix ends : List ℕ) (p₀ p : Place) (before : List ℕ) (g : Coming c (blocksOf s) (listed o c (blocksOf s)) ix ends p₀ p before) where
+module _ (c : Committee) (s : Bytes) (bytes : AllBytes s) (in-order : storeInOrder c s ≡ true) (o : Bool) (ix ends : List ℕ) (p₀ p : Place) (before : List ℕ) (g : Coming c (blocksOf s) (listing o old c (blocksOf s)) ix ends p₀ p before) where
   abbrev bs : List Block
   bs = blocksOf s
 
   abbrev k : Listing
-  k = listed o c bs
+  k = listing o old c bs
 
   -- what the list may show
   abbrev may : BlockReference → ℕ → Bool
   may r x = not o || isStoredShare bs (locator r x)
 
   shown-if : (r : BlockReference) (x : ℕ) → may r x ≡ true → isFinal c bs (locator r x) ≡ true → k .shows (locator r x) ≡ true
-  shown-if r x h f = listed-shows o c bs (locator r x) ∙ and-both (may r x) (isFinal c bs (locator r x)) h f
+  shown-if r x h f = old-shows o c bs (locator r x) ∙ and-both (may r x) (isFinal c bs (locator r x)) h f
 
   not-shown : (r : BlockReference) (x : ℕ) → may r x ≡ false → k .shows (locator r x) ≡ false
-  not-shown r x h = listed-shows o c bs (locator r x) ∙ rw h
+  not-shown r x h = old-shows o c bs (locator r x) ∙ rw h
 
   pub listed-none : ((m : TransactionLocator) → At p (m .block) (m .offset) → isFinal c bs m ≡ false) → (m : TransactionLocator) → At p₀ (m .block) (m .offset) → k .shows m ≡ false
-  listed-none f m a = fails (k .shows m) (λ t. not-both (listed-final o c bs m t) (f m (g .kept m a t)))
+  listed-none f m a = fails (k .shows m) (λ t. not-both (old-final o c bs m t) (f m (g .kept m a t)))
 
   module _ (cursors flags : List ℕ) (l : TransactionLocator) (edge n : ℕ) (v : AuthoritySet) (f : FoundAt c bs ix ends p cursors flags l edge n v) (start limit : ℕ) (r : RunFrom (may (l .block)) (l .offset) start limit) where
     abbrev at : TransactionLocator
@@ -78,7 +79,7 @@ module _ (c : Committee) (s : Bytes) (bytes : AllBytes s) (in-order : storeInOrd
 
     -- what is shown from the place on stands at or past the found one
     after-found : (m : TransactionLocator) → At p (m .block) (m .offset) → k .shows m ≡ true → Past (l .block) (l .offset) (m .block) (m .offset)
-    after-found m a t = past-sorted l m (f .first .first m a (listed-final o c bs m t)) (past-itself (l .block) (l .offset))
+    after-found m a t = past-sorted l m (f .first .first m a (old-final o c bs m t)) (past-itself (l .block) (l .offset))
 
     -- and not before the run
     not-early : (m : TransactionLocator) → Past (l .block) (l .offset) (m .block) (m .offset) → k .shows m ≡ true → m .offset < start → l .block ≡ m .block → ⊥
@@ -131,7 +132,7 @@ module _ (c : Committee) (s : Bytes) (bytes : AllBytes s) (in-order : storeInOrd
 
           stopped : Dec (limit < 18446744073709551615) → k .shows (locator (l .block) limit) ≡ false
           stopped (yes h) = not-shown (l .block) limit (r .stops h)
-          stopped (no h) = fails (k .shows (locator (l .block) limit)) (λ t. let z = final-offset c s bytes in-order (locator (l .block) limit) (listed-final o c bs (locator (l .block) limit) t) in omega arith)
+          stopped (no h) = fails (k .shows (locator (l .block) limit)) (λ t. let z = final-offset c s bytes in-order (locator (l .block) limit) (old-final o c bs (locator (l .block) limit) t) in omega arith)
 
     -- no offset of the stretch is shown: on past its edge
     pub listed-on : edge ≤ start → (after : List ℕ) → Settled c ix (beyond (l .block) edge) ends cursors after → Coming c bs k ix ends p₀ (beyond (l .block) edge) after

@@ -10,7 +10,8 @@ ghost use lib.ListN.{length};
 ghost use Rattle.committee.specs.Committee.{totalStake};
 ghost use Rattle.finality.specs.Finality.{blocksOf};
 ghost use Rattle.block_votes.specs.Walk.{Sorted};
-ghost use Rattle.listed.specs.Listed.{listed};
+ghost use Rattle.readings.specs.Readings.{old};
+ghost use Rattle.reading_lists.specs.Lists.{listing};
 ghost use Rattle.index_runs.specs.Values.{asPlace};
 ghost use Rattle.index_watch.specs.Watch.{Watched, Owners};
 ghost use Rattle.index_listed.specs.Shown.{ShownFrom};
@@ -48,7 +49,7 @@ pub fn listed_from(
     requires sorted { ⌜ ((order : List ℕ) × Sorted (now stakes) (now store) order) × (total .0 ≡ totalStake (now stakes)) ⌝ }
     requires room { ⌜ length (now flags) ≡ length (now ends) ⌝ }
     requires watched { ⌜ Watched (now stakes) (blocksOf (now store)) (now index) (now ends) (asPlace place) (now cursors) × Owners (blocksOf (now store)) (now owners) ⌝ }
-    ensures { λ r. ⌜ ShownFrom (now (stakes .entry)) (blocksOf (now (store .entry))) (listed ordinary (now (stakes .entry)) (blocksOf (now (store .entry)))) (now (index .entry)) (now (ends .entry)) (asPlace place) (now (cursors .exit)) (now (flags .exit)) r ⌝ }
+    ensures { λ r. ⌜ ShownFrom (now (stakes .entry)) (blocksOf (now (store .entry))) (listing ordinary old (now (stakes .entry)) (blocksOf (now (store .entry)))) (now (index .entry)) (now (ends .entry)) (asPlace place) (now (cursors .exit)) (now (flags .exit)) r ⌝ }
 {
     let mut from = place;
     loop {

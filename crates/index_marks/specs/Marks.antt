@@ -9,9 +9,6 @@ use lib.Dec.{ltb, eqb}
 use lib.ListN.{length, getD, drop}
 use Rattle.base.specs.Lists.{pick}
 use Rattle.blocks.specs.Reference.{BlockReference, TransactionLocator, locator, sameReference, locatorBefore}
-use Rattle.types.specs.Values.{locatorOrder}
-use Rattle.types.specs.declared.Ordering.{Ordering}
-use Rattle.types.specs.declared.Ordering.the-variants.{Less, Equal, Greater}
 use Rattle.voters_index.specs.Runs.{Run, runCovers}
 use Rattle.voters_index.specs.Walk.{Place, anywhere, beyond, runFrom}
 
@@ -37,16 +34,6 @@ runAt ix cursors j = runFrom (drop (getD cursors j 0) ix)
 unfoldable pub startFrom : Place → Run → TransactionLocator
 startFrom anywhere x = locator (x .reference) (x .start)
 startFrom (beyond r o) x = pick (sameReference (x .reference) r) (pick (ltb (x .start) o) (locator (x .reference) o) (locator (x .reference) (x .start))) (locator (x .reference) (x .start))
-
--- the lesser of two locators, by their order
-unfoldable pub lesserBy : Ordering → TransactionLocator → TransactionLocator → TransactionLocator
-lesserBy Less l m = l
-lesserBy Equal l m = m
-lesserBy Greater l m = m
-
-unfoldable pub lesserStart : Option TransactionLocator → TransactionLocator → Option TransactionLocator
-lesserStart none l = some l
-lesserStart (some m) l = some (lesserBy (locatorOrder l m) l m)
 
 -- no run is left, or the least start of those that are
 unfoldable pub FirstStart : List ℕ → List ℕ → List ℕ → Place → Option TransactionLocator → Type 0

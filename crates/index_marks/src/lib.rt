@@ -4,7 +4,6 @@ use authority_set::AuthoritySet;
 use committee::AuthorityIndex;
 use index_runs::Place;
 use index_runs::Run;
-use types::Ordering;
 use types::TransactionLocator;
 use vote_starts::MaybeLocator;
 ghost use mathlib.Core.Path.{_≡_};
@@ -13,9 +12,10 @@ ghost use lib.ListN.{length, getD};
 ghost use Rattle.base.specs.Lists.{pick};
 ghost use Rattle.authority_set.specs.AuthoritySet.{setOf};
 ghost use Rattle.types.specs.Values.{asLocator};
+ghost use Rattle.finality.specs.NextFinal.{lesserLocator};
 ghost use Rattle.vote_starts.specs.Answers.{asMaybe};
 ghost use Rattle.index_runs.specs.Values.{asRun, asPlace};
-ghost use Rattle.index_marks.specs.Marks.{startFrom, Lined, lesserStart, FirstStart, nearer, Looked, Marked, Onward, flagged};
+ghost use Rattle.index_marks.specs.Marks.{startFrom, Lined, FirstStart, nearer, Looked, Marked, Onward, flagged};
 
 // ---- where the next certified locator stands
 
@@ -47,17 +47,15 @@ fn start_from(place: Place, run: Run) -> TransactionLocator
 
 // The lesser of the least locator so far and another.
 fn lesser(best: MaybeLocator, locator: TransactionLocator) -> MaybeLocator
-    ensures { λ r. ⌜ asMaybe r ≡ lesserStart (asMaybe best) (asLocator locator) ⌝ }
+    ensures { λ r. ⌜ asMaybe r ≡ lesserLocator (asLocator locator) (asMaybe best) ⌝ }
 {
     let MaybeLocator::Locator(l) = best else {
         return MaybeLocator::Locator(locator);
     };
-    let order = types::compare_locators(locator, l);
-    match order {
-        Ordering::Less => MaybeLocator::Locator(locator),
-        Ordering::Equal => best,
-        Ordering::Greater => best,
+    if types::locator_before(locator, l) {
+        return MaybeLocator::Locator(locator);
     }
+    best
 }
 
 // The least locator from a place on that lies in a run at which a cursor stands.

@@ -13,7 +13,7 @@ use Rattle.base.specs.Lists.{pick, _∈_}
 use Rattle.base.specs.Le.{Bytes}
 use Rattle.base.proofs.Members.{in-left, in-right}
 use Rattle.authority_set.specs.AuthoritySet.{AuthoritySet, nobody, inserted, united}
-use Rattle.authority_set.proofs.Words.{united-nobody, united-assoc}
+use Rattle.authority_set.proofs.Words.{united-nobody, united-assoc, nobody-united}
 use Rattle.blocks.specs.Reference.{BlockReference, TransactionLocator, TransactionLocatorRange}
 use Rattle.blocks.specs.Block.{Block, author, isShare, spansFrom, spans}
 use Rattle.blocks.specs.Record.{noStatement}
@@ -26,7 +26,7 @@ use Rattle.block_votes.proofs.Reading.{spans-on, spans-end}
 use Rattle.voters_index.specs.Runs.{Run, run, votersIn}
 use Rattle.voters_index.specs.Part.{ownRun, ownRuns}
 use Rattle.voters_index.specs.Walk.{Place, anywhere, At}
-use Rattle.voters_index.proofs.Sets.{nobody-united, one-not-nobody}
+use Rattle.voters_index.proofs.Sets.{one-not-nobody}
 use Rattle.voters_index.proofs.Chain.{Covered, Good, Anything, Chain, end, link, past-head}
 use Rattle.voters_index.proofs.Pointwise.{append-names}
 use Rattle.voters_index.proofs.Parts.{own-runs}

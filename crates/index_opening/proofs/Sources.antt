@@ -20,22 +20,18 @@ use Rattle.voters_index.specs.Runs.{Run, votersIn}
 use Rattle.voters_index.specs.Part.{partIn}
 use Rattle.voters_index.specs.Certified.{quorumRun}
 use Rattle.voters_index.specs.Walk.{Past, byBlock, byOffset, Place, anywhere, beyond, runFrom, runsFrom, partAt}
-use Rattle.voters_index.proofs.Chain.{Chain, link, Differs, past-trans}
+use Rattle.voters_index.proofs.Chain.{Chain, link, Differs, past-trans, chain-drop}
 use Rattle.voters_index.proofs.Chain as chain
 use Rattle.voters_index.proofs.Relation.{runs-chain, past-in, chain-runs}
 use Rattle.voters_index.proofs.Parts.{part-runs, part-names}
 use Rattle.index_cursors.specs.Cursors.{passed, dull, Skipped}
 use Rattle.index_check.specs.Known.{Stands}
 use Rattle.index_watch.specs.Watch.{quorumAt, Source, Watch}
-use Rattle.index_watch.proofs.Moving.{passed-past, ahead-past, quorum-nobody, chain-drop, watch-moved}
+use Rattle.index_watch.proofs.Moving.{passed-past, ahead-past, quorum-nobody, watch-moved}
+use Rattle.voters_index.proofs.Reading.{length-runs}
 use Rattle.index_opening.specs.Opening.{PassedFirst, Ahead}
 
 -- ---- the runs of a part in words
-
-runs-length : (n : ℕ) (ws : List ℕ) → length (runsFrom n ws) ≡ n
-unfolding runsFrom
-runs-length zero ws = refl
-runs-length (suc n) ws = ap suc (runs-length n (drop 10 ws))
 
 run-in : (k n : ℕ) (ws : List ℕ) → k < n → drop k (runsFrom n ws) ≡ runFrom (drop (10 * k) ws) ∷ drop (k + 1) (runsFrom n ws)
 unfolding runsFrom
@@ -65,7 +61,7 @@ module _ (bs : List Block) (r : BlockReference) (ix : List ℕ) (start : ℕ) (k
 
   pub part-length : length runs ≡ n
   unfolding partAt
-  part-length = ap length (sym (k .are)) ∙ runs-length n (drop (start + 1) ix)
+  part-length = ap length (sym (k .are)) ∙ length-runs n (drop (start + 1) ix)
 
   -- the run of an index
   part-run : (j : ℕ) → j < n → drop j runs ≡ runFrom (drop (start + 1 + 10 * j) ix) ∷ drop (j + 1) runs

@@ -17,13 +17,14 @@ use Rattle.voters_index.specs.Runs.{Run, votersIn}
 use Rattle.voters_index.specs.Part.{RunsOf}
 use Rattle.voters_index.specs.Index.{digestWords, runWords, partWords}
 use Rattle.voters_index.specs.Walk.{Past, byBlock, byOffset, Place, anywhere, beyond, At, Unfolded, digestOf, runFrom, runsFrom}
-use Rattle.voters_index.proofs.Chain.{past-trans, Chain, end, link, Differs, past-head, chain-from, nobody-before}
-use Rattle.voters_index.proofs.Unique.{Placed, earlier, later, alike, placed}
+use Rattle.voters_index.proofs.Chain.{past-trans, Chain, end, link, Differs, past-head, chain-from, nobody-before, passed-out}
+use Rattle.voters_index.proofs.Unique.{PlaceOrder, earlier, later, alike, place-order}
 use Rattle.voters_index.proofs.Relation.{runs-chain, runs-told, chain-runs}
 use Rattle.index_pieces.proofs.Pieces.{past-not, at-beyond}
 use Rattle.index_merge.specs.Sources.{namedBy}
 use Rattle.index_prefix.specs.Prefix.{Nexts, here, onward, PassedOn}
-use Rattle.index_prefix.proofs.Chains.{out, not-past, chain-rest}
+use Rattle.index_prefix.proofs.Chains.{not-past, chain-rest}
+use Rattle.voters_index.proofs.Reading.{length-runs}
 use Rattle.index_parts.specs.declared.PartEnd.{PartEnd}
 use Rattle.index_parts.specs.declared.PartEnd.the-variants.{Ends, Differs as Other}
 use Rattle.index_parts.specs.Parts.{merged, Compared, Rested}
@@ -48,7 +49,7 @@ module _ {f : TransactionLocator → AuthoritySet} where
   -- past them, the others name whom all name
   nexts-names : {p q : Place} (ys zs : List Run) → Nexts f p ys q → (l : TransactionLocator) → At q (l .block) (l .offset) → votersIn (ys ++ zs) l ≡ votersIn zs l
   nexts-names [] zs here l a = refl
-  nexts-names (y ∷ ys) zs (onward n h) l a = past-head y (ys ++ zs) l (out y l (nexts-at ys h (l .block) (l .offset) a)) ∙ nexts-names ys zs h l a
+  nexts-names (y ∷ ys) zs (onward n h) l a = past-head y (ys ++ zs) l (passed-out y l (nexts-at ys h (l .block) (l .offset) a)) ∙ nexts-names ys zs h l a
 
   nexts-chain : {D : Run → List Run → Type 0} {p q : Place} (ys zs : List Run) → Nexts f p ys q → Chain D p (ys ++ zs) → Chain D q zs
   nexts-chain [] zs here c = c
@@ -56,9 +57,9 @@ module _ {f : TransactionLocator → AuthoritySet} where
 
 at-or-not : (p : Place) (r : BlockReference) (o : ℕ) → (At p r o) ⊎ (At p r o → ⊥)
 at-or-not anywhere r o = inl tt
-at-or-not (beyond q e) r o = go (placed q e r o)
+at-or-not (beyond q e) r o = go (place-order q e r o)
   where
-    go : Placed q e r o → (Past q e r o) ⊎ (Past q e r o → ⊥)
+    go : PlaceOrder q e r o → (Past q e r o) ⊎ (Past q e r o → ⊥)
     go (earlier (byBlock k)) = inl (byBlock k)
     go (earlier (byOffset k m)) = inl (byOffset k (omega arith))
     go (later k) = inr (λ a. past-not a k)
@@ -147,11 +148,6 @@ module _ (ix : List ℕ) (words : (i : ℕ) → getD ix i 0 < 184467440737095516
       ∙ ap (λ (ws : List ℕ). (runWords (runFrom (drop at ix)) ++ runsWords (runsFrom k ws)) ++ drop (at + 10 + 10 * k) ix) (sym (drop-drop 10 at ix))
       ∙ ap (λ (i : ℕ). (runWords (runFrom (drop at ix)) ++ runsWords (runsFrom k (drop 10 (drop at ix)))) ++ drop i ix) e
 
-length-from : (k : ℕ) (ws : List ℕ) → length (runsFrom k ws) ≡ k
-unfolding runsFrom
-length-from zero ws = refl
-length-from (suc k) ws = ap suc (length-from k (drop 10 ws))
-
 -- ---- the part, from the runs that are left
 
 module _ (b : Block) (ix : List ℕ) (n at count : ℕ) (cs cs′ : List ℕ) (k : ℕ) (p : Place) (w : PassedOn (ownVote b) ix n (at + 1) count cs cs′ k p) (xs : List Run) (r : RunsOf (merged b ix cs n) xs)
@@ -164,7 +160,7 @@ module _ (b : Block) (ix : List ℕ) (n at count : ℕ) (cs cs′ : List ℕ) (k
   are = left-are b ix n (at + 1) count cs cs′ k p w xs r
 
   many : length xs ≡ k + length zs
-  many = ap length are ∙ length-append (runsFrom k (drop (at + 1) ix)) zs ∙ ap (λ (i : ℕ). i + length zs) (length-from k (drop (at + 1) ix))
+  many = ap length are ∙ length-append (runsFrom k (drop (at + 1) ix)) zs ∙ ap (λ (i : ℕ). i + length zs) (length-runs k (drop (at + 1) ix))
 
   place : at + 1 + 10 * k ≡ at + 10 * k + 1
   place = omega arith
@@ -192,4 +188,4 @@ module _ (b : Block) (ix : List ℕ) (n at count : ℕ) (cs cs′ : List ℕ) (k
       q rest (omega (arith, m, many, c))
       (ap (λ (i : ℕ). drop i ix) (sym place)
       ∙ part-from ix at xs rest (part-body ix at xs rest e) k (omega (arith, many))
-      ∙ ap (λ (ys : List Run). runsWords ys ++ rest) (ap (drop k) are ∙ drop-at (runsFrom k (drop (at + 1) ix)) zs k (length-from k (drop (at + 1) ix))))
+      ∙ ap (λ (ys : List Run). runsWords ys ++ rest) (ap (drop k) are ∙ drop-at (runsFrom k (drop (at + 1) ix)) zs k (length-runs k (drop (at + 1) ix))))

@@ -10,7 +10,7 @@ use lib.Dec.{ltb, leb}
 use borrow.Author.Tests.{ltb-true, ltb-false, leb-true, leb-false}
 use Rattle.base.specs.Lists.{pick}
 use Rattle.authority_set.specs.AuthoritySet.{AuthoritySet, nobody, united}
-use Rattle.authority_set.proofs.Words.{united-nobody}
+use Rattle.authority_set.proofs.Words.{united-nobody, nobody-united}
 use Rattle.blocks.specs.Reference.{BlockReference, TransactionLocator, locator, referenceBefore}
 use Rattle.blocks.proofs.References.{reference-same, reference-irrefl, reference-trans}
 use Rattle.types.specs.Values.{referenceOrder}
@@ -20,7 +20,7 @@ use Rattle.types.proofs.Words.{compared-equal, compared-less, compared-greater}
 use Rattle.voters_index.specs.Runs.{Run, run, votersIn}
 use Rattle.voters_index.specs.Part.{Stretch}
 use Rattle.voters_index.specs.Walk.{Past, byBlock, byOffset, Place, anywhere, beyond, At}
-use Rattle.voters_index.proofs.Sets.{united-comm, nobody-united, united-nobody-left}
+use Rattle.voters_index.proofs.Sets.{united-comm, united-nobody-left}
 use Rattle.voters_index.proofs.Chain.{past-trans, Covered, Good, Chain, end, link, past-head, chain-from, nobody-before, at-head}
 use Rattle.index_pieces.specs.Pieces.{Ahead, Piece, NobodyFrom, AheadOr, PieceOr, fromOffset, fromPlace, nearer, cut, overlaidBy, overlaid, both, orElse, firstPiece, keptIf, skipped}
 

@@ -13,8 +13,8 @@ use Rattle.types.specs.declared.Ordering.the-variants.{Less, Equal}
 use Rattle.types.proofs.Words.{compared-equal, compared-less}
 use Rattle.voters_index.specs.Runs.{Run, votesAt, votersIn}
 use Rattle.voters_index.specs.Walk.{Past, byBlock, byOffset, Place, anywhere, beyond, At, NextRun}
-use Rattle.voters_index.proofs.Chain.{past-trans, Covered, Good, Chain, end, link, Differs, past-head, chain-from, nobody-before, at-head}
-use Rattle.voters_index.proofs.Unique.{Placed, earlier, later, alike, placed, at-end}
+use Rattle.voters_index.proofs.Chain.{past-trans, Covered, Good, Chain, end, link, Differs, past-head, chain-from, nobody-before, at-head, passed-out}
+use Rattle.voters_index.proofs.Unique.{PlaceOrder, earlier, later, alike, place-order, at-end}
 use Rattle.index_pieces.proofs.Pieces.{at-later, at-beyond}
 use Rattle.index_prefix.specs.Prefix.{PastRun, Nexts, here, onward}
 
@@ -24,16 +24,11 @@ past-one : {q r : BlockReference} {e o k : ℕ} → Past q e r o → o < k → P
 past-one (byBlock h) m = byBlock h
 past-one (byOffset e h) m = byOffset e (omega arith)
 
--- a locator past the end of a run is not in it
-pub out : (x : Run) (l : TransactionLocator) → Past (x .reference) (x .end) (l .block) (l .offset) → Covered x l → ⊥
-out x l (byBlock h) c = reference-irrefl (l .block) (subst (λ (r : BlockReference). referenceBefore r (l .block) ≡ true) (c .of) h)
-out x l (byOffset h k) c = omega (arith, c .below)
-
 -- what is not past a place is before it
 pub not-past : (q : BlockReference) (e : ℕ) (r : BlockReference) (o : ℕ) → (Past q e r o → ⊥) → Past r (o + 1) q e
-not-past q e r o h = go (placed q e r o)
+not-past q e r o h = go (place-order q e r o)
   where
-    go : Placed q e r o → Past r (o + 1) q e
+    go : PlaceOrder q e r o → Past r (o + 1) q e
     go (earlier (byBlock k)) = absurd (h (byBlock k))
     go (earlier (byOffset k m)) = absurd (h (byOffset k (omega arith)))
     go (later k) = k
@@ -92,10 +87,10 @@ module _ {D : Run → List Run → Type 0} where
   -- past the end of a run those up to it name nobody
   pub names-after : {p : Place} (ys : List Run) (y : Run) (rest : List Run) (l : TransactionLocator) → Chain D p (ys ++ y ∷ rest) → Past (y .reference) (y .end) (l .block) (l .offset)
       → votersIn (ys ++ y ∷ rest) l ≡ votersIn rest l
-  names-after [] y rest l (link a g d h) b = past-head y rest l (out y l b)
+  names-after [] y rest l (link a g d h) b = past-head y rest l (passed-out y l b)
   names-after (x ∷ ys) y rest l (link a g d h) b =
       let k = chain-last ys y rest h in
-      past-head x (ys ++ y ∷ rest) l (out x l (past-trans (k .past) (omega (arith, k .good .full)) b)) ∙ names-after ys y rest l h b
+      past-head x (ys ++ y ∷ rest) l (passed-out x l (past-trans (k .past) (omega (arith, k .good .full)) b)) ∙ names-after ys y rest l h b
 
 -- ---- the next runs
 
@@ -146,4 +141,4 @@ module _ {f : TransactionLocator → AuthoritySet} (z : Run) where
       rest : (l : TransactionLocator) → Past (x .reference) (x .end) (l .block) (l .offset) → Past (l .block) (l .offset + 1) (z .reference) (z .end) → f l ≡ votersIn (ys ++ z ∷ []) l
       rest l b c =
           e l (at-beyond p (x .reference) (x .start) (x .end) a (omega (arith, g .full)) (l .block) (l .offset) b) c
-          ∙ past-head x (ys ++ z ∷ []) l (out x l b)
+          ∙ past-head x (ys ++ z ∷ []) l (passed-out x l b)

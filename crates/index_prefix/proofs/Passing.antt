@@ -12,11 +12,12 @@ use Rattle.authority_set.specs.AuthoritySet.{AuthoritySet, nobody, united}
 use Rattle.blocks.specs.Reference.{TransactionLocator, locator}
 use Rattle.voters_index.specs.Runs.{Run, votersIn}
 use Rattle.voters_index.specs.Walk.{Past, Place, anywhere, beyond, runFrom, runsFrom}
-use Rattle.voters_index.proofs.Sets.{united-self, nobody-united}
+use Rattle.voters_index.proofs.Sets.{united-self}
 use Rattle.voters_index.proofs.Chain.{past-trans, touched, Chain, end, link, Anything, Differs, no-next, other, chain-from, nobody-before}
 use Rattle.index_pieces.specs.Pieces.{NobodyFrom, PieceOr}
 use Rattle.index_pieces.proofs.Pieces.{at-later}
 use Rattle.index_merge.specs.Sources.{cursorAt, cursorLeft, source, namedBy, Ready, Moved}
+use Rattle.authority_set.proofs.Words.{nobody-united}
 use Rattle.index_prefix.specs.Prefix.{Shared, GoesOn, Apart, PastRun, MovedBy, Nexts, here, PassedOn}
 use Rattle.index_prefix.proofs.Chains.{LastOf, not-past, chain-rest, chain-after, chain-head, cut-names, names-after, after, nexts}
 use Rattle.index_prefix.proofs.Words.{runs-split, runs-last, runs-fewer}

@@ -9,7 +9,7 @@ use lib.ListN.{length, getD, length-map}
 use borrow.Author.Tests.{le-ltb}
 use Rattle.base.specs.Lists.{pick, keep, countFrom, _∈_}
 use Rattle.base.proofs.Tests.{fails}
-use Rattle.base.proofs.Lists.{every-in}
+use Rattle.base.proofs.Lists.{every-in, keep-same}
 use Rattle.base.proofs.Places.{places-every}
 use Rattle.base.proofs.Members.{in-flatten, in-map, in-countFrom}
 use Rattle.committee.specs.Committee.{Committee, totalStake, quorumOf, isQuorum}
@@ -22,7 +22,7 @@ use Rattle.blocks.proofs.References as order
 use Rattle.finality.specs.Voters.{certifies, certifiers, isFinal}
 use Rattle.vote_starts.proofs.Starts.{fewer-kept}
 use Rattle.voters_index.specs.Walk.{Past, byBlock, byOffset, Place, anywhere, beyond, At}
-use Rattle.voters_index.proofs.Certifying.{stake-nobody, keep-same}
+use Rattle.authority_set.proofs.Votes.{stake-nobody}
 use Rattle.index_marks.specs.Marks.{flagged}
 use Rattle.index_watch.specs.Watch.{Owners}
 use Rattle.index_search.specs.Search.{Flags, isPast, runEdges, edgesPast}

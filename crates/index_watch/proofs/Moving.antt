@@ -23,9 +23,9 @@ use Rattle.finality.specs.Voters.{certifies}
 use Rattle.voters_index.specs.Runs.{Run, runCovers, votersIn}
 use Rattle.voters_index.specs.Certified.{quorumRun}
 use Rattle.voters_index.specs.Walk.{Past, byBlock, byOffset, Place, anywhere, beyond, At, runFrom}
-use Rattle.voters_index.proofs.Chain.{Covered, covered, is-covered, past-trans, Chain, link, end, Differs, past-head, nobody-before, at-head, rest-nobody}
+use Rattle.voters_index.proofs.Chain.{Covered, covered, is-covered, past-trans, Chain, link, end, Differs, past-head, nobody-before, at-head, rest-nobody, chain-drop}
 use Rattle.voters_index.proofs.Relation.{runs-chain}
-use Rattle.voters_index.proofs.Certifying.{stake-nobody}
+use Rattle.authority_set.proofs.Votes.{stake-nobody}
 use Rattle.index_cursors.specs.Cursors.{passedBy, passed, dull, Skipped}
 use Rattle.index_marks.specs.Marks.{coversAt}
 use Rattle.index_watch.specs.Watch.{quorumAt, Source, Watch}
@@ -100,11 +100,6 @@ pub record Watching (c : Committee) (bs : List Block) (ix : List ℕ) (b : Block
   pub few : gone ≤ length (source .runs)
   pub place : at + 10 * (length (source .runs) - gone) ≡ end
   pub told : (l : TransactionLocator) → At p (l .block) (l .offset) → quorumAt c (source .runs) l ≡ quorumAt c (drop gone (source .runs)) l
-
-pub chain-drop : {D : Run → List Run → Type 0} {p : Place} (j : ℕ) (xs : List Run) → Chain D p xs → (q : Place) × Chain D q (drop j xs)
-chain-drop {p = p} zero xs h = (p, h)
-chain-drop {p = p} (suc j) [] h = (p, end)
-chain-drop (suc j) (x ∷ xs) (link a g d h) = chain-drop j xs h
 
 module _ (c : Committee) (bs : List Block) (ix : List ℕ) (b : Block) (end : ℕ) where
   -- the run at a cursor, and those after it

@@ -12,7 +12,8 @@ ghost use Prim.Native.Nat.{_≤_};
 ghost use lib.ListN.{length};
 ghost use Rattle.finality.specs.Finality.{blocksOf};
 ghost use Rattle.stretches.specs.Bulk.{listStretches};
-ghost use Rattle.listed.specs.Listed.{listed};
+ghost use Rattle.readings.specs.Readings.{old};
+ghost use Rattle.reading_lists.specs.Lists.{listing};
 ghost use Rattle.vote_starts.specs.Answers.{asMaybe};
 ghost use Rattle.final_list.specs.Answers.{asStretches};
 
@@ -81,8 +82,8 @@ fn ask_on(
     last: MaybeLocator,
     wide: bool,
 ) -> StretchesAnswer
-    ensures { λ r. ⌜ asStretches r ≡ listStretches (now (stakes .entry)) (now (store .entry)) (listed (not wide) (now (stakes .entry)) (blocksOf (now (store .entry)))) (now (stretches .entry)) (asMaybe last) .answer ⌝ }
-    ensures { λ r. ⌜ now (stretches .exit) ≡ listStretches (now (stakes .entry)) (now (store .entry)) (listed (not wide) (now (stakes .entry)) (blocksOf (now (store .entry)))) (now (stretches .entry)) (asMaybe last) .out ⌝ }
+    ensures { λ r. ⌜ asStretches r ≡ listStretches (now (stakes .entry)) (now (store .entry)) (listing (not wide) old (now (stakes .entry)) (blocksOf (now (store .entry)))) (now (stretches .entry)) (asMaybe last) .answer ⌝ }
+    ensures { λ r. ⌜ now (stretches .exit) ≡ listStretches (now (stakes .entry)) (now (store .entry)) (listing (not wide) old (now (stakes .entry)) (blocksOf (now (store .entry)))) (now (stretches .entry)) (asMaybe last) .out ⌝ }
 {
     if wide {
         return final_list::wide_stretches(stakes, store, stretches, last);

@@ -18,7 +18,7 @@ use Rattle.blocks.specs.Record.{referenceBytes, locatorBytes}
 use Rattle.blocks.specs.Claims.{fitsReference, fitsLocator}
 use Rattle.types.specs.Step.{locatorAt}
 use Rattle.blocks.proofs.Records.{ReferenceFits, LocatorFits, locator-reads, length-reference}
-use Rattle.blocks.proofs.Claimed.{bytes-fit}
+use Rattle.blocks.proofs.Claimed.{bytes-fit, reference-fits, locator-fits}
 use Rattle.types.proofs.Fixed.{fixed-locator, locator-value}
 use Rattle.loadable.specs.Needs.{neededBy}
 
@@ -39,26 +39,6 @@ unfolding neededBy
 needs-found p h e = rw (le-leb 57 (length p) h, eq-eqb (getD p 0 0) 1 e)
 
 -- ---- what was written is needed
-
-reference-fits : (r : BlockReference) → fitsReference r ≡ true → ReferenceFits r
-unfolding fitsReference
-reference-fits r h =
-    let h₁ = and-right (ltb (r .authority) 18446744073709551616) _ h in
-    let h₂ = and-right (ltb (r .round) 18446744073709551616) _ h₁ in
-    record {
-      author = ltb-true (r .authority) 18446744073709551616 (and-left _ _ h);
-      round = ltb-true (r .round) 18446744073709551616 (and-left _ _ h₁);
-      size = eqb-true (length (r .digest)) 32 (and-left _ _ h₂);
-      bytes = bytes-fit (r .digest) (and-right (eqb (length (r .digest)) 32) _ h₂);
-    }
-
-locator-fits : (l : TransactionLocator) → fitsLocator l ≡ true → LocatorFits l
-unfolding fitsLocator
-locator-fits l h =
-    record {
-      block = reference-fits (l .block) (and-left _ _ h);
-      offset = ltb-true (l .offset) 18446744073709551616 (and-right (fitsReference (l .block)) _ h);
-    }
 
 length-locator : (l : TransactionLocator) → LocatorFits l → length (locatorBytes l) ≡ 56
 unfolding locatorBytes

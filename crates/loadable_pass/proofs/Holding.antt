@@ -9,7 +9,7 @@ use lib.ListN.{length, take, drop, length-append, take-append-drop}
 use lib.Seq.{sets, sets-eq, length-sets, length-take-le, take-at, drop-at, drop-drop}
 use Rattle.base.specs.Lists.{pick, anyOf, keep, holds, _∈_}
 use Rattle.base.specs.Le.{Bytes}
-use Rattle.base.proofs.Lists.{append-nil, keep-append, length-keep}
+use Rattle.base.proofs.Lists.{append-nil, keep-append, length-keep, flatten-append}
 use Rattle.base.proofs.Members.{in-left, keep-in}
 use Rattle.committee.specs.Committee.{Committee}
 use Rattle.blocks.specs.Reference.{TransactionLocator, sameLocator}
@@ -29,7 +29,6 @@ use Rattle.loadable.proofs.Walking.{walked-shares}
 use Rattle.loadable_places.specs.Listed.{Listed, metBy}
 use Rattle.loadable_places.proofs.Listing.{listed-from}
 use Rattle.loadable_pass.specs.Holding.{Holding, Past}
-use Rattle.share_count.proofs.Through.{flatten-append}
 
 ascending-left : (xs ys : List TransactionLocator) → Ascending (xs ++ ys) → Ascending xs
 ascending-left [] ys a = none-left

@@ -6,12 +6,10 @@ use vote_starts::MaybeLocator;
 use vote_table::TableSizes;
 ghost use mathlib.Core.Path.{_≡_};
 ghost use mathlib.Core.Bool.{true, false};
-ghost use Rattle.finality.specs.Finality.{blocksOf};
 ghost use Rattle.finality.specs.NextFinal.{nextFinal};
 ghost use Rattle.stored_finals.specs.FinalShares.{nextFinalShare};
 ghost use Rattle.readings.specs.Readings.{withdrawing, readingOf};
-ghost use Rattle.reading_lists.specs.Lists.{listing};
-ghost use Rattle.listed.specs.Listed.{nextListed};
+ghost use Rattle.reading_lists.specs.Lists.{nextListed};
 ghost use Rattle.vote_starts.specs.Answers.{asMaybe};
 ghost use Rattle.next_final.specs.Answers.{asNextFinal};
 
@@ -30,7 +28,7 @@ pub fn next_listed(
     withdrawing: bool,
     after: MaybeLocator,
 ) -> NextFinalAnswer
-    ensures { λ r. ⌜ asNextFinal r ≡ nextListed (now (stakes .entry)) (now (store .entry)) (listing ordinary (readingOf withdrawing) (now (stakes .entry)) (blocksOf (now (store .entry)))) (asMaybe after) ⌝ }
+    ensures { λ r. ⌜ asNextFinal r ≡ nextListed ordinary (readingOf withdrawing) (now (stakes .entry)) (now (store .entry)) (asMaybe after) ⌝ }
 {
     let NewCommittee::Taken(total) = committee::new_committee(stakes) else {
         return NextFinalAnswer::Refused(5);
@@ -89,14 +87,14 @@ pub fn next_wide(stakes: &[u64], store: &[u8], after: MaybeLocator) -> NextFinal
 
 // The least final stored share after a given locator where owners may withdraw.
 pub fn next_final_withdrawing(stakes: &[u64], store: &[u8], after: MaybeLocator) -> NextFinalAnswer
-    ensures { λ r. ⌜ asNextFinal r ≡ nextListed (now (stakes .entry)) (now (store .entry)) (listing true withdrawing (now (stakes .entry)) (blocksOf (now (store .entry)))) (asMaybe after) ⌝ }
+    ensures { λ r. ⌜ asNextFinal r ≡ nextListed true withdrawing (now (stakes .entry)) (now (store .entry)) (asMaybe after) ⌝ }
 {
     next_listed(stakes, store, true, true, after)
 }
 
 // The least final locator after a given one, stored or not, where owners may withdraw.
 pub fn next_wide_withdrawing(stakes: &[u64], store: &[u8], after: MaybeLocator) -> NextFinalAnswer
-    ensures { λ r. ⌜ asNextFinal r ≡ nextListed (now (stakes .entry)) (now (store .entry)) (listing false withdrawing (now (stakes .entry)) (blocksOf (now (store .entry)))) (asMaybe after) ⌝ }
+    ensures { λ r. ⌜ asNextFinal r ≡ nextListed false withdrawing (now (stakes .entry)) (now (store .entry)) (asMaybe after) ⌝ }
 {
     next_listed(stakes, store, false, true, after)
 }

@@ -15,13 +15,8 @@ use Rattle.store_layout.specs.Entry.{isEntry, readable}
 use Rattle.store_layout.proofs.Check.{is-readable}
 use Rattle.store_layout.proofs.Store.{entries-below}
 use Rattle.store_layout.proofs.Loops.{EntryAt, entry-at, is-entry}
-use Rattle.store_layout.proofs.Lookups.{Split, split-at-entry}
+use Rattle.store_layout.proofs.Lookups.{Split, split-at-entry, used-more}
 use Rattle.pending.specs.Step.{OnEntry, Passed}
-
-used-grows : (newer older : List Record) → usedBy older ≤ usedBy (newer ++ older)
-unfolding usedBy
-used-grows [] older = omega arith
-used-grows (r ∷ newer) older = omega (arith, used-grows newer older)
 
 -- what stands where older records end
 pub stands-next : (newer older : List Record) → ((d : Entry) × (d ∈ entries (newer ++ older)) × (d .position ≡ usedBy older)) ⊎ (usedBy older ≡ usedBy (newer ++ older))
@@ -38,7 +33,7 @@ nothing-between : (newer older : List Record) (own : Record) (d : Entry) → d �
 unfolding entries
 nothing-between [] older own d here h = omega arith
 nothing-between [] older own d (there m) h = omega (arith, every-in (entries older) d (entries-below older) m)
-nothing-between (r ∷ newer) older own d here h = absurd (omega (arith, used-grows newer (own ∷ older)))
+nothing-between (r ∷ newer) older own d here h = absurd (omega (arith, used-more newer (own ∷ older)))
 nothing-between (r ∷ newer) older own d (there m) h = nothing-between newer older own d m h
 
 module _ (s : Bytes) (p end : ℕ) (h : isEntry s p ≡ true) (e : end ≡ p + 8 + leAt 4 s (p + 4)) where

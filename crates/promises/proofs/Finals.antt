@@ -31,9 +31,10 @@ use Rattle.finality.specs.NextFinal.{nextFinal, FinalList, finalList}
 use Rattle.finality.proofs.Claimed.{final-meant}
 use Rattle.finality.proofs.FinalList.{Ascending, none-left, and-then, final-list-ascending, final-list-in, final-list-order}
 use Rattle.finality.proofs.Asked.{in-order-stored, asked-on, asked-once}
-use Rattle.stored_finals.specs.FinalShares.{FinalShareList, finalShares}
-use Rattle.stored_finals.proofs.Asked.{shares-once, shares-asked}
+use Rattle.stored_finals.specs.FinalShares.{nextFinalShare, FinalShareList, finalShares}
+use Rattle.stored_finals.proofs.Asked.{shares-asked}
 use Rattle.stored_finals.proofs.Lists.{exactly-finals, same-shares}
+use Rattle.stored_finals.proofs.Orders.{ascending-pairwise}
 use Rattle.promises.specs.Feeds.{Engine, fresh, Accepted, storedBlocks, storedRecords}
 use Rattle.promises.specs.ThirdStatement.{AnsweredFinal, GivesFinal, GivesFinalShares, Start, engineOf, acceptedOf, SameRecords}
 use Rattle.promises.proofs.Storing.{asRecord, StoreOf, fresh-holds, run-holds}
@@ -74,11 +75,6 @@ short-refused : (c : Committee) (g : Engine) (as′ : List Accepted) → broken 
     → length ps < length as′ → finality c (g .store) ps l .answer ≡ refused 40
 unfolding finality finalityChecks checked passes refusal allOf
 short-refused c g as′ b h l ps k = rw (b, h .order, lt-ltb (length ps) (length (recordsOf (g .store))) (omega (arith, as-many c (g .store) as′ h)))
-
-ascending-pairwise : {ls : List TransactionLocator} → Ascending ls → pairwise locatorBefore ls ≡ true
-unfolding pairwise
-ascending-pairwise none-left = refl
-ascending-pairwise (and-then {l = l} {ls = ls} h a) = and-both _ _ (in-all (locatorBefore l) ls h) (ascending-pairwise a)
 
 -- "the final list gives exactly these, ascending"
 gives-final : (c : Committee) (g : Engine) (as′ : List Accepted) → broken c ≡ false → StoreOf c (g .store) as′ → GivesFinal c g (storedBlocks as′)
@@ -171,6 +167,6 @@ same-share-list c b t u f ls ms x y =
     let k = store-of c u in
     let s : Bytes = engineOf c t .store in
     let r : Bytes = engineOf c u .store in
-    shares-once c s x (shares-asked c s b (h .order))
+    asked-once (nextFinalShare c s) x (shares-asked c s b (h .order))
     ∙ same-shares c (in-order-stored c s (h .order)) (in-order-stored c r (k .order)) (same-blocks c t u f) .final
-    ∙ shares-once c r (shares-asked c r b (k .order)) y
+    ∙ asked-once (nextFinalShare c r) (shares-asked c r b (k .order)) y

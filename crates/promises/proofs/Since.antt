@@ -21,6 +21,7 @@ use Rattle.store_layout.proofs.Shares.{stored-share, share-stored}
 use Rattle.finality.specs.Ancestry.{Ancestor, itself, included, VoteIn, byAccept, byRange, VotesFor, byShare, byVote, Voter, Certificate, Final}
 use Rattle.finality.proofs.Asked.{in-order-stored}
 use Rattle.finality.proofs.Votes.{covered, is-covered, statement-vote}
+use Rattle.finality.proofs.Ancestors.{ancestor-stored}
 use Rattle.promises.specs.Feeds.{Accepted, storedBlocks}
 use Rattle.promises.specs.Shares.{Vote, isVoteFor, votesFrom, countedVotes, countedVoters, NoneLeft}
 use Rattle.promises.specs.ThirdStatement.{ShareStands, stays, gone, VotedOnlySince, Announced, Start, engineOf, acceptedOf}
@@ -94,10 +95,6 @@ module _ (l : TransactionLocator) (own : Accepted) (earlier : List Accepted) (it
       go ih (inr e) = in-left (voters new) (ih (inr e))
 
 -- ---- voters of a final share
-
-ancestor-stored : {bs : List Block} {d b : Block} → Ancestor bs d b → d ∈ bs
-ancestor-stored (itself m) = m
-ancestor-stored (included m k r) = ancestor-stored r
 
 module _ (as′ : List Accepted) (l : TransactionLocator) (w : WellStored (storedBlocks as′)) (stored : isStoredShare (storedBlocks as′) l ≡ true) (s : VotedOnlySince as′ l) where
   -- the block that has the share is its own

@@ -6,38 +6,31 @@ use mathlib.Core.List.{List, [], _∷_, _++_, map, flatten}
 use mathlib.Core.Option.{Option}
 use Prim.Native.Nat.{ℕ, _+_}
 use Rattle.base.specs.Lists.{pick, keep, _∈_, here, there}
-use Rattle.base.specs.Checks.{checked}
 use Rattle.base.proofs.Lists.{append-nil}
 use Rattle.committee.specs.Committee.{Committee}
 use Rattle.blocks.specs.Reference.{BlockReference, TransactionLocator, sameReference}
 use Rattle.blocks.specs.Block.{Block, spans}
 use Rattle.store_layout.specs.Shares.{isStoredShare}
 use Rattle.store_layout.proofs.Stored.{WellStored}
-use Rattle.finality.specs.Voters.{certifies, certifiers, isFinal}
 use Rattle.finality.specs.Finality.{blocksOf}
-use Rattle.finality.specs.NextFinal.{leastFinal, nextFinalChecks}
 use Rattle.finality.proofs.Claimed.{well-stored, small-authors}
 use Rattle.finality.proofs.FinalList.{ascending-unique}
 use Rattle.finality.proofs.LeastOf.{least-once}
 use Rattle.stretches.specs.Stretches.{Listing, edgesBy, stretches}
-use Rattle.stretches.specs.Bulk.{listStretches}
+use Rattle.stretches.specs.Bulk.{listNext, listStretches}
 use Rattle.readings.specs.Rejecting.{rejections}
-use Rattle.readings.specs.Readings.{Reading, old, withdrawing, votersIn, certifiesIn, certifiersIn, isFinalIn}
+use Rattle.readings.specs.Readings.{Reading, old, withdrawing, isFinalIn}
 use Rattle.readings.specs.Withdrawing.{NoRejects}
-use Rattle.readings.specs.NextFinal.{candidatesIn, leastFinalIn, rejectEdges}
+use Rattle.readings.specs.NextFinal.{rejectEdges}
 use Rattle.readings.proofs.Rejecting.{in-rejections}
 use Rattle.readings.proofs.FinalsIn.{certifies-in-same, final-in-same, certifies-in-kept, final-in-order}
-use Rattle.stored_finals.specs.FinalShares.{isFinalShare, leastFinalShare}
 use Rattle.stored_finals.proofs.Lists.{same-stored}
-use Rattle.reading_lists.specs.Lists.{isListed, leastListed, listEdges, listing, allListed, nextListed}
-use Rattle.reading_lists.specs.Claims.{OldLists, ListsLawful, ListsGive, ListsAsked, ListsExactly, SameLists, SameWithoutRejects, SameInAnyOrder, InAnyOrder, Claims}
+use Rattle.reading_lists.specs.Lists.{isListed, leastListed, listEdges, listing, allListed}
+use Rattle.reading_lists.specs.Claims.{ListsLawful, ListsGive, ListsAsked, ListsExactly, SameLists, SameWithoutRejects, SameInAnyOrder, InAnyOrder, Claims}
+use Rattle.reading_lists.proofs.Old.{old-wide, old-ordinary}
 use Rattle.reading_lists.proofs.Least.{least-listed, lists-lawful}
-use Rattle.reading_lists.proofs.Whole.{all-ascending, all-in, asked-whole, gives-asked, asked-gives, whole-exactly}
+use Rattle.reading_lists.proofs.Whole.{all-ascending, all-in, asked-whole, gives-whole, whole-exactly}
 use Rattle.reading_lists.proofs.Orders.{stretches-same}
-
-old-lists : OldLists
-unfolding listing isListed leastListed listEdges leastFinalIn candidatesIn isFinalIn certifiersIn certifiesIn votersIn leastFinal isFinal certifiers certifies isFinalShare leastFinalShare
-old-lists = record { wide = λ c bs. refl; ordinary = λ c bs. refl }
 
 -- where two lists show the same locators, they are the same as a whole
 all-same : (shared : Bool) (r q : Reading) (c : Committee) (bs cs : List Block) → ((l : TransactionLocator) → isListed shared r c bs l ≡ isListed shared q c cs l) → allListed shared r c bs ≡ allListed shared q c cs
@@ -94,12 +87,12 @@ module _ (bs : List Block) (f : NoRejects bs) where
         }
 
 same-without-rejects : SameWithoutRejects
-unfolding SameWithoutRejects nextListed
+unfolding SameWithoutRejects
 same-without-rejects shared c s f =
     record {
       listing = listing-same (blocksOf s) f shared c;
       all = all-same shared withdrawing old c (blocksOf s) (blocksOf s) (listed-same (blocksOf s) f shared c);
-      next = λ after. ap (checked (nextFinalChecks c s)) (least-same shared withdrawing old c (blocksOf s) (blocksOf s) (listed-same (blocksOf s) f shared c) after);
+      next = λ after. ap (λ (k : Listing). listNext c s k after) (listing-same (blocksOf s) f shared c);
       bulk = λ out after. ap (λ (k : Listing). listStretches c s k out after) (listing-same (blocksOf s) f shared c);
     }
 
@@ -128,9 +121,9 @@ pub claimed : Claims
 unfolding ListsLawful ListsGive ListsAsked ListsExactly
 claimed =
     record {
-      old = old-lists;
+      old = record { wide = old-wide; ordinary = old-ordinary };
       lawful = lists-lawful;
-      gives = λ shared reading c s b h after ls. (gives-asked shared reading c s b h, asked-gives shared reading c s b h);
+      gives = λ shared reading c s b h after ls. gives-whole shared reading c s b h;
       asked = asked-whole;
       exactly = λ shared reading c bs h. whole-exactly shared reading c (well-stored c bs h);
       noRejects = same-without-rejects;

@@ -13,8 +13,7 @@ use Rattle.store_layout.specs.Shares.{isStoredShare}
 use Rattle.store_layout.proofs.Shares.{stored-share, share-stored}
 use Rattle.finality.specs.NextFinal.{isAfter, LeastOf, least, nothing, leastLocator}
 use Rattle.finality.proofs.Least.{Least, one-of, no-one, least-locator}
-use Rattle.stretches.specs.Claims.{LeastShown, Lawful}
-use Rattle.stretches.specs.Claims as shown
+use Rattle.stretches.specs.Claims.{Lawful}
 use Rattle.stretches.proofs.Wide.{wide-lawful}
 use Rattle.readings.specs.Readings.{Reading, isFinalIn}
 use Rattle.readings.proofs.FinalsIn.{final-in-old}
@@ -59,16 +58,11 @@ least-listed true reading c bs after = least-share reading c bs after (least-loc
 least-listed false reading c bs after = least-final-in reading c bs after
 
 module _ (shared : Bool) (reading : Reading) (c : Committee) (bs : List Block) where
-  least-shown : (after : Option TransactionLocator) {o : Option TransactionLocator} → LeastOf (isListed shared reading c bs) after o → LeastShown (listing shared reading c bs) after o
-  unfolding listing
-  least-shown after (least l f h g) = shown.least l f h g
-  least-shown after (nothing g) = shown.nothing g
-
   pub lists-lawful : Lawful bs (listing shared reading c bs)
   unfolding listing
   lists-lawful =
       record {
-        next = λ after. least-shown after (least-listed shared reading c bs after);
+        next = least-listed shared reading c bs;
         edges = list-edges shared reading c bs;
         bound = wide-lawful c bs .bound;
         bounded = λ r o h.

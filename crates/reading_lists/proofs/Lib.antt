@@ -1,5 +1,6 @@
 pub mod Between
 pub mod Least
+pub mod Old
 pub mod Whole
 pub mod Orders
 pub mod Claimed

@@ -22,9 +22,10 @@ use Rattle.blocks.specs.Reference.{TransactionLocator, locator}
 use Rattle.blocks.specs.Block.{Block, author}
 use Rattle.store_layout.proofs.Stored.{WellStored, fresh, stored}
 use Rattle.stretches.specs.Stretches.{Listing, FinalStretch, lastLocator, agree, certifiedAlike, goesOn, EndsAt, stretchEnd, stretchAt, fromFound, stretches}
-use Rattle.stretches.specs.Claims.{LeastShown, least, nothing, Lawful}
+use Rattle.finality.specs.NextFinal.{LeastOf, least, nothing}
+use Rattle.finality.proofs.LeastOf.{least-once}
+use Rattle.stretches.specs.Claims.{Lawful}
 use Rattle.stretches.proofs.Ends.{end-meant, one-end}
-use Rattle.stretches.proofs.Spreading.{one-shown}
 
 -- ---- as many pass
 
@@ -46,12 +47,8 @@ no-more (x ∷ xs) ys (also new o) f = go (decLe (suc (length xs)) (length ys))
 module _ (c : Committee) {bs cs : List Block} (v : WellStored bs) (w : WellStored cs) (blocks : (x : Block) → x ∈ bs ↔ x ∈ cs)
     (k q : Listing) (law : Lawful bs k) (also-law : Lawful cs q) (shows : (l : TransactionLocator) → k .shows l ≡ q .shows l)
     (certifies : (l : TransactionLocator) (b : Block) → b ∈ bs → k .certifies l b ≡ q .certifies l b) where
-  carried : {after o : Option TransactionLocator} → LeastShown k after o → LeastShown q after o
-  carried (least l f a g) = least l (sym (shows l) ∙ f) a (λ m h b. g m (shows m ∙ h) b)
-  carried (nothing g) = nothing (λ m a. sym (shows m) ∙ g m a)
-
   pub next-same : (after : Option TransactionLocator) → k .next after ≡ q .next after
-  next-same after = one-shown q after (carried (law .next after)) (also-law .next after)
+  next-same after = least-once (k .shows) (q .shows) shows after (law .next after) (also-law .next after)
 
   -- a stretch goes on alike, so it ends alike
   goes-same : (l : TransactionLocator) (o : ℕ) → goesOn bs k l o ≡ goesOn cs q l o
@@ -111,7 +108,7 @@ module _ (c : Committee) {bs cs : List Block} (v : WellStored bs) (w : WellStore
   unfolding stretchAt
   at-same l h = λ i. record { block = l .block; first = l .offset; end = ends-same l h i; blocks = many-same l i; stake = stake-alike l i }
 
-  first-same : (n : ℕ) → ((from : Option TransactionLocator) → stretches c bs k n from ≡ stretches c cs q n from) → (after : Option TransactionLocator) {o : Option TransactionLocator} → LeastShown k after o
+  first-same : (n : ℕ) → ((from : Option TransactionLocator) → stretches c bs k n from ≡ stretches c cs q n from) → (after : Option TransactionLocator) {o : Option TransactionLocator} → LeastOf (k .shows) after o
       → fromFound o (λ l. stretchAt c bs k l ∷ stretches c bs k n (some (lastLocator (stretchAt c bs k l))))
       ≡ fromFound o (λ l. stretchAt c cs q l ∷ stretches c cs q n (some (lastLocator (stretchAt c cs q l))))
   unfolding fromFound

@@ -1,12 +1,12 @@
 -- The whole of each list: exactly its locators, ascending, and what the question gives when it is asked on. Assumes nothing.
-use mathlib.Core.Path.{_≡_, refl, sym, ap, _∙_}
+use mathlib.Core.Path.{_≡_, refl}
 use mathlib.Core.Logic.{_↔_}
 use mathlib.Core.Bool.{Bool, true, false}
 use mathlib.Core.List.{List}
 use mathlib.Core.Option.{Option, none}
 use Rattle.base.specs.Lists.{allOf, keep, _∈_}
 use Rattle.base.specs.Le.{Bytes}
-use Rattle.base.specs.Checks.{refusal, passes, Answer, answered, checked}
+use Rattle.base.specs.Checks.{refusal, passes, answered, checked}
 use Rattle.base.proofs.Tests.{and-both, and-left, and-right, not-both}
 use Rattle.base.proofs.Members.{in-keep, keep-in}
 use Rattle.committee.specs.Committee.{Committee, broken}
@@ -18,10 +18,11 @@ use Rattle.store_layout.proofs.Shares.{stored-share, share-stored}
 use Rattle.store_layout.proofs.Stored.{WellStored}
 use Rattle.finality.specs.Finality.{blocksOf}
 use Rattle.finality.specs.NextFinal.{nextFinalChecks, AskedOf}
-use Rattle.finality.specs.NextFinal as asking
 use Rattle.finality.proofs.Asked.{asked-all}
 use Rattle.finality.proofs.FinalList.{Ascending, keep-ascending}
-use Rattle.stretches.specs.Claims.{Gives, done, onward}
+use Rattle.stretches.specs.Bulk.{listNext}
+use Rattle.stretches.specs.Claims.{Gives}
+use Rattle.stretches.proofs.Wide.{gives-asked}
 use Rattle.readings.specs.Readings.{Reading}
 use Rattle.readings.specs.Withdrawing.{FinalIn}
 use Rattle.readings.specs.NextFinal.{finalListIn}
@@ -51,7 +52,7 @@ all-in false reading c bs l = list-in reading c bs l
 module _ (shared : Bool) (reading : Reading) (c : Committee) (s : Bytes) (b : broken c ≡ false) (h : storeInOrder c s ≡ true) where
   -- a question that is not refused gives the least locator
   next-answers : (after : Option TransactionLocator) → nextListed shared reading c s after ≡ answered (leastListed shared reading c (blocksOf s) after)
-  unfolding nextListed nextFinalChecks checked passes refusal allOf
+  unfolding listing listNext nextFinalChecks checked passes refusal allOf
   next-answers after = rw (b, h)
 
   pub asked-whole : AskedOf (nextListed shared reading c s) none (allListed shared reading c (blocksOf s))
@@ -59,19 +60,10 @@ module _ (shared : Bool) (reading : Reading) (c : Committee) (s : Bytes) (b : br
       asked-all (isListed shared reading c (blocksOf s)) (nextListed shared reading c s) (leastListed shared reading c (blocksOf s)) next-answers
       (λ after. least-listed shared reading c (blocksOf s) after) (all-ascending shared reading c (blocksOf s)) (λ l. all-in shared reading c (blocksOf s) l)
 
-  told-one : (o q : Option TransactionLocator) → _≡_ {A = Answer (Option TransactionLocator)} (answered o) (answered q) → o ≡ q
-  told-one o q e = cc
-
   -- the list gives what the question gives
-  pub gives-asked : {x : Option TransactionLocator} {ms : List TransactionLocator} → Gives (listing shared reading c (blocksOf s)) x ms → AskedOf (nextListed shared reading c s) x ms
+  pub gives-whole : {after : Option TransactionLocator} {ls : List TransactionLocator} → Gives (listing shared reading c (blocksOf s)) after ls ↔ AskedOf (nextListed shared reading c s) after ls
   unfolding listing
-  gives-asked {x} (done e) = asking.done (next-answers x ∙ ap {B = Answer (Option TransactionLocator)} answered e)
-  gives-asked {x} (onward e g) = asking.onward (next-answers x ∙ ap {B = Answer (Option TransactionLocator)} answered e) (gives-asked g)
-
-  pub asked-gives : {x : Option TransactionLocator} {ms : List TransactionLocator} → AskedOf (nextListed shared reading c s) x ms → Gives (listing shared reading c (blocksOf s)) x ms
-  unfolding listing
-  asked-gives {x} (asking.done e) = done (told-one _ _ (sym (next-answers x) ∙ e))
-  asked-gives {x} (asking.onward e g) = onward (told-one _ _ (sym (next-answers x) ∙ e)) (asked-gives g)
+  gives-whole = gives-asked (listing shared reading c (blocksOf s)) (nextListed shared reading c s) next-answers
 
 -- ---- exactly
 

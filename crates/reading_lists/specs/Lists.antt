@@ -5,15 +5,15 @@ use mathlib.Core.List.{List, _++_, map, flatten}
 use mathlib.Core.Option.{Option}
 use Rattle.base.specs.Lists.{keep}
 use Rattle.base.specs.Le.{Bytes}
-use Rattle.base.specs.Checks.{Answer, checked}
+use Rattle.base.specs.Checks.{Answer}
 use Rattle.committee.specs.Committee.{Committee}
 use Rattle.blocks.specs.Reference.{BlockReference, TransactionLocator}
 use Rattle.blocks.specs.Block.{Block, spans}
 use Rattle.store_layout.specs.Shares.{isStoredShare}
 use Rattle.finality.specs.Finality.{blocksOf}
-use Rattle.finality.specs.NextFinal.{isAfter, leastLocator, nextFinalChecks}
+use Rattle.finality.specs.NextFinal.{isAfter, leastLocator}
 use Rattle.stretches.specs.Stretches.{Listing, edgesBy}
-use Rattle.stretches.specs.Bulk.{AskedBulk, listStretches}
+use Rattle.stretches.specs.Bulk.{listNext, AskedBulk, listStretches}
 use Rattle.readings.specs.Readings.{Reading, old, withdrawing, certifiesIn, isFinalIn}
 use Rattle.readings.specs.NextFinal.{leastFinalIn, finalListIn, rejectEdges}
 use Rattle.stored_finals.specs.Shares.{sharesOf}
@@ -45,8 +45,8 @@ allListed false reading c bs = finalListIn reading c bs
 
 -- ---- the questions over a store, with the refusals of the calls without a reading: 5, 10
 
-unfoldable pub nextListed : Bool → Reading → Committee → Bytes → Option TransactionLocator → Answer (Option TransactionLocator)
-nextListed ordinary reading c s after = checked (nextFinalChecks c s) (leastListed ordinary reading c (blocksOf s) after)
+abbrev pub nextListed : Bool → Reading → Committee → Bytes → Option TransactionLocator → Answer (Option TransactionLocator)
+nextListed ordinary reading c s after = listNext c s (listing ordinary reading c (blocksOf s)) after
 
 -- as many stretches as the slice holds
 abbrev pub listedStretches : Bool → Reading → Committee → Bytes → List ℕ → Option TransactionLocator → AskedBulk

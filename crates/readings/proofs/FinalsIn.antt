@@ -20,7 +20,7 @@ use Rattle.blocks.specs.Block.{Block, author}
 use Rattle.store_layout.proofs.Stored.{WellStored}
 use Rattle.finality.specs.Voters.{votesFor}
 use Rattle.finality.proofs.Ancestors.{ancestor-stored}
-use Rattle.finality.proofs.Growing.{more-quorum}
+use Rattle.committee.proofs.Bounds.{more-quorum}
 use Rattle.readings.specs.Rejecting.{rejects}
 use Rattle.readings.specs.Readings.{Reading, old, votersIn, certifiesIn, certifiersIn, isFinalIn}
 use Rattle.readings.specs.Withdrawing.{VoterIn, CertificateIn, FinalIn, NoRejects}

@@ -14,7 +14,7 @@ use Rattle.base.proofs.Once.{once-keep, once-countFrom}
 use Rattle.base.proofs.Orders.{before-total}
 use Rattle.committee.specs.Committee.{AuthorityIndex, Committee, isQuorum, known, getStake}
 use Rattle.authority_set.specs.AuthoritySet.{AuthoritySet, member, members, numberOfVoters, united, setOf, stakeOf}
-use Rattle.committee.proofs.Bounds.{known-below}
+use Rattle.committee.proofs.Bounds.{known-below, more-quorum}
 use Rattle.authority_set.proofs.Stakes.{weigh, weigh-same, stake-of}
 use Rattle.authority_set.proofs.Members.{stake-members, members-in, in-members}
 use Rattle.authority_set.proofs.Votes.{member-united}
@@ -24,7 +24,7 @@ use Rattle.ring.specs.Ranked.{reached, ranked, rung}
 use Rattle.ring.proofs.Totals.{total, total-sum, topmost, take-most}
 use Rattle.ring.proofs.Ranking.{Fits, ranked-falls, ranked-total, ranked-length, ranked-in, ranked-once}
 use Rattle.ring.proofs.Weights.{bonus, scale, weight, stake-fits, weight-fits, weight-total, first-more, Ascends}
-use Rattle.ring.proofs.Kept.{keep-keep, keep-same, keep-all, keep-front, take-in, take-length, set-in, in-set, small-set, kept-ascends, more-quorum, Until, until, weigh-apart}
+use Rattle.ring.proofs.Kept.{keep-keep, keep-same, keep-all, keep-front, take-in, take-length, set-in, in-set, small-set, kept-ascends, Until, until, weigh-apart}
 
 module _ (c : Committee) (few : length c ≤ 128) (v r : AuthoritySet) where
   -- a set of owners who can be rung

@@ -9,12 +9,12 @@ use Rattle.base.specs.Checks.{passes, refusal, checked, refused, answered, Answ
 use Rattle.base.proofs.Tests.{fails, not-both}
 use Rattle.committee.specs.Committee.{Committee, broken, isQuorum, getStake}
 use Rattle.authority_set.specs.AuthoritySet.{AuthoritySet, nobody, united, setOf, stakeOf}
-use Rattle.committee.proofs.Bounds.{few-members}
+use Rattle.committee.proofs.Bounds.{few-members, more-quorum}
+use Rattle.base.proofs.Checks.{refused-answered}
 use Rattle.ring.specs.Rung.{Suffices, Rung}
 use Rattle.ring.specs.Ranked.{reached, ranked, rung, ringChecks, ringOf, ring}
 use Rattle.ring.specs.Claims.{RungIsIt, OnlyRung, NoneSuffices, RefusedMeant, NoneExactly, NobodyRung, StakeSummed, Claims}
 use Rattle.ring.proofs.Totals.{total-sum}
-use Rattle.ring.proofs.Kept.{more-quorum}
 use Rattle.ring.proofs.Turns.{none-rung}
 use Rattle.ring.proofs.Chosen.{first-stake, all-stake, reached-until, no-more, rung-is-it, only-one}
 
@@ -45,16 +45,12 @@ answers c s v r = go (isQuorum c (stakeOf c (united v r))) refl
     go true e = given e (ring-given c v r s e)
     go false e = missed e (ring-missed c v r s e)
 
--- an answer is no refusal
-clash : {A : Type 0} {a : Answer A} {n : ℕ} {x : A} → a ≡ refused n → a ≡ answered x → ⊥
-clash h k = let z : _≡_ {A = ℕ} 0 1 = cc in omega arith
-
 pub is-it : RungIsIt
 unfolding RungIsIt
 is-it c s v r g h = go (answers c s v r)
   where
     go : Answers c v r → Rung c v r (g .owners) × (g .stake ≡ stakeOf c (g .owners))
-    go (missed q e) = absurd (clash e h)
+    go (missed q e) = absurd (refused-answered e h)
     go (given q e) =
         let same : ringOf c (setOf (rung c v r)) ≡ g = cc in
         rw (← same) (rung-is-it c (few-members c s) v r q, refl)
@@ -80,7 +76,7 @@ refused-meant c s v r = (λ h w k. there h w k (answers c s v r), λ f. back f (
   where
     there : ring c v r ≡ refused 60 → (w : AuthoritySet) → Suffices c v r w → Answers c v r → ⊥
     there h w k (missed q e) = not-both (no-more c (few-members c s) v r w k) q
-    there h w k (given q e) = clash h e
+    there h w k (given q e) = refused-answered h e
 
     back : ((w : AuthoritySet) → Suffices c v r w → ⊥) → Answers c v r → ring c v r ≡ refused 60
     back f (missed q e) = e

@@ -16,6 +16,7 @@ use Rattle.authority_set.specs.AuthoritySet.{member, setOf}
 use Rattle.authority_set.proofs.Stakes.{weigh}
 use Rattle.authority_set.proofs.Votes.{member-setOf}
 use Rattle.authority_set.proofs.Words.{Small, small-nobody, small-inserted}
+use Rattle.committee.proofs.Bounds.{more-quorum}
 use Rattle.ring.specs.Ranked.{untilQuorum}
 use Rattle.ring.proofs.Totals.{total}
 use Rattle.ring.proofs.Weights.{Ascends, none-left, next-up}
@@ -106,11 +107,6 @@ kept-ascends p i (suc n) h = go (p i) (kept-ascends p (i + 1) n (omega arith))
     go : (t : Bool) → Ascends (i + 1) (keep p (countFrom (i + 1) n)) → Ascends i (pick t (i ∷ keep p (countFrom (i + 1) n)) (keep p (countFrom (i + 1) n)))
     go true k = next-up {y = i} {a = i} (omega arith) (omega arith) k
     go false k = ascends-less i _ k
-
--- more stake is no less quorum
-pub more-quorum : (c : Committee) (s t : Stake) → s ≤ t → isQuorum c s ≡ true → isQuorum c t ≡ true
-unfolding isQuorum
-more-quorum c s t h q = lt-ltb (2 * totalStake c) (3 * t) (omega (arith, ltb-true (2 * totalStake c) (3 * s) q))
 
 -- the first up to quorum: some k of them, fewer are not enough, and they are where all are
 pub record Until (c : Committee) (s : Stake) (xs ys : List AuthorityIndex) : Type 0 where

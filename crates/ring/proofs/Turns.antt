@@ -18,11 +18,12 @@ use Rattle.authority_set.proofs.Counts.{voters-inserted}
 use Rattle.authority_set.proofs.Stakes.{weigh-mono, stake-of}
 use Rattle.authority_set.proofs.Votes.{member-inserted, member-united}
 use Rattle.stake_aggregator.proofs.Aggregators.{stake-inserted}
+use Rattle.committee.proofs.Bounds.{more-quorum}
 use Rattle.ring.specs.Rung.{ringable}
 use Rattle.ring.specs.Ranked.{reached, ranked, untilQuorum, rung}
 use Rattle.ring.specs.Step.{First}
 use Rattle.ring.proofs.Totals.{total}
-use Rattle.ring.proofs.Kept.{keep-both, keep-same, more-quorum}
+use Rattle.ring.proofs.Kept.{keep-both, keep-same}
 use Rattle.ring.proofs.Chosen.{all-stake}
 use Rattle.ring.proofs.Steps.{others, rung-next, set-next}
 use Rattle.ring.proofs.Scans.{ringable-known, ringable-new}

@@ -11,11 +11,7 @@ use Rattle.base.proofs.Le.{AllBytes}
 use Rattle.blocks.specs.Block.{Statement, Block, isShare, isShareAt}
 use Rattle.blocks.specs.Record.{wellFormed, blockIn, noStatement}
 use Rattle.blocks.proofs.Records.{blockOf-fits, block-of}
-
-pub element-at : {A : Type 0} (xs : List A) (i : ℕ) (d : A) → i < length xs → getElem? xs i ≡ some (getD xs i d)
-element-at [] i d h = absurd (omega arith)
-element-at (x ∷ xs) zero d h = refl
-element-at (x ∷ xs) (suc i) d h = element-at xs i d (omega arith)
+use Rattle.base.proofs.Lists.{element-at}
 
 -- the statement of an index, by the one that was read there
 pub share-here : (b : Block) (i : ℕ) (st : Statement) → i < length (b .statements) → st ≡ getD (b .statements) i noStatement → isShareAt b i ≡ isShare st

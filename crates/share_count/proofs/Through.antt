@@ -9,7 +9,7 @@ use lib.ListN.{length, take, drop, getD, take-append-drop}
 use lib.Seq.{take-suc, take-length}
 use Rattle.base.specs.Lists.{keep, countFrom, _∈_, here, there}
 use Rattle.base.specs.Le.{Bytes}
-use Rattle.base.proofs.Lists.{append-nil, keep-append, countFrom-add}
+use Rattle.base.proofs.Lists.{append-nil, keep-append, countFrom-add, flatten-append}
 use Rattle.base.proofs.Loops.{drop-next}
 use Rattle.committee.specs.Committee.{Committee}
 use Rattle.blocks.specs.Reference.{TransactionLocator, locator}
@@ -27,11 +27,6 @@ use Rattle.stored_finals.proofs.Through.{through-entries}
 use Rattle.share_count.specs.Through.{sharesBelow, sharesThrough}
 
 -- ---- lists
-
-pub flatten-append : {A : Type 0} (xs ys : List (List A)) → flatten (xs ++ ys) ≡ flatten xs ++ flatten ys
-unfolding flatten
-flatten-append [] ys = refl
-flatten-append {A} (x ∷ xs) ys = ap (λ (l : List A). x ++ l) (flatten-append xs ys) ∙ sym (append-assoc x (flatten xs) (flatten ys))
 
 map-through : {A B C : Type 0} (f : A → C) (g : B → C) (h : A → B) (xs : List A) → ((x : A) → x ∈ xs → f x ≡ g (h x)) → map f xs ≡ map g (map h xs)
 map-through f g h [] e = refl

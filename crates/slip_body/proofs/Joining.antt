@@ -15,9 +15,10 @@ use Rattle.slips.specs.Paths.{named}
 use Rattle.slips.specs.Reading.{missingFrom, missing, certifierHolds, slipHolds}
 use Rattle.slip_paths.specs.Verdict.{verdict, worse}
 use Rattle.slip_paths.proofs.Verdicts.{worse-both}
-use Rattle.slip_voters.proofs.Taking.{any-append, or-none, and-none}
+use Rattle.slip_voters.proofs.Taking.{or-none, and-none}
 use Rattle.slip_certifier.specs.Verdict.{certifierVerdict}
 use Rattle.slip_certifier.proofs.Joining.{join-found, join-quorum}
+use Rattle.base.proofs.Lists.{any-append}
 use Rattle.slip_body.specs.Step.{certifiersVerdict}
 
 -- ---- all certifiers

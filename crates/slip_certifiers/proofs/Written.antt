@@ -16,10 +16,10 @@ use Rattle.blocks.specs.Record.{referenceBytes}
 use Rattle.blocks.proofs.Records.{one-byte, length-reference}
 use Rattle.block_votes.specs.Walk.{SortedStore, blockAtPlace}
 use Rattle.block_votes.proofs.Sorting.{place-stored}
-use Rattle.slips.proofs.Fitting.{block-fits}
 use Rattle.slip_distances.specs.Near.{Distances}
 use Rattle.slip_routes.specs.Reached.{votersAt, Reached, votersSize}
 use Rattle.slip_routes.proofs.Listing.{count-next, count-end, lengths, voters-length}
+use Rattle.finality.proofs.Fits.{block-fits}
 use Rattle.slip_certifiers.specs.Table.{placeIn, votersIn, Ready, certifierBytesAt, certifiersBytes, certifierSize, certifiersSize}
 
 pub few-voters : (v : AuthoritySet) → numberOfVoters v ≤ 128

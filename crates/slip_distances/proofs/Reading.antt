@@ -30,7 +30,8 @@ use Rattle.block_votes.proofs.Sorting.{sorted-well, place-stored, place-author}
 use Rattle.slips.specs.Paths.{leastDistance, distance, isAway, firstPlace}
 use Rattle.slips.specs.Reading.{votesAs}
 use Rattle.slips.proofs.Distances.{distance-step}
-use Rattle.slips.proofs.Fitting.{block-fits, distance-below}
+use Rattle.slips.proofs.Fitting.{distance-below}
+use Rattle.finality.proofs.Fits.{block-fits}
 use Rattle.slip_distances.specs.Near.{away, word, Beside, Row, Folded, Distances}
 use Rattle.slip_distances.proofs.Rows.{beside-start, beside-more}
 use Rattle.slip_distances.proofs.Folding.{nearer-word, least-next, first-next}

@@ -29,6 +29,7 @@ use Rattle.slip_certifier.specs.Step.{Known}
 use Rattle.slip_body.specs.declared.TakenSlip.{TakenSlip}
 use Rattle.slip_body.specs.declared.TakenSlip.the-variants.{Shows, Malformed}
 use Rattle.slip_body.specs.Step.{headRight, readingAt, TookSlip}
+use Rattle.base.proofs.Lists.{zeros-at}
 use Rattle.slip_reader.specs.Step.{Showed}
 
 module _ (c : Committee) (s q : Bytes) where
@@ -132,11 +133,3 @@ pub shown-slip : (c : Committee) (s q : Bytes) (order votes lacking rejecting : 
 unfolding TookSlip Showed
 shown-slip c s q order votes lacking rejecting (Shows v) k t = record { slip = t .slip; reads = t .reads; many = t .many; shows = t .shows k }
 shown-slip c s q order votes lacking rejecting Malformed k t = t
-
--- a fresh table
-pub no-words : (n x : ℕ) → getD (replicate {A = ℕ} n 0) x 0 ≡ 0
-no-words n x = go (decLt x n)
-  where
-    go : Dec (x < n) → getD (replicate {A = ℕ} n 0) x 0 ≡ 0
-    go (yes h) = getD-replicate {A = ℕ} n x 0 0 h
-    go (no h) = List·getD-eq-default (replicate {A = ℕ} n 0) 0 (omega (arith, length-replicate {A = ℕ} n 0))

@@ -21,7 +21,7 @@ use Rattle.block_votes.specs.Walk.{SortedStore, blockAtPlace}
 use Rattle.block_votes.proofs.Sorting.{sorted-well, place-stored}
 use Rattle.slips.specs.Paths.{leastDistance, isAway, firstPlace, stepsFrom, pathTo}
 use Rattle.slips.specs.Reading.{votesAs}
-use Rattle.slips.proofs.Distances.{named-stored, distance-step}
+use Rattle.slips.proofs.Distances.{named-stored, distance-step, suc-only}
 use Rattle.slip_distances.specs.Near.{away, word, Distances}
 use Rattle.slip_distances.proofs.Folding.{some-near}
 
@@ -46,11 +46,6 @@ unfolding word
 word-some none n h = absurd (omega arith)
 word-some (some k) n h = let e : k ≡ n = omega arith in ap some e
 
-suc-some : (t : Bool) (o : Option ℕ) (n : ℕ) → pick t (some 0) (Option·map suc o) ≡ some (suc n) → o ≡ some n
-suc-some true o n h = let e : 0 ≡ suc n = Option·some-injective _ _ h in absurd (omega arith)
-suc-some false none n h = absurd (Option·none-ne-some (suc n) h)
-suc-some false (some m) n h = let e : suc m ≡ suc n = Option·some-injective _ _ h in let q : m ≡ n = omega arith in ap some q
-
 module _ (s : Bytes) (order : List ℕ) (l : TransactionLocator) (near steps : List ℕ) (o : SortedStore s order) (d : Distances s order l near steps (length order))
     (p : ℕ) (h : p < length order) (a : AuthorityIndex) (w : a < 128) where
   abbrev b : Block
@@ -73,7 +68,7 @@ module _ (s : Bytes) (order : List ℕ) (l : TransactionLocator) (near steps : L
 
     least : leastDistance (map (away s l a) (b .includes)) ≡ some n
     unfolding away
-    least = suc-some (votes b) _ n (sym (distance-step votes (sorted-well s order o) b (place-stored s order o p h)) ∙ away-is (suc n) e)
+    least = suc-only (votes b) _ n (sym (distance-step votes (sorted-well s order o) b (place-stored s order o p h)) ∙ away-is (suc n) e)
 
     first : j ≡ firstPlace (λ i. isAway n (away s l a i)) (b .includes)
     first = d .led p h a w n (away-is (suc n) e)

@@ -31,6 +31,7 @@ use Rattle.slip_paths.specs.declared.Led as code
 use Rattle.slip_paths.specs.Verdict.{verdict, worse, voterVerdict}
 use Rattle.slip_paths.specs.Walk.{Noted, LedTo}
 use Rattle.slip_paths.proofs.Verdicts.{worse-both}
+use Rattle.base.proofs.Lists.{any-append}
 use Rattle.slip_voters.specs.Step.{voterAt, Speak, votersVerdict, Read}
 use Rattle.slip_voters.proofs.Listed.{Listed, listed-start, listed-done, listed-none, listed-falls, listed-on}
 
@@ -54,15 +55,6 @@ module _ (s : Bytes) (p : ℕ) where
       rw (number-at 8 s p (omega arith), number-at 2 s (p + 8) (omega arith), e, ← g, items-at n s (p + 10) h, ← f, add-sub-cancel-left (p + 10) n)
 
 -- ---- their authors
-
-pub any-append : {A : Type 0} (p : A → Bool) (xs ys : List A) → anyOf p (xs ++ ys) ≡ anyOf p xs || anyOf p ys
-unfolding anyOf
-any-append p [] ys = refl
-any-append p (x ∷ xs) ys = go (p x) (any-append p xs ys)
-  where
-    go : (t : Bool) → anyOf p (xs ++ ys) ≡ anyOf p xs || anyOf p ys → t || anyOf p (xs ++ ys) ≡ (t || anyOf p xs) || anyOf p ys
-    go true h = refl
-    go false h = h
 
 pub or-none : (t : Bool) → t || false ≡ t
 or-none true = refl

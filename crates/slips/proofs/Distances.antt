@@ -17,6 +17,7 @@ use Rattle.blocks.specs.Block.{Block}
 use Rattle.blocks.specs.Record.{noReference, noBlock}
 use Rattle.blocks.proofs.References.{reference-refl, other-reference}
 use Rattle.store_layout.proofs.Stored.{WellStored, fresh, stored, include-stored}
+use Rattle.base.proofs.Lists.{map-same}
 use Rattle.slips.specs.Paths.{named, toBlock, leads, lesserDistance, leastDistance, distance, isAway, firstPlace, stepsFrom, pathTo}
 use Rattle.slips.specs.Meaning.{LeadsToVote, ShortestThenFirst}
 use Rattle.slips.proofs.Paths.{place-in, named-reference, named-in, same-end, Step, first-step, step-leads}
@@ -108,10 +109,6 @@ named-stored (stored {b = h} new found w) b (there m) = rw (other-reference (h .
 
 -- ---- the distance of a stored block, from its includes'
 
-map-same : {A B : Type 0} (f g : A → B) (xs : List A) → ((x : A) → x ∈ xs → f x ≡ g x) → map f xs ≡ map g xs
-map-same f g [] h = refl
-map-same {B = B} f g (x ∷ xs) h = ap₂ {C = List B} (λ y ys. y ∷ ys) (h x here) (map-same f g xs (λ y m. h y (there m)))
-
 module _ (votes : Block → Bool) where
   abbrev nearest : List Block → Block → Option ℕ
   nearest bs b = leastDistance (map (distance votes bs) (b .includes))
@@ -142,7 +139,7 @@ zero-only true o h = refl
 zero-only false none h = absurd (Option·none-ne-some 0 h)
 zero-only false (some m) h = let e : suc m ≡ 0 = Option·some-injective _ _ h in absurd (omega arith)
 
-suc-only : (t : Bool) (o : Option ℕ) (n : ℕ) → pick t (some 0) (Option·map suc o) ≡ some (suc n) → o ≡ some n
+pub suc-only : (t : Bool) (o : Option ℕ) (n : ℕ) → pick t (some 0) (Option·map suc o) ≡ some (suc n) → o ≡ some n
 suc-only true o n h = let e : 0 ≡ suc n = Option·some-injective _ _ h in absurd (omega arith)
 suc-only false none n h = absurd (Option·none-ne-some (suc n) h)
 suc-only false (some m) n h = let e : suc m ≡ suc n = Option·some-injective _ _ h in let q : m ≡ n = omega arith in ap some q

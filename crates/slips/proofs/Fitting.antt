@@ -28,6 +28,7 @@ use Rattle.finality.specs.Ancestry.{byAccept, byRange, VotesFor, byShare, byVot
 use Rattle.finality.specs.Claims.{Stored}
 use Rattle.finality.proofs.Claimed.{well-stored}
 use Rattle.readings.specs.Readings.{Reading, votersIn, certifiesIn, certifiersIn}
+use Rattle.finality.proofs.Fits.{block-fits}
 use Rattle.slips.specs.Slip.{votersAscend, certifiersAscend}
 use Rattle.slips.specs.Paths.{toBlock, leads, leastDistance, distance, stepsFrom, pathTo}
 use Rattle.slips.specs.Reading.{votesAs}
@@ -44,13 +45,6 @@ place-below (y ∷ xs) zero x h = omega arith
 place-below (y ∷ xs) (suc p) x h = omega (arith, place-below xs p x h)
 
 -- ---- a stored block keeps within the limits of its record
-
-pub block-fits : (s : Bytes) → AllBytes s → (b : Block) → b ∈ blocksOf s → BlockFits b
-unfolding blocksOf
-block-fits s bytes b m =
-    let r = map-in (λ x. x .block) (recordsOf s) m in
-    subst BlockFits (r .2)
-    (blockOf-fits (r .0 .bytes) (r .0 .block) (every-in (recordsOf s) (r .0) (recordsOf-bytes s bytes) (r .1)) (right-block (r .0) (every-in (recordsOf s) (r .0) (recordsOf-right s) (r .1))))
 
 -- ---- the locator: a block within the limits votes for it
 

@@ -23,6 +23,7 @@ use Rattle.finality.proofs.Claimed.{well-stored, small-authors}
 use Rattle.readings.specs.Readings.{Reading, old, withdrawing, votersIn, certifiesIn, certifiersIn}
 use Rattle.readings.specs.Withdrawing.{VoterIn}
 use Rattle.readings.proofs.VotersIn.{voter-in-counted, counted-voter-in}
+use Rattle.authority_set.proofs.Members.{in-members}
 use Rattle.slips.specs.Slip.{SlipVoter}
 use Rattle.slips.specs.Paths.{toBlock, leads, pathTo}
 use Rattle.slips.specs.Reading.{votesAs}
@@ -56,10 +57,6 @@ voter-path w l a b v =
 
 -- ---- the written slip
 
-pub member-listed : (v : AuthoritySet) (a : AuthorityIndex) → a < 128 → member v a ≡ true → a ∈ members v
-unfolding members
-member-listed v a h e = in-keep (member v) (countFrom 0 128) (in-countFrom 0 128 a (omega arith) (omega arith)) e
-
 pub listed-member : (v : AuthoritySet) (a : AuthorityIndex) → a ∈ members v → (a < 128) × (member v a ≡ true)
 unfolding members
 listed-member v a m = let k = keep-in (member v) (countFrom 0 128) m in (let q = countFrom-in 0 128 (k .0) in omega (arith, q .1), k .1)
@@ -89,7 +86,7 @@ module _ (reading : Reading) (c : Committee) (bs : List Block) (h : Stored c bs)
         record {
           every = λ a v. (
             voterOf bs l b a,
-            in-map (voterOf bs l b) (member-listed own a (small (in-voter reading v)) (voter-in-counted reading well l a b m v)),
+            in-map (voterOf bs l b) (in-members own a (small (in-voter reading v)) (voter-in-counted reading well l a b m v)),
             refl,
           );
           only = λ v k. let x = map-in (voterOf bs l b) (members own) k in subst (λ (y : SlipVoter). VoterIn reading bs b l (y .author)) (x .2) (own-voter (x .0) (x .1));

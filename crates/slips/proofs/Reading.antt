@@ -15,7 +15,7 @@ use Rattle.base.specs.Checks.{Check, _⇒_, refusal, passes, Answer, refused, a
 use Rattle.base.proofs.Tests.{and-both, and-left, and-right, neither-right, fails, not-both}
 use Rattle.base.proofs.Members.{any-in, in-any, all-in, in-all, map-in, in-map}
 use Rattle.base.proofs.Lists.{holds-some}
-use Rattle.base.proofs.Checks.{passes-none}
+use Rattle.base.proofs.Checks.{passes-none, checked-answered}
 use Rattle.committee.specs.Committee.{AuthorityIndex, Committee, broken, isQuorum}
 use Rattle.authority_set.specs.AuthoritySet.{member, setOf, stakeOf}
 use Rattle.committee.specs.Quorum.{HoldQuorum}
@@ -23,8 +23,7 @@ use Rattle.authority_set.proofs.Votes.{member-setOf}
 use Rattle.authority_set.proofs.Quorums.{quorum-counted, counted-quorum}
 use Rattle.blocks.specs.Reference.{TransactionLocator}
 use Rattle.blocks.specs.Block.{Block}
-use Rattle.store_layout.specs.Layout.{Record}
-use Rattle.store_layout.specs.Layout.{blocks}
+use Rattle.store_layout.specs.Layout.{Record, blocks}
 use Rattle.readings.specs.Readings.{Reading, old, withdrawing}
 use Rattle.slips.specs.Slip.{SlipVoter, SlipCertifier, Slip, readSlip, slipIn}
 use Rattle.slips.specs.Supplied.{suppliedRecords, suppliedIn, suppliedBlocks, rightBlocks}
@@ -35,25 +34,6 @@ use Rattle.slips.specs.Meaning.{LeadsToVote, StandingIn, RightCertifier,
 use Rattle.slips.proofs.Paths.{named-in}
 use Rattle.slips.proofs.Ancestry.{Falling, whole-lacks, lacks-whole, rejecter-found, found-rejecter, right-falling}
 use Rattle.slips.proofs.Slips.{read-names}
-
--- ---- answers
-
-module _ {A : Type 0} (ks : List Check) (a b : A) where
-  pub answered-passes : checked ks a ≡ answered b → passes ks ≡ true
-  unfolding checked
-  answered-passes h = go (passes ks) refl h
-    where
-      go : (t : Bool) → passes ks ≡ t → pick t (answered a) (refused (refusal ks)) ≡ answered b → passes ks ≡ true
-      go true e k = e
-      go false e k = let z : _≡_ {A = ℕ} 0 1 = cc in absurd (omega arith)
-
-  pub answered-same : checked ks a ≡ answered b → a ≡ b
-  unfolding checked
-  answered-same h = go (passes ks) h
-    where
-      go : (t : Bool) → pick t (answered a) (refused (refusal ks)) ≡ answered b → a ≡ b
-      go true k = cc
-      go false k = let z : _≡_ {A = ℕ} 0 1 = cc in absurd (omega arith)
 
 -- ---- authors that a list names, as a vote set and as a relation
 
@@ -217,7 +197,7 @@ module _ (c : Committee) (r q : Bytes) (n : ℕ) where
   module _ (h : readAnswer c r q ≡ answered n) where
     pass : passes (readChecks c r q) ≡ true
     unfolding readAnswer
-    pass = answered-passes (readChecks c r q) _ n h
+    pass = checked-answered (readChecks c r q) _ n h .0
 
     pub accepted-sound : broken c ≡ false
     unfolding readChecks
@@ -251,7 +231,7 @@ module _ (c : Committee) (r q : Bytes) (n : ℕ) where
           supplied = rs .1;
           right = ap (rightBlocks c) (sym f) ∙ right-by-themselves;
           holding = subst (λ (x : Slip). RightSlip c (blocks (rs .0)) x) e (subst (λ (bs : List Block). RightSlip c bs (slipIn r)) f accepted-right);
-          many = ap (λ (x : Slip). length (x .certifiers)) (sym e) ∙ answered-same (readChecks c r q) _ n h;
+          many = ap (λ (x : Slip). length (x .certifiers)) (sym e) ∙ checked-answered (readChecks c r q) _ n h .1;
         }
 
   pub accepted-answer : AcceptedSlip c r q n → readAnswer c r q ≡ answered n

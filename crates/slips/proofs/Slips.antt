@@ -19,8 +19,8 @@ use Rattle.base.proofs.Read.{part, items-reads, number-reads, ReadsBack, repeat
 use Rattle.blocks.specs.Reference.{BlockReference, TransactionLocator}
 use Rattle.blocks.specs.Record.{referenceBytes, locatorBytes}
 use Rattle.blocks.specs.Claims.{fitsReference, fitsLocator}
-use Rattle.blocks.proofs.Records.{ReferenceFits, LocatorFits, reference-reads, locator-reads, reference-back, locator-back}
-use Rattle.blocks.proofs.Claimed.{bytes-fit}
+use Rattle.blocks.proofs.Records.{ReferenceFits, LocatorFits, reference-reads, locator-reads, reference-back, locator-back, byte-reads}
+use Rattle.blocks.proofs.Claimed.{bytes-fit, reference-fits, locator-fits}
 use Rattle.readings.specs.Readings.{Reading, old, withdrawing, readingOf}
 use Rattle.slips.specs.Slip.{SlipVoter, SlipCertifier, Slip, votersAscend, certifiersAscend, readVoter, readCertifier, readBody, readFirst, namesReading, readSlip, voterBytes, certifierBytes, readingByte, slipBytes, fitsVoter, fitsCertifier, fitsSlip}
 
@@ -73,9 +73,6 @@ certifier-reads k h t =
 one-byte : (k : ℕ) → k < 256 → leBytes 1 k ≡ k ∷ []
 unfolding leBytes
 one-byte k h = let e : k % 256 ≡ k = omega arith in rw e
-
-byte-reads : (k : ℕ) (t : List ℕ) → k < 256 → number 1 (k ∷ t) ≡ some (part k t)
-byte-reads k t h = rw (one-byte k h) at (number-reads 1 k t h)
 
 -- the byte of a reading is a byte, names a reading, and that one
 byte-small : (reading : Reading) → readingByte reading < 256
@@ -186,26 +183,6 @@ unfolding readSlip
 readSlip-fits r s h k = complete-back readFirst (One slipBytes SlipFits) first-back r s h k .right
 
 -- ---- the tests of the claims say what the laws ask
-
-pub reference-fits : (r : BlockReference) → fitsReference r ≡ true → ReferenceFits r
-unfolding fitsReference
-reference-fits r h =
-    let h₁ = and-right (ltb (r .authority) 18446744073709551616) _ h in
-    let h₂ = and-right (ltb (r .round) 18446744073709551616) _ h₁ in
-    record {
-      author = ltb-true (r .authority) 18446744073709551616 (and-left _ _ h);
-      round = ltb-true (r .round) 18446744073709551616 (and-left _ _ h₁);
-      size = eqb-true (length (r .digest)) 32 (and-left _ _ h₂);
-      bytes = bytes-fit (r .digest) (and-right (eqb (length (r .digest)) 32) _ h₂);
-    }
-
-pub locator-fits : (l : TransactionLocator) → fitsLocator l ≡ true → LocatorFits l
-unfolding fitsLocator
-locator-fits l h =
-    record {
-      block = reference-fits (l .block) (and-left _ _ h);
-      offset = ltb-true (l .offset) 18446744073709551616 (and-right (fitsReference (l .block)) _ h);
-    }
 
 voter-fits : (v : SlipVoter) → fitsVoter v ≡ true → VoterFits v
 unfolding fitsVoter

@@ -15,7 +15,7 @@ use Rattle.base.specs.Read.{Read, give, onward, _>>=_, andOthers, upTo}
 use Rattle.base.proofs.Tests.{and-both, and-left, and-right}
 use Rattle.base.proofs.Members.{in-all, in-map, map-in}
 use Rattle.base.proofs.Lists.{Every, none-of, and, every, pairs-pairwise, Pairs, no-pairs, with-later}
-use Rattle.base.proofs.Checks.{passes-none, passes-left, passes-right, passes-others}
+use Rattle.base.proofs.Checks.{passes-none, passes-left, passes-right, passes-others, checked-answered}
 use Rattle.base.proofs.Le.{AllBytes}
 use Rattle.base.proofs.Read.{items-reads, number-reads, ReadsBack}
 use Rattle.committee.specs.Committee.{Committee, broken}
@@ -26,11 +26,10 @@ use Rattle.blocks.specs.Reference.{TransactionLocator, sameReference}
 use Rattle.blocks.specs.Block.{Block, author}
 use Rattle.blocks.specs.Verify.{headChecks, bodyChecks}
 use Rattle.blocks.proofs.Records.{LocatorFits}
-use Rattle.store_layout.specs.Layout.{Record, usedBy}
+use Rattle.store_layout.specs.Layout.{Record, usedBy, blocks}
 use Rattle.store_layout.specs.Accept.{blockChecks, allAccepted}
 use Rattle.store_layout.specs.Store.{giveRecord, recordsOf, storeInOrder}
 use Rattle.store_layout.proofs.Stored.{WellStored, include-stored}
-use Rattle.store_layout.specs.Layout.{blocks}
 use Rattle.store_layout.proofs.Accepted.{accepted-stored}
 use Rattle.store_layout.proofs.Store.{Right, InOrder, in-order, recordsOf-right, used-within, longest}
 use Rattle.finality.specs.Finality.{blocksOf}
@@ -43,17 +42,20 @@ use Rattle.readings.specs.Readings.{Reading, old, withdrawing, votersIn, certif
 use Rattle.readings.specs.Withdrawing.{VoterIn}
 use Rattle.readings.proofs.FinalsIn.{final-in-old}
 use Rattle.readings.proofs.Claimed.{old-reading}
+use Rattle.authority_set.proofs.Members.{in-members}
+use Rattle.base.proofs.UpTo.{up-to-reads}
+use Rattle.finality.proofs.Fits.{block-fits}
 use Rattle.slips.specs.Slip.{SlipVoter, readSlip, slipBytes}
 use Rattle.slips.specs.Supplied.{readSupplied, suppliedRecords, rightBlocks, suppliedBytes}
 use Rattle.slips.specs.Reading.{votesAs, readAnswer}
 use Rattle.slips.specs.Meaning.{LeadsToVote, StandingIn, RightCertifier, RightSlip}
 use Rattle.slips.specs.Writing.{voterOf, certifierOf, orderedCertifiers, slipFor, writeChecks, writeSlip}
 use Rattle.slips.proofs.Slips.{readSlip-slipBytes}
-use Rattle.slips.proofs.Reading.{answered-passes, answered-same, NamedAs, quorum-listed, accepted-answer}
+use Rattle.slips.proofs.Reading.{NamedAs, quorum-listed, accepted-answer}
 use Rattle.slips.proofs.Distances.{named-stored}
 use Rattle.slips.proofs.Ordered.{Distinct}
-use Rattle.slips.proofs.Naming.{member-listed, own-voter, own-path, certifier-in, certifiers-in}
-use Rattle.slips.proofs.Fitting.{block-fits, vote-fits, distinct-stored, length-certifiers, slip-fits}
+use Rattle.slips.proofs.Naming.{own-voter, own-path, certifier-in, certifiers-in}
+use Rattle.slips.proofs.Fitting.{vote-fits, distinct-stored, length-certifiers, slip-fits}
 
 -- ---- the records, read back
 
@@ -69,14 +71,6 @@ supplied-reads r h k t =
       items-reads (length (r .bytes)) (r .bytes) t refl,
       h,
     )
-
-module _ {A : Type 0} (m : Read A) (w : A → Bytes) (some-bytes : (a : A) (t : Bytes) → isEmpty (w a ++ t) ≡ false) where
-  up-to-reads : (n : ℕ) (xs : List A) → length xs ≤ n → Every (ReadsBack m w) xs → upTo n m (flatten (map w xs)) ≡ some xs
-  unfolding upTo flatten isEmpty andOthers
-  up-to-reads zero [] l none-of = refl
-  up-to-reads (suc n) [] l none-of = refl
-  up-to-reads zero (x ∷ xs) l h = absurd (omega arith)
-  up-to-reads (suc n) (x ∷ xs) l (and h hs) = rw (some-bytes x (flatten (map w xs)), h (flatten (map w xs)), up-to-reads n xs (omega arith) hs)
 
 length-not-empty : (r : Record) (t : Bytes) → isEmpty (lengthFirst r ++ t) ≡ false
 unfolding leBytes isEmpty
@@ -144,7 +138,7 @@ module _ (reading : Reading) (c : Committee) (bs : List Block) (h : Stored c bs)
           standing = stands reading (λ v k. let x = map-in (voterOf bs l b) (members own) k in subst (λ (y : SlipVoter). VoterIn reading bs b l (y .author)) (x .2) (own-voter reading c bs h l b m (x .0) (x .1)));
           quorum =
               counted-quorum c own _
-              (λ a k t. (voterOf bs l b a, in-map (voterOf bs l b) (member-listed own a (omega (arith, few-members c (h .sound), k)) t), refl))
+              (λ a k t. (voterOf bs l b a, in-map (voterOf bs l b) (in-members own a (omega (arith, few-members c (h .sound), k)) t), refl))
               (and-right (not (b .marked)) _ e);
         }
 
@@ -201,8 +195,8 @@ pub slice-accepted : (reading : Reading) (c : Committee) (t out : Bytes) (l : Tr
     → readAnswer c (take n (writeSlip reading c t out l .out)) (suppliedBytes (recordsOf t)) ≡ answered (length (certifiersIn reading c (blocksOf t) l))
 unfolding writeSlip
 slice-accepted reading c t out l n b h =
-    let p : passes (writeChecks reading c t out l) ≡ true = answered-passes (writeChecks reading c t out l) _ n h in
-    let e : length (slipBytes (slipFor reading c (blocksOf t) l)) ≡ n = answered-same (writeChecks reading c t out l) _ n h in
+    let p : passes (writeChecks reading c t out l) ≡ true = checked-answered (writeChecks reading c t out l) _ n h .0 in
+    let e : length (slipBytes (slipFor reading c (blocksOf t) l)) ≡ n = checked-answered (writeChecks reading c t out l) _ n h .1 in
     rw (p, take-at (slipBytes (slipFor reading c (blocksOf t) l)) (drop (length (slipBytes (slipFor reading c (blocksOf t) l))) out) n e)
     (slip-accepted reading c t (sound p) b (ordered p) l (final p))
   where

@@ -40,6 +40,7 @@ use Rattle.voters_index.proofs.Fitting.{run-span}
 use Rattle.voters_index.proofs.Reading.{part-back}
 use Rattle.voters_index.proofs.Checking.{agrees-part}
 use Rattle.sorted_step.specs.Step.{PartWords}
+use Rattle.finality.proofs.Fits.{block-fits}
 
 -- ---- references of runs fit
 
@@ -47,13 +48,6 @@ vote-fits : (b : Block) (l : TransactionLocator) → BlockFits b → VotesFor b 
 vote-fits b l f (byShare e h) = subst ReferenceFits e (f .reference)
 vote-fits b l f (byVote (byAccept m)) = every-in (b .statements) _ (f .statements) m .block
 vote-fits b l f (byVote (byRange r m e h k)) = subst ReferenceFits e (every-in (b .statements) _ (f .statements) m .block)
-
-block-fits : (s : Bytes) → AllBytes s → (b : Block) → b ∈ blocksOf s → BlockFits b
-unfolding blocksOf
-block-fits s bytes b m =
-    let r = map-in (λ x. x .block) (recordsOf s) m in
-    subst BlockFits (r .2)
-    (blockOf-fits (r .0 .bytes) (r .0 .block) (every-in (recordsOf s) (r .0) (recordsOf-bytes s bytes) (r .1)) (right-block (r .0) (every-in (recordsOf s) (r .0) (recordsOf-right s) (r .1))))
 
 run-fits : (bs : List Block) → ((b : Block) → b ∈ bs → BlockFits b) → (r : BlockReference) (x : Run) → x ∈ partIn bs r → ReferenceFits (x .reference)
 unfolding locator

@@ -1,6 +1,5 @@
 -- The form of the list: whole locators that ascend. Assumes nothing.
 use mathlib.Core.Path.{_≡_, sym, ap, subst, _∙_}
-use mathlib.Core.Logic.{_⊎_, inl, inr}
 use mathlib.Core.Bool.{Bool, true, false, not}
 use mathlib.Core.List.{List, _∷_}
 use mathlib.Core.Option.{none, some}
@@ -14,14 +13,14 @@ use borrow.Author.Tests.{eq-eqb, ne-eqb, not-true}
 use Rattle.base.specs.Lists.{holds}
 use Rattle.base.specs.Le.{Bytes}
 use Rattle.base.specs.Read.{complete}
-use Rattle.base.proofs.Tests.{holds-or-not, fails, not-both}
+use Rattle.base.proofs.Tests.{fails, not-both}
 use Rattle.base.proofs.Lists.{pairwise-pairs, pairs-pairwise}
 use Rattle.base.proofs.Places.{pairs-places}
 use Rattle.base.proofs.Index.{at-pairs}
 use Rattle.base.proofs.Fixed.{valuesOf, fixed-repeated, length-valuesOf, getD-valuesOf, empty-drop}
 use Rattle.blocks.specs.Reference.{TransactionLocator, locator, locatorBefore}
 use Rattle.blocks.specs.Record.{readLocator, noReference}
-use Rattle.blocks.proofs.References.{locator-trans, locator-total}
+use Rattle.blocks.proofs.References.{not-before-trans}
 use Rattle.types.specs.Step.{locatorAt}
 use Rattle.types.proofs.Fixed.{fixed-locator, locator-value}
 use Rattle.sorted_replies.specs.Sorted.{sortedLocators, locatorsOf, listOf, asked}
@@ -63,13 +62,6 @@ list-at bytes i h =
     getD-valuesOf 56 (fixed-locator .value) (length bytes / 56) bytes i noLocator h ∙ locator-value bytes (i * 56) ∙ ap (locatorAt bytes) e
 
 -- ---- in order
-
-not-before-trans : (l m n : TransactionLocator) → locatorBefore m l ≡ false → locatorBefore n m ≡ false → locatorBefore n l ≡ false
-not-before-trans l m n h k = fails (locatorBefore n l) (λ t. go t (holds-or-not (locatorBefore m n)))
-  where
-    go : locatorBefore n l ≡ true → (locatorBefore m n ≡ true) ⊎ (locatorBefore m n ≡ false) → ⊥
-    go t (inl e) = not-both (locator-trans m n l e t) h
-    go t (inr e) = not-both (subst (λ (x : TransactionLocator). locatorBefore x l ≡ true) (locator-total n m k e) t) h
 
 -- the first i locators ascend
 unfoldable pub Rising : Bytes → ℕ → Type 0

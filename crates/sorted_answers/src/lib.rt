@@ -1,15 +1,11 @@
 // A sorted list of locators answered with the index: the form of the list (62), and one step for each stored block in order of arrival.
 use committee::Stake;
-use types::Ordering;
-use types::TransactionLocator;
 ghost use mathlib.Core.Path.{_≡_};
 ghost use mathlib.Core.Bool.{true, false};
 ghost use Prim.Native.Nat.{_*_};
 ghost use lib.ListN.{length, replicate};
 ghost use Rattle.base.specs.Lists.{holds};
 ghost use Rattle.committee.specs.Committee.{broken, totalStake};
-ghost use Rattle.blocks.specs.Reference.{locatorBefore};
-ghost use Rattle.types.specs.Values.{asLocator};
 ghost use Rattle.store_layout.specs.Store.{storeInOrder};
 ghost use Rattle.finality.specs.Finality.{blocksOf};
 ghost use Rattle.voters_index.specs.Index.{indexed, indexAgrees};
@@ -17,18 +13,6 @@ ghost use Rattle.sorted_replies.specs.Sorted.{repliesAfter, sortedLocators, loc
 ghost use Rattle.sorted_step.specs.Step.{repliesWords, Listed};
 
 // ---- the list
-
-// Whether a locator comes before another.
-fn is_before(a: TransactionLocator, b: TransactionLocator) -> bool
-    ensures { λ r. ⌜ r ≡ locatorBefore (asLocator a) (asLocator b) ⌝ }
-{
-    let order = types::compare_locators(a, b);
-    match order {
-        Ordering::Less => true,
-        Ordering::Equal => false,
-        Ordering::Greater => false,
-    }
-}
 
 // Whether bytes are whole locators that ascend; equal ones may follow each other.
 pub fn is_sorted_list(locators: &[u8]) -> bool
@@ -42,7 +26,7 @@ pub fn is_sorted_list(locators: &[u8]) -> bool
     while i < n {
         let last = types::read_locator(locators, 56 * (i - 1));
         let next = types::read_locator(locators, 56 * i);
-        if is_before(next, last) {
+        if types::locator_before(next, last) {
             return false;
         }
         i += 1;

@@ -14,7 +14,7 @@ use Rattle.types.specs.Step.{locatorAt}
 use Rattle.voters_index.specs.Runs.{Run, votersIn}
 use Rattle.voters_index.specs.Part.{RunsOf}
 use Rattle.voters_index.specs.Walk.{Past, byBlock, byOffset, Place, beyond}
-use Rattle.voters_index.proofs.Chain.{Covered, covered, Chain, end, link, Differs, past-head, nobody-before, at-head}
+use Rattle.voters_index.proofs.Chain.{Covered, covered, Chain, end, link, Differs, past-head, nobody-before, at-head, chain-drop, passed-out}
 use Rattle.voters_index.proofs.Relation.{runs-chain}
 use Rattle.voters_index.proofs.Fitting.{past-sorted}
 use Rattle.sorted_step.specs.Step.{Beside, Listed}
@@ -35,17 +35,6 @@ behind-start xs bytes n k h m = refl
 pub behind-on : (xs : List Run) (bytes : Bytes) (n i j : ℕ) → Behind xs bytes n i j → Behind xs bytes n (i + 1) j
 unfolding Behind
 behind-on xs bytes n i j b k h m = b k (omega arith) m
-
--- a locator that a run has passed is not in it
-passed-out : (x : Run) (l : TransactionLocator) → Past (x .reference) (x .end) (l .block) (l .offset) → Covered x l → ⊥
-passed-out x l (byBlock h) c = reference-irrefl (l .block) (subst (λ (r : BlockReference). referenceBefore r (l .block) ≡ true) (c .of) h)
-passed-out x l (byOffset h k) c = omega (arith, c .below)
-
--- the runs from an index on ascend too
-chain-drop : {D : Run → List Run → Type 0} {p : Place} (j : ℕ) (xs : List Run) → Chain D p xs → (q : Place) × Chain D q (drop j xs)
-chain-drop {p = p} zero xs h = (p, h)
-chain-drop {p = p} (suc j) [] h = (p, end)
-chain-drop (suc j) (x ∷ xs) (link a g d h) = chain-drop j xs h
 
 module _ (xs : List Run) (bytes : Bytes) (n i j : ℕ) (b : Behind xs bytes n i j) where
   -- the next run is passed too

@@ -7,11 +7,7 @@ use native.Mathlib.Nat.{suc-add}
 use lib.ListN.{length, getD, drop}
 use lib.Seq.{drop-drop}
 use Rattle.voters_index.specs.Walk.{runFrom, runsFrom, partAt}
-
-pub length-runs : (n : ℕ) (ws : List ℕ) → length (runsFrom n ws) ≡ n
-unfolding runsFrom
-length-runs zero ws = refl
-length-runs (suc n) ws = ap suc (length-runs n (drop 10 ws))
+use Rattle.voters_index.proofs.Reading.{length-runs}
 
 -- the run of an index, and those after it
 pub run-next : (n j : ℕ) (ws : List ℕ) → j < n → drop j (runsFrom n ws) ≡ runFrom (drop (10 * j) ws) ∷ drop (j + 1) (runsFrom n ws)

@@ -15,16 +15,14 @@ use Rattle.base.proofs.Tests.{or-left}
 use Rattle.base.proofs.Lists.{Every, none-of, and}
 use Rattle.committee.specs.Committee.{Committee, totalStake, isQuorum}
 use Rattle.authority_set.specs.AuthoritySet.{AuthoritySet, nobody, inserted, member, stakeOf}
-use Rattle.authority_set.proofs.Votes.{member-inserted}
+use Rattle.authority_set.proofs.Votes.{stake-nobody, member-inserted}
 use Rattle.authority_set.proofs.Words.{Small, small-inserted, set-ext}
 use Rattle.blocks.specs.Reference.{TransactionLocator}
 use Rattle.blocks.specs.Block.{Block, author}
 use Rattle.voters_index.specs.Runs.{Run, votersIn}
 use Rattle.voters_index.specs.Certified.{partCertifies}
-use Rattle.voters_index.proofs.Certifying.{stake-nobody}
 use Rattle.sorted_replies.specs.Sorted.{Reply, replyWords, replyOf, stepReply, step}
-use Rattle.sorted_step.specs.declared.Checked as declared
-use Rattle.sorted_step.specs.Step.{Sure, replyFrom, repliesFrom, repliesWords, SettledReply, Settled}
+use Rattle.sorted_step.specs.Step.{replyFrom, repliesFrom, repliesWords, SettledReply, Settled}
 
 -- ---- replies read back
 
@@ -145,8 +143,3 @@ module _ (ws : List ℕ) (i : ℕ) where
         → set (set (set ws (3 * i) f) (3 * i + 1) (v .low)) (3 * i + 2) (v .high) ≡ sets ws (3 * i) (replyWords (replyOf c (inserted (replyFrom (drop (3 * i) ws) .authors) a)))
     unfolding replyWords replyOf
     add-new f v e g = rw (g, authors-at, ← e) (simp towards-suc)
-
--- nobody holds no quorum
-pub sure-nobody : (c : Committee) (x : declared.Checked) → x .voters ≡ nobody → x .quorum ≡ false → Sure c x
-unfolding Sure isQuorum stakeOf
-sure-nobody c x e f = f ∙ sym (rw (e, stake-nobody c 0) (le-ltb (2 * totalStake c) 0 (omega arith)))

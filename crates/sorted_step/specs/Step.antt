@@ -15,7 +15,6 @@ use Rattle.voters_index.specs.Runs.{Run, runCovers}
 use Rattle.voters_index.specs.Part.{RunsOf}
 use Rattle.voters_index.specs.Walk as walk
 use Rattle.sorted_replies.specs.Sorted.{Reply, replyWords, replyOf, step}
-use Rattle.sorted_step.specs.declared.Checked as declared
 use Rattle.sorted_step.specs.declared.Side.{Side}
 use Rattle.sorted_step.specs.declared.Side.the-variants.{Before, Inside, Past}
 
@@ -24,10 +23,6 @@ unfoldable pub Beside : Run → TransactionLocator → Side → Type 0
 Beside x l Before = walk.Past (l .block) (l .offset + 1) (x .reference) (x .start)
 Beside x l Inside = runCovers x l ≡ true
 Beside x l Past = walk.Past (x .reference) (x .end) (l .block) (l .offset)
-
--- whether a set of voters holds quorum, as it was found last
-unfoldable pub Sure : Committee → declared.Checked → Type 0
-Sure c x = x .quorum ≡ isQuorum c (stakeOf c (x .voters))
 
 -- ---- replies in words
 

@@ -19,7 +19,7 @@ ghost use Rattle.types.specs.Values.{asLocator};
 ghost use Rattle.voters_index.specs.Walk.{partAt};
 ghost use Rattle.index_runs.specs.Values.{asRun};
 ghost use Rattle.sorted_replies.specs.Sorted.{replyWords, replyOf, asked};
-ghost use Rattle.sorted_step.specs.Step.{Beside, Sure, replyFrom, stepWords, SettledReply, Settled, Listed, PartWords};
+ghost use Rattle.sorted_step.specs.Step.{Beside, replyFrom, stepWords, SettledReply, Settled, Listed, PartWords};
 
 // How a locator stands to a run.
 enum Side {
@@ -45,26 +45,6 @@ fn side_of(run: Run, locator: TransactionLocator) -> Side
             Side::Past
         }
     }
-}
-
-// A set of voters, and whether it holds quorum.
-struct Checked {
-    voters: AuthoritySet,
-    quorum: bool,
-}
-
-// Whether voters hold quorum; those that were asked for last are not counted again.
-fn check(stakes: &[u64], total: Stake, last: Checked, voters: AuthoritySet) -> Checked
-    requires { ⌜ ((broken (now stakes) ≡ false) × (total .0 ≡ totalStake (now stakes))) × Sure (now stakes) last ⌝ }
-    ensures { λ r. ⌜ (r .voters ≡ voters) × Sure (now (stakes .entry)) r ⌝ }
-{
-    if last.voters.low == voters.low {
-        if last.voters.high == voters.high {
-            return last;
-        }
-    }
-    let quorum = committee::is_quorum(total, authority_set::stake_of(stakes, voters));
-    Checked { voters, quorum }
 }
 
 // 1 where the authors hold quorum, else 0.
@@ -110,10 +90,7 @@ fn merge(
 {
     let n = locators.len() / 56;
     let m = part[0] as usize;
-    let mut last = Checked {
-        voters: AuthoritySet::new(),
-        quorum: false,
-    };
+    let mut last = quorum_check::nobody();
     let mut i: usize = 0;
     let mut j: usize = 0;
     while i < n {
@@ -134,7 +111,7 @@ fn merge(
             Side::Inside => {
                 let k = i;
                 i += 1;
-                last = check(stakes, total, last, run.votes);
+                last = quorum_check::check(stakes, total, last, run.votes);
                 if !last.quorum {
                     continue;
                 }

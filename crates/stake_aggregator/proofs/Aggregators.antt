@@ -13,7 +13,7 @@ use Rattle.base.proofs.Members.{in-keep, keep-in, all-in, in-all}
 use Rattle.committee.specs.Committee.{AuthorityIndex, Committee, known, getStake}
 use Rattle.authority_set.specs.AuthoritySet.{AuthoritySet, nobody, stakeFrom, member, inserted, members, stakeOf}
 use Rattle.stake_aggregator.specs.StakeAggregator.{StakeAggregator, noVotes, counted, aggregatorInOrder}
-use Rattle.authority_set.proofs.Votes.{member-nobody, member-inserted}
+use Rattle.authority_set.proofs.Votes.{member-nobody, stake-nobody, member-inserted}
 use Rattle.authority_set.proofs.Stakes.{weigh-same, weigh-with, stake-of}
 
 -- 01: "stake grows only for a new voter": the stake of a set with a new member
@@ -60,11 +60,6 @@ counted-keeps c a g b h = split (member (g .votes) a)
     split : (t : Bool) → member (pick t g (record { votes = inserted (g .votes) a; stake = g .stake + getStake c a }) .votes) b ≡ true
     split true = h
     split false = rw (member-inserted (g .votes) a b, h)
-
-stake-nobody : (c : Committee) (i : AuthorityIndex) → stakeFrom i c nobody ≡ 0
-unfolding stakeFrom
-stake-nobody [] i = refl
-stake-nobody (s ∷ c) i = rw (member-nobody i, stake-nobody c (i + 1))
 
 -- an aggregator without votes is in order
 pub noVotes-order : (c : Committee) → aggregatorInOrder c noVotes ≡ true

@@ -11,6 +11,7 @@ use Rattle.base.specs.Checks.{passes, refusal, checked, refused, answered}
 use Rattle.base.proofs.Tests.{and-right, not-both}
 use Rattle.committee.specs.Committee.{AuthorityIndex, Committee, Stake, totalStake, isQuorum, getStake}
 use Rattle.authority_set.specs.AuthoritySet.{member, inserted}
+use Rattle.committee.proofs.Bounds.{more-quorum}
 use Rattle.stake_aggregator.specs.StakeAggregator.{StakeAggregator, noVotes, counted, hasQuorum, addChecks, Told, toldOf, told, add}
 use Rattle.stake_aggregator.specs.Claims.{holdsNow, saysCrossed, answers, addedAll, crossings, CrossesAt}
 
@@ -22,10 +23,6 @@ more-stake c g a = go (member (g .votes) a)
     go : (t : Bool) → g .stake ≤ pick t g (record { votes = inserted (g .votes) a; stake = g .stake + getStake c a }) .stake
     go true = omega arith
     go false = omega arith
-
-more-quorum : (c : Committee) (s t : Stake) → s ≤ t → isQuorum c s ≡ true → isQuorum c t ≡ true
-unfolding isQuorum
-more-quorum c s t h q = lt-ltb (2 * totalStake c) (3 * t) (omega (arith, ltb-true (2 * totalStake c) (3 * s) q))
 
 quorum-stays : (c : Committee) (g : StakeAggregator) (a : AuthorityIndex) → hasQuorum c g ≡ true → hasQuorum c (add c g a .aggregator) ≡ true
 unfolding hasQuorum add

@@ -16,9 +16,10 @@ use Rattle.stakes_chain.specs.Chain.{Chained, chainOf}
 use Rattle.stakes_chain.proofs.Chains.{chain-found, off-chain, part-same}
 use Rattle.stakes_names.specs.Names.{nameAt, goodNames, WellNamed}
 use Rattle.stakes_names.proofs.Names.{names-meant}
+use Rattle.base.proofs.Checks.{refused-answered}
 use Rattle.stakes_file.specs.Load.{stakeAt, membersAt, memberChecks, loadAlong, load}
 use Rattle.stakes_file.specs.Claims.{Loaded, LoadedMeant, NeverBroken, EmptyFile, BrokenChain, BadNames, ThenCommittee, OffChain, Claims}
-use Rattle.stakes_file.proofs.Loaded.{clash, refused-same, passes-sound, sound-passes, checked-answered, checked-passes, small-refusal, load-empty, load-broken, load-chained, along-bad, along-good}
+use Rattle.stakes_file.proofs.Loaded.{refused-same, passes-sound, sound-passes, checked-answered, checked-passes, small-refusal, load-empty, load-broken, load-chained, along-bad, along-good}
 
 -- the names of a chain are good or not, and loading goes on or not
 data Names (f : Bytes) (is : List ℕ) : Type 0 where
@@ -69,7 +70,7 @@ unfolding LoadedMeant
 loaded-meant f h c = (λ e. there e (chainOf f) refl, λ l. back l (names-of f (l .indexes) (l .chained)))
   where
     members-of : load f ≡ answered c → (is : List ℕ) → Chained f is → Names f is → Loaded f c
-    members-of e is k (bad w d) = absurd (clash d e)
+    members-of e is k (bad w d) = absurd (refused-answered d e)
     members-of e is k (good w d) =
         let p = checked-answered (committeeChecks (membersAt f is)) (membersAt f is) c (sym d ∙ e) in
         record {
@@ -81,7 +82,7 @@ loaded-meant f h c = (λ e. there e (chainOf f) refl, λ l. back l (names-of f (
         }
 
     there : load f ≡ answered c → (o : Option (List ℕ)) → chainOf f ≡ o → Loaded f c
-    there e none d = absurd (clash (load-broken f h d) e)
+    there e none d = absurd (refused-answered (load-broken f h d) e)
     there e (some is) d = members-of e is (chain-found f is d) (names-of f is (chain-found f is d))
 
     back : (l : Loaded f c) → Names f (l .indexes) → load f ≡ answered c

@@ -17,11 +17,12 @@ use Rattle.committee.specs.Committee.{Committee}
 use Rattle.committee.proofs.Bounds.{few-members}
 use Rattle.stakes_chain.specs.Chain.{chainOf}
 use Rattle.stakes_names.specs.Names.{nameAt, goodNames}
+use Rattle.base.proofs.Checks.{refused-answered}
 use Rattle.stakes_file.specs.declared.LoadAnswer.{LoadAnswer}
 use Rattle.stakes_file.specs.declared.LoadAnswer.the-variants.{Members, Refused}
 use Rattle.stakes_file.specs.Load.{membersAt, loadAlong, load, loadedInto}
 use Rattle.stakes_file.specs.Answers.{asLoad, stakesIn, membersAtMost}
-use Rattle.stakes_file.proofs.Loaded.{clash, refused-same, small-refusal, load-empty, load-broken, load-some, along-bad, along-good}
+use Rattle.stakes_file.proofs.Loaded.{refused-same, small-refusal, load-empty, load-broken, load-some, along-bad, along-good}
 use Rattle.stakes_file.proofs.Claimed.{load-sound}
 
 -- a table that is loaded has at most 128 members
@@ -35,7 +36,7 @@ module _ (words out : List ℕ) (r : LoadAnswer) (room : 128 ≤ length words) w
   front (refused k) few h e = told r h
     where
       told : (q : LoadAnswer) → asLoad q ≡ refused k → membersAtMost 128 q × (stakesIn q out ≡ refused k)
-      told (Members n) g = absurd (clash {x = n} g refl)
+      told (Members n) g = absurd (refused-answered {x = n} g refl)
       told (Refused n) g = let z : n ≡ k = cc in (omega arith, ap refused z)
   front (answered c) few h e = told r (rw fits at h) (rw fits at e)
     where
@@ -49,7 +50,7 @@ module _ (words out : List ℕ) (r : LoadAnswer) (room : 128 ≤ length words) w
       told (Members n) g d =
           let z : n ≡ length c = cc in
           (omega (arith, small), ap answered (rw (d, sets-eq c words 0 (omega (arith, small))) (take-at c _ n (sym z))))
-      told (Refused n) g d = absurd (clash {n = n} refl g)
+      told (Refused n) g d = absurd (refused-answered {n = n} refl g)
 
   pub loaded-front : (f : Bytes) → asLoad r ≡ loadedInto (load f) words .answer → out ≡ loadedInto (load f) words .stakes
       → membersAtMost 128 r × (stakesIn r out ≡ load f)
@@ -76,7 +77,7 @@ load-most f n e = go (isEmpty f) refl
     chained h (some is) d = named is (goodNames (map (nameAt f) is)) refl (sym (load-some f is h d) ∙ e)
 
     go : (t : Bool) → isEmpty f ≡ t → n ≤ 57
-    go true h = absurd (clash e (load-empty f h))
+    go true h = absurd (refused-answered e (load-empty f h))
     go false h = chained h (chainOf f) refl
 
 pub members-fit : (m n : ℕ) (r : LoadAnswer) → r ≡ Members n → membersAtMost m r → n ≤ m

@@ -22,12 +22,10 @@ use Rattle.stakes_chain.specs.declared.ChainAnswer.{ChainAnswer}
 use Rattle.stakes_chain.specs.declared.ChainAnswer.the-variants.{Members, Broken as ChainBroken}
 use Rattle.stakes_chain.proofs.Chains.{found-chain}
 use Rattle.stakes_names.specs.Names.{nameAt, goodNames}
+use Rattle.base.proofs.Checks.{refused-answered}
 use Rattle.stakes_file.specs.Load.{membersAt, memberChecks, loadAlong, load}
 
 -- ---- answers and refusals
-
-pub clash : {A : Type 0} {a : Answer A} {n : ℕ} {x : A} → a ≡ refused n → a ≡ answered x → ⊥
-clash h k = let z : _≡_ {A = ℕ} 0 1 = cc in omega arith
 
 pub refused-same : {m n : ℕ} → _≡_ {A = Answer Committee} (refused m) (refused n) → m ≡ n
 refused-same p = cc
@@ -39,7 +37,7 @@ module _ {A : Type 0} (ks : List Check) where
     where
       go : (t : Bool) → pick {A = Answer A} t (answered a) (refused (refusal ks)) ≡ answered b → (t ≡ true) × (a ≡ b)
       go true k = (refl, cc)
-      go false k = absurd (clash refl k)
+      go false k = absurd (refused-answered refl k)
 
   pub checked-passes : (a : A) → passes ks ≡ true → checked ks a ≡ answered a
   unfolding checked
@@ -51,7 +49,7 @@ module _ {A : Type 0} (ks : List Check) where
   checked-refused {B} a b n h = go (passes ks) h
     where
       go : (t : Bool) → pick {A = Answer A} t (answered a) (refused (refusal ks)) ≡ refused n → pick {A = Answer B} t (answered b) (refused (refusal ks)) ≡ refused n
-      go true k = absurd (clash k refl)
+      go true k = absurd (refused-answered k refl)
       go false k = let e : refusal ks ≡ n = cc in ap refused e
 
 -- a committee's refusal is 1 to 4

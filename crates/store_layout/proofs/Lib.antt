@@ -16,3 +16,4 @@ pub mod Search
 pub mod Found
 pub mod Sorted
 pub mod Shares
+pub mod Ends

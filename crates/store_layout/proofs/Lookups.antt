@@ -1,6 +1,6 @@
 -- Finding a stored block by its reference, and what was stored before an entry. Assumes nothing.
 use mathlib.Core.Path.{_≡_, refl, sym, ap, _∙_}
-use mathlib.Core.List.{List, [], _∷_, _++_}
+use mathlib.Core.List.{List, [], _∷_, _++_, map}
 use mathlib.Core.Option.{Option, none, some}
 use mathlib.Core.Bool.{Bool, true, false, not, _&&_, _||_}
 use Prim.Native.Nat.{ℕ, suc, _+_, _≤_, _<_}
@@ -52,7 +52,7 @@ lookup-in es i e h =
 
 -- ---- what stands before
 
-used-more : (newer older : List Record) → usedBy older ≤ usedBy (newer ++ older)
+pub used-more : (newer older : List Record) → usedBy older ≤ usedBy (newer ++ older)
 unfolding usedBy
 used-more [] older = omega arith
 used-more (r ∷ newer) older = omega (arith, used-more newer older)
@@ -238,3 +238,15 @@ missing-test rs (i ∷ is) = go (isStored rs i) (missing-test rs is)
         → not t || anyOf (λ j. not (isStored rs j)) is ≡ ltb (pick t (firstMissing rs is + 1) 0) (suc (length is))
     go true h = h ∙ ltb-same (firstMissing rs is) (length is) (firstMissing rs is + 1) (suc (length is)) (λ (l : firstMissing rs is < length is). omega arith) (λ (l : firstMissing rs is + 1 < suc (length is)). omega arith)
     go false h = sym (lt-ltb 0 (suc (length is)) (omega arith))
+
+-- ---- the block of an entry is stored, and a stored block has an entry
+
+pub entry-block : (rs : List Record) (e : Entry) → e ∈ entries rs → e .block ∈ map (λ r. r .block) rs
+unfolding entries
+entry-block (r ∷ rs) e here = here
+entry-block (r ∷ rs) e (there m) = there (entry-block rs e m)
+
+pub block-entry : (rs : List Record) (b : Block) → b ∈ map (λ r. r .block) rs → (e : Entry) × (e ∈ entries rs) × (e .block ≡ b)
+unfolding entries
+block-entry (r ∷ rs) b here = (record { position = usedBy rs; bytes = r .bytes; block = r .block }, here, refl)
+block-entry (r ∷ rs) b (there m) = let x = block-entry rs b m in (x .0, there (x .1), x .2)

@@ -1,10 +1,8 @@
 -- Asked on, the question gives the stored shares of the wide list. Assumes nothing.
-use mathlib.Core.Path.{_≡_, refl, sym, ap, ap₂, subst, _∙_}
+use mathlib.Core.Path.{_≡_, refl, sym, ap, subst, _∙_}
 use mathlib.Core.Bool.{Bool, true, false}
 use mathlib.Core.List.{List, _∷_}
 use mathlib.Core.Option.{Option, none, some}
-use Prim.Native.Nat.{ℕ}
-use native.Mathlib.Omega.{arith}
 use Rattle.base.specs.Lists.{pick, allOf, keep}
 use Rattle.base.specs.Le.{Bytes}
 use Rattle.base.specs.Checks.{refusal, passes, Answer, answered, checked}
@@ -12,22 +10,13 @@ use Rattle.committee.specs.Committee.{Committee, broken}
 use Rattle.blocks.specs.Reference.{TransactionLocator}
 use Rattle.store_layout.specs.Store.{storeInOrder}
 use Rattle.finality.specs.Finality.{blocksOf}
-use Rattle.finality.specs.NextFinal as wide
-use Rattle.finality.specs.NextFinal.{nextFinalChecks, nextFinal, AskedOn, leastFinal, finalList}
+use Rattle.finality.specs.NextFinal.{LeastOf, LeastFinal, leastFinal, nextFinalChecks, nextFinal, AskedOf, done, onward, AskedOn, finalList}
 use Rattle.finality.proofs.Candidates.{least-final}
+use Rattle.finality.proofs.LeastOf.{one-least}
 use Rattle.finality.proofs.Asked.{next-answers, asked-on}
 use Rattle.store_layout.specs.Shares.{isStoredShare}
-use Rattle.stored_finals.specs.FinalShares.{LeastFinalShare, leastFinalShare, nextFinalShare, SharesAskedOn, done, onward, FinalShareList, finalShares}
-use Rattle.stored_finals.proofs.Least.{one-least-share, least-final-share, none-wide, share-wide, passed-over}
-
--- the question gives one list
-pub shares-once : (c : Committee) (s : Bytes) {after : Option TransactionLocator} {ls ms : List TransactionLocator} → SharesAskedOn c s after ls → SharesAskedOn c s after ms → ls ≡ ms
-shares-once c s (done e) (done f) = refl
-shares-once c s (done e) (onward f b) = let z : _≡_ {A = ℕ} 0 1 = cc in absurd (omega arith)
-shares-once c s (onward e a) (done f) = let z : _≡_ {A = ℕ} 0 1 = cc in absurd (omega arith)
-shares-once c s (onward {l = l} {ls = ls} e a) (onward {l = m} {ls = ms} f b) =
-    let q : l ≡ m = cc in
-    ap₂ {C = List TransactionLocator} (λ x xs. x ∷ xs) q (shares-once c s (subst (λ (x : TransactionLocator). SharesAskedOn c s (some x) ls) q a) b)
+use Rattle.stored_finals.specs.FinalShares.{isFinalShare, LeastFinalShare, leastFinalShare, nextFinalShare, SharesAskedOn, FinalShareList, finalShares}
+use Rattle.stored_finals.proofs.Least.{least-final-share, none-wide, share-wide, passed-over}
 
 module _ (c : Committee) (s : Bytes) (b : broken c ≡ false) (h : storeInOrder c s ≡ true) where
   -- a question that is not refused gives the least final stored share
@@ -37,13 +26,13 @@ module _ (c : Committee) (s : Bytes) (b : broken c ≡ false) (h : storeInOrder 
 
   answers : (after : Option TransactionLocator) {o : Option TransactionLocator} → LeastFinalShare c (blocksOf s) after o → nextFinalShare c s after ≡ answered o
   answers after {o} k =
-      next-share-answers after ∙ ap {B = Answer (Option TransactionLocator)} answered (one-least-share c (blocksOf s) (least-final-share c (blocksOf s) after) k)
+      next-share-answers after ∙ ap {B = Answer (Option TransactionLocator)} answered (one-least (isFinalShare c (blocksOf s)) after (least-final-share c (blocksOf s) after) k)
 
-  wide-least : (after o : Option TransactionLocator) → nextFinal c s after ≡ answered o → wide.LeastFinal c (blocksOf s) after o
+  wide-least : (after o : Option TransactionLocator) → nextFinal c s after ≡ answered o → LeastFinal c (blocksOf s) after o
   wide-least after o e =
       let f : answered (leastFinal c (blocksOf s) after) ≡ answered o = sym (next-answers c s after b h) ∙ e in
       let q : leastFinal c (blocksOf s) after ≡ o = cc in
-      subst (wide.LeastFinal c (blocksOf s) after) q (least-final c (blocksOf s) after)
+      subst (LeastFinal c (blocksOf s) after) q (least-final c (blocksOf s) after)
 
   -- two questions with the same answer go on alike
   asked-from : {after from : Option TransactionLocator} {ls : List TransactionLocator} → nextFinalShare c s after ≡ nextFinalShare c s from → SharesAskedOn c s from ls → SharesAskedOn c s after ls
@@ -53,10 +42,10 @@ module _ (c : Committee) (s : Bytes) (b : broken c ≡ false) (h : storeInOrder 
   -- of what the wide question gives, the stored shares
   pub wide-kept : (after : Option TransactionLocator) (ls : List TransactionLocator) → AskedOn c s after ls → SharesAskedOn c s after (keep (isStoredShare (blocksOf s)) ls)
   unfolding keep
-  wide-kept after ls (wide.done e) = done (answers after (none-wide c (blocksOf s) after (wide-least after none e)))
-  wide-kept after ls (wide.onward {l = l} {ls = ms} e a) = split (isStoredShare (blocksOf s) l) refl (wide-kept (some l) ms a)
+  wide-kept after ls (done e) = done (answers after (none-wide c (blocksOf s) after (wide-least after none e)))
+  wide-kept after ls (onward {l = l} {ls = ms} e a) = split (isStoredShare (blocksOf s) l) refl (wide-kept (some l) ms a)
     where
-      first : wide.LeastFinal c (blocksOf s) after (some l)
+      first : LeastFinal c (blocksOf s) after (some l)
       first = wide-least after (some l) e
 
       split : (t : Bool) → isStoredShare (blocksOf s) l ≡ t → SharesAskedOn c s (some l) (keep (isStoredShare (blocksOf s)) ms)

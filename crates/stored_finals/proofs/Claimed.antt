@@ -1,8 +1,10 @@
 -- The claims, each from its law. Assumes nothing.
 use Rattle.finality.proofs.Claimed.{well-stored}
+use Rattle.finality.proofs.Asked.{asked-once}
+use Rattle.stored_finals.specs.FinalShares.{nextFinalShare}
 use Rattle.stored_finals.specs.Claims.{ByRuns, SharesAlongChain, LeastFinalShareMeant, WideKept, FinalShareListMeant, ListsFinalShares, AnyOrder, OrdinaryLawful, Claims}
 use Rattle.stored_finals.proofs.Least.{least-final-share}
-use Rattle.stored_finals.proofs.Asked.{shares-once, wide-kept, shares-asked}
+use Rattle.stored_finals.proofs.Asked.{wide-kept, shares-asked}
 use Rattle.stored_finals.proofs.Lists.{all-shares, exactly-finals, same-shares}
 use Rattle.stored_finals.proofs.Through.{by-shared-ranges, through-entries, counted-shares}
 use Rattle.stored_finals.proofs.Ordinary.{ordinary-lawful, ordinary-gives, wide-cut}
@@ -16,7 +18,7 @@ claimed =
       alongChain = λ c s h. record { through = through-entries c s h; many = counted-shares c s h };
       leastFinalShare = least-final-share;
       wideKept = wide-kept;
-      finalShareList = λ c s b h. record { given = shares-asked c s b h; only = λ ls a. shares-once c s a (shares-asked c s b h) };
+      finalShareList = λ c s b h. record { given = shares-asked c s b h; only = λ ls a. asked-once (nextFinalShare c s) a (shares-asked c s b h) };
       lists = λ c bs h. exactly-finals c (well-stored c bs h);
       anyOrder = λ c bs cs h k e. same-shares c (well-stored c bs h) (well-stored c cs k) e;
       lawful = ordinary-lawful;

@@ -14,14 +14,13 @@ use Rattle.blocks.specs.Reference.{TransactionLocator, locatorBefore}
 use Rattle.blocks.specs.Block.{Block}
 use Rattle.blocks.proofs.References.{locator-total}
 use Rattle.finality.specs.Voters.{isFinal}
-use Rattle.finality.specs.NextFinal as wide
-use Rattle.finality.specs.NextFinal.{isAfter, leastLocator}
+use Rattle.finality.specs.NextFinal.{isAfter, LeastOf, least, nothing, LeastFinal, leastLocator}
 use Rattle.finality.proofs.Least.{Least, one-of, no-one, least-locator}
 use Rattle.finality.proofs.Asked.{later-after}
 use Rattle.store_layout.specs.Shares.{isStoredShare}
 use Rattle.store_layout.proofs.Shares.{stored-share, share-stored}
 use Rattle.stored_finals.specs.Shares.{sharesOf}
-use Rattle.stored_finals.specs.FinalShares.{isFinalShare, LeastFinalShare, least, nothing, leastFinalShare}
+use Rattle.stored_finals.specs.FinalShares.{isFinalShare, LeastFinalShare, leastFinalShare}
 use Rattle.stored_finals.proofs.Shares.{gathered-in, in-gathered}
 
 module _ (c : Committee) (bs : List Block) where
@@ -36,13 +35,6 @@ module _ (c : Committee) (bs : List Block) where
   pub final-share : (l : TransactionLocator) → isStoredShare bs l ≡ true → isFinal c bs l ≡ true → isFinalShare c bs l ≡ true
   unfolding isFinalShare
   final-share l h k = and-both _ _ h k
-
-  -- there is one least
-  pub one-least-share : {after : Option TransactionLocator} {o q : Option TransactionLocator} → LeastFinalShare c bs after o → LeastFinalShare c bs after q → o ≡ q
-  one-least-share (least l f a g) (least k e b h) = ap {B = Option TransactionLocator} some (locator-total l k (h l f a) (g k e b))
-  one-least-share (least l f a g) (nothing h) = absurd (not-both f (h l a))
-  one-least-share (nothing g) (least k e b h) = absurd (not-both e (g k b))
-  one-least-share (nothing g) (nothing h) = refl
 
   module _ (after : Option TransactionLocator) where
     passing : TransactionLocator → Bool
@@ -69,23 +61,23 @@ module _ (c : Committee) (bs : List Block) where
 
     -- ---- from the least final locator: where it is a stored share it is the one; where not, it is passed over
 
-    pub none-wide : wide.LeastFinal c bs after none → LeastFinalShare c bs after none
-    none-wide (wide.nothing g) = nothing (λ m a. fails (isFinalShare c bs m) (λ h. not-both (final-of m h) (g m a)))
+    pub none-wide : LeastFinal c bs after none → LeastFinalShare c bs after none
+    none-wide (nothing g) = nothing (λ m a. fails (isFinalShare c bs m) (λ h. not-both (final-of m h) (g m a)))
 
-    pub share-wide : (l : TransactionLocator) → wide.LeastFinal c bs after (some l) → isStoredShare bs l ≡ true → LeastFinalShare c bs after (some l)
-    share-wide l (wide.least x f a g) s = least l (final-share l s f) a (λ m h b. g m (final-of m h) b)
+    pub share-wide : (l : TransactionLocator) → LeastFinal c bs after (some l) → isStoredShare bs l ≡ true → LeastFinalShare c bs after (some l)
+    share-wide l (least x f a g) s = least l (final-share l s f) a (λ m h b. g m (final-of m h) b)
 
-    module _ (l : TransactionLocator) (w : wide.LeastFinal c bs after (some l)) (no-share : isStoredShare bs l ≡ false) where
+    module _ (l : TransactionLocator) (w : LeastFinal c bs after (some l)) (no-share : isStoredShare bs l ≡ false) where
       -- a final share after the given locator comes after l
-      beyond : wide.LeastFinal c bs after (some l) → (m : TransactionLocator) → isFinalShare c bs m ≡ true → isAfter after m ≡ true → locatorBefore l m ≡ true
-      beyond (wide.least x f a g) m h b = split (holds-or-not (locatorBefore l m))
+      beyond : LeastFinal c bs after (some l) → (m : TransactionLocator) → isFinalShare c bs m ≡ true → isAfter after m ≡ true → locatorBefore l m ≡ true
+      beyond (least x f a g) m h b = split (holds-or-not (locatorBefore l m))
         where
           split : (locatorBefore l m ≡ true) ⊎ (locatorBefore l m ≡ false) → locatorBefore l m ≡ true
           split (inl e) = e
           split (inr e) = let same : l ≡ m = locator-total l m e (g m (final-of m h) b) in absurd (not-both (share-of m h) (rw same at no-share))
 
-      itself-after : wide.LeastFinal c bs after (some l) → isAfter after l ≡ true
-      itself-after (wide.least x f a g) = a
+      itself-after : LeastFinal c bs after (some l) → isAfter after l ≡ true
+      itself-after (least x f a g) = a
 
       pub passed-over : {o : Option TransactionLocator} → LeastFinalShare c bs (some l) o → LeastFinalShare c bs after o
       unfolding isAfter

@@ -12,16 +12,17 @@ use Rattle.blocks.specs.Block.{Block}
 use Rattle.store_layout.proofs.Stored.{WellStored}
 use Rattle.finality.specs.Voters.{isFinal}
 use Rattle.finality.specs.NextFinal.{finalList}
+use Rattle.finality.proofs.LeastOf.{least-once}
 use Rattle.finality.proofs.Finals.{is-final, final-is, is-final-order}
 use Rattle.finality.proofs.FinalList.{Ascending, ascending-unique, keep-ascending, final-list-ascending, final-list-in, final-list-order}
 use Rattle.store_layout.specs.Shares.{isStoredShare}
 use Rattle.store_layout.proofs.Shares.{stored-share, share-stored}
 use Rattle.stored_finals.specs.Shares.{storedShares}
-use Rattle.stored_finals.specs.FinalShares.{isFinalShare, LeastFinalShare, least, nothing, finalShares}
+use Rattle.stored_finals.specs.FinalShares.{isFinalShare, finalShares}
 use Rattle.stored_finals.specs.Claims.{AllShares, Exactly, SameBlocks, SameShares}
 use Rattle.stored_finals.proofs.Orders.{ascending-pairwise, ascending-once}
 use Rattle.stored_finals.proofs.Shares.{share-moved, all-ascending, all-in, in-all-shares}
-use Rattle.stored_finals.proofs.Least.{share-of, final-of, final-share, one-least-share, least-final-share}
+use Rattle.stored_finals.proofs.Least.{share-of, final-of, final-share, least-final-share}
 
 pub all-shares : (bs : List Block) → AllShares bs
 all-shares bs =
@@ -88,15 +89,11 @@ module _ (c : Committee) {bs cs : List Block} (v : WellStored bs) (w : WellStore
   unfolding isFinalShare
   same-final-share l = rw (same-stored e l, is-final-order c v w e l)
 
-  carried : {after o : Option TransactionLocator} → LeastFinalShare c bs after o → LeastFinalShare c cs after o
-  carried (least l f a g) = least l (sym (same-final-share l) ∙ f) a (λ m h b. g m (same-final-share m ∙ h) b)
-  carried (nothing g) = nothing (λ m a. sym (same-final-share m) ∙ g m a)
-
   pub same-shares : SameShares c bs cs
   same-shares =
       record {
         shares = same-all-shares e;
         test = same-stored e;
         final = same-final-shares;
-        next = λ after. one-least-share c cs (carried (least-final-share c bs after)) (least-final-share c cs after);
+        next = λ after. least-once (isFinalShare c bs) (isFinalShare c cs) same-final-share after (least-final-share c bs after) (least-final-share c cs after);
       }

@@ -9,7 +9,7 @@ use Rattle.base.proofs.Members.{in-cases, in-first, in-append, in-all}
 use Rattle.blocks.specs.Reference.{TransactionLocator, sameLocator, locatorBefore}
 use Rattle.blocks.proofs.References.{locator-irrefl, locator-trans}
 use Rattle.finality.specs.NextFinal.{placedLocator, ascendingLocators}
-use Rattle.finality.proofs.FinalList.{Ascending, none-left, and-then}
+use Rattle.finality.proofs.FinalList.{Ascending, none-left, and-then, placed-in}
 
 pub ascending-pairwise : {ls : List TransactionLocator} → Ascending ls → pairwise locatorBefore ls ≡ true
 unfolding pairwise
@@ -47,24 +47,6 @@ stands-before xs l ys a m k h = split (in-append xs k)
     split (inr j) = after (in-cases j)
 
 -- ---- locators put in order are those given
-
-placed-in : (l x : TransactionLocator) (ms : List TransactionLocator) → x ∈ placedLocator l ms → (x ≡ l) ⊎ (x ∈ ms)
-unfolding placedLocator
-placed-in l x [] k = in-cases k
-placed-in l x (m ∷ ms) k = split (locatorBefore l m) (sameLocator l m) (λ j. placed-in l x ms j) k
-  where
-    onward : (x ≡ l) ⊎ (x ∈ ms) → (x ≡ l) ⊎ (x ∈ (m ∷ ms))
-    onward (inl e) = inl e
-    onward (inr j) = inr (there j)
-
-    placed : (x ∈ placedLocator l ms → (x ≡ l) ⊎ (x ∈ ms)) → (x ≡ m) ⊎ (x ∈ placedLocator l ms) → (x ≡ l) ⊎ (x ∈ (m ∷ ms))
-    placed ih (inl e) = inr (in-first e)
-    placed ih (inr j) = onward (ih j)
-
-    split : (t u : Bool) → (x ∈ placedLocator l ms → (x ≡ l) ⊎ (x ∈ ms)) → x ∈ pick t (l ∷ m ∷ ms) (pick u (m ∷ ms) (m ∷ placedLocator l ms)) → (x ≡ l) ⊎ (x ∈ (m ∷ ms))
-    split true u ih j = in-cases j
-    split false true ih j = inr j
-    split false false ih j = placed ih (in-cases j)
 
 pub ascending-in : (x : TransactionLocator) (ls : List TransactionLocator) → x ∈ ascendingLocators ls → x ∈ ls
 unfolding ascendingLocators

@@ -3,13 +3,10 @@ use mathlib.Core.Path.{_≡_, refl, sym, ap, ap₂, subst, _∙_}
 use mathlib.Core.Logic.{_⊎_, inl, inr, _↔_}
 use mathlib.Core.Bool.{Bool, true, false, _&&_}
 use mathlib.Core.List.{List, [], _∷_}
-use mathlib.Core.Option.{Option, none, some}
 use Prim.Native.Nat.{ℕ, _+_, _≤_, _<_}
 use native.Mathlib.Omega.{arith}
 use native.Mathlib.Decide.{decLt, decLe}
 use Rattle.base.specs.Lists.{sumOf, _∈_}
-use Rattle.base.specs.Le.{Bytes}
-use Rattle.base.specs.Checks.{Answer, answered}
 use Rattle.base.proofs.Tests.{not-both, fails, holds-or-not, same-test, and-both, and-left, and-right}
 use Rattle.committee.specs.Committee.{Committee, broken}
 use Rattle.blocks.specs.Reference.{BlockReference, TransactionLocator, TransactionLocatorRange, locator, newRange, oneRange}
@@ -21,13 +18,11 @@ use Rattle.store_layout.proofs.Shares.{stored-share, share-stored}
 use Rattle.finality.specs.Voters.{isFinal}
 use Rattle.finality.specs.Finality.{blocksOf}
 use Rattle.stretches.specs.Stretches.{Listing, edgesBy, wide, certifiedAlike, goesOn, EndsAt, stretchEnd}
-use Rattle.stretches.specs.Claims.{LeastShown, SameBefore, Edges, Lawful, Gives, EndMeant}
-use Rattle.stretches.specs.Claims as listed
+use Rattle.stretches.specs.Claims.{Edges, Lawful, EndMeant}
 use Rattle.stretches.proofs.Nearest.{edge-start, edge-end}
 use Rattle.stretches.proofs.Ends.{end-meant}
-use Rattle.stretches.proofs.Wide.{Telling, wide-edges, by-spans, wide-lawful}
-use Rattle.stored_finals.specs.FinalShares.{isFinalShare, LeastFinalShare, leastFinalShare, nextFinalShare, SharesAskedOn}
-use Rattle.stored_finals.specs.FinalShares as shares
+use Rattle.stretches.proofs.Wide.{Telling, wide-edges, by-spans, wide-lawful, gives-asked}
+use Rattle.stored_finals.specs.FinalShares.{isFinalShare, nextFinalShare}
 use Rattle.stored_finals.specs.Ordinary.{ordinary}
 use Rattle.stored_finals.specs.Claims.{CutShort, WideCut, OrdinaryGives}
 use Rattle.stored_finals.proofs.Least.{share-of, final-of, final-share, least-final-share}
@@ -98,17 +93,10 @@ ordinary-edges told round c bs r o gap =
 
 -- ---- the ordinary list is lawful
 
-ordinary-next : (c : Committee) (bs : List Block) (after : Option TransactionLocator) → LeastShown (ordinary c bs) after (leastFinalShare c bs after)
-ordinary-next c bs after = go (least-final-share c bs after)
-  where
-    go : {o : Option TransactionLocator} → LeastFinalShare c bs after o → LeastShown (ordinary c bs) after o
-    go (shares.least l f h g) = listed.least l f h g
-    go (shares.nothing g) = listed.nothing g
-
 pub ordinary-lawful : (c : Committee) (bs : List Block) → Lawful bs (ordinary c bs)
 ordinary-lawful c bs =
     record {
-      next = ordinary-next c bs;
+      next = least-final-share c bs;
       edges = ordinary-edges by-spans around-one c bs;
       bound = wide-lawful c bs .bound;
       bounded = λ r o h. fails (isFinalShare c bs (locator r o)) (λ t. not-both (final-of c bs (locator r o) t) (wide-lawful c bs .bounded r o h));
@@ -116,18 +104,7 @@ ordinary-lawful c bs =
 
 pub ordinary-gives : OrdinaryGives
 unfolding OrdinaryGives
-ordinary-gives c s b h after ls = (to, from)
-  where
-    to : {x : Option TransactionLocator} {ms : List TransactionLocator} → Gives (ordinary c (blocksOf s)) x ms → SharesAskedOn c s x ms
-    to {x} (listed.done e) = shares.done (next-share-answers c s b h x ∙ ap {B = Answer (Option TransactionLocator)} answered e)
-    to {x} (listed.onward e g) = shares.onward (next-share-answers c s b h x ∙ ap {B = Answer (Option TransactionLocator)} answered e) (to g)
-
-    told-one : (o q : Option TransactionLocator) → _≡_ {A = Answer (Option TransactionLocator)} (answered o) (answered q) → o ≡ q
-    told-one o q e = cc
-
-    from : {x : Option TransactionLocator} {ms : List TransactionLocator} → SharesAskedOn c s x ms → Gives (ordinary c (blocksOf s)) x ms
-    from {x} (shares.done e) = listed.done (told-one _ _ (sym (next-share-answers c s b h x) ∙ e))
-    from {x} (shares.onward e g) = listed.onward (told-one _ _ (sym (next-share-answers c s b h x) ∙ e)) (from g)
+ordinary-gives c s b h after ls = gives-asked (ordinary c (blocksOf s)) (nextFinalShare c s) (next-share-answers c s b h)
 
 -- ---- a wide stretch cut to a run of shares
 

@@ -12,7 +12,7 @@ use Rattle.blocks.specs.Reference.{BlockReference, TransactionLocator, Transact
 use Rattle.blocks.specs.Block.{Statement, Block, isShare, joined, runsFrom, sharedRanges}
 use Rattle.blocks.proofs.References.{byOffset, is-before}
 use Rattle.finality.proofs.Votes.{Covered}
-use Rattle.finality.proofs.FinalList.{Ascending, none-left, and-then}
+use Rattle.finality.proofs.FinalList.{Ascending, none-left, and-then, covered-in}
 use Rattle.stored_finals.proofs.Orders.{ascending-append}
 
 -- ---- the locators of a range
@@ -24,14 +24,6 @@ locators-in t l m =
     let k = countFrom-in (t .start) (t .end - t .start) (x .1) in
     let o : x .0 ≡ l .offset = ap (λ (y : TransactionLocator). y .offset) (x .2) in
     record { of = ap (λ (y : TransactionLocator). y .block) (x .2); from = omega (arith, k .0); below = omega (arith, k .0, k .1) }
-
-pub in-locators : (t : TransactionLocatorRange) (l : TransactionLocator) → Covered t l → l ∈ locators t
-unfolding locators offsets locator
-in-locators t l k =
-    let e : t .block ≡ l .block = k .of in
-    let own : locator (t .block) (l .offset) ≡ l = λ i. record { block = e i; offset = l .offset } in
-    subst (λ (y : TransactionLocator). y ∈ map (locator (t .block)) (countFrom (t .start) (t .end - t .start))) own
-    (in-map (locator (t .block)) (in-countFrom (t .start) (t .end - t .start) (l .offset) (k .from) (omega (arith, k .from, k .below))))
 
 pub counted-ascending : (r : BlockReference) (i n : ℕ) → Ascending (map (locator r) (countFrom i n))
 unfolding countFrom locator

@@ -12,6 +12,7 @@ use Rattle.blocks.specs.Reference.{TransactionLocator, locator}
 use Rattle.blocks.specs.Block.{Statement, Block, isShare, isShareAt}
 use Rattle.store_layout.specs.Shares.{StoredShare}
 use Rattle.finality.proofs.FinalList.{Ascending, ascending-locators, in-ascending}
+use Rattle.blocks.proofs.Spans.{share-index}
 use Rattle.stored_finals.specs.Shares.{sharesOf, storedShares}
 use Rattle.stored_finals.proofs.Orders.{ascending-in}
 
@@ -20,12 +21,6 @@ pub share-moved : {bs cs : List Block} → ((b : Block) → b ∈ bs → b ∈ c
 share-moved f l h = record { block = h .block; stored = f (h .block) (h .stored); named = h .named; shared = h .shared }
 
 -- ---- all stored shares
-
-inside : (ss : List Statement) (o : ℕ) → holds isShare (getElem? ss o) ≡ true → o < length ss
-unfolding holds
-inside [] o h = absurd (not-both h refl)
-inside (s ∷ ss) zero h = omega arith
-inside (s ∷ ss) (suc o) h = omega (arith, inside ss o h)
 
 pub shares-in : (b : Block) (l : TransactionLocator) → l ∈ sharesOf b → (b .reference ≡ l .block) × (isShareAt b (l .offset) ≡ true)
 unfolding sharesOf locator
@@ -38,7 +33,7 @@ pub in-shares : (b : Block) (l : TransactionLocator) → b .reference ≡ l .blo
 unfolding sharesOf locator isShareAt
 in-shares b l e h =
     let own : locator (b .reference) (l .offset) ≡ l = λ i. record { block = e i; offset = l .offset } in
-    let few : l .offset < length (b .statements) = inside (b .statements) (l .offset) h in
+    let few : l .offset < length (b .statements) = share-index (b .statements) (l .offset) h in
     subst (λ (y : TransactionLocator). y ∈ sharesOf b) own
     (in-map (locator (b .reference)) (in-keep (isShareAt b) (countFrom 0 (length (b .statements))) (in-countFrom 0 (length (b .statements)) (l .offset) (omega arith) (omega arith)) h))
 

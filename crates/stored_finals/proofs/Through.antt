@@ -21,11 +21,12 @@ use Rattle.store_layout.proofs.Store.{in-order}
 use Rattle.store_layout.proofs.Chain as chain
 use Rattle.store_layout.proofs.Visit.{ascending-in, in-ascending}
 use Rattle.finality.specs.Finality.{blocksOf}
-use Rattle.finality.proofs.FinalList.{Ascending, none-left, ascending-unique, keep-ascending}
+use Rattle.finality.proofs.FinalList.{Ascending, none-left, ascending-unique, keep-ascending, covered-in}
+use Rattle.store_layout.proofs.Lookups.{entry-block, block-entry}
 use Rattle.stored_finals.specs.Shares.{sharesOf, storedShares}
 use Rattle.stored_finals.proofs.Orders.{ascending-append}
 use Rattle.stored_finals.proofs.Shares.{shares-in, in-shares, all-ascending, all-in, in-all-shares}
-use Rattle.stored_finals.proofs.Ranges.{After, counted-ascending, locators-in, in-locators, after-ascending, shared-of}
+use Rattle.stored_finals.proofs.Ranges.{After, counted-ascending, locators-in, after-ascending, shared-of}
 
 -- ---- the shares of one block
 
@@ -64,7 +65,7 @@ by-shared-ranges b =
         let k = shares-in b l m in
         let x = any-in (λ y. within (y .start) (y .end) (l .offset)) (sharedRanges b) (shared-cover b (l .offset) ∙ k .1) in
         let q = within-true (x .0 .start) (x .0 .end) (l .offset) (x .2) in
-        in-flatten (in-locators (x .0) l (record { of = every-in (sharedRanges b) (x .0) (shared-of b) (x .1) ∙ k .0; from = q .0; below = q .1 })) (in-map locators (x .1))
+        in-flatten (covered-in (x .0) l (record { of = every-in (sharedRanges b) (x .0) (shared-of b) (x .1) ∙ k .0; from = q .0; below = q .1 })) (in-map locators (x .1))
 
     from : (l : TransactionLocator) → l ∈ flatten (map locators (sharedRanges b)) → l ∈ sharesOf b
     from l m =
@@ -94,16 +95,6 @@ entries-ascending (e ∷ es) (with-later h p) = ascending-append (shares-ascendi
         (byBlock
         (subst (λ (r : BlockReference). referenceBefore r (m .block) ≡ true) (k .0)
         (subst (λ (r : BlockReference). referenceBefore (referenceOf e) r ≡ true) (q .0) (every-in es (x .0) h (x .1)))))
-
-entry-block : (rs : List Record) (e : Entry) → e ∈ entries rs → e .block ∈ map (λ r. r .block) rs
-unfolding entries
-entry-block (r ∷ rs) e here = here
-entry-block (r ∷ rs) e (there m) = there (entry-block rs e m)
-
-pub block-entry : (rs : List Record) (b : Block) → b ∈ map (λ r. r .block) rs → (e : Entry) × (e ∈ entries rs) × (e .block ≡ b)
-unfolding entries
-block-entry (r ∷ rs) b here = (record { position = usedBy rs; bytes = r .bytes; block = r .block }, here, refl)
-block-entry (r ∷ rs) b (there m) = let x = block-entry rs b m in (x .0, there (x .1), x .2)
 
 pub through-entries : (c : Committee) (s : Bytes) → storeInOrder c s ≡ true → storedShares (blocksOf s) ≡ flatten (map (λ e. sharesOf (e .block)) (ascending (entries (recordsOf s))))
 unfolding blocksOf

@@ -8,15 +8,16 @@ use Prim.Native.Nat.{ℕ, zero, suc, _+_, _-_, _≤_, _<_}
 use native.Mathlib.Omega.{arith}
 use lib.ListN.{length}
 use Rattle.base.specs.Lists.{isNone, countFrom, _∈_}
-use Rattle.base.proofs.Tests.{not-both, and-left, holds-or-not}
+use Rattle.base.proofs.Tests.{not-both, and-left, fails}
 use Rattle.base.proofs.Members.{in-empty, in-cases}
 use Rattle.committee.specs.Committee.{Committee}
 use Rattle.blocks.specs.Reference.{BlockReference, TransactionLocator, locator, newRange, offsets, locators, locatorBefore}
 use Rattle.blocks.specs.Block.{Block}
-use Rattle.blocks.proofs.References.{reference-irrefl, reference-asymmetric, Precedes, byBlock, byOffset, precedes, is-before, locator-total}
-use Rattle.finality.specs.NextFinal.{isAfter}
+use Rattle.blocks.proofs.References.{reference-irrefl, reference-asymmetric, Precedes, byBlock, byOffset, precedes, is-before}
+use Rattle.finality.specs.NextFinal.{isAfter, LeastOf, least}
+use Rattle.finality.proofs.LeastOf.{one-least, least-holds}
 use Rattle.stretches.specs.Stretches.{Listing, FinalStretch, stretchLocators, lastLocator, goesOn, EndsAt, stretchEnd, stretchAt, fromFound, stretches, reached, moreFollow}
-use Rattle.stretches.specs.Claims.{LeastShown, least, nothing, Lawful, Longest, StretchesLongest, Gives, done, onward, Spread, StretchesSpread}
+use Rattle.stretches.specs.Claims.{Lawful, Longest, StretchesLongest, Gives, done, onward, Spread, StretchesSpread}
 use Rattle.stretches.proofs.Ends.{end-meant}
 
 -- ---- no locator stands between one and the next offset
@@ -35,36 +36,18 @@ pub follows : (m : TransactionLocator) → locatorBefore m (locator (m .block) (
 unfolding locator
 follows m = is-before m (locator (m .block) (m .offset + 1)) (byOffset refl (omega arith))
 
--- ---- the least that is shown
-
-module _ (k : Listing) where
-  -- there is one
-  pub one-shown : (after : Option TransactionLocator) {o q : Option TransactionLocator} → LeastShown k after o → LeastShown k after q → o ≡ q
-  one-shown after (least l f h g) (least m e i j) = ap {B = Option TransactionLocator} some (locator-total l m (j l f h) (g m e i))
-  one-shown after (least l f h g) (nothing j) = absurd (not-both f (j l h))
-  one-shown after (nothing g) (least m e i j) = absurd (not-both e (g m i))
-  one-shown after (nothing g) (nothing j) = refl
-
-  pub shown-one : (after : Option TransactionLocator) (l : TransactionLocator) {o : Option TransactionLocator} → LeastShown k after o → o ≡ some l → k .shows l ≡ true
-  shown-one after l (least x f h g) e = subst (λ (y : TransactionLocator). k .shows y ≡ true) (Option·some-injective x l e) f
-  shown-one after l (nothing g) e = absurd (Option·none-ne-some l e)
-
-  -- the next offset, where it is shown
-  pub least-following : (m : TransactionLocator) → k .shows (locator (m .block) (m .offset + 1)) ≡ true → LeastShown k (some m) (some (locator (m .block) (m .offset + 1)))
-  unfolding isAfter
-  least-following m h = least (locator (m .block) (m .offset + 1)) h (follows m) (λ y s a. go y a (holds-or-not (locatorBefore y (locator (m .block) (m .offset + 1)))))
-    where
-      go : (y : TransactionLocator) → locatorBefore m y ≡ true → (locatorBefore y (locator (m .block) (m .offset + 1)) ≡ true) ⊎ (locatorBefore y (locator (m .block) (m .offset + 1)) ≡ false) → locatorBefore y (locator (m .block) (m .offset + 1)) ≡ false
-      go y a (inl t) = absurd (between m y a t)
-      go y a (inr t) = t
+-- the next offset is the least after a locator, where the test holds of it
+pub least-following : (test : TransactionLocator → Bool) (m : TransactionLocator) → test (locator (m .block) (m .offset + 1)) ≡ true → LeastOf test (some m) (some (locator (m .block) (m .offset + 1)))
+unfolding isAfter
+least-following test m h = least (locator (m .block) (m .offset + 1)) h (follows m) (λ y s a. fails (locatorBefore y (locator (m .block) (m .offset + 1))) (between m y a))
 
 module _ (c : Committee) (bs : List Block) (k : Listing) (law : Lawful bs k) where
   pub next-shown : (after : Option TransactionLocator) (l : TransactionLocator) → k .next after ≡ some l → k .shows l ≡ true
-  next-shown after l e = shown-one k after l (law .next after) e
+  next-shown after l e = least-holds (k .shows) after l (law .next after) e
 
   just-after : (r : BlockReference) (o : ℕ) → k .shows (locator r (o + 1)) ≡ true → k .next (some (locator r o)) ≡ some (locator r (o + 1))
   unfolding locator
-  just-after r o h = one-shown k (some (locator r o)) (law .next (some (locator r o))) (least-following k (locator r o) h)
+  just-after r o h = one-least (k .shows) (some (locator r o)) (law .next (some (locator r o))) (least-following (k .shows) (locator r o) h)
 
   -- the end of a shown locator's stretch
   pub shown-ends : (l : TransactionLocator) → k .shows l ≡ true → EndsAt bs k l (stretchEnd bs k l)

@@ -21,7 +21,7 @@ use Rattle.store_layout.specs.Layout.{Entry, Record, usedBy, entries, ascending
 use Rattle.store_layout.specs.Store.{recordsOf, storeInOrder}
 use Rattle.finality.specs.Voters.{votesFor, certifies, certifiers, isFinal}
 use Rattle.finality.specs.Finality.{blocksOf, certifyingPositions}
-use Rattle.finality.specs.NextFinal.{isAfter, LeastFinal, leastFinal, AskedOn}
+use Rattle.finality.specs.NextFinal.{nextFinal, AskedOf}
 use Rattle.finality.specs.NextFinal as asking
 use Rattle.finality.specs.Claims.{CertifyingMeant}
 use Rattle.finality.proofs.Asked.{next-answers}
@@ -29,8 +29,10 @@ use Rattle.finality.proofs.Candidates.{least-final}
 use Rattle.finality.proofs.Certifying.{ascending-in, certifying-meant}
 use Rattle.finality.proofs.Growing.{certifies-mono, final-votes}
 use Rattle.finality.proofs.Votes.{Covered, spanned, is-spanned}
+use Rattle.base.proofs.Lists.{keep-same}
+use Rattle.store_layout.proofs.Lookups.{entry-block}
 use Rattle.stretches.specs.Stretches.{Listing, edgesBy, wide, FinalStretch, stretchLocators, agree, certifiedAlike, goesOn, stretchEnd, stretchAt, stretches}
-use Rattle.stretches.specs.Claims.{LeastShown, least, nothing, SameBefore, Edges, Lawful, Gives, done, onward, WideGives, Alike, StretchesAlike}
+use Rattle.stretches.specs.Claims.{SameBefore, Edges, Lawful, Gives, done, onward, WideGives, Alike, StretchesAlike}
 use Rattle.stretches.proofs.Nearest.{edge-start, edge-end}
 use Rattle.stretches.proofs.Ends.{agrees, all-in}
 use Rattle.stretches.proofs.Spreading.{Begun, begun, shown-ends}
@@ -118,53 +120,32 @@ wide-bounded c bs r o h =
     let x = spanned (v .block) (locator r o) (v .votes) in
     omega (arith, x .covering .below, in-sum (x .span .end) (edgesBy spans bs r) (edge-end spans bs r (v .block) (x .span) (v .stands) (x .stands) (x .covering .of)))
 
-wide-next : (c : Committee) (bs : List Block) (after : Option TransactionLocator) → LeastShown (wide c bs) after (leastFinal c bs after)
-wide-next c bs after = go (least-final c bs after)
-  where
-    go : {o : Option TransactionLocator} → LeastFinal c bs after o → LeastShown (wide c bs) after o
-    go (asking.least l f h g) = least l f h g
-    go (asking.nothing g) = nothing g
-
 pub wide-lawful : (c : Committee) (bs : List Block) → Lawful bs (wide c bs)
-wide-lawful c bs = record { next = wide-next c bs; edges = wide-edges by-spans c bs; bound = λ r. sumOf (edgesBy spans bs r); bounded = wide-bounded c bs }
+wide-lawful c bs = record { next = least-final c bs; edges = wide-edges by-spans c bs; bound = λ r. sumOf (edgesBy spans bs r); bounded = wide-bounded c bs }
 
 -- ---- what it gives
 
-pub wide-gives : WideGives
-unfolding WideGives
-wide-gives c s b h after ls = (to, from)
+-- a list gives what a question gives that answers its next locator
+pub gives-asked : (k : Listing) (next : Option TransactionLocator → Answer (Option TransactionLocator)) → ((after : Option TransactionLocator) → next after ≡ answered (k .next after))
+    → {after : Option TransactionLocator} {ls : List TransactionLocator} → Gives k after ls ↔ AskedOf next after ls
+gives-asked k next answers = (to, from)
   where
-    to : {x : Option TransactionLocator} {ms : List TransactionLocator} → Gives (wide c (blocksOf s)) x ms → AskedOn c s x ms
-    to {x} (done e) = asking.done (next-answers c s x b h ∙ ap {B = Answer (Option TransactionLocator)} answered e)
-    to {x} (onward e g) = asking.onward (next-answers c s x b h ∙ ap {B = Answer (Option TransactionLocator)} answered e) (to g)
+    to : {x : Option TransactionLocator} {ms : List TransactionLocator} → Gives k x ms → AskedOf next x ms
+    to {x} (done e) = asking.done (answers x ∙ ap {B = Answer (Option TransactionLocator)} answered e)
+    to {x} (onward e g) = asking.onward (answers x ∙ ap {B = Answer (Option TransactionLocator)} answered e) (to g)
 
     told-one : (o q : Option TransactionLocator) → _≡_ {A = Answer (Option TransactionLocator)} (answered o) (answered q) → o ≡ q
     told-one o q e = cc
 
-    from : {x : Option TransactionLocator} {ms : List TransactionLocator} → AskedOn c s x ms → Gives (wide c (blocksOf s)) x ms
-    from {x} (asking.done e) = done (told-one _ _ (sym (next-answers c s x b h) ∙ e))
-    from {x} (asking.onward e g) = onward (told-one _ _ (sym (next-answers c s x b h) ∙ e)) (from g)
+    from : {x : Option TransactionLocator} {ms : List TransactionLocator} → AskedOf next x ms → Gives k x ms
+    from {x} (asking.done e) = done (told-one _ _ (sym (answers x) ∙ e))
+    from {x} (asking.onward e g) = onward (told-one _ _ (sym (answers x) ∙ e)) (from g)
+
+pub wide-gives : WideGives
+unfolding WideGives
+wide-gives c s b h after ls = gives-asked (wide c (blocksOf s)) (nextFinal c s) (λ x. next-answers c s x b h)
 
 -- ---- its stretches are alike throughout
-
-keep-same : {A : Type 0} (p q : A → Bool) (xs : List A) → ((x : A) → x ∈ xs → p x ≡ q x) → keep p xs ≡ keep q xs
-unfolding keep
-keep-same p q [] f = refl
-keep-same {A} p q (x ∷ xs) f = go (p x) (q x) (f x here) (keep-same p q xs (λ y m. f y (there m)))
-  where
-    go : (t u : Bool) → t ≡ u → keep p xs ≡ keep q xs → pick t (x ∷ keep p xs) (keep p xs) ≡ pick u (x ∷ keep q xs) (keep q xs)
-    go true true e h = ap (λ (ys : List A). x ∷ ys) h
-    go true false e h = absurd (true≢false e)
-    go false true e h = absurd (true≢false (sym e))
-    go false false e h = h
-
-entry-stored : (rs : List Record) (e : Entry) → e ∈ entries rs → e .block ∈ map (λ r. r .block) rs
-unfolding entries
-entry-stored (r ∷ rs) e m = go (in-cases m) (entry-stored rs e)
-  where
-    go : (e ≡ record { position = usedBy rs; bytes = r .bytes; block = r .block }) ⊎ (e ∈ entries rs) → (e ∈ entries rs → e .block ∈ map (λ x. x .block) rs) → e .block ∈ (r .block ∷ map (λ x. x .block) rs)
-    go (inl q) ih = in-first (ap (λ (x : Entry). x .block) q)
-    go (inr i) ih = there (ih i)
 
 module _ (c : Committee) (s : Bytes) (l m : TransactionLocator) (h : certifiedAlike (blocksOf s) (wide c (blocksOf s)) l m ≡ true) where
   alike-block : (b : Block) → b ∈ blocksOf s → certifies c (blocksOf s) m b ≡ certifies c (blocksOf s) l b
@@ -180,7 +161,7 @@ module _ (c : Committee) (s : Bytes) (l m : TransactionLocator) (h : certifiedAl
   alike-positions =
       ap (map (λ (e : Entry). e .position))
       (keep-same (λ (e : Entry). certifies c (blocksOf s) m (e .block)) (λ (e : Entry). certifies c (blocksOf s) l (e .block)) (ascending (entries (recordsOf s)))
-      (λ e i. alike-block (e .block) (entry-stored (recordsOf s) e (ascending-in e (entries (recordsOf s)) i))))
+      (λ e i. alike-block (e .block) (entry-block (recordsOf s) e (ascending-in e (entries (recordsOf s)) i))))
 
 -- as many positions as certifying blocks
 pub positions-many : (c : Committee) (s : Bytes) (l : TransactionLocator) → storeInOrder c s ≡ true → length (certifyingPositions c s l) ≡ length (certifiers c (blocksOf s) l)

@@ -1,4 +1,4 @@
--- The question in bulk: as many stretches as a slice holds. Assumes nothing: these are definitions.
+-- A list asked for its next locator, and in bulk for as many stretches as a slice holds. Assumes nothing: these are definitions.
 use Prim.Native.Nat.{ℕ, _*_, _/_}
 use mathlib.Core.Bool.{Bool}
 use mathlib.Core.List.{List, [], _∷_, _++_, map, flatten, reverse}
@@ -27,6 +27,12 @@ referenceWords r = r .authority ∷ r .round ∷ digestWords (r .digest)
 -- ten words: author, round, digest, first offset, end offset, certifying blocks, stake
 unfoldable pub stretchWords : FinalStretch → List ℕ
 stretchWords t = referenceWords (t .block) ++ (t .first ∷ t .end ∷ t .blocks ∷ t .stake ∷ [])
+
+-- the least locator of a list after a given one, or none; 01: "Queries check 5, 10"
+unfoldable pub listNext : Committee → Bytes → Listing → Option TransactionLocator → Answer (Option TransactionLocator)
+listNext c s k after = checked (nextFinalChecks c s) (k .next after)
+
+-- ---- in bulk
 
 -- how many stretches were written, and whether a locator follows them
 pub record Given : Type 0 where

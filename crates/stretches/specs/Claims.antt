@@ -10,21 +10,15 @@ use Rattle.base.specs.Lists.{_∈_}
 use Rattle.base.specs.Le.{Bytes}
 use Rattle.committee.specs.Committee.{Committee, broken}
 use Rattle.authority_set.specs.AuthoritySet.{setOf, stakeOf}
-use Rattle.blocks.specs.Reference.{BlockReference, TransactionLocator, locator, locatorBefore}
+use Rattle.blocks.specs.Reference.{BlockReference, TransactionLocator, locator}
 use Rattle.blocks.specs.Block.{Block, author}
 use Rattle.store_layout.specs.Store.{storeInOrder}
 use Rattle.finality.specs.Voters.{certifiers, isFinal}
 use Rattle.finality.specs.Finality.{blocksOf, certifyingPositions}
-use Rattle.finality.specs.NextFinal.{isAfter, AskedOn}
+use Rattle.finality.specs.NextFinal.{LeastOf, AskedOn}
 use Rattle.stretches.specs.Stretches.{Listing, wide, FinalStretch, stretchLocators, EndsAt, endAmong, stretchEnd, stretches, reached, moreFollow}
 
 -- ---- what is asked of a list
-
--- the least locator that a list shows after a given one: what that means
-pub data LeastShown (k : Listing) (after : Option TransactionLocator) : Option TransactionLocator → Type 0 where
-  least : (l : TransactionLocator) → k .shows l ≡ true → isAfter after l ≡ true
-      → ((m : TransactionLocator) → k .shows m ≡ true → isAfter after m ≡ true → locatorBefore m l ≡ false) → LeastShown k after (some l)
-  nothing : ((m : TransactionLocator) → isAfter after m ≡ true → k .shows m ≡ false) → LeastShown k after none
 
 -- an offset at which a list says of a block's locators what it says at the one before
 pub record SameBefore (bs : List Block) (k : Listing) (r : BlockReference) (o : ℕ) : Type 0 where
@@ -36,7 +30,7 @@ abbrev pub Edges : List Block → Listing → BlockReference → List ℕ → Ty
 Edges bs k r es = (o : ℕ) → (o + 1 ∈ es → ⊥) → SameBefore bs k r o
 
 pub record Lawful (bs : List Block) (k : Listing) : Type 0 where
-  pub next : (after : Option TransactionLocator) → LeastShown k after (k .next after)
+  pub next : (after : Option TransactionLocator) → LeastOf (k .shows) after (k .next after)
   pub edges : (r : BlockReference) → Edges bs k r (k .edges r)
   -- a block has an offset from which on nothing is shown
   pub bound : BlockReference → ℕ

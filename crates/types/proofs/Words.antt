@@ -118,7 +118,7 @@ module _ (a b : declared.BlockReference) where
           ≡ pick (eqb (a .authority .0) (b .authority .0)) (keyOrder (digestBytes (a .digest)) (digestBytes (b .digest))) (wordOrder (a .authority .0) (b .authority .0))
       by-author = key-step (a .authority .0) (b .authority .0) (digestBytes (a .digest)) (digestBytes (b .digest))
 
--- ---- answers, and locators
+-- ---- what an order says of the tests that it was told from, and locators
 
 pub order-equal : (s t : Bool) → orderOf s t ≡ Equal → s ≡ true
 unfolding orderOf

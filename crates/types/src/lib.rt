@@ -6,7 +6,7 @@ ghost use Prim.Native.Nat.{_+_, _≤_, _<_};
 ghost use lib.ListN.{length, take, drop};
 ghost use lib.Seq.{sets};
 ghost use Rattle.types.specs.Step.{referenceAt, locatorAt};
-ghost use Rattle.blocks.specs.Reference.{newRange, oneRange};
+ghost use Rattle.blocks.specs.Reference.{newRange, oneRange, locatorBefore};
 ghost use Rattle.blocks.specs.Record.{referenceBytes, locatorBytes};
 ghost use Rattle.types.specs.Values.{beBytes, digestBytes, asReference, asLocator, asRange, wordOrder, keyOrder, referenceOrder, locatorOrder};
 
@@ -118,6 +118,18 @@ pub fn compare_locators(a: TransactionLocator, b: TransactionLocator) -> Orderin
         Ordering::Equal => compare_words(a.offset, b.offset),
         Ordering::Less => Ordering::Less,
         Ordering::Greater => Ordering::Greater,
+    }
+}
+
+// Whether a locator comes before another.
+pub fn locator_before(a: TransactionLocator, b: TransactionLocator) -> bool
+    ensures { λ r. ⌜ r ≡ locatorBefore (asLocator a) (asLocator b) ⌝ }
+{
+    let order = compare_locators(a, b);
+    match order {
+        Ordering::Less => true,
+        Ordering::Equal => false,
+        Ordering::Greater => false,
     }
 }
 

@@ -1,7 +1,6 @@
 // Where votes begin, or rejects end: the least locator after a given one at which a vote of some stored blocks begins, or just after one that they reject.
 // Follows finalization_interpreter.rs; the Rust asks for votes alone.
 use block_spans::Vote;
-use types::Ordering;
 use types::TransactionLocator;
 use types::TransactionLocatorRange;
 ghost use mathlib.Core.Path.{_≡_};
@@ -10,7 +9,6 @@ ghost use mathlib.Core.List.{[], _∷_, map};
 ghost use Prim.Native.Nat.{_≤_};
 ghost use lib.ListN.{length, drop};
 ghost use Rattle.base.specs.Lists.{keep};
-ghost use Rattle.blocks.specs.Reference.{locatorBefore};
 ghost use Rattle.blocks.specs.Record.{wellFormed, blockIn};
 ghost use Rattle.types.specs.Values.{asLocator, asRange};
 ghost use Rattle.finality.specs.NextFinal.{isAfter, leastLocator};
@@ -35,19 +33,7 @@ fn is_after(last: MaybeLocator, locator: TransactionLocator) -> bool
     let MaybeLocator::Locator(given) = last else {
         return true;
     };
-    is_before(given, locator)
-}
-
-// Whether a locator comes before another.
-fn is_before(a: TransactionLocator, b: TransactionLocator) -> bool
-    ensures { λ r. ⌜ r ≡ locatorBefore (asLocator a) (asLocator b) ⌝ }
-{
-    let order = types::compare_locators(a, b);
-    match order {
-        Ordering::Less => true,
-        Ordering::Equal => false,
-        Ordering::Greater => false,
-    }
+    types::locator_before(given, locator)
 }
 
 // The lesser of the least locator so far and another, if that comes after the given one.
@@ -60,7 +46,7 @@ pub fn lesser(best: MaybeLocator, last: MaybeLocator, locator: TransactionLocato
     let MaybeLocator::Locator(l) = best else {
         return MaybeLocator::Locator(locator);
     };
-    if is_before(l, locator) {
+    if types::locator_before(l, locator) {
         return best;
     }
     MaybeLocator::Locator(locator)

@@ -11,9 +11,10 @@ use Rattle.base.specs.Lists.{pick}
 use Rattle.base.proofs.Tests.{and-both, and-left, and-right, not-both}
 use Rattle.authority_set.specs.AuthoritySet.{AuthoritySet, nobody, united}
 use Rattle.blocks.specs.Reference.{BlockReference, TransactionLocator}
+use Rattle.authority_set.proofs.Words.{nobody-united}
 use Rattle.voters_index.specs.Runs.{Run, run, votesAt, votersIn, sameVoters, runBefore, touches, unlessEmpty, overlaid, overlapping, added, says, gathered, joinedTo, joined, stretched, merged}
 use Rattle.voters_index.specs.Part.{RunsOf}
-use Rattle.voters_index.proofs.Sets.{united-nobody-left, nobody-united, same-voters, voters-same}
+use Rattle.voters_index.proofs.Sets.{united-nobody-left, same-voters, voters-same}
 use Rattle.voters_index.specs.Walk.{Place, anywhere, beyond, At}
 use Rattle.voters_index.proofs.Chain.{past-itself, before-past, touching, touched, Good, Chain, end, link, Anything, Differs, no-next, other}
 use Rattle.voters_index.proofs.Relation.{good-in, chain-runs}

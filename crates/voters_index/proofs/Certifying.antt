@@ -13,33 +13,24 @@ use Rattle.base.proofs.Tests.{holds-or-not, and-both, and-left, and-right, same
 use Rattle.base.proofs.Members.{any-in, in-any}
 use Rattle.committee.specs.Committee.{AuthorityIndex, Committee, totalStake, isQuorum}
 use Rattle.authority_set.specs.AuthoritySet.{AuthoritySet, nobody, inserted, united, setOf, stakeFrom, stakeOf}
-use Rattle.authority_set.proofs.Words.{united-nobody}
-use Rattle.authority_set.proofs.Votes.{member-nobody}
+use Rattle.authority_set.proofs.Words.{united-nobody, nobody-united}
+use Rattle.authority_set.proofs.Votes.{stake-nobody}
 use Rattle.blocks.specs.Reference.{TransactionLocator}
 use Rattle.blocks.specs.Block.{Block, author}
 use Rattle.store_layout.proofs.Stored.{WellStored, fresh, stored}
 use Rattle.finality.specs.Voters.{certifies, certifiers, isFinal}
+use Rattle.base.proofs.Lists.{keep-same}
 use Rattle.voters_index.specs.Runs.{Run, run, runCovers, votesAt, votersIn}
 use Rattle.voters_index.specs.Part.{RunsOf, partIn}
 use Rattle.voters_index.specs.Index.{indexed}
 use Rattle.voters_index.specs.Certified.{partCertifies, quorumRun, authorRun, certifyingRuns, certified}
-use Rattle.voters_index.proofs.Sets.{united-self, nobody-united}
+use Rattle.voters_index.proofs.Sets.{united-self}
 use Rattle.voters_index.proofs.Chain.{covered}
 use Rattle.voters_index.proofs.Relation.{runs-chain, runs-told, in-chain, none-covers}
 use Rattle.voters_index.proofs.Pointwise.{append-names}
 use Rattle.voters_index.proofs.Ascending.{stretched-runs}
 use Rattle.voters_index.proofs.Parts.{part-names, part-runs}
 use Rattle.voters_index.proofs.Grown.{voters-stay}
-
-pub stake-nobody : (c : Committee) (i : AuthorityIndex) → stakeFrom i c nobody ≡ 0
-unfolding stakeFrom
-stake-nobody [] i = refl
-stake-nobody (s ∷ c) i = rw (member-nobody i, stake-nobody c (i + 1))
-
-pub keep-same : {A : Type 0} (p q : A → Bool) (xs : List A) → ((x : A) → x ∈ xs → p x ≡ q x) → keep p xs ≡ keep q xs
-unfolding keep
-keep-same p q [] h = refl
-keep-same p q (x ∷ xs) h = rw (h x here, keep-same p q xs (λ z m. h z (there m)))
 
 module _ (c : Committee) (b : Block) (older : List Block) (new : (d : Block) → d ∈ older → d .reference ≡ b .reference → ⊥) (l : TransactionLocator) where
   -- older blocks certify as before

@@ -3,19 +3,19 @@ use mathlib.Core.Path.{_≡_, refl, sym, ap, subst, _∙_}
 use mathlib.Core.Logic.{_⊎_, inl, inr}
 use mathlib.Core.Bool.{true, _&&_}
 use mathlib.Core.List.{List, [], _∷_}
-use Prim.Native.Nat.{ℕ, _+_, _≤_, _<_}
+use Prim.Native.Nat.{ℕ, zero, suc, _+_, _≤_, _<_}
 use native.Mathlib.Omega.{arith}
 use lib.Dec.{leb}
+use lib.ListN.{drop}
 use borrow.Author.Tests.{le-leb, leb-true, eq-eqb, eqb-true}
 use Rattle.base.proofs.Tests.{or-cases, or-left, or-right, and-both, and-left, and-right, fails}
 use Rattle.authority_set.specs.AuthoritySet.{AuthoritySet, nobody, united}
-use Rattle.authority_set.proofs.Words.{united-nobody}
+use Rattle.authority_set.proofs.Words.{united-nobody, nobody-united}
 use Rattle.blocks.specs.Reference.{BlockReference, TransactionLocator, locator, newRange, sameReference, referenceBefore, covers}
 use Rattle.blocks.proofs.References.{reference-same, same-reference, reference-irrefl, reference-trans}
 use Rattle.blocks.proofs.Ranges.{within-yes, within-true}
 use Rattle.voters_index.specs.Runs.{Run, runCovers, votesAt, votersIn, runBefore, touches}
 use Rattle.voters_index.specs.Walk.{Past, byBlock, byOffset, Place, beyond, At}
-use Rattle.voters_index.proofs.Sets.{nobody-united}
 
 -- ---- places
 
@@ -139,3 +139,14 @@ module _ {D : Run → List Run → Type 0} where
       ap (λ (v : AuthoritySet). united v (votersIn xs l)) (votes-in x l c)
       ∙ ap (united (x .votes)) (rest-nobody x xs h l c)
       ∙ united-nobody (x .votes)
+
+-- the runs from an index on are a chain too
+pub chain-drop : {D : Run → List Run → Type 0} {p : Place} (j : ℕ) (xs : List Run) → Chain D p xs → (q : Place) × Chain D q (drop j xs)
+chain-drop {p = p} zero xs h = (p, h)
+chain-drop {p = p} (suc j) [] h = (p, end)
+chain-drop (suc j) (x ∷ xs) (link a g d h) = chain-drop j xs h
+
+-- a locator that a run has passed is not in it
+pub passed-out : (x : Run) (l : TransactionLocator) → Past (x .reference) (x .end) (l .block) (l .offset) → Covered x l → ⊥
+passed-out x l (byBlock h) c = reference-irrefl (l .block) (subst (λ (r : BlockReference). referenceBefore r (l .block) ≡ true) (c .of) h)
+passed-out x l (byOffset h k) c = omega (arith, c .below)

@@ -4,13 +4,13 @@ use mathlib.Core.Bool.{Bool, true, false, _||_}
 use mathlib.Core.List.{List, [], _∷_, _++_, map, flatten}
 use Rattle.base.specs.Lists.{pick, anyOf}
 use Rattle.authority_set.specs.AuthoritySet.{AuthoritySet, nobody, inserted, united}
-use Rattle.authority_set.proofs.Words.{united-nobody}
+use Rattle.authority_set.proofs.Words.{united-nobody, nobody-united}
 use Rattle.blocks.specs.Reference.{BlockReference, TransactionLocator, TransactionLocatorRange, newRange, sameReference, covers}
 use Rattle.blocks.specs.Block.{Block, author, spans}
 use Rattle.finality.specs.Voters.{votesFor, ownVote, unions, spoken, voters}
 use Rattle.voters_index.specs.Runs.{Run, run, runCovers, votesAt, votersIn, stretched}
 use Rattle.voters_index.specs.Part.{RunsOf, ownRun, ownRuns, partFrom, partIn}
-use Rattle.voters_index.proofs.Sets.{united-self, nobody-united}
+use Rattle.voters_index.proofs.Sets.{united-self}
 use Rattle.voters_index.specs.Walk.{anywhere}
 use Rattle.voters_index.proofs.Chain.{end}
 use Rattle.voters_index.proofs.Relation.{chain-runs}

@@ -9,12 +9,12 @@ use borrow.Author.Tests.{lt-ltb, le-ltb}
 use Rattle.base.specs.Lists.{pick, _∈_, here, there}
 use Rattle.base.proofs.Tests.{and-left, and-right, neither-left, not-both}
 use Rattle.authority_set.specs.AuthoritySet.{AuthoritySet, nobody, united}
-use Rattle.authority_set.proofs.Words.{united-assoc, united-nobody}
+use Rattle.authority_set.proofs.Words.{united-assoc, united-nobody, nobody-united}
 use Rattle.blocks.specs.Reference.{BlockReference, TransactionLocator, newRange, sameReference, within, covers}
 use Rattle.blocks.proofs.Ranges.{within-parts}
 use Rattle.blocks.proofs.References.{reference-total}
 use Rattle.voters_index.specs.Runs.{Run, run, runCovers, votesAt, votersIn, sameVoters, runBefore, touches, unlessEmpty, overlaid, overlapping, added, says, joinedTo}
-use Rattle.voters_index.proofs.Sets.{united-self, nobody-united, united-swap, same-voters}
+use Rattle.voters_index.proofs.Sets.{united-self, united-swap, same-voters}
 use Rattle.voters_index.specs.Walk.{byOffset}
 use Rattle.voters_index.proofs.Chain.{past-before, touched, votes-out}
 

@@ -1,7 +1,7 @@
 -- Runs read back from the words that they were written as. Assumes nothing.
 use mathlib.Core.Path.{_≡_, refl, sym, ap, subst, _∙_}
 use mathlib.Core.List.{List, [], _∷_, _++_, map, flatten, append-nil}
-use Prim.Native.Nat.{ℕ, _+_, _≤_}
+use Prim.Native.Nat.{ℕ, zero, suc, _+_, _≤_}
 use native.Mathlib.Omega.{arith}
 use native.Mathlib.Nat.{add-zero}
 use lib.ListN.{length, getD, take, drop, length-drop, take-append-drop, drop-of-length-le}
@@ -67,3 +67,8 @@ part-back ix p xs rest e h =
     ap (λ (n : ℕ). runsFrom n (drop (p + 1) ix)) (ap (λ (m : ℕ). getD ix m 0) (sym (add-zero p)) ∙ sym (getD-drop p ix 0 0) ∙ ap (λ (ws : List ℕ). getD ws 0 0) e)
     ∙ ap (runsFrom (length xs)) (sym (drop-drop 1 p ix) ∙ ap (drop 1) e)
     ∙ runs-back xs rest h
+
+pub length-runs : (n : ℕ) (ws : List ℕ) → length (runsFrom n ws) ≡ n
+unfolding runsFrom
+length-runs zero ws = refl
+length-runs (suc n) ws = ap suc (length-runs n (drop 10 ws))

@@ -11,7 +11,7 @@ use borrow.Author.Tests.{lt-ltb, le-ltb, eq-eqb, eqb-true}
 use Rattle.base.proofs.Tests.{and-both, and-left, and-right}
 use Rattle.committee.specs.Committee.{AuthorityIndex}
 use Rattle.authority_set.specs.AuthoritySet.{AuthoritySet, nobody, inserted, united}
-use Rattle.authority_set.proofs.Words.{united-assoc}
+use Rattle.authority_set.proofs.Words.{united-assoc, nobody-united}
 use Rattle.voters_index.specs.Runs.{sameVoters}
 
 pub united-comm : (v w : AuthoritySet) → united v w ≡ united w v
@@ -26,13 +26,6 @@ unfolding united
 united-self v =
     let e = or-self (v .low) in
     let f = or-self (v .high) in
-    λ i. record { low = e i; high = f i }
-
-pub nobody-united : (v : AuthoritySet) → united nobody v ≡ v
-unfolding united
-nobody-united v =
-    let e = or-zero-l (v .low) in
-    let f = or-zero-l (v .high) in
     λ i. record { low = e i; high = f i }
 
 pub united-swap : (u v w : AuthoritySet) → united u (united v w) ≡ united v (united u w)

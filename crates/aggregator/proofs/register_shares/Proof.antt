@@ -5,7 +5,6 @@ use mathlib.Core.Path.{_≡_, sym, ap, _∙_, subst}
 use Prim.Native.Nat.{ℕ, _-_, _≤_}
 use native.Mathlib.Omega.{arith}
 use lib.ListN.{length}
-use borrow.Author.Needs.{needs}
 use Rattle.blocks.specs.Reference.{BlockReference}
 use Rattle.blocks.specs.Record.{blockIn}
 use Rattle.types.specs.Values.{asReference}

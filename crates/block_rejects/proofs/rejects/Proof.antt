@@ -1,14 +1,11 @@
-use Prim.Native.Nat.{_<_}
+use Prim.Native.Nat.{_<_, _-_, _≤_}
 use mathlib.Core.Bool.{true, false}
-use lib.ListN.{getD}
-use Rattle.blocks.specs.Record.{noStatement}
+use lib.ListN.{getD, length}
+use Rattle.blocks.specs.Record.{noStatement, blockIn}
 use Rattle.block_rejects.specs.Speeches.{statementRejects}
 use borrow.Author.Needs.{needs}
 use mathlib.Core.Path.{_≡_, refl, sym, _∙_}
-use Prim.Native.Nat.{_-_, _≤_}
 use native.Mathlib.Omega.{arith}
-use lib.ListN.{length}
-use Rattle.blocks.specs.Record.{blockIn}
 use Rattle.types.specs.Values.{asLocator}
 use Rattle.statement_cursor.specs.Cursor.{cursorAt}
 use Rattle.readings.specs.Rejecting.{rejects}

@@ -1,15 +1,12 @@
-use Prim.Native.Nat.{_<_}
+use Prim.Native.Nat.{_<_, _-_, _≤_}
 use mathlib.Core.Bool.{true, false}
-use lib.ListN.{getD}
-use Rattle.blocks.specs.Record.{noStatement}
+use lib.ListN.{getD, length}
+use Rattle.blocks.specs.Record.{noStatement, blockIn}
 use Rattle.statement_reader.specs.Values.{asStatement}
 use Rattle.block_votes.specs.Walk.{statementVotes}
 use borrow.Author.Needs.{needs}
 use mathlib.Core.Path.{_≡_, refl, sym, _∙_}
-use Prim.Native.Nat.{_-_, _≤_}
 use native.Mathlib.Omega.{arith}
-use lib.ListN.{length}
-use Rattle.blocks.specs.Record.{blockIn}
 use Rattle.types.specs.Values.{asLocator}
 use Rattle.statement_cursor.specs.Cursor.{cursorAt}
 use Rattle.finality.specs.Voters.{votesFor}

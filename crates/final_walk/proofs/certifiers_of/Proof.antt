@@ -7,8 +7,9 @@ use Rattle.blocks.specs.Reference.{locator}
 use Rattle.types.specs.Values.{asLocator}
 use Rattle.readings.specs.Readings.{old, withdrawing}
 use Rattle.block_votes.proofs.Sorting.{some-committee}
+use Rattle.base.proofs.Lists.{zeros-at}
 use Rattle.final_walk.specs.Walk.{CertifyMarked}
-use Rattle.final_walk.proofs.Counting.{all-zero, counted-old, counted-none, last-unvoted}
+use Rattle.final_walk.proofs.Counting.{counted-old, counted-none, last-unvoted}
 use borrow.Author.Needs.{needs}
 use Rattle.final_walk.proofs.certifiers_of.Statement.{statement}
 use Rattle.final_walk.proofs.certifiers_of.Tie as tie
@@ -18,7 +19,7 @@ slice-aggregate-mark c = search needs
 
 mark-requires : tie.Need-mark-requires
 mark-requires c κs = let p = c .before .before .before .before .before .before .before .pre in
-    (((some-committee (p .0 .0 .0 .0), omega (arith, p .0 .0 .1)), (p .1 .0 .voting, p .1 .0 .votes)), ((λ k. all-zero 1024 k), λ e. absurd (true≢false (sym e))))
+    (((some-committee (p .0 .0 .0 .0), omega (arith, p .0 .0 .1)), (p .1 .0 .voting, p .1 .0 .votes)), ((λ k. zeros-at 1024 k), λ e. absurd (true≢false (sym e))))
 
 slice-aggregate-walk : tie.Need-slice-aggregate-walk
 slice-aggregate-walk c = search needs

@@ -5,7 +5,6 @@ use native.Mathlib.Omega.{arith}
 use borrow.Author.Tests.{not-true, not-false}
 use lib.ListN.{length}
 use Rattle.base.proofs.Le.{bytes-of}
-use Rattle.committee.specs.Committee.{isQuorum}
 use Rattle.authority_set.specs.AuthoritySet.{AuthoritySet}
 use Rattle.blocks.specs.Reference.{TransactionLocator}
 use Rattle.types.specs.Values.{asReference}
@@ -15,43 +14,35 @@ use Rattle.readings.specs.Readings.{Reading, certifiesIn, certifiersIn}
 use Rattle.readings.specs.Finality.{certifyingPositionsIn}
 use Rattle.block_votes.specs.Walk.{blockAtPlace}
 use Rattle.block_votes.proofs.Sorting.{some-committee, place-entry, place-stored, place-author}
-use Rattle.block_spans.proofs.Fits.{block-fits}
 use Rattle.voters.specs.Walk.{spokenAt}
 use Rattle.finalization_interpreter.proofs.Finding.{found, found-all, authors-all}
 use Rattle.include_places.specs.Places.{GatheredAt, setAt}
 use Rattle.include_places.proofs.Noting.{before-few}
 use Rattle.speakers.specs.Heard.{Owned, HeardBelow}
 use Rattle.speakers.proofs.Spreading.{all-heard, heard-more}
-use Rattle.final_walk.specs.Walk.{Sure, counted, CountedRight, Certify, Flags, CertifyMarked}
+use Rattle.finality.proofs.Fits.{block-fits}
+use Rattle.final_walk.specs.Walk.{counted, CountedRight, Certify, Flags, CertifyMarked}
 use Rattle.final_walk.proofs.Walking.{Going, Walking, going-start, going-more, walking-start, walking-no, walking-yes}
 use borrow.Author.Needs.{needs}
 use Rattle.final_walk.proofs.walk.Statement.{statement}
 use Rattle.final_walk.proofs.walk.Tie as tie
 
 abbrev Inv-loop : tie.InvT-loop
-Inv-loop stakes total store order places noted own rejecters rejected certified₀ memo₀ authors₀ blocks₀ quorum checked₀ i₀ k₀ certified memo authors blocks checked i k = Going stakes store order memo certified blocks checked i k × (((l : TransactionLocator) → Owned false store order l own → HeardBelow ownVote store order l memo k) × ((reading : Reading) (l : TransactionLocator) → Owned false store order l own → CountedRight rejected reading store order l rejecters → Walking reading stakes store l order certified authors blocks k))
+Inv-loop stakes total store order places noted own rejecters rejected certified₀ memo₀ authors₀ blocks₀ checked₀ i₀ k₀ certified memo authors blocks checked i k = Going stakes store order memo certified blocks checked i k × (((l : TransactionLocator) → Owned false store order l own → HeardBelow ownVote store order l memo k) × ((reading : Reading) (l : TransactionLocator) → Owned false store order l own → CountedRight rejected reading store order l rejecters → Walking reading stakes store l order certified authors blocks k))
 
 abbrev μ-loop : tie.MeasureT-loop
-μ-loop stakes total store order places noted own rejecters rejected certified₀ memo₀ authors₀ blocks₀ quorum checked₀ i₀ k₀ certified memo authors blocks checked i k = length order - k
+μ-loop stakes total store order places noted own rejecters rejected certified₀ memo₀ authors₀ blocks₀ checked₀ i₀ k₀ certified memo authors blocks checked i k = length order - k
 
 new-requires : tie.Need-new-requires Inv-loop μ-loop
 new-requires c κs = search needs
 
-new-requires-2 : tie.Need-new-requires-2 Inv-loop μ-loop
-new-requires-2 c κs = search needs
-
-stake-of-requires : tie.Need-stake-of-requires Inv-loop μ-loop
-stake-of-requires c κs = c .before .before .before .before .before .before .before .before .before .pre .0 .0 .0 .0 .sound
-
-is-quorum-requires : tie.Need-is-quorum-requires Inv-loop μ-loop
-is-quorum-requires c κs = search needs
+nobody-requires : tie.Need-nobody-requires Inv-loop μ-loop
+nobody-requires c κs = search needs
 
 loop-holds : tie.Need-loop-holds Inv-loop μ-loop
-unfolding Sure isQuorum
-loop-holds c = let a = c .before .before .before .before .before .before .before .before .before .before .before .args in
-    let p = c .before .before .before .before .before .before .before .before .before .before .before .pre in
-    let z : Sure (a .stakes .now) (record { voters = c .before .before .new2 .result; quorum = c .is-quorum .result }) = rw (← p .0 .0 .0 .1, ← c .before .stake-of .ensures) (c .is-quorum .ensures) in
-    (going-start (a .stakes .now) (a .store .now) (a .order .now) _ _ _ refl (p .0 .1) z, (λ l w j m. absurd (omega arith), λ reading l w q. rw (c .before .before .before .new .ensures) (walking-start reading (a .stakes .now) (a .store .now) l (a .order .now) _)))
+loop-holds c = let a = c .before .before .before .before .before .before .before .before .before .args in
+    let p = c .before .before .before .before .before .before .before .before .before .pre in
+    (going-start (a .stakes .now) (a .store .now) (a .order .now) _ _ _ refl (p .0 .1) (c .nobody .ensures (a .stakes .now)), (λ l w j m. absurd (omega arith), λ reading l w q. rw (c .before .new .ensures) (walking-start reading (a .stakes .now) (a .store .now) l (a .order .now) _)))
 
 mul-at : tie.Need-mul-at Inv-loop μ-loop
 mul-at c = search needs
@@ -60,78 +51,78 @@ shared-slice-read-at : tie.Need-shared-slice-read-at Inv-loop μ-loop
 shared-slice-read-at c = search needs
 
 include-count-at-requires : tie.Need-include-count-at-requires Inv-loop μ-loop
-include-count-at-requires c κs = let a = c .before .before .before .before .before .before .before .before .before .before .before .before .before .before .args in place-entry (a .store .now) (a .order .now) (some-committee (c .before .before .before .before .before .before .before .before .before .before .before .before .before .before .pre .0 .0 .0 .0)) (c .before .before .loop .k) (c .before .loop-test .taken)
+include-count-at-requires c κs = let a = c .before .before .before .before .before .before .before .before .before .before .before .before .args in place-entry (a .store .now) (a .order .now) (some-committee (c .before .before .before .before .before .before .before .before .before .before .before .before .pre .0 .0 .0 .0)) (c .before .before .loop .k) (c .before .loop-test .taken)
 
 slice-aggregate-gather-at : tie.Need-slice-aggregate-gather-at Inv-loop μ-loop
 slice-aggregate-gather-at c = sym (c .before .before .before .before .loop .inv .0 .long)
 
 gather-at-requires : tie.Need-gather-at-requires Inv-loop μ-loop
-gather-at-requires c κs = let p = c .before .before .before .before .before .before .before .before .before .before .before .before .before .before .before .before .pre in
+gather-at-requires c κs = let p = c .before .before .before .before .before .before .before .before .before .before .before .before .before .before .pre in
     let g = c .before .before .before .before .loop in
     let h = c .before .before .before .loop-test .taken in
     ((some-committee (p .0 .0 .0 .0), p .1 .0 .1), (h, (g .inv .0 .at, omega (arith, h, g .inv .0 .long, p .0 .0 .1))))
 
 mul-with-own : tie.Need-mul-with-own Inv-loop μ-loop
-mul-with-own c = omega (arith, c .before .before .before .before .loop-test .taken, c .before .before .before .before .before .before .before .before .before .before .before .before .before .before .before .before .before .pre .0 .0 .1)
+mul-with-own c = omega (arith, c .before .before .before .before .loop-test .taken, c .before .before .before .before .before .before .before .before .before .before .before .before .before .before .before .pre .0 .0 .1)
 
 shared-slice-read-with-own : tie.Need-shared-slice-read-with-own Inv-loop μ-loop
-shared-slice-read-with-own c = omega (arith, c .before .before .before .before .before .loop-test .taken, c .before .before .before .before .before .before .before .before .before .before .before .before .before .before .before .before .before .before .pre .0 .0 .1, c .before .before .before .before .before .before .before .before .before .before .before .before .before .before .before .before .before .before .pre .1 .0 .0)
+shared-slice-read-with-own c = omega (arith, c .before .before .before .before .before .loop-test .taken, c .before .before .before .before .before .before .before .before .before .before .before .before .before .before .before .before .pre .0 .0 .1, c .before .before .before .before .before .before .before .before .before .before .before .before .before .before .before .before .pre .1 .0 .0)
 
 with-own-requires : tie.Need-with-own-requires Inv-loop μ-loop
 unfolding blockAtPlace
-with-own-requires c κs = let a = c .before .before .before .before .before .before .before .before .before .before .before .before .before .before .before .before .before .before .args in
-    let o = some-committee (c .before .before .before .before .before .before .before .before .before .before .before .before .before .before .before .before .before .before .pre .0 .0 .0 .0) in
+with-own-requires c κs = let a = c .before .before .before .before .before .before .before .before .before .before .before .before .before .before .before .before .args in
+    let o = some-committee (c .before .before .before .before .before .before .before .before .before .before .before .before .before .before .before .before .pre .0 .0 .0 .0) in
     (place-entry (a .store .now) (a .order .now) o (c .before .before .before .before .before .before .loop .k) (c .before .before .before .before .before .loop-test .taken), place-author (a .store .now) (a .order .now) o (c .before .before .before .before .before .before .loop .k) (c .before .before .before .before .before .loop-test .taken))
 
 slice-aggregate-note-set : tie.Need-slice-aggregate-note-set Inv-loop μ-loop
 slice-aggregate-note-set c = sym (c .before .before .before .before .before .before .before .before .loop .inv .0 .long)
 
 note-set-requires : tie.Need-note-set-requires Inv-loop μ-loop
-note-set-requires c κs = omega (arith, c .before .before .before .before .before .before .before .loop-test .taken, c .before .before .before .before .before .before .before .before .before .before .before .before .before .before .before .before .before .before .before .before .pre .0 .0 .1, c .before .before .before .before .before .before .before .before .loop .inv .0 .long)
+note-set-requires c κs = omega (arith, c .before .before .before .before .before .before .before .loop-test .taken, c .before .before .before .before .before .before .before .before .before .before .before .before .before .before .before .before .before .before .pre .0 .0 .1, c .before .before .before .before .before .before .before .before .loop .inv .0 .long)
 
 counted-at-requires : tie.Need-counted-at-requires Inv-loop μ-loop
-counted-at-requires c κs = let p = c .before .before .before .before .before .before .before .before .before .before .before .before .before .before .before .before .before .before .before .before .before .before .pre in
+counted-at-requires c κs = let p = c .before .before .before .before .before .before .before .before .before .before .before .before .before .before .before .before .before .before .before .before .pre in
     let h = c .before .before .before .before .before .before .before .before .before .loop-test .taken in
     (omega (arith, h, p .0 .0 .1), λ e. let n = p .1 .1 e in omega (arith, h, p .0 .0 .1))
 
 check-requires : tie.Need-check-requires Inv-loop μ-loop
-check-requires c κs = let p = c .before .before .before .before .before .before .before .before .before .before .before .before .before .before .before .before .before .before .before .before .before .before .before .pre in ((p .0 .0 .0 .0 .sound, p .0 .0 .0 .1), c .before .before .before .before .before .before .before .before .before .before .before .loop .inv .0 .sure)
+check-requires c κs = let p = c .before .before .before .before .before .before .before .before .before .before .before .before .before .before .before .before .before .before .before .before .before .pre in ((p .0 .0 .0 .0 .sound, p .0 .0 .0 .1), c .before .before .before .before .before .before .before .before .before .before .before .loop .inv .0 .sure)
 
 certifies-at-requires : tie.Need-certifies-at-requires Inv-loop μ-loop
-certifies-at-requires c κs = let a = c .before .before .before .before .before .before .before .before .before .before .before .before .before .before .before .before .before .before .before .before .before .before .before .before .args in place-entry (a .store .now) (a .order .now) (some-committee (c .before .before .before .before .before .before .before .before .before .before .before .before .before .before .before .before .before .before .before .before .before .before .before .before .pre .0 .0 .0 .0)) (c .before .before .before .before .before .before .before .before .before .before .before .before .loop .k) (c .before .before .before .before .before .before .before .before .before .before .before .loop-test .taken)
+certifies-at-requires c κs = let a = c .before .before .before .before .before .before .before .before .before .before .before .before .before .before .before .before .before .before .before .before .before .before .args in place-entry (a .store .now) (a .order .now) (some-committee (c .before .before .before .before .before .before .before .before .before .before .before .before .before .before .before .before .before .before .before .before .before .before .pre .0 .0 .0 .0)) (c .before .before .before .before .before .before .before .before .before .before .before .before .loop .k) (c .before .before .before .before .before .before .before .before .before .before .before .loop-test .taken)
 
 flag-requires : tie.Need-flag-requires Inv-loop μ-loop
 flag-requires c κs = search needs
 
 mul-certified : tie.Need-mul-certified Inv-loop μ-loop
-mul-certified c = omega (arith, c .before .before .before .before .before .before .before .before .before .before .before .before .before .loop-test .taken, c .before .before .before .before .before .before .before .before .before .before .before .before .before .before .before .before .before .before .before .before .before .before .before .before .before .before .pre .0 .0 .1)
+mul-certified c = omega (arith, c .before .before .before .before .before .before .before .before .before .before .before .before .before .loop-test .taken, c .before .before .before .before .before .before .before .before .before .before .before .before .before .before .before .before .before .before .before .before .before .before .before .before .pre .0 .0 .1)
 
 slice-write-certified : tie.Need-slice-write-certified Inv-loop μ-loop
-slice-write-certified c = omega (arith, c .before .before .before .before .before .before .before .before .before .before .before .before .before .loop-test .taken, c .before .before .before .before .before .before .before .before .before .before .before .before .before .before .before .before .before .before .before .before .before .before .before .before .before .before .pre .0 .0 .1, c .before .before .before .before .before .before .before .before .before .before .before .before .before .before .loop .inv .0 .wide)
+slice-write-certified c = omega (arith, c .before .before .before .before .before .before .before .before .before .before .before .before .before .loop-test .taken, c .before .before .before .before .before .before .before .before .before .before .before .before .before .before .before .before .before .before .before .before .before .before .before .before .pre .0 .0 .1, c .before .before .before .before .before .before .before .before .before .before .before .before .before .before .loop .inv .0 .wide)
 
 add-i : tie.Need-add-i Inv-loop μ-loop
 unfolding blockAtPlace
-add-i c = let a = c .before .before .before .before .before .before .before .before .before .before .before .before .before .before .before .before .before .before .before .before .before .before .before .before .before .before .args in
+add-i c = let a = c .before .before .before .before .before .before .before .before .before .before .before .before .before .before .before .before .before .before .before .before .before .before .before .before .args in
     let g = c .before .before .before .before .before .before .before .before .before .before .before .before .before .before .loop in
-    let o = some-committee (c .before .before .before .before .before .before .before .before .before .before .before .before .before .before .before .before .before .before .before .before .before .before .before .before .before .before .pre .0 .0 .0 .0) in
+    let o = some-committee (c .before .before .before .before .before .before .before .before .before .before .before .before .before .before .before .before .before .before .before .before .before .before .before .before .pre .0 .0 .0 .0) in
     let h = c .before .before .before .before .before .before .before .before .before .before .before .before .before .loop-test .taken in
-    let bytes = bytes-of (a .store .now) (λ j l. omega (arith, c .before .before .before .before .before .before .before .before .before .before .before .before .before .before .before .before .before .before .before .before .before .before .before .before .shared-slice-known2 .given j)) in
+    let bytes = bytes-of (a .store .now) (λ j l. omega (arith, c .before .before .before .before .before .before .before .before .before .before .before .before .before .before .before .before .before .before .before .before .before .before .shared-slice-known2 .given j)) in
     let few : (k : ℕ) → k < length (a .order .now) → length (blockAtPlace (a .store .now) (a .order .now) k .includes) ≤ 65536 =
     λ k m. omega (arith, block-fits (a .store .now) bytes _ (place-stored (a .store .now) (a .order .now) o k m) .fewIncludes) in
-    omega (arith, before-few (a .store .now) (a .order .now) (g .k) (λ k m. few k (omega (arith, m, h))), few (g .k) h, g .inv .0 .at, c .before .before .before .before .before .before .before .before .before .before .before .include-count-at .ensures, h, c .before .before .before .before .before .before .before .before .before .before .before .before .before .before .before .before .before .before .before .before .before .before .before .before .before .before .pre .0 .0 .1)
+    omega (arith, before-few (a .store .now) (a .order .now) (g .k) (λ k m. few k (omega (arith, m, h))), few (g .k) h, g .inv .0 .at, c .before .before .before .before .before .before .before .before .before .before .before .include-count-at .ensures, h, c .before .before .before .before .before .before .before .before .before .before .before .before .before .before .before .before .before .before .before .before .before .before .before .before .pre .0 .0 .1)
 
 add-k : tie.Need-add-k Inv-loop μ-loop
-add-k c = omega (arith, c .before .before .before .before .before .before .before .before .before .before .before .before .before .loop-test .taken, c .before .before .before .before .before .before .before .before .before .before .before .before .before .before .before .before .before .before .before .before .before .before .before .before .before .before .pre .0 .0 .1)
+add-k c = omega (arith, c .before .before .before .before .before .before .before .before .before .before .before .before .before .loop-test .taken, c .before .before .before .before .before .before .before .before .before .before .before .before .before .before .before .before .before .before .before .before .before .before .before .before .pre .0 .0 .1)
 
 loop-less : tie.Need-loop-less Inv-loop μ-loop
 loop-less c = omega (arith, c .before .before .before .before .before .before .before .before .before .before .before .before .before .before .loop-test .taken)
 
 loop-again : tie.Need-loop-again Inv-loop μ-loop
 unfolding blockAtPlace GatheredAt
-loop-again c = let a = c .before .before .before .before .before .before .before .before .before .before .before .before .before .before .before .before .before .before .before .before .before .before .before .before .before .before .before .args in
+loop-again c = let a = c .before .before .before .before .before .before .before .before .before .before .before .before .before .before .before .before .before .before .before .before .before .before .before .before .before .args in
     let g = c .before .before .before .before .before .before .before .before .before .before .before .before .before .before .before .loop in
     let h = c .before .before .before .before .before .before .before .before .before .before .before .before .before .before .loop-test .taken in
-    let p = c .before .before .before .before .before .before .before .before .before .before .before .before .before .before .before .before .before .before .before .before .before .before .before .before .before .before .before .pre in
+    let p = c .before .before .before .before .before .before .before .before .before .before .before .before .before .before .before .before .before .before .before .before .before .before .before .before .before .pre in
     let z = c .before .before .before .check .ensures in
     let v = c .before .before .before .before .before .before .before .before .with-own .result in
     let heard : (l : TransactionLocator) → Owned false (a .store .now) (a .order .now) l (a .own .now) → v ≡ spokenAt ownVote (a .store .now) (a .order .now) l (g .k) =
@@ -147,24 +138,24 @@ loop-again c = let a = c .before .before .before .before .before .before .before
     )
 
 add-blocks : tie.Need-add-blocks Inv-loop μ-loop
-add-blocks c = omega (arith, c .before .before .before .before .before .before .before .before .before .before .before .before .before .before .before .loop .inv .0 .few, c .before .before .before .before .before .before .before .before .before .before .before .before .before .before .loop-test .taken, c .before .before .before .before .before .before .before .before .before .before .before .before .before .before .before .before .before .before .before .before .before .before .before .before .before .before .before .pre .0 .0 .1)
+add-blocks c = omega (arith, c .before .before .before .before .before .before .before .before .before .before .before .before .before .before .before .loop .inv .0 .few, c .before .before .before .before .before .before .before .before .before .before .before .before .before .before .loop-test .taken, c .before .before .before .before .before .before .before .before .before .before .before .before .before .before .before .before .before .before .before .before .before .before .before .before .before .pre .0 .0 .1)
 
 reference-at-requires : tie.Need-reference-at-requires Inv-loop μ-loop
-reference-at-requires c κs = let a = c .before .before .before .before .before .before .before .before .before .before .before .before .before .before .before .before .before .before .before .before .before .before .before .before .before .before .before .args in place-entry (a .store .now) (a .order .now) (some-committee (c .before .before .before .before .before .before .before .before .before .before .before .before .before .before .before .before .before .before .before .before .before .before .before .before .before .before .before .pre .0 .0 .0 .0)) (c .before .before .before .before .before .before .before .before .before .before .before .before .before .before .before .loop .k) (c .before .before .before .before .before .before .before .before .before .before .before .before .before .before .loop-test .taken)
+reference-at-requires c κs = let a = c .before .before .before .before .before .before .before .before .before .before .before .before .before .before .before .before .before .before .before .before .before .before .before .before .before .args in place-entry (a .store .now) (a .order .now) (some-committee (c .before .before .before .before .before .before .before .before .before .before .before .before .before .before .before .before .before .before .before .before .before .before .before .before .before .pre .0 .0 .0 .0)) (c .before .before .before .before .before .before .before .before .before .before .before .before .before .before .before .loop .k) (c .before .before .before .before .before .before .before .before .before .before .before .before .before .before .loop-test .taken)
 
 insert-requires : tie.Need-insert-requires Inv-loop μ-loop
 unfolding asReference blockAtPlace
-insert-requires c κs = let a = c .before .before .before .before .before .before .before .before .before .before .before .before .before .before .before .before .before .before .before .before .before .before .before .before .before .before .before .before .args in rw (ap (λ r. r .authority) (c .reference-at .ensures)) (place-author (a .store .now) (a .order .now) (some-committee (c .before .before .before .before .before .before .before .before .before .before .before .before .before .before .before .before .before .before .before .before .before .before .before .before .before .before .before .before .pre .0 .0 .0 .0)) (c .before .before .before .before .before .before .before .before .before .before .before .before .before .before .before .before .loop .k) (c .before .before .before .before .before .before .before .before .before .before .before .before .before .before .before .loop-test .taken))
+insert-requires c κs = let a = c .before .before .before .before .before .before .before .before .before .before .before .before .before .before .before .before .before .before .before .before .before .before .before .before .before .before .args in rw (ap (λ r. r .authority) (c .reference-at .ensures)) (place-author (a .store .now) (a .order .now) (some-committee (c .before .before .before .before .before .before .before .before .before .before .before .before .before .before .before .before .before .before .before .before .before .before .before .before .before .before .pre .0 .0 .0 .0)) (c .before .before .before .before .before .before .before .before .before .before .before .before .before .before .before .before .loop .k) (c .before .before .before .before .before .before .before .before .before .before .before .before .before .before .before .loop-test .taken))
 
 loop-less-2 : tie.Need-loop-less-2 Inv-loop μ-loop
 loop-less-2 c = omega (arith, c .before .before .before .before .before .before .before .before .before .before .before .before .before .before .before .before .loop-test .taken)
 
 loop-again-2 : tie.Need-loop-again-2 Inv-loop μ-loop
 unfolding asReference blockAtPlace GatheredAt
-loop-again-2 c = let a = c .before .before .before .before .before .before .before .before .before .before .before .before .before .before .before .before .before .before .before .before .before .before .before .before .before .before .before .before .before .args in
+loop-again-2 c = let a = c .before .before .before .before .before .before .before .before .before .before .before .before .before .before .before .before .before .before .before .before .before .before .before .before .before .before .before .args in
     let g = c .before .before .before .before .before .before .before .before .before .before .before .before .before .before .before .before .before .loop in
     let h = c .before .before .before .before .before .before .before .before .before .before .before .before .before .before .before .before .loop-test .taken in
-    let p = c .before .before .before .before .before .before .before .before .before .before .before .before .before .before .before .before .before .before .before .before .before .before .before .before .before .before .before .before .before .pre in
+    let p = c .before .before .before .before .before .before .before .before .before .before .before .before .before .before .before .before .before .before .before .before .before .before .before .before .before .before .before .pre in
     let z = c .before .before .before .before .before .check .ensures in
     let v = c .before .before .before .before .before .before .before .before .before .before .with-own .result in
     let heard : (l : TransactionLocator) → Owned false (a .store .now) (a .order .now) l (a .own .now) → v ≡ spokenAt ownVote (a .store .now) (a .order .now) l (g .k) =
@@ -180,13 +171,13 @@ loop-again-2 c = let a = c .before .before .before .before .before .before .befo
     )
 
 same-length : tie.Need-same-length Inv-loop μ-loop
-same-length c = c .before .loop .inv .0 .wide ∙ sym (c .before .before .before .before .before .before .before .before .before .before .before .before .before .pre .0 .1)
+same-length c = c .before .loop .inv .0 .wide ∙ sym (c .before .before .before .before .before .before .before .before .before .before .before .pre .0 .1)
 
 returns : tie.Need-returns Inv-loop μ-loop
 unfolding CertifyMarked Certify Flags certifyingPositionsIn certifiersIn blockAtPlace
-returns c = let a = c .before .before .before .before .before .before .before .before .before .before .before .before .before .args in
+returns c = let a = c .before .before .before .before .before .before .before .before .before .before .before .args in
     let g = c .before .loop in
-    let o = c .before .before .before .before .before .before .before .before .before .before .before .before .before .pre .0 .0 .0 .0 in
+    let o = c .before .before .before .before .before .before .before .before .before .before .before .pre .0 .0 .0 .0 in
     let e : g .k ≡ length (a .order .now) = omega (arith, g .inv .0 .inside, c .loop-test .left) in
     λ reading l w r.
     let x = g .inv .1 .1 reading l w r in
@@ -201,9 +192,7 @@ walk-spec =
     Inv-loop
     μ-loop
     new-requires
-    new-requires-2
-    stake-of-requires
-    is-quorum-requires
+    nobody-requires
     loop-holds
     mul-at
     shared-slice-read-at

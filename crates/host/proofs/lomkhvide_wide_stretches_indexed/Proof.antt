@@ -1,7 +1,7 @@
 use Rattle.host_index_finals.specs.Indexed.{wideStretchesIndexedCall}
 use native.Mathlib.Omega.{arith}
 use lib.Seq.{length-take-le}
-use Rattle.listed.specs.Listed.{listed}
+use Rattle.reading_lists.proofs.Old.{old-wide}
 use mathlib.Core.Path.{sym}
 use borrow.Author.Needs.{needs}
 use Rattle.host.proofs.lomkhvide_wide_stretches_indexed.Statement.{statement}
@@ -26,8 +26,8 @@ same-length : tie.Need-same-length
 same-length c = search needs
 
 returns : tie.Need-returns
-unfolding wideStretchesIndexedCall listed
-returns c = (rw (← c .before .before .before .before .before .before .stakes-of .ensures .1) (c .before .before .stretches-of .ensures .0), rw (← c .before .before .before .before .before .before .stakes-of .ensures .1) (c .before .before .stretches-of .ensures .1))
+unfolding wideStretchesIndexedCall
+returns c = (rw (← c .before .before .before .before .before .before .stakes-of .ensures .1) (rw old-wide at (c .before .before .stretches-of .ensures .0)), rw (← c .before .before .before .before .before .before .stakes-of .ensures .1) (rw old-wide at (c .before .before .stretches-of .ensures .1)))
 
 pub lomkhvide-wide-stretches-indexed-spec : {M : Type 1} → statement M
 lomkhvide-wide-stretches-indexed-spec =

@@ -1,4 +1,5 @@
-use Rattle.listed.specs.Listed.{listed}
+use Rattle.readings.specs.Readings.{old}
+use Rattle.reading_lists.specs.Lists.{listing}
 use Rattle.finality.specs.Finality.{blocksOf}
 use mathlib.Core.Path.{sym, ap, _∙_}
 use Rattle.vote_starts.specs.Answers.{asMaybe}
@@ -32,10 +33,10 @@ same-length c = search needs
 returns : tie.Need-returns
 returns c =
     let start = c .before .before .before .before .before .before .before .before .before .before .before .before .before .before .before .before .args in
-    let e = stretches-in (start .stakes .now) (start .store .now) (start .index .now) (start .out .now) (listed (start .ordinary) (start .stakes .now) (blocksOf (start .store .now))) (asMaybe (start .after)) (c .before .before .before .before .before .before .before .before .before .before .before .before .before .before .before .before .pre) in
+    let e = stretches-in (start .stakes .now) (start .store .now) (start .index .now) (start .out .now) (listing (start .ordinary) old (start .stakes .now) (blocksOf (start .store .now))) (asMaybe (start .after)) (c .before .before .before .before .before .before .before .before .before .before .before .before .before .before .before .before .pre) in
     let words = c .before .before .before .before .before .before .before .before .before .words-of .ensures in
     let told = c .before .before .before .before .before .before .list-stretches-indexed in
-    ((ap stretchesNumber (told .ensures .0) ∙ rw words (sym (ap (λ (x : StretchesCall). x .answer) e)), c .before .before .bytes-of .ensures ∙ rw (told .ensures .1, words) (sym (ap (λ (x : StretchesCall). x .stretches) e))), counts-fit (start .stakes .now) (start .store .now) (start .index .now) _ (listed (start .ordinary) (start .stakes .now) (blocksOf (start .store .now))) (asMaybe (start .after)) (told .result) (c .before .before .before .before .before .before .before .before .before .words-of .kept .1 .0) (told .ensures .0))
+    ((ap stretchesNumber (told .ensures .0) ∙ rw words (sym (ap (λ (x : StretchesCall). x .answer) e)), c .before .before .bytes-of .ensures ∙ rw (told .ensures .1, words) (sym (ap (λ (x : StretchesCall). x .stretches) e))), counts-fit (start .stakes .now) (start .store .now) (start .index .now) _ (listing (start .ordinary) old (start .stakes .now) (blocksOf (start .store .now))) (asMaybe (start .after)) (told .result) (c .before .before .before .before .before .before .before .before .before .words-of .kept .1 .0) (told .ensures .0))
 
 pub indexed-words-spec : {M : Type 1} → statement M
 indexed-words-spec =

@@ -1,4 +1,5 @@
-use Rattle.listed.specs.Listed.{listed}
+use Rattle.readings.specs.Readings.{old}
+use Rattle.reading_lists.specs.Lists.{listing}
 use Rattle.finality.specs.Finality.{blocksOf}
 use mathlib.Core.Path.{sym, ap, _∙_}
 use native.Mathlib.Omega.{arith}
@@ -31,7 +32,7 @@ unfolding encoded asAfter
 returns c =
     let start = c .before .before .before .before .before .before .before .before .before .args in
     let place = sym (c .before .before .before .after-of .ensures) ∙ ap asAfter (c .before .enum-told .given .1) in
-    let e = stretches-malformed (start .stakes .now) (start .store .now) (start .index .now) (listed (start .ordinary) (start .stakes .now) (blocksOf (start .store .now))) (afterOf (start .after .now)) (start .out .now) place in
+    let e = stretches-malformed (start .stakes .now) (start .store .now) (start .index .now) (listing (start .ordinary) old (start .stakes .now) (blocksOf (start .store .now))) (afterOf (start .after .now)) (start .out .now) place in
     (rw (c .refusal-indexed .ensures) (sym (ap (λ (x : StretchesCall). encoded (x .answer)) e)), sym (ap (λ (x : StretchesCall). x .stretches) e))
 
 refusal-indexed-requires-2 : tie.Need-refusal-indexed-requires-2
@@ -45,7 +46,7 @@ unfolding encoded asAfter
 returns-2 c =
     let start = c .before .before .before .before .before .before .before .before .before .before .before .args in
     let place = sym (c .before .before .before .before .before .after-of .ensures) ∙ ap asAfter (c .before .before .before .place .given .1) in
-    let e = stretches-unsized (start .stakes .now) (start .store .now) (start .index .now) (listed (start .ordinary) (start .stakes .now) (blocksOf (start .store .now))) (afterOf (start .after .now)) (start .out .now) _ place (c .before .if1 .taken) in
+    let e = stretches-unsized (start .stakes .now) (start .store .now) (start .index .now) (listing (start .ordinary) old (start .stakes .now) (blocksOf (start .store .now))) (afterOf (start .after .now)) (start .out .now) _ place (c .before .if1 .taken) in
     (rw (c .refusal-indexed2 .ensures) (sym (ap (λ (x : StretchesCall). encoded (x .answer)) e)), sym (ap (λ (x : StretchesCall). x .stretches) e))
 
 indexed-words-requires : tie.Need-indexed-words-requires
@@ -80,7 +81,7 @@ unfolding encoded asAfter asStretches stretchesNumber flag
 returns-3 c =
     let start = c .before .before .before .before .before .before .before .before .before .before .before .before .before .before .before .before .before .args in
     let place = sym (c .before .before .before .before .before .before .before .before .before .before .before .after-of .ensures) ∙ ap asAfter (c .before .before .before .before .before .before .before .before .before .place .given .1) in
-    let e = stretches-asked (start .stakes .now) (start .store .now) (start .index .now) (listed (start .ordinary) (start .stakes .now) (blocksOf (start .store .now))) (afterOf (start .after .now)) (start .out .now) _ place (c .before .before .before .before .before .before .before .if1 .left) in
+    let e = stretches-asked (start .stakes .now) (start .store .now) (start .index .now) (listing (start .ordinary) old (start .stakes .now) (blocksOf (start .store .now))) (afterOf (start .after .now)) (start .out .now) _ place (c .before .before .before .before .before .before .before .if1 .left) in
     let told = c .before .before .before .before .before .indexed-words .ensures .0 in
     (rw (e, ← told .0, c .before .count .given .1) (omega arith), told .1 ∙ sym (ap (λ (x : StretchesCall). x .stretches) e))
 
@@ -92,7 +93,7 @@ unfolding encoded asAfter asStretches stretchesNumber flag
 returns-4 c =
     let start = c .before .before .before .before .before .before .before .before .before .before .before .before .before .before .before .before .before .args in
     let place = sym (c .before .before .before .before .before .before .before .before .before .before .before .after-of .ensures) ∙ ap asAfter (c .before .before .before .before .before .before .before .before .before .place .given .1) in
-    let e = stretches-asked (start .stakes .now) (start .store .now) (start .index .now) (listed (start .ordinary) (start .stakes .now) (blocksOf (start .store .now))) (afterOf (start .after .now)) (start .out .now) _ place (c .before .before .before .before .before .before .before .if1 .left) in
+    let e = stretches-asked (start .stakes .now) (start .store .now) (start .index .now) (listing (start .ordinary) old (start .stakes .now) (blocksOf (start .store .now))) (afterOf (start .after .now)) (start .out .now) _ place (c .before .before .before .before .before .before .before .if1 .left) in
     let told = c .before .before .before .before .before .indexed-words .ensures .0 in
     (rw (e, ← told .0, c .before .count2 .given .1), told .1 ∙ sym (ap (λ (x : StretchesCall). x .stretches) e))
 
@@ -104,7 +105,7 @@ unfolding encoded asAfter asStretches stretchesNumber flag
 returns-5 c =
     let start = c .before .before .before .before .before .before .before .before .before .before .before .before .before .before .before .before .before .args in
     let place = sym (c .before .before .before .before .before .before .before .before .before .before .before .after-of .ensures) ∙ ap asAfter (c .before .before .before .before .before .before .before .before .before .place .given .1) in
-    let e = stretches-asked (start .stakes .now) (start .store .now) (start .index .now) (listed (start .ordinary) (start .stakes .now) (blocksOf (start .store .now))) (afterOf (start .after .now)) (start .out .now) _ place (c .before .before .before .before .before .before .before .if1 .left) in
+    let e = stretches-asked (start .stakes .now) (start .store .now) (start .index .now) (listing (start .ordinary) old (start .stakes .now) (blocksOf (start .store .now))) (afterOf (start .after .now)) (start .out .now) _ place (c .before .before .before .before .before .before .before .if1 .left) in
     let told = c .before .before .before .before .before .indexed-words .ensures .0 in
     (rw (e, ← told .0, c .before .number .given .1), told .1 ∙ sym (ap (λ (x : StretchesCall). x .stretches) e))
 

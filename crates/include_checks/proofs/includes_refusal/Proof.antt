@@ -4,7 +4,8 @@ use native.Mathlib.Omega.{arith}
 use lib.ListN.{length, getD, drop}
 use Rattle.blocks.specs.Record.{blockIn, noReference}
 use Rattle.types.proofs.References.{as-author, as-round}
-use Rattle.include_checks.proofs.Includes.{lookup-known, lookup-unknown, ofIncludes, include-unknown, include-high, include-on, include-end}
+use Rattle.include_checks.proofs.Includes.{lookup-known, ofIncludes, include-unknown, include-high, include-on, include-end}
+use Rattle.committee.proofs.Answers.{unknown-sound}
 use borrow.Author.Needs.{needs}
 use Rattle.include_checks.proofs.includes_refusal.Statement.{statement}
 use Rattle.include_checks.proofs.includes_refusal.Tie as tie
@@ -55,7 +56,7 @@ returns c =
     let a = as-author (i .include .result) at (i .include .ensures) in
     let n = as-round (i .include .result) at (i .include .ensures) in
     let m = as-round (r .reference .result) (b .reference) (r .reference .ensures) in
-    let no = lookup-unknown stakes (at .authority) (rw a at (sym (c .before .before .get-stake .ensures) ∙ c .enum-told2 .given .1)) in
+    let no = unknown-sound stakes (at .authority) (rw a at (sym (c .before .before .get-stake .ensures) ∙ c .enum-told2 .given .1)) in
     sym (l .loop .inv .1 ∙ include-unknown stakes b (b .includes) k inside no)
 
 returns-2 : tie.Need-returns-2 Inv-loop μ-loop

@@ -12,7 +12,8 @@ use Rattle.vote_starts.specs.Answers.{asMaybe}
 use Rattle.finality.specs.Finality.{blocksOf}
 use Rattle.stretches.specs.Bulk.{Given}
 use Rattle.stretches.specs.Stretches.{lastLocator, stretchAt}
-use Rattle.listed.specs.Listed.{listed}
+use Rattle.readings.specs.Readings.{old}
+use Rattle.reading_lists.specs.Lists.{listing}
 use Rattle.final_list.specs.Answers.{asStretches}
 use Rattle.final_list.specs.Step.{Filled}
 use Rattle.final_list.proofs.Filling.{stretches-none, stretches-full, fill-start, fill-more, fill-words, given-last, given-more}
@@ -28,7 +29,7 @@ Inv-loop stakes total store ordinary index ends owners cursors₀ flags₀ out�
     (length flags ≡ length ends)
     × ((length cursors ≡ length ends)
     × (Watched stakes (blocksOf store) index ends (placeAfter (asMaybe last)) cursors
-    × Filled stakes (blocksOf store) (listed ordinary stakes (blocksOf store)) room (asMaybe last₀) out₀ out (asMaybe last) n))
+    × Filled stakes (blocksOf store) (listing ordinary old stakes (blocksOf store)) room (asMaybe last₀) out₀ out (asMaybe last) n))
 
 abbrev μ-loop : tie.MeasureT-loop
 μ-loop stakes total store ordinary index ends owners cursors₀ flags₀ out₀ room n₀ last₀ cursors flags out n last = room - n
@@ -37,7 +38,7 @@ loop-holds : tie.Need-loop-holds Inv-loop μ-loop
 loop-holds c =
     let a = (c .before .before .before .before .before .before .before .before .args) in
     let bs = blocksOf (a .store .now) in
-    ((c .before .before .before .before .before .before .before .before .pre .1 .0), ((c .before .before .before .before .before .before .before .before .pre .1 .1 .0 .long), ((c .before .before .before .before .before .before .before .before .pre .1 .1 .0), fill-start (a .stakes .now) bs (listed (a .ordinary) (a .stakes .now) bs) (length (a .out .now) / 10) (asMaybe (a .after)) (a .out .now))))
+    ((c .before .before .before .before .before .before .before .before .pre .1 .0), ((c .before .before .before .before .before .before .before .before .pre .1 .1 .0 .long), ((c .before .before .before .before .before .before .before .before .pre .1 .1 .0), fill-start (a .stakes .now) bs (listing (a .ordinary) old (a .stakes .now) bs) (length (a .out .now) / 10) (asMaybe (a .after)) (a .out .now))))
 
 place-after-requires : tie.Need-place-after-requires Inv-loop μ-loop
 place-after-requires c κs = search needs
@@ -65,7 +66,7 @@ unfolding asStretches ShownFrom
 returns c =
     let a = (c .before .before .before .before .before .before .before .before .before .before .before .before .before .before .before .before .before .before .before .args) in
     let bs = blocksOf (a .store .now) in
-    let k = listed (a .ordinary) (a .stakes .now) bs in
+    let k = listing (a .ordinary) old (a .stakes .now) bs in
     let room = length (a .out .now) / 10 in
     let g = (c .before .before .before .before .before .before .before .before .before .before .loop) in
     let bytes = bytes-of (a .store .now) (λ i h. omega (arith, (c .before .before .before .before .before .before .before .before .before .before .before .before .before .before .before .before .before .shared-slice-known2 .given) i)) in
@@ -89,7 +90,7 @@ unfolding asStretches ShownFrom
 returns-2 c =
     let a = (c .before .before .before .before .before .before .before .before .before .before .before .before .before .before .before .before .before .before .before .before .before .args) in
     let bs = blocksOf (a .store .now) in
-    let k = listed (a .ordinary) (a .stakes .now) bs in
+    let k = listing (a .ordinary) old (a .stakes .now) bs in
     let room = length (a .out .now) / 10 in
     let g = (c .before .before .before .before .before .before .before .before .before .before .before .before .loop) in
     let bytes = bytes-of (a .store .now) (λ i h. omega (arith, (c .before .before .before .before .before .before .before .before .before .before .before .before .before .before .before .before .before .before .before .shared-slice-known2 .given) i)) in
@@ -132,7 +133,7 @@ unfolding asMaybe ShownFrom asLocator locator lastLocator stretchAt
 loop-again c =
     let a = (c .before .before .before .before .before .before .before .before .before .before .before .before .before .before .before .before .before .before .before .before .before .before .before .before .before .before .before .before .before .before .before .before .before .before .args) in
     let bs = blocksOf (a .store .now) in
-    let k = listed (a .ordinary) (a .stakes .now) bs in
+    let k = listing (a .ordinary) old (a .stakes .now) bs in
     let room = length (a .out .now) / 10 in
     let g = (c .before .before .before .before .before .before .before .before .before .before .before .before .before .before .before .before .before .before .before .before .before .before .before .before .before .loop) in
     let bytes = bytes-of (a .store .now) (λ i h. omega (arith, (c .before .before .before .before .before .before .before .before .before .before .before .before .before .before .before .before .before .before .before .before .before .before .before .before .before .before .before .before .before .before .before .before .shared-slice-known2 .given) i)) in

@@ -3,7 +3,8 @@ use mathlib.Core.Bool.{true}
 use Rattle.vote_starts.specs.Answers.{asMaybe}
 use Rattle.finality.specs.Finality.{blocksOf}
 use Rattle.stretches.specs.Bulk.{AskedBulk}
-use Rattle.listed.specs.Listed.{listed}
+use Rattle.readings.specs.Readings.{old}
+use Rattle.reading_lists.specs.Lists.{listing}
 use Rattle.final_list.specs.Answers.{asStretches}
 use native.Mathlib.Omega.{arith}
 use lib.ListN.{length}
@@ -34,7 +35,7 @@ unfolding asStretches
 returns c =
     let a = (c .before .before .before .before .before .before .before .args) in
     let told = (c .enum-told .given) in
-    let k = listed (a .ordinary) (a .stakes .now) (blocksOf (a .store .now)) in
+    let k = listing (a .ordinary) old (a .stakes .now) (blocksOf (a .store .now)) in
     let e = indexed-broken (a .stakes .now) (a .store .now) (a .index .now) k (a .out .now) (asMaybe (a .after)) (broken-sound (a .stakes .now) (told .0 .0) (ap asNewCommittee (sym (told .1)) ∙ (c .before .before .new-committee .ensures))) in
     (ap (λ (x : AskedBulk). x .answer) e, ap (λ (x : AskedBulk). x .out) e)
 
@@ -46,7 +47,7 @@ unfolding asStretches
 returns-2 c =
     let a = (c .before .before .before .before .before .before .before .before .before .before .args) in
     let told = (c .before .before .before .total .given) in
-    let k = listed (a .ordinary) (a .stakes .now) (blocksOf (a .store .now)) in
+    let k = listing (a .ordinary) old (a .stakes .now) (blocksOf (a .store .now)) in
     let t = taken-sound (a .stakes .now) (told .0 .0) (ap asNewCommittee (sym (told .1)) ∙ (c .before .before .before .before .before .new-committee .ensures)) in
     let e = indexed-disordered (a .stakes .now) (a .store .now) (a .index .now) k (a .out .now) (asMaybe (a .after)) (t .0) (sym (c .before .in-order .ensures) ∙ not-true _ (c .if1 .taken)) in
     (ap (λ (x : AskedBulk). x .answer) e, ap (λ (x : AskedBulk). x .out) e)
@@ -85,7 +86,7 @@ unfolding asStretches
 returns-3 c =
     let a = (c .before .before .before .before .before .before .before .before .before .before .before .before .before .before .before .before .before .before .args) in
     let told = (c .before .before .before .before .before .before .before .before .before .before .before .total .given) in
-    let k = listed (a .ordinary) (a .stakes .now) (blocksOf (a .store .now)) in
+    let k = listing (a .ordinary) old (a .stakes .now) (blocksOf (a .store .now)) in
     let t = taken-sound (a .stakes .now) (told .0 .0) (ap asNewCommittee (sym (told .1)) ∙ (c .before .before .before .before .before .before .before .before .before .before .before .before .before .new-committee .ensures)) in
     let e = indexed-disagrees (a .stakes .now) (a .store .now) (a .index .now) k (a .out .now) (asMaybe (a .after)) (t .0) (sym (c .before .before .before .before .before .before .before .before .before .in-order .ensures) ∙ not-false _ (c .before .before .before .before .before .before .before .before .if1 .left)) (sym (c .before .before .index-agrees .ensures .0) ∙ not-true _ (c .if2 .taken)) in
     (ap (λ (x : AskedBulk). x .answer) e, ap (λ (x : AskedBulk). x .out) e)
@@ -119,7 +120,7 @@ returns-4 : tie.Need-returns-4
 returns-4 c =
     let a = (c .before .before .before .before .before .before .before .before .before .before .before .before .before .before .before .before .before .before .before .before .before .before .before .before .args) in
     let told = (c .before .before .before .before .before .before .before .before .before .before .before .before .before .before .before .before .before .total .given) in
-    let k = listed (a .ordinary) (a .stakes .now) (blocksOf (a .store .now)) in
+    let k = listing (a .ordinary) old (a .stakes .now) (blocksOf (a .store .now)) in
     let t = taken-sound (a .stakes .now) (told .0 .0) (ap asNewCommittee (sym (told .1)) ∙ (c .before .before .before .before .before .before .before .before .before .before .before .before .before .before .before .before .before .before .before .new-committee .ensures)) in
     let o : storeInOrder (a .stakes .now) (a .store .now) ≡ true = sym (c .before .before .before .before .before .before .before .before .before .before .before .before .before .before .before .in-order .ensures) ∙ not-false _ (c .before .before .before .before .before .before .before .before .before .before .before .before .before .before .if1 .left) in
     let q = (c .before .before .fill-watched .ensures) in

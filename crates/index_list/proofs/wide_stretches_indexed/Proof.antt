@@ -1,4 +1,4 @@
-use Rattle.listed.specs.Listed.{listed}
+use Rattle.reading_lists.proofs.Old.{old-wide}
 use borrow.Author.Needs.{needs}
 use Rattle.index_list.proofs.wide_stretches_indexed.Statement.{statement}
 use Rattle.index_list.proofs.wide_stretches_indexed.Tie as tie
@@ -10,8 +10,7 @@ same-length : tie.Need-same-length
 same-length c = search needs
 
 returns : tie.Need-returns
-unfolding listed
-returns c = search needs
+returns c = rw old-wide at (c .before .before .list-stretches-indexed .ensures)
 
 pub wide-stretches-indexed-spec : {M : Type 1} → statement M
 wide-stretches-indexed-spec = tie.close (tie.spec list-stretches-indexed-requires same-length returns)

@@ -5,7 +5,8 @@ use Rattle.base.proofs.Le.{bytes-of}
 use Rattle.blocks.specs.Reference.{locator}
 use Rattle.types.specs.Values.{asLocator}
 use Rattle.finality.specs.Finality.{blocksOf}
-use Rattle.listed.specs.Listed.{listed}
+use Rattle.readings.specs.Readings.{old}
+use Rattle.reading_lists.specs.Lists.{listing}
 use Rattle.index_runs.specs.Values.{asPlace}
 use Rattle.voters_index.specs.Walk.{beyond}
 use Rattle.index_watch.proofs.Standing.{watched-cursors}
@@ -18,7 +19,7 @@ use Rattle.index_listed.proofs.listed_from.Tie as tie
 
 abbrev Inv-loop : tie.InvT-loop
 Inv-loop stakes total store ordinary index ends owners cursors₀ flags₀ from₀ cursors flags from =
-    (length flags ≡ length ends) × ((length cursors ≡ length ends) × Coming stakes (blocksOf store) (listed ordinary stakes (blocksOf store)) index ends (asPlace from₀) (asPlace from) cursors)
+    (length flags ≡ length ends) × ((length cursors ≡ length ends) × Coming stakes (blocksOf store) (listing ordinary old stakes (blocksOf store)) index ends (asPlace from₀) (asPlace from) cursors)
 
 abbrev μ-loop : tie.MeasureT-loop
 μ-loop stakes total store ordinary index ends owners cursors₀ flags₀ from₀ cursors flags from = edgesPast index (asPlace from)
@@ -27,7 +28,7 @@ loop-holds : tie.Need-loop-holds Inv-loop μ-loop
 loop-holds c =
     let a = (c .before .before .before .before .before .before .before .args) in
     let bs = blocksOf (a .store .now) in
-    ((c .before .before .before .before .before .before .before .pre .1 .0), ((c .before .before .before .before .before .before .before .pre .1 .1 .0 .long), coming-start (a .stakes .now) bs (listed (a .ordinary) (a .stakes .now) bs) (a .index .now) (a .ends .now) (asPlace (a .place)) (a .cursors .now) (c .before .before .before .before .before .before .before .pre .1 .1 .0)))
+    ((c .before .before .before .before .before .before .before .pre .1 .0), ((c .before .before .before .before .before .before .before .pre .1 .1 .0 .long), coming-start (a .stakes .now) bs (listing (a .ordinary) old (a .stakes .now) bs) (a .index .now) (a .ends .now) (asPlace (a .place)) (a .cursors .now) (c .before .before .before .before .before .before .before .pre .1 .1 .0)))
 
 final-from-requires : tie.Need-final-from-requires Inv-loop μ-loop
 final-from-requires c κs = (((c .before .before .before .before .before .before .before .before .before .before .pre .0 .0 .1 .sound), (c .before .before .before .before .before .before .before .before .before .before .pre .0 .1)), ((c .before .before .loop .inv .0), (blocksOf ((c .before .before .before .before .before .before .before .before .before .before .args .store .now)), ((c .before .before .loop .inv .1 .1 .watched), (c .before .before .before .before .before .before .before .before .before .before .pre .1 .1 .1)))))

@@ -1,5 +1,5 @@
 use Rattle.vote_starts.specs.Answers.{asMaybe}
-use Rattle.index_marks.specs.Marks.{lesserStart, lesserBy}
+use Rattle.finality.specs.NextFinal.{lesserLocator}
 use borrow.Author.Needs.{needs}
 use Rattle.index_marks.proofs.lesser.Statement.{statement}
 use Rattle.index_marks.proofs.lesser.Tie as tie
@@ -11,32 +11,19 @@ enum-told : tie.Need-enum-told
 enum-told c = search needs
 
 returns : tie.Need-returns
-unfolding asMaybe lesserStart lesserBy
+unfolding asMaybe lesserLocator
 returns c = rw (c .enum-told .given .1)
 
-compare-locators-requires : tie.Need-compare-locators-requires
-compare-locators-requires c κs = search needs
-
-enum-told-2 : tie.Need-enum-told-2
-enum-told-2 c = search needs
-
-enum-told-3 : tie.Need-enum-told-3
-enum-told-3 c = search needs
-
-enum-told-4 : tie.Need-enum-told-4
-enum-told-4 c = search needs
+locator-before-requires : tie.Need-locator-before-requires
+locator-before-requires c κs = search needs
 
 returns-2 : tie.Need-returns-2
-unfolding asMaybe lesserStart lesserBy
-returns-2 c = rw (c .before .before .before .before .best .given .1, ← c .before .before .compare-locators .ensures, c .enum-told2 .given .1)
+unfolding asMaybe lesserLocator
+returns-2 c = rw (c .before .before .before .best .given .1, ← c .before .locator-before .ensures, c .if1 .taken)
 
 returns-3 : tie.Need-returns-3
-unfolding asMaybe lesserStart lesserBy
-returns-3 c = rw (c .before .before .before .before .best .given .1, ← c .before .before .compare-locators .ensures, c .enum-told3 .given .1)
-
-returns-4 : tie.Need-returns-4
-unfolding asMaybe lesserStart lesserBy
-returns-4 c = rw (c .before .before .before .before .best .given .1, ← c .before .before .compare-locators .ensures, c .enum-told4 .given .1)
+unfolding asMaybe lesserLocator
+returns-3 c = rw (c .before .before .before .best .given .1, ← c .before .locator-before .ensures, c .if1 .left)
 
 pub lesser-spec : {M : Type 1} → statement M
 lesser-spec =
@@ -45,10 +32,6 @@ lesser-spec =
     enum-known-best
     enum-told
     returns
-    compare-locators-requires
-    enum-told-2
-    enum-told-3
-    enum-told-4
+    locator-before-requires
     returns-2
-    returns-3
-    returns-4)
+    returns-3)

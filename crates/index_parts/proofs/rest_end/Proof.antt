@@ -7,7 +7,7 @@ use Rattle.voters_index.specs.Runs.{Run, run}
 use Rattle.voters_index.specs.Part.{RunsOf}
 use Rattle.finality.specs.Voters.{ownVote}
 use Rattle.voters_index.specs.Walk.{anywhere}
-use Rattle.index_runs.specs.Values.{asRun, asMaybe, asPlace}
+use Rattle.index_runs.specs.Values.{asRun, asMaybe, asPlace, startsWith}
 use Rattle.index_parts.specs.Parts.{merged, Rested}
 use Rattle.index_parts.proofs.Stepping.{Stepping, runs-moved, stepping-start, stepping-none, stepping-ahead, stepping-more, stepping-next, stepping-on}
 use Rattle.base.proofs.Tests.{not-both}
@@ -16,7 +16,6 @@ use Rattle.index_merge.proofs.Merged.{piece-ahead}
 use Rattle.index_parts.proofs.Words.{Stood, stood-start, stood-on, stood-end, run-room, run-stands}
 use mathlib.Core.Bool.{true}
 use Rattle.voters_index.specs.Index.{runWords}
-use Rattle.index_runs.specs.Values.{startsWith}
 use borrow.Author.Needs.{needs}
 use native.Mathlib.Omega.{arith}
 use Rattle.index_parts.proofs.rest_end.Statement.{statement}

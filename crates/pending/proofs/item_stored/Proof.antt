@@ -1,4 +1,4 @@
-use Rattle.pending.proofs.Checked.{part-place, part-stored, part-walked}
+use Rattle.pending.proofs.Checked.{part-place, part-stored, part-walked, not-there, not-past}
 use Rattle.store_layout.specs.Store.{usedLength}
 use Rattle.pending.proofs.Entries.{stands-on}
 use mathlib.Core.Path.{_≡_, sym, ap, _∙_}
@@ -6,7 +6,6 @@ use native.Mathlib.Omega.{arith}
 use Rattle.store_layout.proofs.Check.{is-readable}
 use Rattle.store_layout.proofs.Loops.{entry-room, record-part, refuses}
 use Rattle.table_words.specs.Answers.{asItem}
-use Rattle.pending.proofs.Checked.{not-there, not-past}
 use borrow.Author.Needs.{needs}
 use Rattle.pending.proofs.item_stored.Statement.{statement}
 use Rattle.pending.proofs.item_stored.Tie as tie

@@ -10,7 +10,6 @@ use Rattle.types.specs.Values.{asLocator}
 use Rattle.slip_records.specs.Places.{blockFrom, blockAtPlace}
 use Rattle.slip_records.proofs.Frames.{record-part}
 use Rattle.slip_paths.specs.Walk.{Noted}
-use Rattle.slip_paths.proofs.Noting.{noted-none, noted-more}
 use borrow.Author.Needs.{needs}
 use Rattle.slip_paths.proofs.note_votes.Statement.{statement}
 use Rattle.slip_paths.proofs.note_votes.Tie as tie

@@ -2,7 +2,6 @@ use Rattle.slip_paths.specs.Walk.{ends}
 use Rattle.slip_paths.proofs.Walks.{step-past, step-at}
 use Rattle.blocks.specs.Block.{Block}
 use mathlib.Core.Path.{_≡_, sym, ap, _∙_}
-use mathlib.Core.Path.{_≡_, sym, ap, _∙_}
 use native.Mathlib.Omega.{arith}
 use lib.ListN.{length, getD}
 use Rattle.base.specs.Le.{Bytes}

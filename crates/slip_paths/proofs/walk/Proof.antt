@@ -1,5 +1,5 @@
 use Rattle.slip_paths.specs.Walk.{toPlace, ends, missing}
-use Rattle.slip_paths.proofs.Walks.{led-block, led-nowhere, led-missing}
+use Rattle.slip_paths.proofs.Walks.{led-block, led-nowhere, led-missing, walks-on, walks-nowhere, walks-missing, walks-end}
 use mathlib.Core.Path.{_≡_, refl, _∙_}
 use Prim.Native.Nat.{_-_, _<_}
 use native.Mathlib.Omega.{arith}
@@ -7,7 +7,6 @@ use lib.ListN.{length, drop}
 use Rattle.slips.specs.Supplied.{suppliedBlocks}
 use Rattle.slips.specs.Paths.{leads}
 use Rattle.slip_records.specs.Places.{blockAtPlace}
-use Rattle.slip_paths.proofs.Walks.{walks-on, walks-nowhere, walks-missing, walks-end}
 use borrow.Author.Needs.{needs}
 use Rattle.slip_paths.proofs.walk.Statement.{statement}
 use Rattle.slip_paths.proofs.walk.Tie as tie

@@ -1,6 +1,7 @@
 use mathlib.Core.Path.{refl}
 use native.Mathlib.Omega.{arith}
-use Rattle.slip_reader.proofs.Answering.{known-all, shown-slip, no-words}
+use Rattle.base.proofs.Lists.{zeros-at}
+use Rattle.slip_reader.proofs.Answering.{known-all, shown-slip}
 use Rattle.slip_body.proofs.Certifying.{head-long}
 use borrow.Author.Needs.{needs}
 use Rattle.slip_reader.proofs.show_slip.Statement.{statement}
@@ -22,13 +23,13 @@ slice-aggregate-note-lacking : tie.Need-slice-aggregate-note-lacking
 slice-aggregate-note-lacking c = search needs
 
 note-lacking-requires : tie.Need-note-lacking-requires
-note-lacking-requires c κs = (c .before .before .before .before .before .before .before .before .before .before .pre .1 .0, (c .before .before .before .before .before .before .before .before .before .before .pre .1 .1, no-words 1024))
+note-lacking-requires c κs = (c .before .before .before .before .before .before .before .before .before .before .pre .1 .0, (c .before .before .before .before .before .before .before .before .before .before .pre .1 .1, zeros-at 1024))
 
 slice-aggregate-note-rejecters : tie.Need-slice-aggregate-note-rejecters
 slice-aggregate-note-rejecters c = search needs
 
 note-rejecters-requires : tie.Need-note-rejecters-requires
-note-rejecters-requires c κs = (c .before .before .before .before .before .before .before .before .before .before .before .before .before .pre .1 .0, (omega (arith, c .before .before .before .before .before .before .before .before .before .before .before .before .before .pre .1 .1), no-words 2048))
+note-rejecters-requires c κs = (c .before .before .before .before .before .before .before .before .before .before .before .before .before .pre .1 .0, (omega (arith, c .before .before .before .before .before .before .before .before .before .before .before .before .before .pre .1 .1), zeros-at 2048))
 
 slice-aggregate-take-slip : tie.Need-slice-aggregate-take-slip
 slice-aggregate-take-slip c = search needs

@@ -34,14 +34,14 @@ mul-read-locator-2 c = search needs
 read-locator-requires-2 : tie.Need-read-locator-requires-2 Inv-loop μ-loop
 read-locator-requires-2 c κs = omega (arith, c .before .loop-test .taken)
 
-is-before-requires : tie.Need-is-before-requires Inv-loop μ-loop
-is-before-requires c κs = search needs
+locator-before-requires : tie.Need-locator-before-requires Inv-loop μ-loop
+locator-before-requires c κs = search needs
 
 returns-2 : tie.Need-returns-2 Inv-loop μ-loop
 returns-2 c =
     let a = c .before .before .before .before .before .before .before .before .args in
     let g = c .before .before .before .before .before .loop in
-    sym (sorted-no (a .locators .now) (omega (arith, c .before .before .before .before .before .before .if1 .left)) (g .i) (g .inv .0) (c .before .before .before .before .loop-test .taken) (compared (c .before .is-before .ensures) (c .before .before .read-locator2 .ensures) (c .before .before .before .read-locator .ensures) (c .if2 .taken)))
+    sym (sorted-no (a .locators .now) (omega (arith, c .before .before .before .before .before .before .if1 .left)) (g .i) (g .inv .0) (c .before .before .before .before .loop-test .taken) (compared (c .before .locator-before .ensures) (c .before .before .read-locator2 .ensures) (c .before .before .before .read-locator .ensures) (c .if2 .taken)))
 
 add-i : tie.Need-add-i Inv-loop μ-loop
 add-i c = search needs
@@ -53,7 +53,7 @@ loop-again : tie.Need-loop-again Inv-loop μ-loop
 loop-again c =
     let a = c .before .before .before .before .before .before .before .before .args in
     let g = c .before .before .before .before .before .loop in
-    (omega arith, rising-next (a .locators .now) (g .i) (g .inv .0) (g .inv .1) (compared (c .before .is-before .ensures) (c .before .before .read-locator2 .ensures) (c .before .before .before .read-locator .ensures) (c .if2 .left)))
+    (omega arith, rising-next (a .locators .now) (g .i) (g .inv .0) (g .inv .1) (compared (c .before .locator-before .ensures) (c .before .before .read-locator2 .ensures) (c .before .before .before .read-locator .ensures) (c .if2 .left)))
 
 returns-3 : tie.Need-returns-3 Inv-loop μ-loop
 returns-3 c =
@@ -74,7 +74,7 @@ is-sorted-list-spec =
     read-locator-requires
     mul-read-locator-2
     read-locator-requires-2
-    is-before-requires
+    locator-before-requires
     returns-2
     add-i
     loop-less

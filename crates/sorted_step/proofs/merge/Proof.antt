@@ -1,12 +1,11 @@
 use borrow.Author.Needs.{needs}
 use Prim.Native.Nat.{_+_, _-_}
-use mathlib.Core.Path.{refl, sym, ap, _∙_}
+use mathlib.Core.Path.{sym, ap, _∙_}
 use native.Mathlib.Omega.{arith}
 use borrow.Author.Tests.{not-true, not-false}
 use Rattle.voters_index.specs.Runs.{Run, run}
 use Rattle.index_runs.specs.Values.{asRun}
-use Rattle.sorted_step.specs.Step.{Sure}
-use Rattle.sorted_step.proofs.Words.{sure-nobody}
+use Rattle.quorum_check.specs.Sure.{Sure}
 use Rattle.sorted_step.proofs.Merges.{Merges, found-side, merges-start, merges-out, merges-end, merges-past, merges-before, merges-few, merges-grows, merges-room}
 use Rattle.sorted_step.proofs.merge.Statement.{statement}
 use Rattle.sorted_step.proofs.merge.Tie as tie
@@ -20,13 +19,13 @@ abbrev μ-loop : tie.MeasureT-loop
 shared-slice-read-m : tie.Need-shared-slice-read-m Inv-loop μ-loop
 shared-slice-read-m c = omega (arith, c .before .before .before .before .before .pre .1 .0 .1 .long)
 
-new-requires : tie.Need-new-requires Inv-loop μ-loop
-new-requires c κs = search needs
+nobody-requires : tie.Need-nobody-requires Inv-loop μ-loop
+nobody-requires c κs = search needs
 
 loop-holds : tie.Need-loop-holds Inv-loop μ-loop
 loop-holds c =
     let a = c .before .before .before .before .before .before .args in
-    (sure-nobody (a .stakes .now) _ (c .new .ensures) refl, merges-start (a .stakes .now) (a .author .0) (a .part .now) (a .locators .now) (a .replies .now))
+    (c .nobody .ensures (a .stakes .now), merges-start (a .stakes .now) (a .author .0) (a .part .now) (a .locators .now) (a .replies .now))
 
 same-length : tie.Need-same-length Inv-loop μ-loop
 same-length c = c .before .before .loop .inv .1 .merging .long
@@ -175,7 +174,7 @@ merge-spec =
     Inv-loop
     μ-loop
     shared-slice-read-m
-    new-requires
+    nobody-requires
     loop-holds
     same-length
     returns

@@ -8,9 +8,9 @@ use Rattle.blocks.specs.Reference.{TransactionLocator}
 use Rattle.block_votes.specs.Walk.{blockAtPlace}
 use Rattle.block_votes.proofs.Sorting.{place-entry, place-stored, place-author}
 use Rattle.block_rejects.specs.Speeches.{speechOf}
-use Rattle.block_spans.proofs.Fits.{block-fits}
 use Rattle.include_places.specs.Places.{GatheredAt}
 use Rattle.include_places.proofs.Noting.{before-few}
+use Rattle.finality.proofs.Fits.{block-fits}
 use Rattle.speakers.specs.Heard.{Owned, HeardBelow, HeardMarked}
 use Rattle.speakers.proofs.Spreading.{Going, going-start, going-more, all-heard, heard-more}
 use borrow.Author.Needs.{needs}

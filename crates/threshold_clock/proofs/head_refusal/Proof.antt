@@ -3,8 +3,9 @@ use lib.ListN.{length}
 use borrow.Author.Tests.{eq-eqb, ne-eqb}
 use Rattle.blocks.specs.Record.{blockIn}
 use Rattle.types.proofs.References.{as-author, as-round}
-use Rattle.include_checks.proofs.Includes.{lookup-known, lookup-unknown}
+use Rattle.include_checks.proofs.Includes.{lookup-known}
 use Rattle.threshold_clock.proofs.Checking.{head-is}
+use Rattle.committee.proofs.Answers.{unknown-sound}
 use borrow.Author.Needs.{needs}
 use Rattle.threshold_clock.proofs.head_refusal.Statement.{statement}
 use Rattle.threshold_clock.proofs.head_refusal.Tie as tie
@@ -29,7 +30,7 @@ returns c =
     let b = blockIn (o .args .rec .now) in
     let a = as-author (r .reference .result) (b .reference) (r .reference .ensures) in
     let n = as-round (r .reference .result) (b .reference) (r .reference .ensures) in
-    let no = lookup-unknown k (b .reference .authority) (rw a at (sym (c .before .before .get-stake .ensures) ∙ c .enum-told2 .given .1)) in
+    let no = unknown-sound k (b .reference .authority) (rw a at (sym (c .before .before .get-stake .ensures) ∙ c .enum-told2 .given .1)) in
     sym (head-is k b ∙ rw no)
 
 returns-2 : tie.Need-returns-2

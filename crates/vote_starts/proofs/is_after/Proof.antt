@@ -14,12 +14,12 @@ returns : tie.Need-returns
 unfolding asMaybe isAfter
 returns c = rw (c .enum-told .given .1)
 
-is-before-requires : tie.Need-is-before-requires
-is-before-requires c κs = search needs
+locator-before-requires : tie.Need-locator-before-requires
+locator-before-requires c κs = search needs
 
 returns-2 : tie.Need-returns-2
 unfolding asMaybe isAfter
-returns-2 c = rw (c .before .before .last .given .1) (c .is-before .ensures)
+returns-2 c = rw (c .before .before .last .given .1) (c .locator-before .ensures)
 
 pub is-after-spec : {M : Type 1} → statement M
-is-after-spec = tie.close (tie.spec enum-known-last enum-told returns is-before-requires returns-2)
+is-after-spec = tie.close (tie.spec enum-known-last enum-told returns locator-before-requires returns-2)

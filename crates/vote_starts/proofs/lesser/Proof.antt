@@ -29,16 +29,16 @@ returns-2 : tie.Need-returns-2
 unfolding keep leastLocator lesserOf lesserLocator asMaybe
 returns-2 c = rw (← c .before .before .before .is-after .ensures, not-false (c .before .before .before .is-after .result) (c .before .before .if1 .left), c .enum-told .given .1)
 
-is-before-requires : tie.Need-is-before-requires
-is-before-requires c κs = search needs
+locator-before-requires : tie.Need-locator-before-requires
+locator-before-requires c κs = search needs
 
 returns-3 : tie.Need-returns-3
 unfolding keep leastLocator lesserOf lesserLocator asMaybe
-returns-3 c = rw (← c .before .before .before .before .before .before .is-after .ensures, not-false (c .before .before .before .before .before .before .is-after .result) (c .before .before .before .before .before .if1 .left), c .before .before .before .best .given .1, ← c .before .is-before .ensures, c .if2 .taken)
+returns-3 c = rw (← c .before .before .before .before .before .before .is-after .ensures, not-false (c .before .before .before .before .before .before .is-after .result) (c .before .before .before .before .before .if1 .left), c .before .before .before .best .given .1, ← c .before .locator-before .ensures, c .if2 .taken)
 
 returns-4 : tie.Need-returns-4
 unfolding keep leastLocator lesserOf lesserLocator asMaybe
-returns-4 c = rw (← c .before .before .before .before .before .before .is-after .ensures, not-false (c .before .before .before .before .before .before .is-after .result) (c .before .before .before .before .before .if1 .left), c .before .before .before .best .given .1, ← c .before .is-before .ensures, c .if2 .left)
+returns-4 c = rw (← c .before .before .before .before .before .before .is-after .ensures, not-false (c .before .before .before .before .before .before .is-after .result) (c .before .before .before .before .before .if1 .left), c .before .before .before .best .given .1, ← c .before .locator-before .ensures, c .if2 .left)
 
 pub lesser-spec : {M : Type 1} → statement M
 lesser-spec =
@@ -49,6 +49,6 @@ lesser-spec =
     enum-known-best
     enum-told
     returns-2
-    is-before-requires
+    locator-before-requires
     returns-3
     returns-4)

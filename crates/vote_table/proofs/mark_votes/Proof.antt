@@ -5,8 +5,7 @@ use native.Mathlib.Omega.{arith}
 use lib.ListN.{length, getD, length-set}
 use borrow.Author.Tests.{not-true, not-false}
 use Rattle.types.specs.Values.{asLocator}
-use Rattle.vote_table.specs.Table.{placeAt}
-use Rattle.vote_table.specs.Table.{Marks}
+use Rattle.vote_table.specs.Table.{placeAt, Marks}
 use Rattle.vote_table.proofs.Marking.{mark-start, mark-no, mark-yes}
 use Rattle.vote_table.proofs.mark_votes.Statement.{statement}
 use Rattle.vote_table.proofs.mark_votes.Tie as tie

@@ -1,4 +1,4 @@
-use lib.ListN.{getD}
+use lib.ListN.{getD, length}
 use borrow.Author.Tests.{eqb-true}
 use Rattle.blocks.specs.Record.{noReference}
 use Rattle.finality.specs.Voters.{spoken}
@@ -12,7 +12,6 @@ use borrow.Author.Needs.{needs}
 use Prim.Native.Nat.{ℕ, _+_, _*_, _-_, _<_, _≤_}
 use mathlib.Core.Path.{_≡_, refl, sym, ap, _∙_}
 use native.Mathlib.Omega.{arith}
-use lib.ListN.{length}
 use Rattle.types.specs.Values.{asLocator}
 use Rattle.voters.proofs.Visiting.{VisitedIncludes, place-spoken}
 use borrow.Fn.Kinds.{In}

@@ -1,19 +1,24 @@
--- Shares in a row are one range of a block's votes: a share stands in a range of shares only. Assumes nothing.
-use mathlib.Core.Path.{_≡_, refl, sym, subst}
+-- Shares in a row are one range of a block's votes: a share stands in a range of shares only, and where none begins it has one just before
+-- it. Assumes nothing.
+use mathlib.Core.Path.{_≡_, refl, sym, subst, _∙_}
 use mathlib.Core.Logic.{_⊎_, inl, inr}
 use mathlib.Core.Bool.{Bool, true, false, true≢false}
-use mathlib.Core.List.{List, [], _∷_, Option·toList}
+use mathlib.Core.List.{List, [], _∷_, map, Option·toList}
 use Prim.Native.Nat.{ℕ, zero, suc, _+_, _-_, _≤_, _<_}
 use native.Mathlib.Omega.{arith}
+use native.Mathlib.Decide.{ℕ-discrete}
 use lib.ListN.{getElem?, drop}
 use Rattle.base.specs.Lists.{pick, holds, _∈_, here, there}
-use Rattle.base.proofs.Members.{in-cases, in-right}
-use Rattle.blocks.specs.Reference.{BlockReference, TransactionLocatorRange, newRange}
-use Rattle.blocks.specs.Block.{Statement, isShare, isShareAt, votedRange}
+use Rattle.base.proofs.Members.{in-cases, in-right, in-map, in-flatten}
+use Rattle.blocks.specs.Reference.{BlockReference, TransactionLocator, TransactionLocatorRange, locator, newRange}
+use Rattle.blocks.specs.Block.{Statement, Block, isShare, isShareAt, votedRange}
+use Rattle.store_layout.specs.Shares.{isStoredShare, StoredShare}
+use Rattle.store_layout.proofs.Shares.{stored-share, share-stored}
 use Rattle.shared_ranges.specs.Step.{isOfKind, leading}
 use Rattle.block_spans.specs.Joined.{beginsShare, lengthened, joinedFrom, joinedSpans}
 use Rattle.block_spans.proofs.Joining.{joined-run}
-use Rattle.stored_finals.proofs.Ordinary.{Surrounding}
+use Rattle.stretches.proofs.Starting.{startsBy}
+use Rattle.stored_finals.proofs.Ordinary.{Around, Surrounding}
 
 -- the share at index k stands in a range of shares, among statements of which the first has offset o
 record InRun (r : BlockReference) (o : ℕ) (ss : List Statement) (k : ℕ) : Type 0 where
@@ -112,3 +117,21 @@ around-run b o h =
       below = omega (arith, x .below);
       shares = λ k l u. let z : k - 0 ≡ k = omega arith in rw (← z) (x .shares k l u);
     }
+
+-- ---- where the ordinary list begins
+
+-- a stored share at which no range begins has one just before it
+pub share-below : {f : Block → List TransactionLocatorRange} → Surrounding f → (bs : List Block) (l : TransactionLocator) → isStoredShare bs l ≡ true → (l ∈ startsBy f bs → ⊥)
+    → (o : ℕ) → suc o ≡ l .offset → isStoredShare bs (locator (l .block) o) ≡ true
+unfolding startsBy locator
+share-below {f} round bs l h off o e = go (stored-share bs l h)
+  where
+    go : StoredShare bs l → isStoredShare bs (locator (l .block) o) ≡ true
+    go x = let y = round (x .block) (l .offset) (x .shared) in share-stored bs (locator (l .block) o) (record { block = x .block; stored = x .stored; named = x .named; shared = y .shares o (lower y (ℕ-discrete (y .range .start) (l .offset))) (omega (arith, y .below)) })
+      where
+        lower : (y : Around f (x .block) (l .offset)) → Dec (y .range .start ≡ l .offset) → y .range .start ≤ o
+        lower y (yes q) =
+            let g : y .range .block ≡ l .block = y .of ∙ x .named in
+            let own : locator (y .range .block) (y .range .start) ≡ l = λ j. record { block = g j; offset = q j } in
+            absurd (off (subst (λ (z : TransactionLocator). z ∈ startsBy f bs) own (in-flatten (in-map (λ (q : TransactionLocatorRange). locator (q .block) (q .start)) (y .stands)) (in-map (λ b. map (λ q. locator (q .block) (q .start)) (f b)) (x .stored)))))
+        lower y (no q) = omega (arith, y .from)

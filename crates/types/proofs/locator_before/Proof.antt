@@ -1,12 +1,12 @@
 use mathlib.Core.Path.{sym, _∙_}
 use Rattle.types.specs.Values.{asLocator, locatorOrder}
 use Rattle.blocks.specs.Reference.{sameLocator, locatorBefore}
 use Rattle.blocks.proofs.References.{locator-irrefl, locator-same}
 use Rattle.base.proofs.Tests.{fails}
 use Rattle.types.proofs.Words.{order-less, order-equal, order-greater}
 use borrow.Author.Needs.{needs}
-use Rattle.vote_starts.proofs.is_before.Statement.{statement}
-use Rattle.vote_starts.proofs.is_before.Tie as tie
+use Rattle.types.proofs.locator_before.Statement.{statement}
+use Rattle.types.proofs.locator_before.Tie as tie
 
 compare-locators-requires : tie.Need-compare-locators-requires
 compare-locators-requires c κs = search needs
@@ -38,8 +38,8 @@ unfolding locatorOrder
 returns-3 c = let a = c .before .before .before .args in
     sym (order-greater (sameLocator (asLocator (a .a)) (asLocator (a .b))) (locatorBefore (asLocator (a .a)) (asLocator (a .b))) (sym (c .before .before .compare-locators .ensures) ∙ c .enum-told3 .given .1) .1)
 
-pub is-before-spec : {M : Type 1} → statement M
-is-before-spec =
+pub locator-before-spec : {M : Type 1} → statement M
+locator-before-spec =
     tie.close
     (tie.spec
     compare-locators-requires

@@ -1,9 +1,9 @@
 use mathlib.Core.Path.{_≡_, refl}
 use Rattle.committee.specs.Committee.{isQuorum}
-use Rattle.sorted_step.specs.Step.{Sure}
+use Rattle.quorum_check.specs.Sure.{Sure}
 use borrow.Author.Needs.{needs}
-use Rattle.sorted_step.proofs.check.Statement.{statement}
-use Rattle.sorted_step.proofs.check.Tie as tie
+use Rattle.quorum_check.proofs.check.Statement.{statement}
+use Rattle.quorum_check.proofs.check.Tie as tie
 
 returns : tie.Need-returns
 unfolding Sure

@@ -1,1 +1,0 @@
-// Which list of final locators is asked for: the ordinary or the wide one.
