@@ -1,41 +1,35 @@
--- The checks of feeding, one group after the other, and what a feed gives in each case. Assumes nothing.
+-- The checks of feeding, one group after the other. Assumes nothing.
 use mathlib.Core.Path.{_≡_, refl, sym, ap, _∙_}
 use mathlib.Core.Bool.{Bool, true, false, not}
 use mathlib.Core.List.{List, [], _∷_, _++_, append-assoc}
 use mathlib.Core.Option.{Option, none, some, Option·map}
-use Prim.Native.Nat.{ℕ, _+_, _≤_, _<_}
-use native.Mathlib.Nat.{zero-add}
+use Prim.Native.Nat.{ℕ, _≤_, _<_}
 use native.Mathlib.Omega.{arith}
 use lib.Dec.{ltb, leb, lit<}
-use lib.ListN.{length, drop}
-use lib.Seq.{sets-eq}
+use lib.ListN.{length}
 use borrow.Author.Tests.{lt-ltb, le-ltb, ltb-false, leb-true, leb-false}
 use Rattle.base.specs.Lists.{pick, isNone}
 use Rattle.base.specs.Le.{Bytes}
-use Rattle.base.specs.Checks.{Check, _⇒_, refusal, passes, Answer, refused, answered}
-use Rattle.base.proofs.Tests.{fails, not-both}
+use Rattle.base.specs.Checks.{Check, _⇒_, refusal, passes}
+use Rattle.base.proofs.Tests.{not-both}
 use Rattle.base.proofs.Lists.{none-of, and, every-append}
 use Rattle.base.proofs.Checks.{passes-first, passes-others, passes-left, passes-right}
-use Rattle.base.proofs.Refusals.{Numbered, zero-passes, passes-zero, refusal-first, refusal-then}
+use Rattle.base.proofs.Refusals.{Numbered, zero-passes, refusal-first, refusal-then}
 use Rattle.committee.specs.Committee.{Committee}
 use Rattle.blocks.specs.Block.{Block, eventRoom}
 use Rattle.blocks.specs.Record.{blockOf, wellFormed, blockIn}
 use Rattle.blocks.proofs.Records.{block-of}
-use Rattle.store_layout.specs.Layout.{Record, readRecord, entries}
+use Rattle.store_layout.specs.Layout.{Record, readRecord}
 use Rattle.store_layout.specs.Accept.{blockChecks}
-use Rattle.store_layout.specs.Store.{recordsOf, recordIn, storeFull, storeHolding}
+use Rattle.store_layout.specs.Store.{recordsOf, recordIn, storeFull}
 use Rattle.store_layout.specs.Entry.{laidOut}
-use Rattle.pending_items.specs.Table.{itemsOf, room}
+use Rattle.pending_items.specs.Table.{room}
 use Rattle.feeds.specs.Pending.{pendingChecks}
-use Rattle.feeds.specs.Feed.{Lent, lentOf, processed, lentChecks, ruleChecks, recordChecks, feedChecks, refusedFeed, acceptedFeed, feedRecord, feed}
+use Rattle.feeds.specs.Feed.{Lent, processed, lentChecks, ruleChecks, recordChecks, feedChecks}
 use Rattle.record_checks.specs.Step.{acceptChecks}
-use Rattle.feeds.specs.ProcessBlock.{wordsOf}
-use Rattle.aggregator.specs.Step.{VotesCounted, Feeding}
+use Rattle.aggregator.specs.Step.{Feeding}
 use Rattle.pending.proofs.Lending.{lying}
-use Rattle.aggregator.specs.declared.Processed.{Processed}
-use Rattle.feeds.proofs.ProcessBlock.{events-processBlock, length-words}
 use Rattle.record_checks.proofs.Feeds.{accept-numbered}
-use Rattle.feeding.specs.Step.{Accepting, AcceptedAs}
 
 -- ---- the record that is read
 
@@ -120,16 +114,6 @@ module _ (c : Committee) (m : Lent) (bytes : Bytes) where
       asked-numbered : Numbered asked
       asked-numbered = accept-numbered c (m .store) (length (m .events)) bytes
 
-  -- ---- what a feed gives
-
-  feed-refuses : (n : ℕ) → n ≡ refusal (feedChecks c m (readRecord bytes)) → (n ≡ 0 → ⊥) → feed c m bytes ≡ refusedFeed m n
-  unfolding feed feedRecord
-  feed-refuses n e f = go (readRecord bytes) e
-    where
-      go : (o : Option Record) → n ≡ refusal (feedChecks c m o) → feedRecord c m o ≡ refusedFeed m n
-      go none z = ap (refusedFeed m) (sym z)
-      go (some r) z = rw (fails (passes (feedChecks c m (some r))) (λ p. f (z ∙ passes-zero _ p))) (ap (refusedFeed m) (sym z))
-
   pub checks-pass : wellFormed bytes ≡ true → refusal (feedChecks c m (readRecord bytes)) ≡ 0 → passes (feedChecks c m (some (recordIn bytes))) ≡ true
   unfolding asked full
   checks-pass w z = zero-passes _ all-numbered (rw (read-some bytes w) at z)
@@ -138,10 +122,6 @@ module _ (c : Committee) (m : Lent) (bytes : Bytes) where
       all-numbered =
           rw (split (some (recordIn bytes)), ← read-some bytes w, with-full w)
           (every-append (lent ++ work) _ lent-numbered (every-append asked _ (accept-numbered c (m .store) (length (m .events)) bytes) (and (lit< tt) none-of)))
-
-  feed-accepts : wellFormed bytes ≡ true → refusal (feedChecks c m (readRecord bytes)) ≡ 0 → feed c m bytes ≡ acceptedFeed c m (recordIn bytes)
-  unfolding feed feedRecord
-  feed-accepts w z = rw (read-some bytes w, checks-pass w z)
 
 -- ---- what it says that none of them applies
 
@@ -173,13 +153,9 @@ acceptable c s n rec z = go (wellFormed rec) refl (zero-passes (acceptChecks c s
 pub feeding : (c : Committee) (s : Bytes) (t : List ℕ) (n : ℕ) (rec : Bytes) → refusal (pendingChecks c s t) ≡ 0 → laidOut s ≡ true → Acceptable c s n rec → Feeding c s rec t
 feeding c s t n rec h l a = record { committee = lying c s t h .committee; store = l; formed = a .formed; checks = a .block; table = lying c s t h .table }
 
--- ---- the answer and each slice after a feed
+-- ---- the last refusal
 
 module _ (c : Committee) (m : Lent) (bytes : Bytes) where
-  -- the answer, the store, the table and the events are those of the definition
-  abbrev pub Gives : Answer ℕ → Bytes → List ℕ → List ℕ → Type 0
-  Gives a s t v = (a ≡ feed c m bytes .answer) × ((s ≡ feed c m bytes .store) × ((t ≡ feed c m bytes .table) × (v ≡ feed c m bytes .events)))
-
   module _ (h : refusal (pendingChecks c (m .store) (m .table)) ≡ 0) (l : length (m .table) ≤ length (m .work))
       (z : refusal (acceptChecks c (m .store) (length (m .events)) bytes) ≡ 0) where
     at-items : refusal (feedChecks c m (readRecord bytes)) ≡ pick (ltb (room (m .table)) (processed c m (recordIn bytes) .most)) 14 0
@@ -190,44 +166,3 @@ module _ (c : Committee) (m : Lent) (bytes : Bytes) where
 
     pub feeds-none : leb (processed c m (recordIn bytes) .most) (room (m .table)) ≡ true → refusal (feedChecks c m (readRecord bytes)) ≡ 0
     feeds-none f = at-items ∙ rw (le-ltb (room (m .table)) (processed c m (recordIn bytes) .most) (leb-true _ _ f))
-
-  pub gives-refusal : (n : ℕ) → n ≡ refusal (feedChecks c m (readRecord bytes)) → (n ≡ 0 → ⊥) → Gives (refused n) (m .store) (m .table) (m .events)
-  unfolding refusedFeed
-  gives-refusal n e f = rw (feed-refuses c m bytes n e f) (refl, (refl, (refl, refl)))
-
-  -- no refusal applies, and the slices are those of an accepted feed
-  pub gives-acceptance : (n : ℕ) (s : Bytes) (t v : List ℕ) → wellFormed bytes ≡ true → refusal (feedChecks c m (readRecord bytes)) ≡ 0
-      → AcceptedAs (acceptedFeed c (lentOf (m .store) (m .table) [] (m .events)) (recordIn bytes)) n s t v → Gives (answered n) s t v
-  unfolding acceptedFeed processed
-  gives-acceptance n s t v w z a = rw (feed-accepts c m bytes w z) (a .answer, (a .store, (a .table, a .events)))
-
--- what counting and storing the record leaves
-pub accepted-as : (c : Committee) (s : Bytes) (t v : List ℕ) (bytes after : Bytes) (t′ v′ : List ℕ) (q : Processed) → Accepting c s t v bytes
-    → after ≡ storeHolding (recordIn bytes ∷ recordsOf s) s
-    → VotesCounted (processed c (lentOf s t [] v) (recordIn bytes)) true 0 t v q t′ v′
-    → AcceptedAs (acceptedFeed c (lentOf s t [] v) (recordIn bytes)) (q .events) after t′ v′
-unfolding acceptedFeed
-accepted-as c s t v bytes after t′ v′ q a e w =
-    record {
-      answer = ap answered many;
-      store = e;
-      table = w .table y;
-      events = w .stated y .words ∙ sets-eq words v 0 enough ∙ ap (λ n. words ++ drop n v) (zero-add (length words));
-    }
-  where
-    m : Lent
-    m = lentOf s t [] v
-
-    y : q .fits ≡ true
-    y = w .fits ∙ a .items
-
-    words : List ℕ
-    words = wordsOf (processed c m (recordIn bytes) .events)
-
-    many : q .events ≡ length (processed c m (recordIn bytes) .events)
-    many = omega (arith, w .stated y .many)
-
-    enough : 0 + length words ≤ length v
-    enough =
-        unfold processed recordIn in
-        omega (arith, length-words (processed c m (recordIn bytes) .events), events-processBlock c (entries (recordIn bytes ∷ recordsOf s)) (blockIn bytes) (itemsOf t), a .events)

@@ -1,14 +1,10 @@
 -- The refusals of a feed that stand before those about memory, for a host that lends memory of the wrong size. Assumes nothing: these are definitions.
 use Prim.Native.Nat.{ℕ}
-use mathlib.Core.Bool.{true}
-use mathlib.Core.List.{List, [], _∷_, _++_}
-use mathlib.Core.Option.{Option, none, some}
+use mathlib.Core.List.{List, _++_}
 use Rattle.base.specs.Le.{Bytes}
-use Rattle.base.specs.Checks.{Check, _⇒_}
+use Rattle.base.specs.Checks.{Check}
 use Rattle.committee.specs.Committee.{Committee}
-use Rattle.store_layout.specs.Layout.{Record, readRecord}
-use Rattle.store_layout.specs.Accept.{blockChecks}
-use Rattle.store_layout.specs.Store.{recordsOf}
+use Rattle.store_layout.specs.Layout.{readRecord}
 use Rattle.feeds.specs.Pending.{pendingChecks}
 use Rattle.feeds.specs.Feed.{ruleChecks}
 

@@ -1,5 +1,4 @@
--- Machinery for the contracts of inner functions: what is known before a record is counted and stored, and what that leaves. Assumes nothing: these
--- are definitions.
+-- Machinery for the contracts of inner functions: what is known before a record is counted and stored. Assumes nothing: these are definitions.
 use Prim.Native.Nat.{ℕ, _≤_}
 use mathlib.Core.Path.{_≡_}
 use mathlib.Core.Bool.{true, false}
@@ -7,13 +6,12 @@ use mathlib.Core.List.{List, []}
 use lib.Dec.{leb}
 use lib.ListN.{length}
 use Rattle.base.specs.Le.{Bytes}
-use Rattle.base.specs.Checks.{answered}
 use Rattle.committee.specs.Committee.{Committee}
 use Rattle.blocks.specs.Block.{eventRoom}
 use Rattle.blocks.specs.Record.{blockIn}
 use Rattle.store_layout.specs.Store.{recordIn, storeFull}
 use Rattle.pending_items.specs.Table.{room}
-use Rattle.feeds.specs.Feed.{Fed, lentOf, processed}
+use Rattle.feeds.specs.Feed.{lentOf, processed}
 use Rattle.aggregator.specs.Step.{Feeding}
 
 -- no refusal applies: committee, store, table and record, and the room for events, record and items
@@ -22,10 +20,3 @@ pub record Accepting (c : Committee) (s : Bytes) (t v : List ℕ) (rec : Bytes) 
   pub events : eventRoom (blockIn rec) ≤ length v
   pub store : storeFull s (recordIn rec) ≡ false
   pub items : leb (processed c (lentOf s t [] v) (recordIn rec) .most) (room t) ≡ true
-
--- the number of events, and the slices afterwards, are those of an accepted feed
-pub record AcceptedAs (f : Fed) (n : ℕ) (s : Bytes) (t v : List ℕ) : Type 0 where
-  pub answer : answered n ≡ f .answer
-  pub store : s ≡ f .store
-  pub table : t ≡ f .table
-  pub events : v ≡ f .events

@@ -10,7 +10,8 @@ ghost use Rattle.feeds.specs.Pending.{pendingChecks};
 ghost use Rattle.feeds.specs.Feed.{feed, feedChecks, acceptedFeed, lentOf};
 ghost use Rattle.feeding.specs.Answers.{asFeedAnswer};
 ghost use Rattle.feeding.specs.Refusals.{earlyChecks};
-ghost use Rattle.feeding.specs.Step.{Accepting, AcceptedAs};
+ghost use Rattle.feeding.specs.Step.{Accepting};
+ghost use Rattle.feeding.specs.Accepted.{AcceptedAs};
 
 // The number of events, or a refusal.
 pub enum FeedAnswer {

@@ -16,7 +16,7 @@ use Rattle.store_layout.specs.Store.{recordsOf, recordIn}
 use Rattle.store_layout.specs.Accept.{blockChecks}
 use Rattle.feeds.specs.Feed.{Lent, lentOf, processed, ruleChecks, feedChecks, refusedFeed, acceptedFeed}
 use Rattle.finality.specs.Finality.{blocksOf}
-use Rattle.feeding.specs.Step.{AcceptedAs}
+use Rattle.feeding.specs.Accepted.{AcceptedAs}
 use Rattle.feeding.proofs.Order.{read-none, read-some, checks-pass}
 use Rattle.voters_index.specs.Index.{indexAgrees, indexShort, appended}
 use Rattle.index_growth.specs.Growing.{newPart}
