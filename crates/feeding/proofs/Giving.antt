@@ -22,9 +22,9 @@ use Rattle.feeds.specs.ProcessBlock.{wordsOf}
 use Rattle.aggregator.specs.Step.{VotesCounted}
 use Rattle.aggregator.specs.declared.Processed.{Processed}
 use Rattle.feeds.proofs.ProcessBlock.{events-processBlock, length-words}
-use Rattle.feeding.specs.Step.{Accepting}
+use Rattle.feed_refusals.specs.Step.{Accepting}
 use Rattle.feeding.specs.Accepted.{AcceptedAs}
-use Rattle.feeding.proofs.Order.{read-some, checks-pass}
+use Rattle.feed_refusals.proofs.Order.{read-some, checks-pass}
 
 module _ (c : Committee) (m : Lent) (bytes : Bytes) where
   feed-refuses : (n : ℕ) → n ≡ refusal (feedChecks c m (readRecord bytes)) → (n ≡ 0 → ⊥) → feed c m bytes ≡ refusedFeed m n

@@ -17,7 +17,7 @@ use Rattle.store_layout.specs.Accept.{blockChecks}
 use Rattle.feeds.specs.Feed.{Lent, lentOf, processed, ruleChecks, feedChecks, refusedFeed, acceptedFeed}
 use Rattle.finality.specs.Finality.{blocksOf}
 use Rattle.feeding.specs.Accepted.{AcceptedAs}
-use Rattle.feeding.proofs.Order.{read-none, read-some, checks-pass}
+use Rattle.feed_refusals.proofs.Order.{read-none, read-some, checks-pass}
 use Rattle.voters_index.specs.Index.{indexAgrees, indexShort, appended}
 use Rattle.index_growth.specs.Growing.{newPart}
 use Rattle.indexed_feeds.specs.IndexedFeed.{indexedLentChecks, indexedChecks, refusedIndexed, acceptedIndexed, feedIndexedRecord, feedIndexed}

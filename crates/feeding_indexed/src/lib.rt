@@ -115,7 +115,7 @@ fn feed_agreed(
     ensures { λ _. ⌜ now (index .exit) ≡ feedIndexed (now (stakes .entry)) (lentOf (now (store .entry)) (now (table .entry)) (now (work .entry)) (now (events .entry))) (now (index .entry)) (now (rec .entry)) .index ⌝ }
     ensures { λ _. ⌜ now (events .exit) ≡ feedIndexed (now (stakes .entry)) (lentOf (now (store .entry)) (now (table .entry)) (now (work .entry)) (now (events .entry))) (now (index .entry)) (now (rec .entry)) .fed .events ⌝ }
 {
-    let refusal = feeding::record_refusal(stakes, store, table, work, events, rec);
+    let refusal = feed_refusals::record_refusal(stakes, store, table, work, events, rec);
     if refusal != 0 {
         return FeedAnswer::Refused(refusal);
     }

@@ -23,7 +23,7 @@ use Rattle.store_layout.specs.Store.{recordsOf}
 use Rattle.words.specs.Words.{wordsIn, wordsOf}
 use Rattle.feeds.specs.Pending.{pendingChecks}
 use Rattle.feeds.specs.Feed.{Lent, lentOf, processed, lentChecks, ruleChecks, recordChecks, feedChecks, refusedFeed, acceptedFeed, feedRecord, feed}
-use Rattle.feeding.specs.Refusals.{earlyChecks}
+use Rattle.feed_refusals.specs.Refusals.{earlyChecks}
 use Rattle.host_lib.specs.Payload.{refusalBefore}
 use Rattle.host_lib.specs.Feed.{FeedCall, refusedCall, fedCall, fedWith, feedOf}
 use Rattle.host_lib.proofs.Locators.{before-most}

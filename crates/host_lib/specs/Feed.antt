@@ -10,7 +10,7 @@ use Rattle.base.specs.Checks.{_⇒_, refusal, Answer, refused}
 use Rattle.committee.specs.Committee.{Committee}
 use Rattle.words.specs.Words.{wordsOf, bytesOf}
 use Rattle.feeds.specs.Feed.{Fed, lentOf, feed}
-use Rattle.feeding.specs.Refusals.{earlyChecks}
+use Rattle.feed_refusals.specs.Refusals.{earlyChecks}
 use Rattle.host_calls.specs.Calls.{committeeOf}
 use Rattle.host_lib.specs.Payload.{refusalBefore}
 

@@ -16,7 +16,7 @@ ghost use Rattle.pending.specs.Answers.{asPending};
 ghost use Rattle.feeds.specs.Pending.{pendingChecks};
 ghost use Rattle.host_lib.specs.Pending.{pendingIn, askedPending};
 ghost use Rattle.feeding.specs.Answers.{asFeedAnswer};
-ghost use Rattle.feeding.specs.Refusals.{earlyChecks};
+ghost use Rattle.feed_refusals.specs.Refusals.{earlyChecks};
 ghost use Rattle.host_lib.specs.Feed.{fedWith, feedOf};
 ghost use Rattle.host_lib.specs.Payload.{locatorOf, refusalBefore, asked};
 ghost use Rattle.host_lib.specs.Claims.{Claims};
@@ -93,7 +93,7 @@ pub fn pending_of(stakes: &[u64], store: &[u8], table: &[u8], locator: &[u8]) ->
 fn no_events(stakes: &[u64], store: &[u8], table: &[u64], rec: &[u8]) -> u64
     ensures { λ r. ⌜ r ≡ refusal (earlyChecks (now (stakes .entry)) (now (store .entry)) (now (table .entry)) (now (rec .entry)) ++ ((true ⇒ 15) ∷ [])) ⌝ }
 {
-    let early = feeding::early_refusal(stakes, store, table, rec);
+    let early = feed_refusals::early_refusal(stakes, store, table, rec);
     if early != 0 {
         return early;
     }

@@ -1,10 +1,10 @@
 use mathlib.Core.Path.{sym, _∙_}
 use borrow.Author.Tests.{not-true, not-false}
 use Rattle.pending.proofs.Lending.{lying}
-use Rattle.feeding.proofs.Early.{early-lent, early-malformed, early-rules}
+use Rattle.feed_refusals.proofs.Early.{early-lent, early-malformed, early-rules}
 use borrow.Author.Needs.{needs}
-use Rattle.feeding.proofs.early_refusal.Statement.{statement}
-use Rattle.feeding.proofs.early_refusal.Tie as tie
+use Rattle.feed_refusals.proofs.early_refusal.Statement.{statement}
+use Rattle.feed_refusals.proofs.early_refusal.Tie as tie
 
 lent-refusal-requires : tie.Need-lent-refusal-requires
 lent-refusal-requires c κs = search needs

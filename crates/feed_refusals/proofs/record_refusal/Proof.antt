@@ -7,10 +7,10 @@ use Rattle.store_layout.specs.Layout.{readRecord}
 use Rattle.store_layout.specs.Store.{recordIn}
 use Rattle.feeds.specs.Feed.{Lent, lentOf, processed}
 use Rattle.pending.proofs.Lending.{lying}
-use Rattle.feeding.proofs.Order.{feeds-work, feeds-record, feeds-asked, acceptable, feeding, feeds-crowded, feeds-none}
+use Rattle.feed_refusals.proofs.Order.{feeds-work, feeds-record, feeds-asked, acceptable, feeding, feeds-crowded, feeds-none}
 use borrow.Author.Needs.{needs}
-use Rattle.feeding.proofs.record_refusal.Statement.{statement}
-use Rattle.feeding.proofs.record_refusal.Tie as tie
+use Rattle.feed_refusals.proofs.record_refusal.Statement.{statement}
+use Rattle.feed_refusals.proofs.record_refusal.Tie as tie
 
 returns : tie.Need-returns
 returns c =

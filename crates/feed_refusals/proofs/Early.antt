@@ -13,8 +13,8 @@ use Rattle.store_layout.specs.Accept.{blockChecks}
 use Rattle.store_layout.specs.Store.{recordsOf, recordIn}
 use Rattle.feeds.specs.Pending.{pendingChecks}
 use Rattle.feeds.specs.Feed.{ruleChecks}
-use Rattle.feeding.specs.Refusals.{earlyChecks}
-use Rattle.feeding.proofs.Order.{lent-only, read-none, read-some}
+use Rattle.feed_refusals.specs.Refusals.{earlyChecks}
+use Rattle.feed_refusals.proofs.Order.{lent-only, read-none, read-some}
 
 module _ (c : Committee) (s : Bytes) (t : List ℕ) (rec : Bytes) where
   pub early-lent : (refusal (pendingChecks c s t) ≡ 0 → ⊥) → refusal (earlyChecks c s t rec) ≡ refusal (pendingChecks c s t)
