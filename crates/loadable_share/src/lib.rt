@@ -62,7 +62,7 @@ fn is_final(
     ensures { λ r. ⌜ r ≡ isFinal (now (stakes .entry)) (blocksOf (now (store .entry))) (asLocator locator) ⌝ }
 {
     let mut positions = [0u64; 1024];
-    let found = finalization_interpreter::certifying_blocks(
+    let found = certifying_blocks::certifying_blocks(
         stakes,
         total,
         store,

@@ -22,7 +22,7 @@ use Rattle.finality.specs.Finality.{blocksOf}
 use Rattle.readings.specs.Readings.{Reading, certifiesIn, isFinalIn}
 use Rattle.readings.specs.Finality.{certifyingPositionsIn}
 use Rattle.block_votes.specs.Walk.{Sorted}
-use Rattle.finalization_interpreter.proofs.Certifying.{certifying-all}
+use Rattle.certifying_blocks.proofs.Certifying.{certifying-all}
 use Rattle.slips.specs.Slip.{Slip, slipBytes}
 use Rattle.slips.specs.Writing.{certifierOf, slipFor, writeChecks, writeSlip}
 use Rattle.slips.proofs.Coding.{certifiers-at}

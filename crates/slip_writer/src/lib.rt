@@ -110,7 +110,7 @@ pub fn write_slip_in(
     let mut order = [0u64; 1024];
     let count = block_votes::sorted_positions(store, &mut order);
     let mut positions = [0u64; 1024];
-    let found = finalization_interpreter::certifying_blocks_in(
+    let found = certifying_blocks::certifying_blocks_in(
         stakes,
         total,
         store,

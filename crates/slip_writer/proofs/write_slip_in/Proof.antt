@@ -18,7 +18,7 @@ use Rattle.readings.specs.Finality.{certifyingPositionsIn}
 use Rattle.block_votes.specs.Walk.{Sorted}
 use Rattle.block_votes.proofs.Along.{sorted-count}
 use Rattle.block_votes.proofs.Sorting.{some-committee}
-use Rattle.finalization_interpreter.proofs.Finals.{final-in-by}
+use Rattle.certifying_blocks.proofs.Finals.{final-in-by}
 use Rattle.slips.specs.Slip.{slipBytes}
 use Rattle.slips.specs.Writing.{Written}
 use Rattle.slip_writer.specs.Answers.{asSlipAnswer}

@@ -13,11 +13,11 @@ use Rattle.readings.specs.Rejecting.{ownReject}
 use Rattle.readings.specs.Readings.{readingOf, certifiesIn}
 use Rattle.voters.specs.Walk.{Remembers}
 use Rattle.voters.proofs.Remembering.{remembers-nothing}
-use Rattle.finalization_interpreter.proofs.Finding.{holdsAt, found, Walked, walked-start, walked-no, walked-yes}
-use Rattle.finalization_interpreter.proofs.Certifying.{certifying-all, certifiers-all}
+use Rattle.certifying_blocks.proofs.Finding.{holdsAt, found, Walked, walked-start, walked-no, walked-yes}
+use Rattle.certifying_blocks.proofs.Certifying.{certifying-all, certifiers-all}
 use borrow.Author.Needs.{needs}
-use Rattle.finalization_interpreter.proofs.certifying_blocks_in.Statement.{statement}
-use Rattle.finalization_interpreter.proofs.certifying_blocks_in.Tie as tie
+use Rattle.certifying_blocks.proofs.certifying_blocks_in.Statement.{statement}
+use Rattle.certifying_blocks.proofs.certifying_blocks_in.Tie as tie
 
 abbrev Inv-loop : tie.InvT-loop
 Inv-loop stakes total store order locator withdrawing positions₀ votes₀ rejects₀ authors₀ blocks₀ k₀ positions votes rejects authors blocks k =

@@ -3,8 +3,8 @@ use Rattle.finality.specs.Finality.{certifyingPositions}
 use Rattle.readings.specs.Readings.{votersIn, certifiesIn, certifiersIn}
 use Rattle.readings.specs.Finality.{certifyingPositionsIn}
 use borrow.Author.Needs.{needs}
-use Rattle.finalization_interpreter.proofs.certifying_blocks.Statement.{statement}
-use Rattle.finalization_interpreter.proofs.certifying_blocks.Tie as tie
+use Rattle.certifying_blocks.proofs.certifying_blocks.Statement.{statement}
+use Rattle.certifying_blocks.proofs.certifying_blocks.Tie as tie
 
 certifying-blocks-in-requires : tie.Need-certifying-blocks-in-requires
 certifying-blocks-in-requires c κs = search needs

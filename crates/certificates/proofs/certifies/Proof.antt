@@ -1,7 +1,7 @@
 use Rattle.committee.specs.Committee.{isQuorum}
 use borrow.Author.Needs.{needs}
-use Rattle.finalization_interpreter.proofs.certifies.Statement.{statement}
-use Rattle.finalization_interpreter.proofs.certifies.Tie as tie
+use Rattle.certificates.proofs.certifies.Statement.{statement}
+use Rattle.certificates.proofs.certifies.Tie as tie
 
 epoch-changed-at-requires : tie.Need-epoch-changed-at-requires
 epoch-changed-at-requires c κs = search needs

@@ -12,7 +12,7 @@ use Rattle.finality.specs.Finality.{blocksOf}
 use Rattle.block_votes.specs.Walk.{Sorted}
 use Rattle.readings.specs.Readings.{Reading, certifiesIn, certifiersIn}
 use Rattle.readings.specs.Finality.{certifyingPositionsIn}
-use Rattle.finalization_interpreter.proofs.Finding.{found, found-all, Authors, authors-all}
+use Rattle.certifying_blocks.proofs.Finding.{found, found-all, Authors, authors-all}
 
 module _ (reading : Reading) (c : Committee) (s : Bytes) (l : TransactionLocator) (order : List ℕ) (o : Sorted c s order) where
   pub certifying-all : found (certifiesIn reading c (blocksOf s) l) s order (length order) ≡ certifyingPositionsIn reading c s l
