@@ -21,7 +21,7 @@ use Rattle.finalization_interpreter.specs.Answers.{asFinality}
 use Rattle.finalization_interpreter.specs.declared.FinalityAnswer.{FinalityAnswer}
 use Rattle.finalization_interpreter.specs.declared.FinalityAnswer.the-variants.{Final, NotFinal, Refused}
 use Rattle.types.specs.Step.{locatorAt}
-use Rattle.host_lib.specs.Payload.{locatorOf, refusalBefore}
+use Rattle.host_lib.specs.Locators.{locatorOf, refusalBefore}
 use Rattle.host_finality.specs.Finality.{FinalityCall, finalityNumber, finalityOf, askedFinality, numbersFit}
 use Rattle.host_calls.proofs.Numbers.{checked-most}
 use Rattle.host_lib.proofs.Locators.{locator-none, locator-read}

@@ -4,7 +4,7 @@ ghost use lib.ListN.{length};
 ghost use Rattle.finalization_interpreter.specs.Answers.{asFinality};
 ghost use Rattle.readings.specs.Readings.{readingOf};
 ghost use Rattle.host_calls.specs.Calls.{encoded};
-ghost use Rattle.host_lib.specs.Payload.{locatorOf};
+ghost use Rattle.host_lib.specs.Locators.{locatorOf};
 ghost use Rattle.host_finality.specs.Finality.{finalityNumber, askedFinality, finalityCall, numbersFit};
 ghost use Rattle.host_finality.specs.Claims.{Claims};
 use finalization_interpreter::FinalityAnswer;

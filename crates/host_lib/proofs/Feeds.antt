@@ -24,7 +24,7 @@ use Rattle.words.specs.Words.{wordsIn, wordsOf}
 use Rattle.feeds.specs.Pending.{pendingChecks}
 use Rattle.feeds.specs.Feed.{Lent, lentOf, processed, lentChecks, ruleChecks, recordChecks, feedChecks, refusedFeed, acceptedFeed, feedRecord, feed}
 use Rattle.feed_refusals.specs.Refusals.{earlyChecks}
-use Rattle.host_lib.specs.Payload.{refusalBefore}
+use Rattle.host_lib.specs.Locators.{refusalBefore}
 use Rattle.host_lib.specs.Feed.{FeedCall, refusedCall, fedCall, fedWith, feedOf}
 use Rattle.host_lib.proofs.Locators.{before-most}
 

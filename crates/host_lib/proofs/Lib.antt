@@ -2,3 +2,4 @@ pub mod Locators
 pub mod Standings
 pub mod Feeds
 pub mod Kept
+pub mod Payloads

@@ -18,10 +18,8 @@ use Rattle.blocks.specs.Record.{readLocator}
 use Rattle.types.specs.Step.{locatorAt}
 use Rattle.block_record.proofs.Steps.{fixed-locator, locator-value}
 use Rattle.store_layout.specs.Store.{storeInOrder}
-use Rattle.store_layout.specs.Payload.{payloadChecks, payloadLength}
-use Rattle.payload.specs.Answers.{payloadPlace}
-use Rattle.host_lib.specs.Payload.{locatorOf, storeChecks, refusalBefore, asked}
-use Rattle.host_calls.proofs.Numbers.{refusal-most, checked-most}
+use Rattle.host_lib.specs.Locators.{locatorOf, storeChecks, refusalBefore, asked}
+use Rattle.host_calls.proofs.Numbers.{refusal-most}
 
 -- 56 bytes are a locator
 pub locator-read : (b : List ℕ) → length b ≡ 56 → locatorOf b ≡ some (locatorAt b 0)
@@ -60,14 +58,6 @@ module _ (n : ℕ) (c : Committee) (s : List ℕ) where
 pub before-most : (n : ℕ) (c : Committee) (s : List ℕ) → n ≤ 41 → refusalBefore n c s ≤ 41
 unfolding refusalBefore storeChecks allOf
 before-most n c s h = refusal-most 41 (storeChecks c s ++ ((true ⇒ n) ∷ [])) (rw (le-leb n 41 h))
-
-pub length-most : (c : Committee) (s : List ℕ) (l : TransactionLocator) (n : ℕ) → payloadLength c s l ≡ refused n → n ≤ 41
-unfolding payloadLength payloadChecks allOf
-length-most c s l n e = checked-most 41 (payloadChecks c s l) _ n refl e
-
-pub place-most : (c : Committee) (s : List ℕ) (l : TransactionLocator) (n : ℕ) → payloadPlace c s l ≡ refused n → n ≤ 41
-unfolding payloadPlace payloadChecks allOf
-place-most c s l n e = checked-most 41 (payloadChecks c s l) _ n refl e
 
 -- a question whose own numbers are at most 41 has none above it
 pub asked-most : {A : Type 0} (c : Committee) (s : List ℕ) (question : TransactionLocator → Answer A) (o : Option TransactionLocator) (n : ℕ)

@@ -28,7 +28,7 @@ use Rattle.pending_items.specs.Table.{itemsOf}
 use Rattle.pending_items.proofs.Order.{in-order}
 use Rattle.feeds.specs.Pending.{Standing, pendingChecks, standingOf, standingAt, pending}
 use Rattle.pending.proofs.Lending.{lying}
-use Rattle.host_lib.specs.Payload.{refusalBefore}
+use Rattle.host_lib.specs.Locators.{refusalBefore}
 use Rattle.host_lib.specs.Pending.{pendingIn, askedPending}
 use Rattle.host_calls.proofs.Numbers.{refusal-most}
 use Rattle.host_lib.proofs.Locators.{before-most}

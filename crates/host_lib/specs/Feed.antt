@@ -12,7 +12,7 @@ use Rattle.words.specs.Words.{wordsOf, bytesOf}
 use Rattle.feeds.specs.Feed.{Fed, lentOf, feed}
 use Rattle.feed_refusals.specs.Refusals.{earlyChecks}
 use Rattle.host_calls.specs.Calls.{committeeOf}
-use Rattle.host_lib.specs.Payload.{refusalBefore}
+use Rattle.host_lib.specs.Locators.{refusalBefore}
 
 -- what a feed answers, and the bytes that it was lent afterwards
 pub record FeedCall : Type 0 where

@@ -1,4 +1,6 @@
+pub mod Locators
 pub mod Payload
 pub mod Pending
 pub mod Feed
-pub mod Claims
+pub mod FeedClaims
+pub mod PendingClaims

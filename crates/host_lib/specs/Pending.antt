@@ -13,7 +13,7 @@ use Rattle.blocks.specs.Reference.{TransactionLocator}
 use Rattle.words.specs.Words.{wordsOf}
 use Rattle.feeds.specs.Pending.{Standing, pendingChecks, pending}
 use Rattle.host_calls.specs.Calls.{committeeOf}
-use Rattle.host_lib.specs.Payload.{locatorOf, refusalBefore}
+use Rattle.host_lib.specs.Locators.{locatorOf, refusalBefore}
 
 -- bytes that are no locator are malformed, 20, after 5, 10, 11
 unfoldable pub pendingIn : Committee → Bytes → List ℕ → Option TransactionLocator → Answer Standing

@@ -18,10 +18,9 @@ ghost use Rattle.host_lib.specs.Pending.{pendingIn, askedPending};
 ghost use Rattle.feeding.specs.Answers.{asFeedAnswer};
 ghost use Rattle.feed_refusals.specs.Refusals.{earlyChecks};
 ghost use Rattle.host_lib.specs.Feed.{fedWith, feedOf};
-ghost use Rattle.host_lib.specs.Payload.{locatorOf, refusalBefore, asked};
-ghost use Rattle.host_lib.specs.Claims.{Claims};
-
-// ---- questions about a payload
+ghost use Rattle.host_lib.specs.Locators.{locatorOf, refusalBefore, asked};
+ghost use Rattle.host_lib.specs.FeedClaims.{FeedClaims};
+ghost use Rattle.host_lib.specs.PendingClaims.{PendingClaims};
 
 // The number of a refusal that applies in any case: 5 and 10 come first.
 pub fn refusal_before(number: u64, stakes: &[u64], store: &[u8]) -> u64
@@ -54,8 +53,6 @@ pub fn payload_place(stakes: &[u64], store: &[u8], locator: &[u8]) -> PayloadPla
     payload::find_payload(stakes, store, types::read_locator(locator, 0))
 }
 
-// ---- the pending question
-
 // 20 for bytes that are no locator, after 5, 10, 11.
 fn no_locator(stakes: &[u64], store: &[u8], table: &[u64]) -> u64
     ensures { λ r. ⌜ r ≡ refusal (pendingChecks (now (stakes .entry)) (now (store .entry)) (now (table .entry)) ++ ((true ⇒ 20) ∷ [])) ⌝ }
@@ -86,8 +83,6 @@ pub fn pending_of(stakes: &[u64], store: &[u8], table: &[u8], locator: &[u8]) ->
     words::words_of(table, &mut words);
     pending_in(stakes, store, &words, locator)
 }
-
-// ---- feeding
 
 // 15 for events of another size, after 5, 10, 11, 20 to 30.
 fn no_events(stakes: &[u64], store: &[u8], table: &[u64], rec: &[u8]) -> u64
@@ -147,7 +142,12 @@ pub fn feed_of(
     answer
 }
 
-// A refused feed keeps every byte, and a pending stake is taken for no refusal.
-pub fn claims()
-    ensures { λ _. ⌜ Claims ⌝ }
+// A refused feed keeps every byte.
+pub fn feed_claims()
+    ensures { λ _. ⌜ FeedClaims ⌝ }
+{}
+
+// A pending stake is taken for no refusal.
+pub fn pending_claims()
+    ensures { λ _. ⌜ PendingClaims ⌝ }
 {}

@@ -5,7 +5,7 @@ ghost use mathlib.Core.Path.{_≡_};
 ghost use Rattle.loadable.specs.Question.{loadableQuestion};
 ghost use Rattle.loadable_share.specs.Answers.{asLoadable};
 ghost use Rattle.host_calls.specs.Calls.{encoded};
-ghost use Rattle.host_lib.specs.Payload.{locatorOf, asked};
+ghost use Rattle.host_lib.specs.Locators.{locatorOf, asked};
 ghost use Rattle.host_loadable.specs.Loading.{isLoadableCall, loadableCall};
 
 const REFUSED: u64 = 9223372036854775808;

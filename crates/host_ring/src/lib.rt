@@ -6,7 +6,7 @@ ghost use mathlib.Core.Path.{_≡_};
 ghost use lib.ListN.{length};
 ghost use Rattle.ring.specs.Answers.{asRing};
 ghost use Rattle.host_calls.specs.Calls.{encoded};
-ghost use Rattle.host_lib.specs.Payload.{locatorOf};
+ghost use Rattle.host_lib.specs.Locators.{locatorOf};
 ghost use Rattle.host_ring.specs.Ring.{ringIn, askedRing, whomToRingCall};
 
 const REFUSED: u64 = 9223372036854775808;

@@ -18,7 +18,7 @@ use Rattle.slip_writer.specs.declared.SlipAnswer.{SlipAnswer}
 use Rattle.slip_writer.specs.declared.SlipAnswer.the-variants.{Written as Length, Refused}
 use Rattle.host_calls.specs.Calls.{committeeOf, encoded}
 use Rattle.host_calls.proofs.Numbers.{checked-most}
-use Rattle.host_lib.specs.Payload.{locatorOf, refusalBefore}
+use Rattle.host_lib.specs.Locators.{locatorOf, refusalBefore}
 use Rattle.host_lib.proofs.Locators.{before-most}
 use Rattle.host_slip_writer.specs.WriteSlip.{askedSlip, writeSlipCall}
 

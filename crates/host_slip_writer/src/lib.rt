@@ -4,7 +4,7 @@ ghost use mathlib.Core.Path.{_≡_};
 ghost use Rattle.readings.specs.Readings.{readingOf};
 ghost use Rattle.slip_writer.specs.Answers.{asSlipAnswer};
 ghost use Rattle.host_calls.specs.Calls.{encoded};
-ghost use Rattle.host_lib.specs.Payload.{locatorOf};
+ghost use Rattle.host_lib.specs.Locators.{locatorOf};
 ghost use Rattle.host_slip_writer.specs.WriteSlip.{askedSlip, writeSlipCall};
 
 const REFUSED: u64 = 9223372036854775808;

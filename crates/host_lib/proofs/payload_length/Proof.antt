@@ -2,7 +2,7 @@ use mathlib.Core.Path.{ap}
 use borrow.Author.Needs.{needs}
 use Rattle.payload.specs.Answers.{asPayloadLength}
 use Rattle.base.specs.Checks.{refused}
-use Rattle.host_lib.specs.Payload.{asked}
+use Rattle.host_lib.specs.Locators.{asked}
 use Rattle.host_lib.proofs.Locators.{locator-none, locator-read}
 use Rattle.host_lib.proofs.payload_length.Statement.{statement}
 use Rattle.host_lib.proofs.payload_length.Tie as tie

@@ -1,5 +1,5 @@
 use Rattle.host_lib.proofs.Standings.{pending-sized, pending-other}
-use Rattle.host_lib.specs.Payload.{locatorOf}
+use Rattle.host_lib.specs.Locators.{locatorOf}
 use Rattle.base.specs.Checks.{refused}
 use Rattle.pending.specs.Answers.{asPending}
 use mathlib.Core.Path.{ap, sym, _∙_}
