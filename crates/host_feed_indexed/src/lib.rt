@@ -52,7 +52,7 @@ fn feed_of(
     ensures { λ _. ⌜ now (events .exit) ≡ feedIndexedOf (now (stakes .entry)) (now (store .entry)) (now (table .entry)) (now (index .entry)) (now (events .entry)) (now (rec .entry)) .events ⌝ }
 {
     if table.len() != 49160 {
-        return FeedAnswer::Refused(host_lib::refusal_before(11, stakes, store));
+        return FeedAnswer::Refused(host_locators::refusal_before(11, stakes, store));
     }
     let mut words = [0u64; 6145];
     words::words_of(table, &mut words);

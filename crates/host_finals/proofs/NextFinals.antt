@@ -12,7 +12,7 @@ use Rattle.blocks.specs.Reference.{TransactionLocator}
 use Rattle.finality.specs.NextFinal.{nextFinalChecks}
 use Rattle.stretches.specs.Stretches.{Listing}
 use Rattle.listed.specs.Listed.{nextListed}
-use Rattle.host_lib.specs.Locators.{refusalBefore}
+use Rattle.host_locators.specs.Locators.{refusalBefore}
 use Rattle.host_finals.specs.NextFinal.{foundIn, askedNextFinal}
 use Rattle.host_calls.proofs.Numbers.{checked-most}
 
