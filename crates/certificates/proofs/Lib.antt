@@ -1,1 +1,1 @@
-pub mod Certifies
+pub mod Readings

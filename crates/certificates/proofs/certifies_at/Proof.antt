@@ -9,7 +9,7 @@ use Rattle.finality.specs.Finality.{blocksOf}
 use Rattle.block_votes.proofs.Sorting.{some-committee, place-entry}
 use Rattle.readings.specs.Rejecting.{without}
 use Rattle.readings.specs.Readings.{old, withdrawing, readingOf, certifiesIn}
-use Rattle.certificates.proofs.Certifies.{certifies-old, certifies-neither, certifies-new}
+use Rattle.certificates.proofs.Readings.{certifies-old, certifies-neither, certifies-new}
 use borrow.Author.Needs.{needs}
 use Rattle.certificates.proofs.certifies_at.Statement.{statement}
 use Rattle.certificates.proofs.certifies_at.Tie as tie
