@@ -13,9 +13,9 @@ use Rattle.finality.specs.Finality.{blocksOf}
 use Rattle.readings.specs.Readings.{Reading}
 use Rattle.slips.specs.Slip.{slipBytes}
 use Rattle.slips.specs.Writing.{slipFor, writeChecks, writeSlip}
-use Rattle.slip_writer.specs.Answers.{asSlipAnswer}
-use Rattle.slip_writer.specs.declared.SlipAnswer.{SlipAnswer}
-use Rattle.slip_writer.specs.declared.SlipAnswer.the-variants.{Written as Length, Refused}
+use Rattle.slip_bytes.specs.Answers.{asSlipAnswer}
+use Rattle.slip_bytes.specs.declared.SlipAnswer.{SlipAnswer}
+use Rattle.slip_bytes.specs.declared.SlipAnswer.the-variants.{Written as Length, Refused}
 use Rattle.host_calls.specs.Calls.{committeeOf, encoded}
 use Rattle.host_calls.proofs.Numbers.{checked-most}
 use Rattle.host_locators.specs.Locators.{locatorOf, refusalBefore}

@@ -1,8 +1,8 @@
 // The writer of slips, for a host: stakes and locator as bytes.
-use slip_writer::SlipAnswer;
+use slip_bytes::SlipAnswer;
 ghost use mathlib.Core.Path.{_≡_};
 ghost use Rattle.readings.specs.Readings.{readingOf};
-ghost use Rattle.slip_writer.specs.Answers.{asSlipAnswer};
+ghost use Rattle.slip_bytes.specs.Answers.{asSlipAnswer};
 ghost use Rattle.host_calls.specs.Calls.{encoded};
 ghost use Rattle.host_locators.specs.Locators.{locatorOf};
 ghost use Rattle.host_slip_writer.specs.WriteSlip.{askedSlip, writeSlipCall};

@@ -21,8 +21,8 @@ use Rattle.block_votes.proofs.Sorting.{some-committee}
 use Rattle.certifying_blocks.proofs.Finals.{final-in-by}
 use Rattle.slips.specs.Slip.{slipBytes}
 use Rattle.slips.specs.Writing.{Written}
-use Rattle.slip_writer.specs.Answers.{asSlipAnswer}
-use Rattle.slip_writer.specs.Listed.{slipAt, writtenOver}
+use Rattle.slip_bytes.specs.Answers.{asSlipAnswer}
+use Rattle.slip_bytes.specs.Listed.{slipAt, writtenOver}
 use Rattle.slip_writer.proofs.Answered.{slip-broken, slip-disordered, slip-not-final, slip-final, certifying-few, certifying-place, front}
 use borrow.Author.Needs.{needs}
 use Rattle.slip_writer.proofs.write_slip_in.Statement.{statement}

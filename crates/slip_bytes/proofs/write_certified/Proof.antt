@@ -4,11 +4,11 @@ use Rattle.base.specs.Le.{Bytes}
 use Rattle.types.specs.Values.{asLocator}
 use Rattle.readings.specs.Readings.{readingOf}
 use Rattle.slips.specs.Writing.{Written}
-use Rattle.slip_writer.specs.Listed.{writtenOver}
-use Rattle.slip_writer.proofs.Same.{listed-voted, listed-first}
+use Rattle.slip_bytes.specs.Listed.{writtenOver}
+use Rattle.slip_bytes.proofs.Same.{listed-voted, listed-first}
 use borrow.Author.Needs.{needs}
-use Rattle.slip_writer.proofs.write_certified.Statement.{statement}
-use Rattle.slip_writer.proofs.write_certified.Tie as tie
+use Rattle.slip_bytes.proofs.write_certified.Statement.{statement}
+use Rattle.slip_bytes.proofs.write_certified.Tie as tie
 
 slice-aggregate-list-certifiers : tie.Need-slice-aggregate-list-certifiers
 slice-aggregate-list-certifiers c = search needs

@@ -22,7 +22,7 @@ use Rattle.slip_distances.specs.Near.{word, Distances}
 use Rattle.slip_routes.specs.Reached.{Reached}
 use Rattle.slip_certifiers.specs.Table.{placeIn, Ready, certifiersBytes, certifiersSize}
 use Rattle.slip_certifiers.proofs.Written.{certifiers-length}
-use Rattle.slip_writer.specs.Listed.{Voted, headBytes, listedBytes, writtenOver}
+use Rattle.slip_bytes.specs.Listed.{Voted, headBytes, listedBytes, writtenOver}
 
 -- ---- the head
 

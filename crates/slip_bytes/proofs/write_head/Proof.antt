@@ -3,10 +3,10 @@ use native.Mathlib.Omega.{arith}
 use lib.ListN.{length-set}
 use Rattle.types.specs.Values.{asLocator}
 use Rattle.types.proofs.Written.{length-locatorBytes}
-use Rattle.slip_writer.proofs.Over.{head-written}
+use Rattle.slip_bytes.proofs.Over.{head-written}
 use borrow.Author.Needs.{needs}
-use Rattle.slip_writer.proofs.write_head.Statement.{statement}
-use Rattle.slip_writer.proofs.write_head.Tie as tie
+use Rattle.slip_bytes.proofs.write_head.Statement.{statement}
+use Rattle.slip_bytes.proofs.write_head.Tie as tie
 
 slice-write-out : tie.Need-slice-write-out
 slice-write-out c = search needs

@@ -11,12 +11,12 @@ use Rattle.slips.specs.Writing.{Written}
 use Rattle.slip_distances.proofs.Reading.{fresh-tables}
 use Rattle.slip_routes.specs.Reached.{Found}
 use Rattle.slip_certifiers.specs.Table.{placeIn, certifiersBytes}
-use Rattle.slip_writer.specs.Answers.{asSlipAnswer}
-use Rattle.slip_writer.specs.Listed.{Voted, listedBytes}
-use Rattle.slip_writer.proofs.Over.{over-short, over-long, voted-ready, listed-length, listed-written, no-words}
+use Rattle.slip_bytes.specs.Answers.{asSlipAnswer}
+use Rattle.slip_bytes.specs.Listed.{Voted, listedBytes}
+use Rattle.slip_bytes.proofs.Over.{over-short, over-long, voted-ready, listed-length, listed-written, no-words}
 use borrow.Author.Needs.{needs}
-use Rattle.slip_writer.proofs.write_listed.Statement.{statement}
-use Rattle.slip_writer.proofs.write_listed.Tie as tie
+use Rattle.slip_bytes.proofs.write_listed.Statement.{statement}
+use Rattle.slip_bytes.proofs.write_listed.Tie as tie
 
 slice-aggregate-find-distances : tie.Need-slice-aggregate-find-distances
 slice-aggregate-find-distances c = search needs

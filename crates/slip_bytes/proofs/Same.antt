@@ -28,7 +28,7 @@ use Rattle.slips.proofs.Coding.{voter-distance}
 use Rattle.slip_distances.specs.Near.{away}
 use Rattle.slip_routes.specs.Reached.{voterAt, votersAt}
 use Rattle.slip_certifiers.specs.Table.{placeIn, votersIn, Listed, certifierBytesAt, certifiersBytes}
-use Rattle.slip_writer.specs.Listed.{Voted, headBytes, listedBytes, slipAt}
+use Rattle.slip_bytes.specs.Listed.{Voted, headBytes, listedBytes, slipAt}
 
 -- a list mapped, by its indexes
 map-count : {B : Type 0} (f : ℕ → B) (g : ℕ → B) (xs : List ℕ) (j : ℕ) → ((i : ℕ) → i < length xs → g (j + i) ≡ f (getD xs i 0)) → map g (countFrom j (length xs)) ≡ map f xs
