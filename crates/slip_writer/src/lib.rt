@@ -1,12 +1,54 @@
 // Writes the slip of a final locator, in either reading, or answers why not.
 use committee::NewCommittee;
+use committee::Stake;
 use slip_bytes::SlipAnswer;
 use types::TransactionLocator;
 ghost use mathlib.Core.Path.{_≡_};
+ghost use Prim.Native.Nat.{_≤_};
+ghost use lib.ListN.{length};
+ghost use Rattle.committee.specs.Committee.{totalStake};
 ghost use Rattle.types.specs.Values.{asLocator};
+ghost use Rattle.block_votes.specs.Walk.{Sorted};
 ghost use Rattle.readings.specs.Readings.{old, withdrawing, readingOf};
 ghost use Rattle.slips.specs.Writing.{writeSlip};
 ghost use Rattle.slip_bytes.specs.Answers.{asSlipAnswer};
+
+// Writes the slip of a locator over the stored blocks in order, in the reading that is asked for; 52 where it is not final there.
+fn write_found(
+    stakes: &[u64],
+    total: Stake,
+    store: &[u8],
+    order: &[u64],
+    locator: TransactionLocator,
+    withdrawing: bool,
+    out: &mut [u8],
+) -> SlipAnswer
+    requires { ⌜ (Sorted (now stakes) (now store) (now order) × (total .0 ≡ totalStake (now stakes))) × (length (now order) ≤ 1024) ⌝ }
+    ensures { λ r. ⌜ asSlipAnswer r ≡ writeSlip (readingOf withdrawing) (now (stakes .entry)) (now (store .entry)) (now (out .entry)) (asLocator locator) .answer ⌝ }
+    ensures { λ r. ⌜ now (out .exit) ≡ writeSlip (readingOf withdrawing) (now (stakes .entry)) (now (store .entry)) (now (out .entry)) (asLocator locator) .out ⌝ }
+{
+    let mut positions = [0u64; 1024];
+    let found = certifying_blocks::certifying_blocks_in(
+        stakes,
+        total,
+        store,
+        order,
+        locator,
+        withdrawing,
+        &mut positions,
+    );
+    if !committee::is_quorum(total, authority_set::stake_of(stakes, found.authors)) {
+        return SlipAnswer::Refused(52);
+    }
+    slip_bytes::write_certified(
+        store,
+        order,
+        locator,
+        withdrawing,
+        &positions[..found.blocks],
+        out,
+    )
+}
 
 // Writes the slip of a locator that is final in the reading that is asked for, and answers its length; bytes past it stay.
 pub fn write_slip_in(
@@ -27,25 +69,13 @@ pub fn write_slip_in(
     }
     let mut order = [0u64; 1024];
     let count = block_votes::sorted_positions(store, &mut order);
-    let mut positions = [0u64; 1024];
-    let found = certifying_blocks::certifying_blocks_in(
+    write_found(
         stakes,
         total,
         store,
         &order[..count],
         locator,
         withdrawing,
-        &mut positions,
-    );
-    if !committee::is_quorum(total, authority_set::stake_of(stakes, found.authors)) {
-        return SlipAnswer::Refused(52);
-    }
-    slip_bytes::write_certified(
-        store,
-        &order[..count],
-        locator,
-        withdrawing,
-        &positions[..found.blocks],
         out,
     )
 }
