@@ -1,14 +1,17 @@
 // The bytes of a slip, over the front of a slice: of the certifying blocks at some positions, each with all its voters by the shortest, then first, path.
 use types::TransactionLocator;
 ghost use mathlib.Core.Path.{_≡_};
-ghost use Prim.Native.Nat.{ℕ, _*_, _≤_, _<_};
-ghost use lib.ListN.{length, getD};
+ghost use mathlib.Core.List.{_++_};
+ghost use Prim.Native.Nat.{ℕ, _+_, _*_, _≤_, _<_};
+ghost use lib.ListN.{length, getD, drop};
 ghost use lib.Seq.{sets};
 ghost use Rattle.base.specs.Lists.{_∈_};
 ghost use Rattle.types.specs.Values.{asLocator};
 ghost use Rattle.block_votes.specs.Walk.{SortedStore};
 ghost use Rattle.readings.specs.Readings.{withdrawing, readingOf};
 ghost use Rattle.slips.specs.Slip.{slipBytes};
+ghost use Rattle.slip_distances.specs.Near.{Distances};
+ghost use Rattle.slip_certifiers.specs.Table.{certifiersSize};
 ghost use Rattle.slip_bytes.specs.Answers.{asSlipAnswer};
 ghost use Rattle.slip_bytes.specs.Listed.{Voted, headBytes, listedBytes, slipAt, writtenOver};
 
@@ -26,6 +29,25 @@ fn write_head(out: &mut [u8], first: u8, locator: TransactionLocator, count: u16
     out[0] = first;
     types::write_locator(out, 1, locator);
     base::write_u16(out, 57, count);
+}
+
+// Writes the slip of the first n certifying blocks of a table, which fits.
+fn write_parts(
+    store: &[u8],
+    order: &[u64],
+    locator: TransactionLocator,
+    first: u8,
+    near: &[u16],
+    steps: &[u8],
+    certifiers: &[u64],
+    n: usize,
+    out: &mut [u8],
+)
+    requires { ⌜ ((SortedStore (now store) (now order) × (length (now order) ≤ 1024)) × Distances (now store) (now order) (asLocator locator) (now near) (now steps) (length (now order))) × ((((n ≤ 1024) × (3 * n ≤ length (now certifiers))) × Voted (now store) (now order) (asLocator locator) (now certifiers) n) × (59 + certifiersSize (now near) (now certifiers) n ≤ length (now out))) ⌝ }
+    ensures { λ _. ⌜ now (out .exit) ≡ listedBytes (now (store .entry)) (now (order .entry)) (asLocator locator) first (now (certifiers .entry)) n ++ drop (length (listedBytes (now (store .entry)) (now (order .entry)) (asLocator locator) first (now (certifiers .entry)) n)) (now (out .entry)) ⌝ }
+{
+    write_head(out, first, locator, n as u16);
+    slip_certifiers::write_certifiers(store, order, near, steps, certifiers, n, out, 59);
 }
 
 // Writes the slip of the first n certifying blocks of a table, or answers 50.
@@ -49,8 +71,17 @@ fn write_listed(
     if out.len() < size {
         return SlipAnswer::Refused(50);
     }
-    write_head(out, first, locator, n as u16);
-    slip_certifiers::write_certifiers(store, order, &near, &steps, certifiers, n, out, 59);
+    write_parts(
+        store,
+        order,
+        locator,
+        first,
+        &near,
+        &steps,
+        certifiers,
+        n,
+        out,
+    );
     SlipAnswer::Written(size)
 }
 

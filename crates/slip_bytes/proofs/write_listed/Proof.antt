@@ -1,19 +1,16 @@
 use Prim.Native.Nat.{ℕ, _+_, _≤_}
 use mathlib.Core.Path.{ap, _∙_}
 use native.Mathlib.Omega.{arith}
-use mathlib.Core.List.{List}
 use lib.ListN.{length, length-replicate}
-use lib.Seq.{sets}
 use Rattle.base.proofs.Le.{bytes-of}
 use Rattle.types.specs.Values.{asLocator}
 use Rattle.types.proofs.Written.{length-locatorBytes}
 use Rattle.slips.specs.Writing.{Written}
 use Rattle.slip_distances.proofs.Reading.{fresh-tables}
-use Rattle.slip_routes.specs.Reached.{Found}
-use Rattle.slip_certifiers.specs.Table.{placeIn, certifiersBytes}
+use Rattle.slip_certifiers.specs.Table.{placeIn}
 use Rattle.slip_bytes.specs.Answers.{asSlipAnswer}
 use Rattle.slip_bytes.specs.Listed.{Voted, listedBytes}
-use Rattle.slip_bytes.proofs.Over.{over-short, over-long, voted-ready, listed-length, listed-written, no-words}
+use Rattle.slip_bytes.proofs.Over.{over-short, over-long, listed-length, no-words}
 use borrow.Author.Needs.{needs}
 use Rattle.slip_bytes.proofs.write_listed.Statement.{statement}
 use Rattle.slip_bytes.proofs.write_listed.Tie as tie
@@ -54,46 +51,33 @@ returns c = let a = c .before .before .before .before .before .before .before .b
     let e = over-short (listedBytes s o l (a .first) (a .certifiers .now) (a .n)) (a .out .now) (omega (arith, size, c .before .certifiers-size .ensures .0, c .if1 .taken)) in
     (ap (λ (w : Written). w .answer) e, ap (λ (w : Written). w .out) e)
 
-cast-write-head : tie.Need-cast-write-head
-cast-write-head c = search needs
+slice-aggregate-write-parts : tie.Need-slice-aggregate-write-parts
+slice-aggregate-write-parts c = search needs
 
-write-head-requires : tie.Need-write-head-requires
-write-head-requires c κs = search needs
+slice-aggregate-write-parts-2 : tie.Need-slice-aggregate-write-parts-2
+slice-aggregate-write-parts-2 c = search needs
 
-slice-aggregate-write-certifiers : tie.Need-slice-aggregate-write-certifiers
-slice-aggregate-write-certifiers c = search needs
-
-slice-aggregate-write-certifiers-2 : tie.Need-slice-aggregate-write-certifiers-2
-slice-aggregate-write-certifiers-2 c = search needs
-
-write-certifiers-requires : tie.Need-write-certifiers-requires
-unfolding Found
-write-certifiers-requires c κs = let a = c .before .before .before .before .before .before .before .before .before .before .before .before .before .before .before .before .before .before .before .args in
-    let q = c .before .before .before .before .before .before .before .before .before .before .before .before .before .before .before .before .before .before .before .pre in
-    let s = a .store .now in
-    let o = a .order .now in
-    let l = asLocator (a .locator) in
-    let d = c .before .before .before .before .before .before .before .before .before .before .before .before .find-distances .ensures in
-    (((q .0 .0, (l, d)), q .0 .1), (q .1 .0 .1, (voted-ready s o l _ _ d (a .certifiers .now) (a .n) (q .1 .1), omega (arith, c .before .before .before .before .before .before .before .before .certifiers-size .ensures .0, c .before .before .before .before .before .before .before .if1 .left, c .before .before .before .before .before .write-head .kept .0))))
+write-parts-requires : tie.Need-write-parts-requires
+write-parts-requires c κs = let q = c .before .before .before .before .before .before .before .before .before .before .before .before .before .before .before .pre in
+    ((q .0, c .before .before .before .before .before .before .before .before .find-distances .ensures), (q .1, omega (arith, c .before .before .before .before .certifiers-size .ensures .0, c .before .before .before .if1 .left)))
 
 same-length : tie.Need-same-length
 same-length c = search needs
 
 returns-2 : tie.Need-returns-2
 unfolding asSlipAnswer
-returns-2 c = let a = c .before .before .before .before .before .before .before .before .before .before .before .before .before .before .before .before .before .before .before .before .before .before .args in
-    let q = c .before .before .before .before .before .before .before .before .before .before .before .before .before .before .before .before .before .before .before .before .before .before .pre in
+returns-2 c = let a = c .before .before .before .before .before .before .before .before .before .before .before .before .before .before .before .before .before .before .args in
+    let q = c .before .before .before .before .before .before .before .before .before .before .before .before .before .before .before .before .before .before .pre in
     let s = a .store .now in
     let o = a .order .now in
     let l = asLocator (a .locator) in
-    let d = c .before .before .before .before .before .before .before .before .before .before .before .before .before .before .before .find-distances .ensures in
-    let bytes = bytes-of s (λ j h. omega (arith, c .before .before .before .before .before .before .before .before .before .before .before .before .before .before .before .before .before .before .before .before .before .shared-slice-known .given j)) in
+    let d = c .before .before .before .before .before .before .before .before .before .before .before .find-distances .ensures in
+    let bytes = bytes-of s (λ j h. omega (arith, c .before .before .before .before .before .before .before .before .before .before .before .before .before .before .before .before .before .shared-slice-known .given j)) in
     let size = listed-length s o l _ _ d (a .certifiers .now) (a .n) (q .1 .1) (q .0 .0) bytes (length-locatorBytes (a .locator)) (a .first) in
-    let r = c .before .before .before .before .before .before .before .before .before .before .before .certifiers-size .ensures .0 in
-    let h : length (listedBytes s o l (a .first) (a .certifiers .now) (a .n)) ≤ length (a .out .now) = omega (arith, size, r, c .before .before .before .before .before .before .before .before .before .before .if1 .left) in
-    let e = over-long (listedBytes s o l (a .first) (a .certifiers .now) (a .n)) (a .out .now) h (59 + c .before .before .before .before .before .before .before .before .before .before .before .certifiers-size .result) (omega (arith, size, r)) in
-    let w = c .before .before .write-certifiers .ensures l d ∙ ap (λ (x : List ℕ). sets x 59 (certifiersBytes s o l (a .certifiers .now) (a .n))) (c .before .before .before .before .before .before .before .before .write-head .ensures) ∙ (listed-written s o l _ _ d (a .certifiers .now) (a .n) (q .1 .1) (q .0 .0) bytes (length-locatorBytes (a .locator)) (a .first) (a .out .now) h) in
-    (ap (λ (x : Written). x .answer) e, w ∙ ap (λ (x : Written). x .out) e)
+    let r = c .before .before .before .before .before .before .before .certifiers-size .ensures .0 in
+    let h : length (listedBytes s o l (a .first) (a .certifiers .now) (a .n)) ≤ length (a .out .now) = omega (arith, size, r, c .before .before .before .before .before .before .if1 .left) in
+    let e = over-long (listedBytes s o l (a .first) (a .certifiers .now) (a .n)) (a .out .now) h (59 + c .before .before .before .before .before .before .before .certifiers-size .result) (omega (arith, size, r)) in
+    (ap (λ (x : Written). x .answer) e, c .before .before .write-parts .ensures ∙ ap (λ (x : Written). x .out) e)
 
 pub write-listed-spec : {M : Type 1} → statement M
 write-listed-spec =
@@ -106,10 +90,8 @@ write-listed-spec =
     certifiers-size-requires
     add-size
     returns
-    cast-write-head
-    write-head-requires
-    slice-aggregate-write-certifiers
-    slice-aggregate-write-certifiers-2
-    write-certifiers-requires
+    slice-aggregate-write-parts
+    slice-aggregate-write-parts-2
+    write-parts-requires
     same-length
     returns-2)
