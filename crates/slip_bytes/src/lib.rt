@@ -11,7 +11,7 @@ ghost use Rattle.block_votes.specs.Walk.{SortedStore};
 ghost use Rattle.readings.specs.Readings.{withdrawing, readingOf};
 ghost use Rattle.slips.specs.Slip.{slipBytes};
 ghost use Rattle.slip_distances.specs.Near.{Distances};
-ghost use Rattle.slip_certifiers.specs.Table.{certifiersSize};
+ghost use Rattle.slip_certifiers.specs.Ready.{certifiersSize};
 ghost use Rattle.slip_bytes.specs.Answers.{asSlipAnswer};
 ghost use Rattle.slip_bytes.specs.Listed.{Voted, headBytes, listedBytes, slipAt, writtenOver};
 

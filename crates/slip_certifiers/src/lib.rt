@@ -17,7 +17,8 @@ ghost use Rattle.block_rejects.specs.Speeches.{speechOf};
 ghost use Rattle.voters.specs.Walk.{Remembers};
 ghost use Rattle.slip_distances.specs.Near.{Distances};
 ghost use Rattle.slip_routes.specs.Reached.{Found, Reached, votersSize};
-ghost use Rattle.slip_certifiers.specs.Table.{noted, Listed, Ready, certifierBytesAt, certifiersBytes, certifiersSize};
+ghost use Rattle.slip_certifiers.specs.Table.{noted, Listed};
+ghost use Rattle.slip_certifiers.specs.Ready.{Ready, certifierBytesAt, certifiersBytes, certifiersSize};
 
 // Puts a certifying block, which stands at place k, into the table with its voters.
 fn note_certifier(certifiers: &mut [u64], i: usize, k: usize, voters: AuthoritySet)

@@ -7,7 +7,7 @@ use Rattle.base.proofs.Le.{bytes-of}
 use Rattle.types.specs.Values.{asLocator}
 use Rattle.types.proofs.Written.{length-locatorBytes}
 use Rattle.slip_routes.specs.Reached.{Found}
-use Rattle.slip_certifiers.specs.Table.{certifiersBytes}
+use Rattle.slip_certifiers.specs.Ready.{certifiersBytes}
 use Rattle.slip_bytes.proofs.Over.{voted-ready, listed-length, listed-written}
 use borrow.Author.Needs.{needs}
 use Rattle.slip_bytes.proofs.write_parts.Statement.{statement}
