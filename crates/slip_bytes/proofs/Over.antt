@@ -20,7 +20,7 @@ use Rattle.blocks.specs.Record.{locatorBytes}
 use Rattle.block_votes.specs.Walk.{SortedStore}
 use Rattle.slip_distances.specs.Near.{word, Distances}
 use Rattle.slip_routes.specs.Reached.{Reached}
-use Rattle.slip_certifiers.specs.Table.{placeIn}
+use Rattle.slip_table.specs.Table.{placeIn}
 use Rattle.slip_certifiers.specs.Ready.{Ready, certifiersBytes, certifiersSize}
 use Rattle.slip_certifiers.proofs.Written.{certifiers-length}
 use Rattle.slip_bytes.specs.Listed.{Voted, headBytes, listedBytes, writtenOver}

@@ -27,7 +27,7 @@ use Rattle.slips.specs.Writing.{voterOf, certifierOf}
 use Rattle.slips.proofs.Coding.{voter-distance}
 use Rattle.slip_distances.specs.Near.{away}
 use Rattle.slip_routes.specs.Reached.{voterAt, votersAt}
-use Rattle.slip_certifiers.specs.Table.{placeIn, votersIn, Listed}
+use Rattle.slip_table.specs.Table.{placeIn, votersIn, Listed}
 use Rattle.slip_certifiers.specs.Ready.{certifierBytesAt, certifiersBytes}
 use Rattle.slip_bytes.specs.Listed.{Voted, headBytes, listedBytes, slipAt}
 

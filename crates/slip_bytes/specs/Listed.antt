@@ -18,7 +18,7 @@ use Rattle.block_votes.specs.Walk.{blockAtPlace}
 use Rattle.slips.specs.Slip.{Slip}
 use Rattle.slips.specs.Writing.{certifierOf, Written}
 use Rattle.slip_distances.specs.Near.{away}
-use Rattle.slip_certifiers.specs.Table.{placeIn, votersIn}
+use Rattle.slip_table.specs.Table.{placeIn, votersIn}
 use Rattle.slip_certifiers.specs.Ready.{certifiersBytes}
 
 -- each certifying block of a table stands at a place, and has a path to a vote of each of its voters

@@ -99,7 +99,7 @@ pub fn write_certified(
     ensures { λ r. ⌜ now (out .exit) ≡ writtenOver (slipBytes (slipAt (readingOf withdrawing) (now (store .entry)) (asLocator locator) (now (positions .entry)))) (now (out .entry)) .out ⌝ }
 {
     let mut certifiers = [0u64; 3072];
-    slip_certifiers::list_certifiers(
+    slip_table::list_certifiers(
         store,
         order,
         locator,

@@ -9,7 +9,7 @@ use Rattle.blocks.specs.Reference.{TransactionLocator}
 use Rattle.blocks.specs.Record.{referenceBytes}
 use Rattle.block_votes.specs.Walk.{blockAtPlace}
 use Rattle.slip_routes.specs.Reached.{votersAt, Reached, votersSize}
-use Rattle.slip_certifiers.specs.Table.{placeIn, votersIn}
+use Rattle.slip_table.specs.Table.{placeIn, votersIn}
 
 -- each stands at a place, and comes to a vote of each of its voters
 unfoldable pub Ready : List ℕ → List ℕ → List ℕ → ℕ → Type 0

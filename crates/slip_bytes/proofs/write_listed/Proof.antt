@@ -7,7 +7,7 @@ use Rattle.types.specs.Values.{asLocator}
 use Rattle.types.proofs.Written.{length-locatorBytes}
 use Rattle.slips.specs.Writing.{Written}
 use Rattle.slip_distances.proofs.Reading.{fresh-tables}
-use Rattle.slip_certifiers.specs.Table.{placeIn}
+use Rattle.slip_table.specs.Table.{placeIn}
 use Rattle.slip_bytes.specs.Answers.{asSlipAnswer}
 use Rattle.slip_bytes.specs.Listed.{Voted, listedBytes}
 use Rattle.slip_bytes.proofs.Over.{over-short, over-long, listed-length, no-words}

@@ -5,8 +5,8 @@ use lib.ListN.{length}
 use Rattle.types.specs.Values.{asLocator}
 use Rattle.block_rejects.specs.Speeches.{speechOf}
 use Rattle.voters.specs.Walk.{Remembers}
-use Rattle.slip_certifiers.proofs.read_speeches.Statement.{statement}
-use Rattle.slip_certifiers.proofs.read_speeches.Tie as tie
+use Rattle.slip_table.proofs.read_speeches.Statement.{statement}
+use Rattle.slip_table.proofs.read_speeches.Tie as tie
 
 abbrev Inv-loop : tie.InvT-loop
 Inv-loop store order locator rejecting memo₀ k₀ memo k =

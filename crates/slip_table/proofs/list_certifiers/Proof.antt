@@ -9,10 +9,10 @@ use Rattle.readings.specs.Rejecting.{ownReject}
 use Rattle.readings.specs.Readings.{readingOf}
 use Rattle.voters.specs.Walk.{Remembers}
 use Rattle.voters.proofs.Remembering.{remembers-nothing}
-use Rattle.slip_certifiers.specs.Table.{Listed}
-use Rattle.slip_certifiers.proofs.Words.{position-entry, position-found, position-same, listed-start, listed-more}
-use Rattle.slip_certifiers.proofs.list_certifiers.Statement.{statement}
-use Rattle.slip_certifiers.proofs.list_certifiers.Tie as tie
+use Rattle.slip_table.specs.Table.{Listed}
+use Rattle.slip_table.proofs.Words.{position-entry, position-found, position-same, listed-start, listed-more}
+use Rattle.slip_table.proofs.list_certifiers.Statement.{statement}
+use Rattle.slip_table.proofs.list_certifiers.Tie as tie
 
 abbrev Inv-loop : tie.InvT-loop
 Inv-loop store order locator withdrawing positions certifiers₀ votes₀ rejects₀ i₀ certifiers votes rejects i =

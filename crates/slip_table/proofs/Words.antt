@@ -22,7 +22,7 @@ use Rattle.readings.specs.Readings as readings
 use Rattle.finality.specs.Finality.{blocksOf}
 use Rattle.block_votes.specs.Walk.{SortedStore, blockAtPlace}
 use Rattle.block_votes.proofs.Sorting.{sorted-well, place-entry, place-stored}
-use Rattle.slip_certifiers.specs.Table.{placeIn, votersIn, noted, Listed}
+use Rattle.slip_table.specs.Table.{placeIn, votersIn, noted, Listed}
 
 module _ (t : List ℕ) (i k : ℕ) (v : AuthoritySet) where
   abbrev one : List ℕ

@@ -1,10 +1,10 @@
 use mathlib.Core.Path.{refl}
 use native.Mathlib.Omega.{arith}
 use lib.ListN.{length-set}
-use Rattle.slip_certifiers.specs.Table.{noted}
+use Rattle.slip_table.specs.Table.{noted}
 use borrow.Author.Needs.{needs}
-use Rattle.slip_certifiers.proofs.note_certifier.Statement.{statement}
-use Rattle.slip_certifiers.proofs.note_certifier.Tie as tie
+use Rattle.slip_table.proofs.note_certifier.Statement.{statement}
+use Rattle.slip_table.proofs.note_certifier.Tie as tie
 
 mul-at : tie.Need-mul-at
 mul-at c = search needs

@@ -4,8 +4,8 @@ use Rattle.readings.specs.Rejecting.{without}
 use Rattle.readings.specs.Readings.{votersIn}
 use Rattle.voters.specs.Walk.{spokenAt}
 use borrow.Author.Needs.{needs}
-use Rattle.slip_certifiers.proofs.voters_at.Statement.{statement}
-use Rattle.slip_certifiers.proofs.voters_at.Tie as tie
+use Rattle.slip_table.proofs.voters_at.Statement.{statement}
+use Rattle.slip_table.proofs.voters_at.Tie as tie
 
 visit-requires : tie.Need-visit-requires
 visit-requires c κs = search needs
