@@ -1,10 +1,9 @@
 -- Runs of shares registered one after the other. Assumes nothing.
 use mathlib.Core.Path.{_≡_, refl, sym, ap, _∙_}
-use mathlib.Core.Bool.{Bool, true, false, _&&_}
+use mathlib.Core.Bool.{Bool, true, false}
 use mathlib.Core.List.{List, [], _∷_, _++_, map, append-assoc}
-use Prim.Native.Nat.{ℕ, _+_, _*_, _≤_, _<_}
+use Prim.Native.Nat.{ℕ, _*_, _≤_, _<_}
 use native.Mathlib.Omega.{arith}
-use lib.Dec.{leb}
 use lib.ListN.{length, length-append}
 use borrow.Author.Tests.{le-leb, lt-leb}
 use Rattle.base.specs.Lists.{allOf, pairwise}
@@ -13,14 +12,11 @@ use Rattle.base.proofs.Tests.{and-both, and-left, and-right, not-both}
 use Rattle.committee.specs.Committee.{AuthorityIndex, Committee}
 use Rattle.blocks.specs.Reference.{newRange}
 use Rattle.blocks.specs.Block.{Block, sharedRanges}
-use Rattle.block_record.specs.Cursor.{cursorAt}
 use Rattle.shared_ranges.specs.Cursor.{runsLeft, runsTold}
-use Rattle.shared_ranges.specs.declared.SharedRange.{SharedRange}
 use Rattle.shared_ranges.specs.declared.SharedRange.the-variants.{Run, End}
 use Rattle.block_record.specs.declared.StatementCursor.{StatementCursor}
 use Rattle.pending_items.specs.Items.{Item, itemBefore, itemFull, firstVote, registered, register}
 use Rattle.pending_items.specs.Table.{tableOf, itemsOf, room, HoldsItems}
-use Rattle.pending_items.proofs.Items.{Ordered}
 use Rattle.range_map.proofs.Voting.{Written, written}
 use Rattle.table_words.proofs.Slots.{table-holding}
 use Rattle.aggregator.specs.Step.{Orderly, Registered}

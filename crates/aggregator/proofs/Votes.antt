@@ -1,18 +1,16 @@
 -- One vote, as the code counts it. Assumes nothing.
-use mathlib.Core.Path.{_≡_, refl, sym, ap, _∙_}
+use mathlib.Core.Path.{_≡_, refl, sym, _∙_}
 use mathlib.Core.Bool.{Bool, true, false}
-use mathlib.Core.List.{List, [], _∷_, _++_, map, flatten}
+use mathlib.Core.List.{List, [], _∷_, map, flatten}
 use mathlib.Core.Option.{Option, none, some}
-use Prim.Native.Nat.{ℕ, _+_, _-_, _*_, _≤_, _<_}
+use Prim.Native.Nat.{ℕ, _-_, _≤_, _<_}
 use native.Mathlib.Omega.{arith}
-use lib.Dec.{leb}
 use lib.ListN.{length}
-use lib.Seq.{sets}
 use borrow.Author.Tests.{le-leb, lt-leb, eq-eqb}
-use Rattle.base.specs.Lists.{pick, keep, countFrom}
+use Rattle.base.specs.Lists.{keep, countFrom}
 use Rattle.base.specs.Le.{Bytes}
 use Rattle.base.proofs.Tests.{and-left, not-both}
-use Rattle.base.proofs.Lists.{Every, every}
+use Rattle.base.proofs.Lists.{every}
 use Rattle.committee.specs.Committee.{AuthorityIndex, Committee, Stake, totalStake}
 use Rattle.base.specs.Checks.{passes}
 use Rattle.base.proofs.Checks.{passes-first}
@@ -31,10 +29,10 @@ use Rattle.pending_items.specs.Table.{HoldsItems, tableOf, itemsOf, room, table
 use Rattle.pending_items.proofs.Items.{ordered-voteOver}
 use Rattle.pending_items.proofs.Order.{Pending, InOrder, in-order, room-fits, pending-voteOver, length-voteOver}
 use Rattle.table_order.proofs.Forming.{order-parts}
-use Rattle.range_map.proofs.Voting.{Formed, formed, Written, written}
+use Rattle.range_map.proofs.Voting.{formed, Written, written}
 use Rattle.feeds.specs.ProcessBlock.{Event, wordsOf, eventOf, Processing, vote}
 use Rattle.events.specs.Step.{withNew, toldAt, eventsBetween, StatedAt, told}
-use Rattle.aggregator.specs.Step.{startingWith, Voting, VotesCounted}
+use Rattle.aggregator.specs.Vote.{startingWith, Voting, VotesCounted}
 use Rattle.aggregator.specs.declared.Processed.{Processed}
 use Rattle.events.proofs.Telling.{told-event, told-none, stated-none}
 

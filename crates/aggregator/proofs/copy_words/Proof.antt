@@ -2,7 +2,7 @@ use mathlib.Core.Path.{sym, _∙_}
 use Prim.Native.Nat.{_-_}
 use native.Mathlib.Omega.{arith}
 use borrow.Author.Needs.{needs}
-use lib.ListN.{length, length-set}
+use lib.ListN.{length}
 use Rattle.aggregator.proofs.Copying.{Copied, copied-start, copied-on, copied-all}
 use Rattle.aggregator.proofs.copy_words.Statement.{statement}
 use Rattle.aggregator.proofs.copy_words.Tie as tie

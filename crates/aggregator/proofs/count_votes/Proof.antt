@@ -1,13 +1,11 @@
-use mathlib.Core.Path.{_≡_, refl, sym, ap, _∙_}
+use mathlib.Core.Path.{_≡_, refl, ap, _∙_}
 use Prim.Native.Nat.{_+_, _-_, _≤_, _<_}
 use native.Mathlib.Omega.{arith}
-use borrow.Author.Needs.{needs}
 use borrow.Author.Tests.{not-true, not-false}
 use lib.ListN.{length}
 use Rattle.blocks.specs.Block.{Statement, votedRange, countedOffsets, eventRoom}
 use Rattle.blocks.specs.Record.{blockIn}
 use Rattle.block_record.specs.Cursor.{cursorAt}
-use Rattle.block_record.specs.Values.{asStatement}
 use Rattle.shared_ranges.proofs.Walk.{placed-index, placed, checks-any, passes-at, offsetsCounted, counted-on}
 use Rattle.events.specs.Step.{withNew}
 use Rattle.aggregator.proofs.Counting.{Counting, counting-start, counting-long, counting-order, counting-on, counting-stop, counting-end}

@@ -1,8 +1,8 @@
-use mathlib.Core.Path.{_≡_, refl, sym, ap, _∙_}
+use mathlib.Core.Path.{refl, sym, ap, _∙_}
 use Rattle.blocks.specs.Reference.{newRange}
 use Rattle.blocks.specs.Block.{countedOffsets}
 use Rattle.types.specs.Values.{asRange}
-use Rattle.aggregator.specs.Step.{asVoted}
+use Rattle.aggregator.specs.Vote.{asVoted}
 use Rattle.aggregator.proofs.Votes.{order-holds, vote-nothing}
 use borrow.Author.Needs.{needs}
 use Rattle.aggregator.proofs.vote_statement.Statement.{statement}

@@ -1,9 +1,9 @@
 use Rattle.aggregator.proofs.Votes.{accept-low}
-use mathlib.Core.Path.{_≡_, ap}
+use mathlib.Core.Path.{ap}
 use mathlib.Core.Option.{some}
 use Rattle.blocks.specs.Block.{votedRange}
 use Rattle.block_record.specs.Values.{asStatement}
-use Rattle.aggregator.specs.Step.{asVoted}
+use Rattle.aggregator.specs.Vote.{asVoted}
 use borrow.Author.Needs.{needs}
 use Rattle.aggregator.proofs.voted_range.Statement.{statement}
 use Rattle.aggregator.proofs.voted_range.Tie as tie
