@@ -25,8 +25,8 @@ use Rattle.pending_items.proofs.Order.{Pending, InOrder, in-order, order-tableO
 use Rattle.pending_items.proofs.Table.{itemsOf-tableOf, length-tableOf}
 use Rattle.feeds.specs.ProcessBlock.{Event, Processing, vote, votes}
 use Rattle.events.specs.Step.{StatedAt, told}
-use Rattle.aggregator.specs.Vote.{startingWith, VotesCounted}
-use Rattle.aggregator.specs.declared.Processed.{Processed}
+use Rattle.counted_vote.specs.Vote.{startingWith, VotesCounted}
+use Rattle.counted_vote.specs.declared.Processed.{Processed}
 use Rattle.feeds.proofs.ProcessBlock.{Sound, sound-vote, events-vote}
 use Rattle.events.proofs.Telling.{told-none, stated-none, stated-on}
 

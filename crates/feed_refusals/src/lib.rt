@@ -31,7 +31,7 @@ pub fn record_refusal(
     if refusal != 0 {
         return refusal;
     }
-    if !aggregator::items_fit(stakes, store, rec, table, work, events) {
+    if !items_fit::items_fit(stakes, store, rec, table, work, events) {
         return 14;
     }
     0

@@ -19,8 +19,8 @@ use Rattle.store_layout.specs.Store.{recordsOf, recordIn, storeHolding}
 use Rattle.pending_items.specs.Table.{itemsOf}
 use Rattle.feeds.specs.Feed.{Lent, lentOf, processed, feedChecks, refusedFeed, acceptedFeed, feedRecord, feed}
 use Rattle.feeds.specs.ProcessBlock.{wordsOf}
-use Rattle.aggregator.specs.Vote.{VotesCounted}
-use Rattle.aggregator.specs.declared.Processed.{Processed}
+use Rattle.counted_vote.specs.Vote.{VotesCounted}
+use Rattle.counted_vote.specs.declared.Processed.{Processed}
 use Rattle.feeds.proofs.ProcessBlock.{events-processBlock, length-words}
 use Rattle.feed_refusals.specs.Step.{Accepting}
 use Rattle.feeding.specs.Accepted.{AcceptedAs}

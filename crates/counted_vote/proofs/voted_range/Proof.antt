@@ -1,12 +1,12 @@
-use Rattle.aggregator.proofs.Votes.{accept-low}
+use Rattle.counted_vote.proofs.Votes.{accept-low}
 use mathlib.Core.Path.{ap}
 use mathlib.Core.Option.{some}
 use Rattle.blocks.specs.Block.{votedRange}
 use Rattle.block_record.specs.Values.{asStatement}
-use Rattle.aggregator.specs.Vote.{asVoted}
+use Rattle.counted_vote.specs.Vote.{asVoted}
 use borrow.Author.Needs.{needs}
-use Rattle.aggregator.proofs.voted_range.Statement.{statement}
-use Rattle.aggregator.proofs.voted_range.Tie as tie
+use Rattle.counted_vote.proofs.voted_range.Statement.{statement}
+use Rattle.counted_vote.proofs.voted_range.Tie as tie
 
 enum-told : tie.Need-enum-told
 enum-told c = search needs

@@ -32,8 +32,8 @@ use Rattle.table_order.proofs.Forming.{order-parts}
 use Rattle.range_map.proofs.Voting.{formed, Written, written}
 use Rattle.feeds.specs.ProcessBlock.{Event, wordsOf, eventOf, Processing, vote}
 use Rattle.events.specs.Step.{withNew, toldAt, eventsBetween, StatedAt, told}
-use Rattle.aggregator.specs.Vote.{startingWith, Voting, VotesCounted}
-use Rattle.aggregator.specs.declared.Processed.{Processed}
+use Rattle.counted_vote.specs.Vote.{startingWith, Voting, VotesCounted}
+use Rattle.counted_vote.specs.declared.Processed.{Processed}
 use Rattle.events.proofs.Telling.{told-event, told-none, stated-none}
 
 pub order-formed : (c : Committee) (es : List Entry) (t : List ℕ) → tableInOrder c es t ≡ true → tableFormed c t ≡ true

@@ -9,11 +9,11 @@ use Rattle.blocks.specs.Record.{blockIn}
 use Rattle.pending_items.specs.Table.{itemsOf, room}
 use Rattle.feeds.specs.ProcessBlock.{processBlock}
 use Rattle.events.specs.Step.{withNew}
 use Rattle.aggregator.specs.Step.{Feeding}
-use Rattle.aggregator.proofs.Copying.{copied-front}
+use Rattle.items_fit.proofs.Copying.{copied-front}
 use borrow.Author.Needs.{needs}
-use Rattle.aggregator.proofs.items_fit.Statement.{statement}
-use Rattle.aggregator.proofs.items_fit.Tie as tie
+use Rattle.items_fit.proofs.items_fit.Statement.{statement}
+use Rattle.items_fit.proofs.items_fit.Tie as tie
 
 slice-relend-prefix-copy-words : tie.Need-slice-relend-prefix-copy-words
 slice-relend-prefix-copy-words c = search needs

@@ -2,11 +2,11 @@ use mathlib.Core.Path.{refl, sym, ap, _∙_}
 use Rattle.blocks.specs.Reference.{newRange}
 use Rattle.blocks.specs.Block.{countedOffsets}
 use Rattle.types.specs.Values.{asRange}
-use Rattle.aggregator.specs.Vote.{asVoted}
-use Rattle.aggregator.proofs.Votes.{order-holds, vote-nothing}
+use Rattle.counted_vote.specs.Vote.{asVoted}
+use Rattle.counted_vote.proofs.Votes.{order-holds, vote-nothing}
 use borrow.Author.Needs.{needs}
-use Rattle.aggregator.proofs.vote_statement.Statement.{statement}
-use Rattle.aggregator.proofs.vote_statement.Tie as tie
+use Rattle.counted_vote.proofs.vote_statement.Statement.{statement}
+use Rattle.counted_vote.proofs.vote_statement.Tie as tie
 
 voted-range-requires : tie.Need-voted-range-requires
 voted-range-requires c κs = search needs

@@ -1,8 +1,8 @@
 use borrow.Author.Tests.{not-true, not-false}
 use Rattle.events.proofs.Telling.{stated-none}
 use borrow.Author.Needs.{needs}
-use Rattle.aggregator.proofs.announced.Statement.{statement}
-use Rattle.aggregator.proofs.announced.Tie as tie
+use Rattle.counted_vote.proofs.announced.Statement.{statement}
+use Rattle.counted_vote.proofs.announced.Tie as tie
 
 returns : tie.Need-returns
 returns c = stated-none _ _ _ (rw (not-true (c .before .before .before .before .before .args .telling) (c .if1 .taken)))

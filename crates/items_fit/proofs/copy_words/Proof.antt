@@ -3,9 +3,9 @@ use Prim.Native.Nat.{_-_}
 use native.Mathlib.Omega.{arith}
 use borrow.Author.Needs.{needs}
 use lib.ListN.{length}
-use Rattle.aggregator.proofs.Copying.{Copied, copied-start, copied-on, copied-all}
-use Rattle.aggregator.proofs.copy_words.Statement.{statement}
-use Rattle.aggregator.proofs.copy_words.Tie as tie
+use Rattle.items_fit.proofs.Copying.{Copied, copied-start, copied-on, copied-all}
+use Rattle.items_fit.proofs.copy_words.Statement.{statement}
+use Rattle.items_fit.proofs.copy_words.Tie as tie
 
 abbrev Inv-loop : tie.InvT-loop
 Inv-loop from to₀ i₀ to i = Copied from to i

@@ -18,9 +18,9 @@ use Rattle.store_layout.specs.Entry.{laidOut}
 use Rattle.pending_items.specs.Items.{Item}
 use Rattle.pending_items.specs.Table.{tableOf, room, tableInOrder}
 use Rattle.feeds.specs.ProcessBlock.{Processing}
-use Rattle.aggregator.specs.declared.Processed.{Processed}
-use Rattle.aggregator.specs.declared.VotedRange.{VotedRange}
-use Rattle.aggregator.specs.declared.VotedRange.the-variants.{Over, Nothing}
+use Rattle.counted_vote.specs.declared.Processed.{Processed}
+use Rattle.counted_vote.specs.declared.VotedRange.{VotedRange}
+use Rattle.counted_vote.specs.declared.VotedRange.the-variants.{Over, Nothing}
 use Rattle.events.specs.Step.{withNew, StatedAt, told}
 
 -- the range of a statement that votes

@@ -5,10 +5,10 @@ use native.Mathlib.Omega.{arith}
 use Rattle.committee.specs.Committee.{known}
 use Rattle.blocks.specs.Reference.{BlockReference, newRange}
 use Rattle.types.specs.Values.{asReference, asRange}
-use Rattle.aggregator.proofs.Votes.{order-formed, order-holds, vote-stop, vote-written, vote-done}
+use Rattle.counted_vote.proofs.Votes.{order-formed, order-holds, vote-stop, vote-written, vote-done}
 use borrow.Author.Needs.{needs}
-use Rattle.aggregator.proofs.vote.Statement.{statement}
-use Rattle.aggregator.proofs.vote.Tie as tie
+use Rattle.counted_vote.proofs.vote.Statement.{statement}
+use Rattle.counted_vote.proofs.vote.Tie as tie
 
 voted-position-requires : tie.Need-voted-position-requires
 voted-position-requires c κs = search needs
