@@ -17,7 +17,7 @@ ghost use Rattle.blocks.specs.Record.{blockIn, wellFormed};
 ghost use Rattle.types.specs.Values.{asReference, asLocator, asRange};
 ghost use Rattle.block_record.specs.Values.{asStatement};
 ghost use Rattle.blocks.specs.Verify.{statementChecks};
-ghost use Rattle.pending_items.specs.Table.{room, itemsOf, HoldsItems};
+ghost use Rattle.pending_items.specs.Table.{itemsOf, HoldsItems};
 ghost use Rattle.feeds.specs.ProcessBlock.{vote};
 ghost use Rattle.events.specs.Step.{withNew, eventsBetween, StatedAt, told};
 ghost use Rattle.counted_vote.specs.Vote.{asVoted, startingWith, VotesCounted, Voting};
