@@ -31,7 +31,8 @@ use Rattle.slips.specs.Paths.{leastDistance, distance, isAway, firstPlace}
 use Rattle.slips.specs.Reading.{votesAs}
 use Rattle.slips.proofs.Distances.{distance-step}
 use Rattle.slips.proofs.Fitting.{block-fits, distance-below}
-use Rattle.slip_distances.specs.Near.{away, word, Beside, Row, Folded, Distances}
+use Rattle.slip_distances.specs.Near.{away, word, Distances}
+use Rattle.slip_distances.specs.Rows.{Beside, Row, Folded}
 use Rattle.slip_distances.proofs.Rows.{beside-start, beside-more}
 use Rattle.slip_distances.proofs.Folding.{nearer-word, least-next, first-next}
 

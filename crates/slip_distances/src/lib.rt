@@ -8,7 +8,8 @@ ghost use Rattle.blocks.specs.Block.{author};
 ghost use Rattle.types.specs.Values.{asLocator};
 ghost use Rattle.finality.specs.Voters.{votesFor};
 ghost use Rattle.block_votes.specs.Walk.{SortedStore, blockAtPlace};
-ghost use Rattle.slip_distances.specs.Near.{isNearer, Folded, Distances};
+ghost use Rattle.slip_distances.specs.Near.{Distances};
+ghost use Rattle.slip_distances.specs.Rows.{isNearer, Folded};
 
 // Whether an include brings a vote nearer. A word is 0 where there is no vote, else the distance and one.
 fn is_nearer(found: u16, held: u16) -> bool

@@ -1,7 +1,7 @@
 use mathlib.Core.Path.{refl, sym, _∙_}
 use native.Mathlib.Omega.{arith}
 use borrow.Author.Tests.{not-true, not-false}
-use Rattle.feeding_indexed.proofs.Giving.{early-lent, early-malformed, early-rules}
+use Rattle.feeding_indexed.proofs.Early.{early-lent, early-malformed, early-rules}
 use borrow.Author.Needs.{needs}
 use Rattle.feeding_indexed.proofs.early_refusal.Statement.{statement}
 use Rattle.feeding_indexed.proofs.early_refusal.Tie as tie

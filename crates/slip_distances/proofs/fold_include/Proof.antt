@@ -3,7 +3,7 @@ use Prim.Native.Nat.{ℕ, _+_, _-_, _*_, _≤_}
 use mathlib.Core.Path.{_≡_, sym, subst, _∙_}
 use native.Mathlib.Omega.{arith}
 use borrow.Author.Tests.{not-true, not-false}
-use Rattle.slip_distances.specs.Near.{Folded}
+use Rattle.slip_distances.specs.Rows.{Folded}
 use Rattle.slip_distances.proofs.Rows.{folded-start, folded-no, folded-yes}
 use Rattle.slip_distances.proofs.fold_include.Statement.{statement}
 use Rattle.slip_distances.proofs.fold_include.Tie as tie

@@ -3,7 +3,7 @@ use Prim.Native.Nat.{_+_, _-_, _<_}
 use native.Mathlib.Omega.{arith}
 use borrow.Author.Tests.{eq-eqb, ne-eqb}
 use Rattle.base.proofs.Loops.{ltb-same}
-use Rattle.slip_distances.specs.Near.{isNearer}
+use Rattle.slip_distances.specs.Rows.{isNearer}
 use Rattle.slip_distances.proofs.is_nearer.Statement.{statement}
 use Rattle.slip_distances.proofs.is_nearer.Tie as tie
 

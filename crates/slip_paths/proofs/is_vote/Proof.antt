@@ -1,4 +1,4 @@
-use Rattle.slip_paths.proofs.Noting.{vote-noted, other-author}
+use Rattle.slip_paths.proofs.Votes.{vote-noted, other-author}
 use mathlib.Core.Path.{sym, _∙_}
 use Rattle.slip_records.specs.Places.{blockAtPlace}
 use Rattle.types.proofs.References.{as-author}
