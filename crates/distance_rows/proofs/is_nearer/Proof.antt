@@ -3,9 +3,9 @@ use Prim.Native.Nat.{_+_, _-_, _<_}
 use native.Mathlib.Omega.{arith}
 use borrow.Author.Tests.{eq-eqb, ne-eqb}
 use Rattle.base.proofs.Loops.{ltb-same}
-use Rattle.slip_distances.specs.Rows.{isNearer}
-use Rattle.slip_distances.proofs.is_nearer.Statement.{statement}
-use Rattle.slip_distances.proofs.is_nearer.Tie as tie
+use Rattle.distance_rows.specs.Rows.{isNearer}
+use Rattle.distance_rows.proofs.is_nearer.Statement.{statement}
+use Rattle.distance_rows.proofs.is_nearer.Tie as tie
 
 returns : tie.Need-returns
 unfolding isNearer

@@ -3,10 +3,10 @@ use Prim.Native.Nat.{ℕ, _+_, _-_, _*_, _≤_}
 use mathlib.Core.Path.{_≡_, sym, subst, _∙_}
 use native.Mathlib.Omega.{arith}
 use borrow.Author.Tests.{not-true, not-false}
-use Rattle.slip_distances.specs.Rows.{Folded}
-use Rattle.slip_distances.proofs.Rows.{folded-start, folded-no, folded-yes}
-use Rattle.slip_distances.proofs.fold_include.Statement.{statement}
-use Rattle.slip_distances.proofs.fold_include.Tie as tie
+use Rattle.distance_rows.specs.Rows.{Folded}
+use Rattle.distance_rows.proofs.Rows.{folded-start, folded-no, folded-yes}
+use Rattle.distance_rows.proofs.fold_include.Statement.{statement}
+use Rattle.distance_rows.proofs.fold_include.Tie as tie
 
 abbrev Inv-loop : tie.InvT-loop
 Inv-loop near₀ steps₀ k i j a₀ near steps a = (a ≤ 128) × Folded near₀ steps₀ k i j near steps a

@@ -7,7 +7,7 @@ use native.Mathlib.Omega.{arith}
 use native.Mathlib.Decide.{ℕ-discrete}
 use lib.ListN.{length, getD, set, length-set}
 use lib.Seq.{getD-set-same, getD-set-other}
-use Rattle.slip_distances.specs.Rows.{isNearer, Beside, Row, Folded}
+use Rattle.distance_rows.specs.Rows.{isNearer, Beside, Row, Folded}
 
 pub beside-start : (t : List ℕ) (k n : ℕ) → Beside t t k n
 beside-start t k n = record { long = refl; below = λ x h. refl; above = λ x h. refl }
