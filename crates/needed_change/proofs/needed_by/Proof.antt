@@ -2,11 +2,11 @@ use mathlib.Core.Path.{sym, ap, _∙_}
 use mathlib.Core.Option.{Option, some}
 use native.Mathlib.Omega.{arith}
 use Rattle.loadable.proofs.Needed.{needs-short, needs-other, needs-found}
-use Rattle.loadable_share.specs.Answers.{asNeeded}
+use Rattle.needed_change.specs.Answers.{asNeeded}
 use Rattle.blocks.specs.Reference.{TransactionLocator}
 use borrow.Author.Needs.{needs}
-use Rattle.loadable_share.proofs.needed_by.Statement.{statement}
-use Rattle.loadable_share.proofs.needed_by.Tie as tie
+use Rattle.needed_change.proofs.needed_by.Statement.{statement}
+use Rattle.needed_change.proofs.needed_by.Tie as tie
 
 returns : tie.Need-returns
 unfolding asNeeded
