@@ -21,7 +21,7 @@ use Rattle.slips.specs.Slip.{Slip, namesReading, readSlip, slipIn}
 use Rattle.slips.specs.Supplied.{suppliedRecords, suppliedBlocks, rightBlocks}
 use Rattle.slips.specs.Reading.{missing, slipHolds, readChecks, readAnswer}
 use Rattle.slip_records.specs.Places.{rightRecords}
-use Rattle.slip_paths.specs.Verdict.{verdict}
+use Rattle.slip_verdicts.specs.Verdict.{verdict}
 use Rattle.slip_paths.specs.Walk.{Noted}
 use Rattle.slip_ancestry.specs.Lacking.{Right, LackingIn}
 use Rattle.slip_rejecters.specs.Rejecting.{RejectingIn}

@@ -1,10 +1,10 @@
 use mathlib.Core.Bool.{true, false}
 use mathlib.Core.Path.{sym, _∙_}
 use Rattle.slip_paths.proofs.Walks.{led-block, led-nowhere, led-missing}
-use Rattle.slip_paths.proofs.Verdicts.{shows-block, shows-nowhere, shows-missing}
+use Rattle.slip_verdicts.proofs.Verdicts.{shows-block, shows-nowhere, shows-missing}
 use borrow.Author.Needs.{needs}
-use Rattle.slip_paths.proofs.path_verdict.Statement.{statement}
-use Rattle.slip_paths.proofs.path_verdict.Tie as tie
+use Rattle.slip_verdicts.proofs.path_verdict.Statement.{statement}
+use Rattle.slip_verdicts.proofs.path_verdict.Tie as tie
 
 walk-requires : tie.Need-walk-requires
 walk-requires c κs = search needs

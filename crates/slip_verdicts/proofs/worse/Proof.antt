@@ -1,8 +1,8 @@
 use borrow.Author.Tests.{lt-ltb, le-ltb}
 use native.Mathlib.Omega.{arith}
-use Rattle.slip_paths.specs.Verdict.{worse}
-use Rattle.slip_paths.proofs.worse.Statement.{statement}
-use Rattle.slip_paths.proofs.worse.Tie as tie
+use Rattle.slip_verdicts.specs.Verdict.{worse}
+use Rattle.slip_verdicts.proofs.worse.Statement.{statement}
+use Rattle.slip_verdicts.proofs.worse.Tie as tie
 
 returns : tie.Need-returns
 unfolding worse

@@ -1,10 +1,10 @@
 use mathlib.Core.Path.{subst}
 use Rattle.slip_paths.specs.Walk.{InPlace}
 use Rattle.slip_paths.proofs.Walks.{led-block, led-nowhere, led-missing, from-block, from-none, from-somewhere}
-use Rattle.slip_paths.proofs.Verdicts.{no-certifier}
+use Rattle.slip_verdicts.proofs.Verdicts.{no-certifier}
 use borrow.Author.Needs.{needs}
-use Rattle.slip_paths.proofs.voter_verdict.Statement.{statement}
-use Rattle.slip_paths.proofs.voter_verdict.Tie as tie
+use Rattle.slip_verdicts.proofs.voter_verdict.Statement.{statement}
+use Rattle.slip_verdicts.proofs.voter_verdict.Tie as tie
 
 enum-known-certifier : tie.Need-enum-known-certifier
 enum-known-certifier c = search needs

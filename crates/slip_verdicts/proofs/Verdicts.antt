@@ -10,7 +10,7 @@ use Rattle.blocks.specs.Reference.{TransactionLocator}
 use Rattle.blocks.specs.Block.{Block}
 use Rattle.slips.specs.Paths.{toBlock, nowhere, notGiven, onFrom, leads}
 use Rattle.slips.specs.Reading.{isNotGiven, votesAs, endsAtVote}
-use Rattle.slip_paths.specs.Verdict.{verdict, worse, voterVerdict}
+use Rattle.slip_verdicts.specs.Verdict.{verdict, worse, voterVerdict}
 
 -- the worse of two says of both
 pub worse-both : (m n h k : Bool) → worse (verdict m h) (verdict n k) ≡ verdict (m || n) (h && k)

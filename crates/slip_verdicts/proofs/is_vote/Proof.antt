@@ -1,10 +1,10 @@
-use Rattle.slip_paths.proofs.Votes.{vote-noted, other-author}
+use Rattle.slip_verdicts.proofs.Votes.{vote-noted, other-author}
 use mathlib.Core.Path.{sym, _∙_}
 use Rattle.slip_records.specs.Places.{blockAtPlace}
 use Rattle.types.proofs.References.{as-author}
 use borrow.Author.Needs.{needs}
-use Rattle.slip_paths.proofs.is_vote.Statement.{statement}
-use Rattle.slip_paths.proofs.is_vote.Tie as tie
+use Rattle.slip_verdicts.proofs.is_vote.Statement.{statement}
+use Rattle.slip_verdicts.proofs.is_vote.Tie as tie
 
 mul-reference-at : tie.Need-mul-reference-at
 mul-reference-at c = search needs
