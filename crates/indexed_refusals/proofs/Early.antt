@@ -15,7 +15,7 @@ use Rattle.feeds.specs.Feed.{ruleChecks}
 use Rattle.feed_refusals.proofs.Order.{read-none, read-some}
 use Rattle.indexed_feeds.specs.IndexedFeed.{indexedLentChecks}
 use Rattle.indexed_feeds.proofs.Order.{lent-numbered}
-use Rattle.feeding_indexed.specs.Refusals.{earlyIndexedChecks}
+use Rattle.indexed_refusals.specs.Refusals.{earlyIndexedChecks}
 
 module _ (c : Committee) (s : Bytes) (t ix : List ℕ) (bytes : Bytes) where
   pub early-lent : (refusal (indexedLentChecks c s t ix) ≡ 0 → ⊥) → refusal (earlyIndexedChecks c s t ix bytes) ≡ refusal (indexedLentChecks c s t ix)

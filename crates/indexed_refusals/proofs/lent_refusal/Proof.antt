@@ -9,8 +9,8 @@ use Rattle.block_votes.proofs.Along.{sorted-count}
 use Rattle.block_votes.proofs.Sorting.{some-committee}
 use Rattle.indexed_feeds.proofs.Order.{lent-pending, lent-index}
 use borrow.Author.Needs.{needs}
-use Rattle.feeding_indexed.proofs.lent_refusal.Statement.{statement}
-use Rattle.feeding_indexed.proofs.lent_refusal.Tie as tie
+use Rattle.indexed_refusals.proofs.lent_refusal.Statement.{statement}
+use Rattle.indexed_refusals.proofs.lent_refusal.Tie as tie
 
 lent-refusal-requires : tie.Need-lent-refusal-requires
 lent-refusal-requires c κs = search needs

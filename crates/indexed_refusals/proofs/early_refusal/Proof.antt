@@ -1,10 +1,10 @@
 use mathlib.Core.Path.{refl, sym, _∙_}
 use native.Mathlib.Omega.{arith}
 use borrow.Author.Tests.{not-true, not-false}
-use Rattle.feeding_indexed.proofs.Early.{early-lent, early-malformed, early-rules}
+use Rattle.indexed_refusals.proofs.Early.{early-lent, early-malformed, early-rules}
 use borrow.Author.Needs.{needs}
-use Rattle.feeding_indexed.proofs.early_refusal.Statement.{statement}
-use Rattle.feeding_indexed.proofs.early_refusal.Tie as tie
+use Rattle.indexed_refusals.proofs.early_refusal.Statement.{statement}
+use Rattle.indexed_refusals.proofs.early_refusal.Tie as tie
 
 slice-aggregate-lent-refusal : tie.Need-slice-aggregate-lent-refusal
 slice-aggregate-lent-refusal c = refl
