@@ -1,4 +1,4 @@
--- What the code's enums say. Assumes nothing: these are definitions.
+-- What the code's answer says. Assumes nothing: these are definitions.
 use mathlib.Core.Option.{Option, none, some}
 use Rattle.blocks.specs.Reference.{TransactionLocator}
 use Rattle.types.specs.Values.{asLocator}

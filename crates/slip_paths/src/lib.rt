@@ -18,8 +18,6 @@ pub enum Led {
     NotGiven,
 }
 
-// ---- the blocks at their places
-
 // The epoch mark.
 pub fn epoch_changed_at(records: &[u8], order: &[u64], place: usize) -> bool
     requires { ⌜ Sorted (now records) (now order) × (place < length (now order)) ⌝ }
@@ -46,8 +44,6 @@ pub fn note_votes(records: &[u8], order: &[u64], locator: TransactionLocator, vo
         j = j + 1;
     }
 }
-
-// ---- paths
 
 // The block of a reference.
 pub fn find(records: &[u8], order: &[u64], block: BlockReference) -> Led

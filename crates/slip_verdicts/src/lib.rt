@@ -13,8 +13,6 @@ ghost use Rattle.slip_records.specs.Places.{blockAtPlace, Sorted, Places};
 ghost use Rattle.slip_verdicts.specs.Verdict.{worse, voterVerdict};
 ghost use Rattle.slip_paths.specs.Walk.{Noted, InPlace, LedTo};
 
-// ---- what they show: 0 that it holds, 1 that it does not, 2 that a record is missing
-
 // The worse of two.
 pub fn worse(a: u64, b: u64) -> u64
     ensures { λ r. ⌜ r ≡ worse a b ⌝ }
