@@ -28,7 +28,7 @@ use Rattle.events.specs.Step.{StatedAt, told}
 use Rattle.counted_vote.specs.Vote.{startingWith, VotesCounted}
 use Rattle.counted_vote.specs.declared.Processed.{Processed}
 use Rattle.feeds.proofs.ProcessBlock.{Sound, sound-vote, events-vote}
-use Rattle.events.proofs.Telling.{told-none, stated-none, stated-on}
+use Rattle.events.proofs.Announced.{told-none, stated-none, stated-on}
 
 -- ---- a vote, from the items alone
 

@@ -31,10 +31,11 @@ use Rattle.pending_items.proofs.Order.{Pending, InOrder, in-order, room-fits, p
 use Rattle.table_order.proofs.Forming.{order-parts}
 use Rattle.range_map.proofs.Voting.{formed, Written, written}
 use Rattle.feeds.specs.ProcessBlock.{Event, wordsOf, eventOf, Processing, vote}
-use Rattle.events.specs.Step.{withNew, toldAt, eventsBetween, StatedAt, told}
+use Rattle.events.specs.Step.{toldAt, eventsBetween, StatedAt, told}
+use Rattle.events.specs.Kinds.{withNew}
 use Rattle.counted_vote.specs.Vote.{startingWith, Voting, VotesCounted}
 use Rattle.counted_vote.specs.declared.Processed.{Processed}
-use Rattle.events.proofs.Telling.{told-event, told-none, stated-none}
+use Rattle.events.proofs.Announced.{told-event, told-none, stated-none}
 
 pub order-formed : (c : Committee) (es : List Entry) (t : List ℕ) → tableInOrder c es t ≡ true → tableFormed c t ≡ true
 order-formed c es t h = and-left _ _ (sym (order-parts c es t) ∙ h)

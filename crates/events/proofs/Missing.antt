@@ -4,7 +4,7 @@ use mathlib.Core.Logic.{_⊎_, inl, inr}
 use mathlib.Core.Bool.{Bool, true, false}
 use mathlib.Core.List.{List, [], _∷_}
 use mathlib.Core.Option.{Option, none, some}
-use Prim.Native.Nat.{ℕ, _+_, _≤_, _<_}
+use Prim.Native.Nat.{ℕ, _≤_}
 use native.Mathlib.Omega.{arith}
 use Rattle.base.specs.Lists.{pick, find, holds, _∈_}
 use Rattle.base.specs.Le.{Bytes}
@@ -29,7 +29,7 @@ use Rattle.store_layout.proofs.Shares.{share-looked-up}
 use Rattle.store_layout.proofs.Visit.{one-position}
 use Rattle.store_order.proofs.Compared.{compared-equal}
 use Rattle.feeds.specs.ProcessBlock.{missed}
-use Rattle.events.specs.Step.{withNew}
+use Rattle.events.specs.Kinds.{withNew}
 use Rattle.feeds.proofs.ProcessBlock.{lookup-new}
 
 used-least : (rs : List Record) → 16 ≤ usedBy rs

@@ -19,7 +19,8 @@ ghost use Rattle.store_layout.specs.Store.{recordsOf};
 ghost use Rattle.store_layout.specs.Entry.{laidOut};
 ghost use Rattle.pending_items.specs.Table.{itemsOf, HoldsItems, room};
 ghost use Rattle.feeds.specs.ProcessBlock.{missed, wordsOf};
-ghost use Rattle.events.specs.Step.{withNew, eventsBy, eventsBetween, StatedAt, SameItem};
+ghost use Rattle.events.specs.Step.{eventsBetween, StatedAt, SameItem};
+ghost use Rattle.events.specs.Kinds.{withNew, eventsBy};
 ghost use Rattle.pending_items.specs.Items.{itemHolds};
 ghost use Rattle.table_words.specs.Answers.{FoundBy};
 

@@ -1,5 +1,5 @@
 use borrow.Author.Tests.{not-true, not-false}
-use Rattle.events.proofs.Telling.{stated-none}
+use Rattle.events.proofs.Announced.{stated-none}
 use borrow.Author.Needs.{needs}
 use Rattle.counted_vote.proofs.announced.Statement.{statement}
 use Rattle.counted_vote.proofs.announced.Tie as tie
