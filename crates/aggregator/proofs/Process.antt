@@ -25,7 +25,7 @@ use Rattle.pending_items.specs.Table.{itemsOf, room}
 use Rattle.pending_items.proofs.Order.{Pending, InOrder, in-order, order-tableOf, room-fits}
 use Rattle.pending_items.proofs.Table.{itemsOf-tableOf, length-tableOf}
 use Rattle.feeds.specs.ProcessBlock.{Processing, vote, votes, registering, processBlock}
-use Rattle.events.specs.Kinds.{withNew}
+use Rattle.missed_events.specs.Kinds.{withNew}
 use Rattle.counted_vote.specs.Vote.{startingWith, Voting, VotesCounted}
 use Rattle.aggregator.specs.Step.{Orderly, Registered, Feeding}
 use Rattle.counted_vote.specs.declared.Processed.{Processed}

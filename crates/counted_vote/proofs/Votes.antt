@@ -32,7 +32,7 @@ use Rattle.table_order.proofs.Forming.{order-parts}
 use Rattle.range_map.proofs.Voting.{formed, Written, written}
 use Rattle.feeds.specs.ProcessBlock.{Event, wordsOf, eventOf, Processing, vote}
 use Rattle.events.specs.Step.{toldAt, eventsBetween, StatedAt, told}
-use Rattle.events.specs.Kinds.{withNew}
+use Rattle.missed_events.specs.Kinds.{withNew}
 use Rattle.counted_vote.specs.Vote.{startingWith, Voting, VotesCounted}
 use Rattle.counted_vote.specs.declared.Processed.{Processed}
 use Rattle.events.proofs.Announced.{told-event, told-none, stated-none}

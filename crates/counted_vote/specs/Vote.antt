@@ -22,7 +22,7 @@ use Rattle.counted_vote.specs.declared.Processed.{Processed}
 use Rattle.counted_vote.specs.declared.VotedRange.{VotedRange}
 use Rattle.counted_vote.specs.declared.VotedRange.the-variants.{Over, Nothing}
 use Rattle.events.specs.Step.{StatedAt, told}
-use Rattle.events.specs.Kinds.{withNew}
+use Rattle.missed_events.specs.Kinds.{withNew}
 
 -- the range of a statement that votes
 unfoldable pub asVoted : VotedRange → Option TransactionLocatorRange

@@ -20,7 +20,7 @@ ghost use Rattle.blocks.specs.Verify.{statementChecks};
 ghost use Rattle.pending_items.specs.Table.{itemsOf, HoldsItems};
 ghost use Rattle.feeds.specs.ProcessBlock.{vote};
 ghost use Rattle.events.specs.Step.{eventsBetween, StatedAt, told};
-ghost use Rattle.events.specs.Kinds.{withNew};
+ghost use Rattle.missed_events.specs.Kinds.{withNew};
 ghost use Rattle.counted_vote.specs.Vote.{asVoted, startingWith, VotesCounted, Voting};
 ghost use Prim.Native.Nat.{_+_, _-_, _*_, _≤_};
 ghost use Rattle.store_layout.specs.Layout.{positionOf, lookup};

@@ -16,9 +16,9 @@ use Rattle.blocks.specs.Reference.{BlockReference}
 use Rattle.store_layout.specs.Layout.{Entry}
 use Rattle.pending_items.specs.Items.{Item, itemAt}
 use Rattle.feeds.specs.ProcessBlock.{Event, wordsOf, missed, eventAt, eventOf}
-use Rattle.events.proofs.Telling.{flat-append, words-on, length-eventsBy}
+use Rattle.missed_events.proofs.Telling.{flat-append, words-on, length-eventsBy}
 use Rattle.events.specs.Step.{toldAt, eventsBetween, SameItem, StatedAt, told}
-use Rattle.events.specs.Kinds.{eventsBy}
+use Rattle.missed_events.specs.Kinds.{eventsBy}
 
 flat-one : {A : Type 0} (g : ℕ → List A) (h : ℕ → A) (start n : ℕ) → ((o : ℕ) → start ≤ o → o < start + n → g o ≡ h o ∷ []) → flatten (map g (countFrom start n)) ≡ map h (countFrom start n)
 unfolding flatten countFrom

@@ -5,7 +5,7 @@ ghost use lib.ListN.{length};
 ghost use Rattle.blocks.specs.Record.{blockIn};
 ghost use Rattle.pending_items.specs.Table.{room, itemsOf};
 ghost use Rattle.feeds.specs.ProcessBlock.{processBlock};
-ghost use Rattle.events.specs.Kinds.{withNew};
+ghost use Rattle.missed_events.specs.Kinds.{withNew};
 ghost use Rattle.aggregator.specs.Step.{Feeding};
 ghost use Prim.Native.Nat.{_≤_};
 

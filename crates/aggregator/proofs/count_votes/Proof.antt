@@ -7,7 +7,7 @@ use Rattle.blocks.specs.Block.{Statement, votedRange, countedOffsets, eventRoom
 use Rattle.blocks.specs.Record.{blockIn}
 use Rattle.block_record.specs.Cursor.{cursorAt}
 use Rattle.shared_ranges.proofs.Walk.{placed-index, placed, checks-any, passes-at, offsetsCounted, counted-on}
-use Rattle.events.specs.Kinds.{withNew}
+use Rattle.missed_events.specs.Kinds.{withNew}
 use Rattle.aggregator.proofs.Counting.{Counting, counting-start, counting-long, counting-order, counting-on, counting-stop, counting-end}
 use Rattle.events.proofs.Announced.{stated-long}
 use Rattle.aggregator.proofs.count_votes.Statement.{statement}

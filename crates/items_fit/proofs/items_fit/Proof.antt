@@ -8,7 +8,7 @@ use Rattle.base.proofs.Tests.{not-both}
 use Rattle.blocks.specs.Record.{blockIn}
 use Rattle.pending_items.specs.Table.{itemsOf, room}
 use Rattle.feeds.specs.ProcessBlock.{processBlock}
-use Rattle.events.specs.Kinds.{withNew}
+use Rattle.missed_events.specs.Kinds.{withNew}
 use Rattle.aggregator.specs.Step.{Feeding}
 use Rattle.items_fit.proofs.Copying.{copied-front}
 use borrow.Author.Needs.{needs}

@@ -2,9 +2,9 @@ use borrow.Author.Needs.{needs}
 use mathlib.Core.Path.{refl}
 use Prim.Native.Nat.{_-_}
 use native.Mathlib.Omega.{arith}
-use Rattle.events.proofs.Telling.{Telling, telling-start, telling-long, telling-on, telling-end}
-use Rattle.events.proofs.put_events.Statement.{statement}
-use Rattle.events.proofs.put_events.Tie as tie
+use Rattle.missed_events.proofs.Telling.{Telling, telling-start, telling-long, telling-on, telling-end}
+use Rattle.missed_events.proofs.put_events.Statement.{statement}
+use Rattle.missed_events.proofs.put_events.Tie as tie
 
 abbrev Inv-loop : tie.InvT-loop
 Inv-loop events₀ n kind statement start end k₀ o₀ events k o = Telling (λ _. kind) statement start end n events₀ o k events

@@ -29,7 +29,7 @@ use Rattle.store_layout.proofs.Shares.{share-looked-up}
 use Rattle.store_layout.proofs.Visit.{one-position}
 use Rattle.store_order.proofs.Compared.{compared-equal}
 use Rattle.feeds.specs.ProcessBlock.{missed}
-use Rattle.events.specs.Kinds.{withNew}
+use Rattle.missed_events.specs.Kinds.{withNew}
 use Rattle.feeds.proofs.ProcessBlock.{lookup-new}
 
 used-least : (rs : List Record) → 16 ≤ usedBy rs

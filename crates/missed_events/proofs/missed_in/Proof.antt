@@ -8,9 +8,9 @@ use Rattle.blocks.specs.Block.{isShareAt}
 use Rattle.blocks.specs.Record.{blockIn}
 use Rattle.pending.specs.Step.{NotPast}
 use Rattle.pending.proofs.Offsets.{placed-first, placed-later}
-use Rattle.events.proofs.Telling.{Telling, telling-start, telling-long, telling-on, telling-end}
-use Rattle.events.proofs.missed_in.Statement.{statement}
-use Rattle.events.proofs.missed_in.Tie as tie
+use Rattle.missed_events.proofs.Telling.{Telling, telling-start, telling-long, telling-on, telling-end}
+use Rattle.missed_events.proofs.missed_in.Statement.{statement}
+use Rattle.missed_events.proofs.missed_in.Tie as tie
 
 abbrev Inv-loop : tie.InvT-loop
 Inv-loop rec events₀ n statement start end cursor₀ k₀ o₀ events cursor k o = Telling (λ q. pick (isShareAt (blockIn rec) q) 2 3) statement start end n events₀ o k events × NotPast rec o cursor

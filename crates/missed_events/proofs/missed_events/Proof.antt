@@ -9,11 +9,11 @@ use Rattle.store_layout.specs.Entry.{blockAt}
 use Rattle.store_layout.proofs.Check.{is-readable}
 use Rattle.store_layout.proofs.Loops.{entry-room, record-part}
 use Rattle.pending.proofs.Lending.{laid-readable}
-use Rattle.events.proofs.Missing.{missed-unknown, missed-own, stored-at, missed-stored}
-use Rattle.events.proofs.Telling.{retold}
+use Rattle.missed_events.proofs.Missing.{missed-unknown, missed-own, stored-at, missed-stored}
+use Rattle.missed_events.proofs.Telling.{retold}
 use borrow.Author.Needs.{needs}
-use Rattle.events.proofs.missed_events.Statement.{statement}
-use Rattle.events.proofs.missed_events.Tie as tie
+use Rattle.missed_events.proofs.missed_events.Statement.{statement}
+use Rattle.missed_events.proofs.missed_events.Tie as tie
 
 put-events-requires : tie.Need-put-events-requires
 put-events-requires c κs = search needs

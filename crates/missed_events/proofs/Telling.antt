@@ -10,7 +10,7 @@ use Rattle.base.proofs.Le.{sets-append}
 use Rattle.base.proofs.Lists.{length-countFrom, countFrom-add}
 use Rattle.feeds.specs.ProcessBlock.{Event, eventWords, wordsOf}
 use Rattle.feeds.proofs.ProcessBlock.{length-words}
-use Rattle.events.specs.Kinds.{eventsBy}
+use Rattle.missed_events.specs.Kinds.{eventsBy}
 
 event : ℕ → ℕ → ℕ → Event
 event kind i o = record { kind = kind; statement = i; offset = o }

@@ -2,8 +2,8 @@ use native.Mathlib.Omega.{arith}
 use native.Mathlib.Numerals.{towards-suc}
 use lib.ListN.{length-set}
 use borrow.Author.Needs.{needs}
-use Rattle.events.proofs.put_event.Statement.{statement}
-use Rattle.events.proofs.put_event.Tie as tie
+use Rattle.missed_events.proofs.put_event.Statement.{statement}
+use Rattle.missed_events.proofs.put_event.Tie as tie
 
 mul-b : tie.Need-mul-b
 mul-b c = search needs
