@@ -6,8 +6,7 @@ use mathlib.Core.Option.{Option, none, some}
 use Prim.Native.Nat.{ℕ, _+_, _≤_, _<_}
 use native.Mathlib.Nat.{zero-add}
 use native.Mathlib.Omega.{arith}
-use native.Mathlib.Decide.{decLt}
-use lib.ListN.{length, getD, drop, set, replicate, length-append, length-replicate, getD-replicate, List·getD-eq-default}
+use lib.ListN.{length, drop, set, length-append}
 use lib.Seq.{sets, sets-eq}
 use borrow.Author.Tests.{lt-ltb, le-ltb}
 use Rattle.base.specs.Lists.{isNone}
@@ -81,11 +80,3 @@ module _ (s : Bytes) (order : List ℕ) (l : TransactionLocator) (near steps : L
         sym (sets-append a b out 0 ∙ ap (λ (x : ℕ). sets (sets out 0 a) (0 + x) b) (head-length l fits first n))
         ∙ sets-eq (a ++ b) out 0 (omega (arith, h))
         ∙ rw (zero-add (length (a ++ b)))
-
--- a fresh table
-pub no-words : (n x : ℕ) → getD (replicate {A = ℕ} n 0) x 0 ≡ 0
-no-words n x = go (decLt x n)
-  where
-    go : Dec (x < n) → getD (replicate {A = ℕ} n 0) x 0 ≡ 0
-    go (yes h) = getD-replicate {A = ℕ} n x 0 0 h
-    go (no h) = List·getD-eq-default (replicate {A = ℕ} n 0) 0 (omega (arith, length-replicate {A = ℕ} n 0))

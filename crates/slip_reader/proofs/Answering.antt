@@ -3,11 +3,10 @@ use mathlib.Core.Path.{_≡_, refl, sym, _∙_}
 use mathlib.Core.Bool.{Bool, true, false, not, _&&_}
 use mathlib.Core.List.{List}
 use mathlib.Core.Option.{none, some}
-use Prim.Native.Nat.{ℕ, _≤_, _<_}
+use Prim.Native.Nat.{ℕ, _≤_}
 use native.Mathlib.Omega.{arith}
-use native.Mathlib.Decide.{decLt}
 use lib.Dec.{eqb}
-use lib.ListN.{length, getD, replicate, length-replicate, getD-replicate, List·getD-eq-default}
+use lib.ListN.{length, getD}
 use borrow.Author.Tests.{not-true, le-leb}
 use Rattle.base.specs.Lists.{pick, isNone, allOf}
 use Rattle.base.specs.Le.{Bytes}
@@ -132,11 +131,3 @@ pub shown-slip : (c : Committee) (s q : Bytes) (order votes lacking rejecting : 
 unfolding TookSlip Showed
 shown-slip c s q order votes lacking rejecting (Shows v) k t = record { slip = t .slip; reads = t .reads; many = t .many; shows = t .shows k }
 shown-slip c s q order votes lacking rejecting Malformed k t = t
-
--- a fresh table
-pub no-words : (n x : ℕ) → getD (replicate {A = ℕ} n 0) x 0 ≡ 0
-no-words n x = go (decLt x n)
-  where
-    go : Dec (x < n) → getD (replicate {A = ℕ} n 0) x 0 ≡ 0
-    go (yes h) = getD-replicate {A = ℕ} n x 0 0 h
-    go (no h) = List·getD-eq-default (replicate {A = ℕ} n 0) 0 (omega (arith, length-replicate {A = ℕ} n 0))

@@ -10,7 +10,8 @@ use Rattle.slip_distances.proofs.Reading.{fresh-tables}
 use Rattle.slip_table.specs.Table.{placeIn}
 use Rattle.slip_bytes.specs.Answers.{asSlipAnswer}
 use Rattle.slip_bytes.specs.Listed.{Voted, listedBytes}
-use Rattle.slip_bytes.proofs.Over.{over-short, over-long, listed-length, no-words}
+use Rattle.slip_bytes.proofs.Over.{over-short, over-long, listed-length}
+use Rattle.slips.proofs.Fresh.{no-words}
 use borrow.Author.Needs.{needs}
 use Rattle.slip_bytes.proofs.write_listed.Statement.{statement}
 use Rattle.slip_bytes.proofs.write_listed.Tie as tie
