@@ -1,16 +1,14 @@
 -- Votes counted statement by statement, and runs of shares registered one by one. Assumes nothing.
 use mathlib.Core.Path.{_≡_, refl, sym, ap, _∙_, subst}
 use mathlib.Core.Bool.{Bool, true, false}
-use mathlib.Core.List.{List, [], _∷_, _++_, map}
+use mathlib.Core.List.{List, [], _∷_, _++_}
 use mathlib.Core.Option.{Option, none, some}
-use Prim.Native.Nat.{ℕ, _+_, _-_, _*_, _≤_, _<_}
+use Prim.Native.Nat.{ℕ, _+_, _*_, _≤_, _<_}
 use native.Mathlib.Numerals.{add-one}
 use native.Mathlib.Omega.{arith}
-use lib.Dec.{leb}
-use lib.ListN.{length, getD, drop, length-append, drop-of-length-le}
+use lib.ListN.{length, getD, drop, drop-of-length-le}
 use lib.Seq.{drop-cons}
 use borrow.Author.Tests.{leb-true, leb-false, le-leb, lt-leb}
-use Rattle.base.specs.Lists.{pick}
 use Rattle.base.proofs.Lists.{append-nil, Every}
 use Rattle.base.proofs.Tests.{not-both}
 use Rattle.committee.specs.Committee.{AuthorityIndex, Committee, known}
@@ -27,10 +25,10 @@ use Rattle.pending_items.proofs.Order.{Pending, InOrder, in-order, order-tableO
 use Rattle.pending_items.proofs.Table.{itemsOf-tableOf, length-tableOf}
 use Rattle.feeds.specs.ProcessBlock.{Event, Processing, vote, votes}
 use Rattle.events.specs.Step.{StatedAt, told}
-use Rattle.aggregator.specs.Step.{startingWith, VotesCounted}
-use Rattle.aggregator.specs.declared.Processed.{Processed}
+use Rattle.counted_vote.specs.Vote.{startingWith, VotesCounted}
+use Rattle.counted_vote.specs.declared.Processed.{Processed}
 use Rattle.feeds.proofs.ProcessBlock.{Sound, sound-vote, events-vote}
-use Rattle.events.proofs.Telling.{told-none, stated-none, stated-on, stated-long}
+use Rattle.events.proofs.Announced.{told-none, stated-none, stated-on}
 
 -- ---- a vote, from the items alone
 

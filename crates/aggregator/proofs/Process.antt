@@ -25,9 +25,10 @@ use Rattle.pending_items.specs.Table.{itemsOf, room}
 use Rattle.pending_items.proofs.Order.{Pending, InOrder, in-order, order-tableOf, room-fits}
 use Rattle.pending_items.proofs.Table.{itemsOf-tableOf, length-tableOf}
 use Rattle.feeds.specs.ProcessBlock.{Processing, vote, votes, registering, processBlock}
-use Rattle.events.specs.Step.{withNew}
-use Rattle.aggregator.specs.Step.{startingWith, Voting, VotesCounted, Orderly, Registered, Feeding}
-use Rattle.aggregator.specs.declared.Processed.{Processed}
+use Rattle.missed_events.specs.Kinds.{withNew}
+use Rattle.counted_vote.specs.Vote.{startingWith, Voting, VotesCounted}
+use Rattle.aggregator.specs.Step.{Orderly, Registered, Feeding}
+use Rattle.counted_vote.specs.declared.Processed.{Processed}
 use Rattle.feeds.proofs.ProcessBlock.{lookup-new, Sound, sound-registered}
 use Rattle.aggregator.proofs.Counting.{votes-grow}
 

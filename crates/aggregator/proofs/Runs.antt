@@ -1,10 +1,9 @@
 -- Runs of shares registered one after the other. Assumes nothing.
 use mathlib.Core.Path.{_≡_, refl, sym, ap, _∙_}
-use mathlib.Core.Bool.{Bool, true, false, _&&_}
+use mathlib.Core.Bool.{Bool, true, false}
 use mathlib.Core.List.{List, [], _∷_, _++_, map, append-assoc}
-use Prim.Native.Nat.{ℕ, _+_, _*_, _≤_, _<_}
+use Prim.Native.Nat.{ℕ, _*_, _≤_, _<_}
 use native.Mathlib.Omega.{arith}
-use lib.Dec.{leb}
 use lib.ListN.{length, length-append}
 use borrow.Author.Tests.{le-leb, lt-leb, ltb-true}
 use Rattle.base.specs.Lists.{allOf, pairwise}
@@ -15,7 +14,6 @@ use Rattle.blocks.specs.Reference.{newRange}
 use Rattle.blocks.specs.Block.{Block, sharedRanges}
 use Rattle.statement_cursor.specs.Cursor.{cursorAt}
 use Rattle.shared_ranges.specs.Cursor.{runsLeft, runsTold}
-use Rattle.shared_ranges.specs.declared.SharedRange.{SharedRange}
 use Rattle.shared_ranges.specs.declared.SharedRange.the-variants.{Run, End}
 use Rattle.statement_cursor.specs.declared.StatementCursor.{StatementCursor}
 use Rattle.pending_items.specs.Items.{Item, itemBefore, itemFull, firstVote, registered, register}

@@ -1,28 +1,17 @@
--- Machinery for the contracts of private functions: events written one after the other. Assumes nothing: these are definitions.
+-- Machinery for the contracts of inner functions: the events of a vote, written one after the other. Assumes nothing: these are definitions.
 use Prim.Native.Nat.{ℕ, _+_, _-_, _*_, _≤_, _<_}
 use mathlib.Core.Path.{_≡_}
 use mathlib.Core.Bool.{Bool}
-use mathlib.Core.List.{List, [], _∷_, map, flatten}
+use mathlib.Core.List.{List, [], map, flatten}
 use mathlib.Core.Option.{Option, Option·map}
 use lib.ListN.{length}
 use lib.Seq.{sets}
 use Rattle.base.specs.Lists.{pick, countFrom}
-use Rattle.base.specs.Le.{Bytes}
 use Rattle.committee.specs.Committee.{Stake, quorumOf}
 use Rattle.blocks.specs.Reference.{BlockReference}
-use Rattle.store_layout.specs.Layout.{Entry, entries}
-use Rattle.store_layout.specs.Store.{recordsOf, recordIn}
+use Rattle.store_layout.specs.Layout.{Entry}
 use Rattle.pending_items.specs.Items.{Item, itemAt}
 use Rattle.feeds.specs.ProcessBlock.{Event, wordsOf, eventAt}
-
--- ---- events
--- the entries once the record is stored: 01, "the block being fed counts as stored"
-abbrev pub withNew : Bytes → Bytes → List Entry
-withNew s rec = entries (recordIn rec ∷ recordsOf s)
-
--- an event for each offset in start..end, of the kind that f says
-unfoldable pub eventsBy : (ℕ → ℕ) → ℕ → ℕ → ℕ → List Event
-eventsBy f i start end = map (λ o. record { kind = f o; statement = i; offset = o }) (countFrom start (end - start))
 
 -- `eventOf` by the total stake
 unfoldable pub toldAt : Stake → List Entry → BlockReference → ℕ → ℕ → Option Item → List Event

@@ -8,21 +8,19 @@ use native.Mathlib.Omega.{arith}
 use Rattle.base.specs.Le.{Bytes}
 use Rattle.base.specs.Checks.{refusal, passes, Answer, refused, answered}
 use Rattle.base.proofs.Tests.{fails}
-use Rattle.base.proofs.Refusals.{passes-zero, refusal-first, refusal-then}
+use Rattle.base.proofs.Refusals.{passes-zero}
 use Rattle.committee.specs.Committee.{Committee}
 use Rattle.blocks.specs.Record.{wellFormed, blockIn}
 use Rattle.store_layout.specs.Layout.{Record, readRecord}
-use Rattle.store_layout.specs.Store.{recordsOf, recordIn}
-use Rattle.store_layout.specs.Accept.{blockChecks}
-use Rattle.feeds.specs.Feed.{Lent, lentOf, processed, ruleChecks, feedChecks, refusedFeed, acceptedFeed}
+use Rattle.store_layout.specs.Store.{recordIn}
+use Rattle.feeds.specs.Feed.{Lent, lentOf, processed, feedChecks, refusedFeed, acceptedFeed}
 use Rattle.finality.specs.Finality.{blocksOf}
-use Rattle.feeding.specs.Step.{AcceptedAs}
-use Rattle.feeding.proofs.Order.{read-none, read-some, checks-pass}
+use Rattle.feeding.specs.Accepted.{AcceptedAs}
+use Rattle.feed_refusals.proofs.Order.{read-some, checks-pass}
 use Rattle.voters_index.specs.Index.{indexAgrees, indexShort, appended}
 use Rattle.index_growth.specs.Growing.{newPart}
-use Rattle.indexed_feeds.specs.IndexedFeed.{indexedLentChecks, indexedChecks, refusedIndexed, acceptedIndexed, feedIndexedRecord, feedIndexed}
-use Rattle.indexed_feeds.proofs.Order.{lent-numbered, record-refuses, room-refusal, room-passes}
-use Rattle.feeding_indexed.specs.Refusals.{earlyIndexedChecks}
+use Rattle.indexed_feeds.specs.IndexedFeed.{indexedChecks, refusedIndexed, acceptedIndexed, feedIndexedRecord, feedIndexed}
+use Rattle.indexed_feeds.proofs.Order.{record-refuses, room-refusal, room-passes}
 
 module _ (c : Committee) (m : Lent) (ix : List ℕ) (bytes : Bytes) where
   -- the answer, the store, the table, the index and the events are those of the definition
@@ -68,23 +66,3 @@ module _ (c : Committee) (m : Lent) (ix : List ℕ) (bytes : Bytes) where
       gives-acceptance k n s t i v a e =
           rw (read-some bytes w, room-passes c m ix (recordIn bytes) h, passing, k)
           (a .answer, (a .store, (a .table, (e, a .events))))
-
--- ---- the refusals before those about memory
-
-module _ (c : Committee) (s : Bytes) (t ix : List ℕ) (bytes : Bytes) where
-  pub early-lent : (refusal (indexedLentChecks c s t ix) ≡ 0 → ⊥) → refusal (earlyIndexedChecks c s t ix bytes) ≡ refusal (indexedLentChecks c s t ix)
-  unfolding earlyIndexedChecks
-  early-lent h = refusal-first (indexedLentChecks c s t ix) _ h
-
-  module _ (h : refusal (indexedLentChecks c s t ix) ≡ 0) where
-    after-lent : refusal (earlyIndexedChecks c s t ix bytes) ≡ refusal (ruleChecks c s (readRecord bytes))
-    unfolding earlyIndexedChecks
-    after-lent = refusal-then (indexedLentChecks c s t ix) _ (lent-numbered c s t ix) h
-
-    pub early-malformed : wellFormed bytes ≡ false → refusal (earlyIndexedChecks c s t ix bytes) ≡ 20
-    unfolding ruleChecks refusal
-    early-malformed w = after-lent ∙ rw (read-none bytes w)
-
-    pub early-rules : wellFormed bytes ≡ true → refusal (earlyIndexedChecks c s t ix bytes) ≡ refusal (blockChecks c (recordsOf s) (blockIn bytes))
-    unfolding ruleChecks recordIn
-    early-rules w = after-lent ∙ rw (read-some bytes w)

@@ -29,7 +29,7 @@ use Rattle.index_merge.specs.Sources.{Voting}
 use Rattle.index_check.specs.Known.{Rooted}
 use Rattle.index_check.proofs.Fits.{ends-fit}
 use Rattle.index_growth.specs.Growing.{Growing}
-use Rattle.feeding_indexed.specs.Step.{Agreed}
+use Rattle.indexed_refusals.specs.Step.{Agreed}
 
 module _ (c : Committee) (s rec : Bytes) (t : List ℕ) (f : Feeding c s rec t) where
   votes-end : AllBytes rec → Voting rec

@@ -2,20 +2,10 @@
 use feeding::FeedAnswer;
 use index_parts::RunCount;
 ghost use mathlib.Core.Path.{_≡_};
-ghost use Prim.Native.Nat.{_≤_};
-ghost use lib.ListN.{length, take};
-ghost use Rattle.base.specs.Checks.{refusal};
 ghost use Rattle.feeds.specs.Feed.{lentOf};
 ghost use Rattle.feeding.specs.Answers.{asFeedAnswer};
-ghost use Rattle.indexed_feeds.specs.IndexedFeed.{indexedLentChecks, feedIndexed};
-ghost use Rattle.feeding_indexed.specs.Refusals.{earlyIndexedChecks};
-ghost use Rattle.feeding_indexed.specs.Step.{Agreed};
-
-// The first refusal, and how many blocks are stored.
-struct Lent {
-    refusal: u64,
-    count: usize,
-}
+ghost use Rattle.indexed_feeds.specs.IndexedFeed.{feedIndexed};
+ghost use Rattle.indexed_refusals.specs.Step.{Agreed};
 
 // Feeds a record as `feeding::feed` does, and appends its part to the index. A refusal writes nothing but the work slice.
 pub fn feed_indexed(
@@ -35,7 +25,7 @@ pub fn feed_indexed(
 {
     let mut order = [0u64; 1024];
     let mut starts = [0u64; 1024];
-    let lent = lent_refusal(stakes, store, table, index, &mut order, &mut starts);
+    let lent = indexed_refusals::lent_refusal(stakes, store, table, index, &mut order, &mut starts);
     if lent.refusal != 0 {
         return FeedAnswer::Refused(lent.refusal);
     }
@@ -51,49 +41,6 @@ pub fn feed_indexed(
         events,
         rec,
     )
-}
-
-// The first refusal of a feed before those about memory (5, 10, 11, 54, 20 to 30); 0 where none applies.
-pub fn early_refusal(stakes: &[u64], store: &[u8], table: &[u64], index: &[u64], rec: &[u8]) -> u64
-    ensures { λ r. ⌜ r ≡ refusal (earlyIndexedChecks (now (stakes .entry)) (now (store .entry)) (now (table .entry)) (now (index .entry)) (now (rec .entry))) ⌝ }
-{
-    let mut order = [0u64; 1024];
-    let mut starts = [0u64; 1024];
-    let lent = lent_refusal(stakes, store, table, index, &mut order, &mut starts);
-    if lent.refusal != 0 {
-        return lent.refusal;
-    }
-    if !block_record::well_formed(rec) {
-        return 20;
-    }
-    record_checks::block_refusal(stakes, store, rec)
-}
-
-// 5, 10, 11, 54; 0 where none applies, and then `order` and `starts` say in what order the blocks are sorted and where their parts stand.
-fn lent_refusal(
-    stakes: &[u64],
-    store: &[u8],
-    table: &[u64],
-    index: &[u64],
-    order: &mut [u64],
-    starts: &mut [u64],
-) -> Lent
-    requires { ⌜ (1024 ≤ length (now order)) × (1024 ≤ length (now starts)) ⌝ }
-    ensures { λ r. ⌜ r .refusal ≡ refusal (indexedLentChecks (now (stakes .entry)) (now (store .entry)) (now (table .entry)) (now (index .entry))) ⌝ }
-    ensures { λ r. ⌜ (r .refusal ≡ 0 → (r .count ≤ 1024) × Agreed (now (stakes .entry)) (now (store .entry)) (now (table .entry)) (now (index .entry)) (take (r .count) (now (order .exit))) (now (starts .exit))) ⌝ }
-{
-    let lent = pending::lent_refusal(stakes, store, table);
-    if lent != 0 {
-        return Lent {
-            refusal: lent,
-            count: 0,
-        };
-    }
-    let count = block_votes::sorted_positions(store, order);
-    if !index_growth::agrees(store, &order[..count], index, starts) {
-        return Lent { refusal: 54, count };
-    }
-    Lent { refusal: 0, count }
 }
 
 // Feeds a record to a store and a table in order, with an index that agrees.
@@ -115,7 +62,7 @@ fn feed_agreed(
     ensures { λ _. ⌜ now (index .exit) ≡ feedIndexed (now (stakes .entry)) (lentOf (now (store .entry)) (now (table .entry)) (now (work .entry)) (now (events .entry))) (now (index .entry)) (now (rec .entry)) .index ⌝ }
     ensures { λ _. ⌜ now (events .exit) ≡ feedIndexed (now (stakes .entry)) (lentOf (now (store .entry)) (now (table .entry)) (now (work .entry)) (now (events .entry))) (now (index .entry)) (now (rec .entry)) .fed .events ⌝ }
 {
-    let refusal = feeding::record_refusal(stakes, store, table, work, events, rec);
+    let refusal = feed_refusals::record_refusal(stakes, store, table, work, events, rec);
     if refusal != 0 {
         return FeedAnswer::Refused(refusal);
     }

@@ -14,7 +14,7 @@ use Rattle.committee.specs.Committee.{Committee, Stake}
 use Rattle.authority_set.specs.AuthoritySet.{setOf, stakeOf}
 use Rattle.blocks.specs.Reference.{TransactionLocator}
 use Rattle.blocks.specs.Block.{Block, author}
-use Rattle.finalization_interpreter.proofs.Certify.{written-more}
+use Rattle.certifying_blocks.proofs.Finding.{written-more}
 use Rattle.stretches.specs.Stretches.{Listing, FinalStretch, lastLocator, stretchEnd, stretchAt, fromFound, stretches, reached, moreFollow}
 use Rattle.stretches.specs.Bulk.{digestWords, referenceWords, stretchWords, Given, givenAfter, wordsAfter}
 use Rattle.final_list.specs.Step.{stretchOf, Filled}

@@ -18,7 +18,7 @@ use Rattle.store_layout.specs.Entry.{blockAt}
 use Rattle.finality.specs.Finality.{blocksOf}
 use Rattle.block_votes.specs.Walk.{Sorted, blockAtPlace}
 use Rattle.block_votes.proofs.Sorting.{some-committee, place-stored}
-use Rattle.finalization_interpreter.proofs.Finding.{block-position}
+use Rattle.certifying_blocks.proofs.Finding.{block-position}
 use Rattle.readings.specs.Readings.{Reading, readingOf, certifiesIn}
 use Rattle.stretches.specs.Stretches.{Listing, agree, certifiedAlike, goesOn, EndsAt, nearest, stretchEnd}
 use Rattle.stretches.proofs.Ends.{all-in, in-all, agrees, goes-at, next-end, one-end, end-meant}

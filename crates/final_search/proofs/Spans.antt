@@ -21,7 +21,7 @@ use Rattle.finality.specs.Finality.{blocksOf}
 use Rattle.finality.specs.NextFinal.{leastLocator}
 use Rattle.block_votes.specs.Walk.{SortedStore, blockAtPlace}
 use Rattle.block_votes.proofs.Sorting.{place-stored}
-use Rattle.finalization_interpreter.proofs.Finding.{position-block, block-position}
+use Rattle.certifying_blocks.proofs.Finding.{position-block, block-position}
 use Rattle.block_spans.specs.Ranges.{rangesOf}
 use Rattle.vote_starts.specs.Walk.{startOf, lesserOf, startsAt}
 use Rattle.vote_starts.proofs.Minimum.{lesser-assoc, least-append}

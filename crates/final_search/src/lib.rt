@@ -1,7 +1,7 @@
 // The next stretch of a list of final locators, the ordinary or the wide one, in either reading of a reject: the least locator that it shows after a
 // given one, and where its stretch ends.
+use certifying_blocks::Certifiers;
 use committee::Stake;
-use finalization_interpreter::Certifiers;
 use types::BlockReference;
 use types::TransactionLocator;
 use vote_starts::MaybeLocator;

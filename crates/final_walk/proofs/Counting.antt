@@ -24,7 +24,7 @@ use Rattle.readings.proofs.Words.{without-nobody}
 use Rattle.block_votes.specs.Walk.{SortedStore, blockAtPlace}
 use Rattle.block_spans.proofs.Fits.{vote-offset}
 use Rattle.voters.specs.Walk.{spokenAt}
-use Rattle.finalization_interpreter.proofs.Finding.{block-position}
+use Rattle.certifying_blocks.proofs.Finding.{block-position}
 use Rattle.reading_lists.proofs.Between.{no-voters}
 use Rattle.speakers.specs.Heard.{Owned, HeardBelow}
 use Rattle.base.proofs.Lists.{zeros-at}

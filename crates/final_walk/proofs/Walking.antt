@@ -17,7 +17,7 @@ use Rattle.store_layout.specs.Entry.{blockAt}
 use Rattle.finality.specs.Finality.{blocksOf}
 use Rattle.readings.specs.Readings.{Reading, votersIn, certifiesIn}
 use Rattle.block_votes.specs.Walk.{blockAtPlace}
-use Rattle.finalization_interpreter.proofs.Finding.{holdsAt, found, found-yes, found-no, Authors, authors-none, authors-more}
+use Rattle.certifying_blocks.proofs.Finding.{holdsAt, found, found-yes, found-no, Authors, authors-none, authors-more}
 use Rattle.include_places.specs.Places.{includesBefore}
 use Rattle.include_places.proofs.Noting.{before-next}
 use Rattle.speakers.specs.Heard.{withSet}

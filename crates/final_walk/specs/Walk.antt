@@ -15,7 +15,7 @@ use Rattle.finality.specs.Finality.{blocksOf}
 use Rattle.readings.specs.Rejecting.{without}
 use Rattle.readings.specs.Readings.{Reading, votersIn, certifiesIn, certifiersIn}
 use Rattle.readings.specs.Finality.{certifyingPositionsIn}
-use Rattle.finalization_interpreter.specs.declared.Certifiers as found
+use Rattle.certifying_blocks.specs.declared.Certifiers as found
 use Rattle.block_votes.specs.Walk.{blockAtPlace}
 use Rattle.voters.specs.Walk.{spokenAt}
 use Rattle.include_places.specs.Places.{setAt}

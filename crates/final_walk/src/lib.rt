@@ -1,7 +1,7 @@
 // The blocks that certify a locator in either reading of a reject, by walks over the stored blocks in ascending reference order.
 use authority_set::AuthoritySet;
+use certifying_blocks::Certifiers;
 use committee::Stake;
-use finalization_interpreter::Certifiers;
 use types::TransactionLocator;
 use vote_table::TableSizes;
 ghost use mathlib.Core.Path.{_≡_};

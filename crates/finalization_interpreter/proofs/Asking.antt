@@ -1,32 +1,19 @@
 -- What the finality question answers in either reading, refusal by refusal. Assumes nothing.
 use mathlib.Core.Path.{_≡_}
 use mathlib.Core.Bool.{Bool, true, false}
-use mathlib.Core.List.{List, _++_, map}
+use mathlib.Core.List.{List, _++_}
 use Prim.Native.Nat.{ℕ, _<_, _≤_}
 use lib.ListN.{length, drop}
 use borrow.Author.Tests.{lt-ltb, le-ltb}
 use Rattle.base.specs.Lists.{allOf}
 use Rattle.base.specs.Le.{Bytes}
 use Rattle.base.specs.Checks.{refusal, passes, refused, answered, checked}
-use Rattle.committee.specs.Committee.{Stake, Committee, totalStake, broken, quorumOf, isQuorum}
-use Rattle.authority_set.specs.AuthoritySet.{AuthoritySet, setOf, stakeOf}
+use Rattle.committee.specs.Committee.{Committee, broken}
 use Rattle.blocks.specs.Reference.{TransactionLocator}
-use Rattle.blocks.specs.Block.{author}
 use Rattle.store_layout.specs.Store.{recordsOf, storeInOrder}
-use Rattle.finality.specs.Voters.{certifiers, isFinal}
 use Rattle.finality.specs.Finality.{blocksOf, finalityChecks}
-use Rattle.readings.specs.Readings.{Reading, certifiersIn, isFinalIn}
+use Rattle.readings.specs.Readings.{Reading, isFinalIn}
 use Rattle.readings.specs.Finality.{certifyingPositionsIn, finalityIn}
-
--- quorum of the certifiers' authors is finality
-pub final-by : (c : Committee) (s : Bytes) (l : TransactionLocator) (t : Stake) (v : AuthoritySet) → t ≡ totalStake c → v ≡ setOf (map author (certifiers c (blocksOf s) l)) → quorumOf t (stakeOf c v) ≡ isFinal c (blocksOf s) l
-unfolding isFinal isQuorum
-final-by c s l t v e f = rw (e, f)
-
-pub final-in-by : (reading : Reading) (c : Committee) (s : Bytes) (l : TransactionLocator) (t : Stake) (v : AuthoritySet) → t ≡ totalStake c
-    → v ≡ setOf (map author (certifiersIn reading c (blocksOf s) l)) → quorumOf t (stakeOf c v) ≡ isFinalIn reading c (blocksOf s) l
-unfolding isFinalIn isQuorum
-final-in-by reading c s l t v e f = rw (e, f)
 
 module _ (reading : Reading) (c : Committee) (s : Bytes) (ps : List ℕ) (l : TransactionLocator) where
   pub finality-broken : broken c ≡ true → record { answer = refused 5; positions = ps } ≡ finalityIn reading c s ps l

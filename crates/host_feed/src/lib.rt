@@ -2,7 +2,7 @@
 // 2^63 + n is refusal n (`encoded` in host_calls, specs/Calls).
 ghost use mathlib.Core.Path.{_≡_};
 ghost use Rattle.host_calls.specs.Calls.{encoded};
-ghost use Rattle.host_lib.specs.Feed.{feedCall};
+ghost use Rattle.feed_bytes.specs.Feed.{feedCall};
 use feeding::FeedAnswer;
 
 const REFUSED: u64 = 9223372036854775808;
@@ -16,7 +16,7 @@ pub fn feed(stakes: &[u8], store: &mut [u8], table: &mut [u8], events: &mut [u8]
 {
     let mut held = [0u64; 128];
     let n = host_calls::stakes_of(stakes, &mut held);
-    match host_lib::feed_of(&held[..n], store, table, events, rec) {
+    match feed_bytes::feed_of(&held[..n], store, table, events, rec) {
         FeedAnswer::Events(count) => count,
         FeedAnswer::Refused(number) => REFUSED + number,
     }

@@ -20,10 +20,10 @@ use Rattle.words.specs.Words.{wordsIn, wordsOf}
 use Rattle.feeds.specs.Pending.{pendingChecks}
 use Rattle.feeds.specs.Feed.{Lent, lentOf, processed, ruleChecks, recordChecks, refusedFeed, acceptedFeed}
 use Rattle.indexed_feeds.specs.IndexedFeed.{indexedLentChecks, roomChecks, indexedChecks, refusedIndexed, acceptedIndexed, feedIndexedRecord, feedIndexed}
-use Rattle.feeding_indexed.specs.Refusals.{earlyIndexedChecks}
-use Rattle.host_lib.specs.Payload.{refusalBefore}
-use Rattle.host_lib.proofs.Locators.{before-most}
-use Rattle.host_lib.proofs.Feeds.{Below, numbered, below, record-ordinary, rules-ordinary}
+use Rattle.indexed_refusals.specs.Refusals.{earlyIndexedChecks}
+use Rattle.host_locators.specs.Locators.{refusalBefore}
+use Rattle.host_locators.proofs.Locators.{before-most}
+use Rattle.feed_bytes.proofs.Feeds.{Below, numbered, below, record-ordinary, rules-ordinary}
 use Rattle.host_feed_indexed.specs.IndexedFeed.{IndexedCall, refusedCall, fedCall, fedWith, feedIndexedOf}
 
 -- ---- the numbers are below 56

@@ -11,9 +11,9 @@ use Rattle.committee.specs.Committee.{Committee}
 use Rattle.words.specs.Words.{wordsOf, bytesOf}
 use Rattle.feeds.specs.Feed.{lentOf}
 use Rattle.indexed_feeds.specs.IndexedFeed.{IndexedFed, feedIndexed}
-use Rattle.feeding_indexed.specs.Refusals.{earlyIndexedChecks}
+use Rattle.indexed_refusals.specs.Refusals.{earlyIndexedChecks}
 use Rattle.host_calls.specs.Calls.{committeeOf}
-use Rattle.host_lib.specs.Payload.{refusalBefore}
+use Rattle.host_locators.specs.Locators.{refusalBefore}
 
 -- what such a feed answers, and what it was lent afterwards
 pub record IndexedCall : Type 0 where

@@ -8,7 +8,7 @@ ghost use lib.ListN.{length};
 ghost use Rattle.base.specs.Checks.{_⇒_, refusal};
 ghost use Rattle.words.specs.Words.{wordsOf, bytesOf};
 ghost use Rattle.feeding.specs.Answers.{asFeedAnswer};
-ghost use Rattle.feeding_indexed.specs.Refusals.{earlyIndexedChecks};
+ghost use Rattle.indexed_refusals.specs.Refusals.{earlyIndexedChecks};
 ghost use Rattle.host_calls.specs.Calls.{encoded};
 ghost use Rattle.host_feed_indexed.specs.IndexedFeed.{fedWith, feedIndexedOf, feedIndexedCall};
 
@@ -52,7 +52,7 @@ fn feed_of(
     ensures { λ _. ⌜ now (events .exit) ≡ feedIndexedOf (now (stakes .entry)) (now (store .entry)) (now (table .entry)) (now (index .entry)) (now (events .entry)) (now (rec .entry)) .events ⌝ }
 {
     if table.len() != 49160 {
-        return FeedAnswer::Refused(host_lib::refusal_before(11, stakes, store));
+        return FeedAnswer::Refused(host_locators::refusal_before(11, stakes, store));
     }
     let mut words = [0u64; 6145];
     words::words_of(table, &mut words);
@@ -100,7 +100,7 @@ fn feed_words(
 fn no_events(stakes: &[u64], store: &[u8], table: &[u64], index: &[u64], rec: &[u8]) -> u64
     ensures { λ r. ⌜ r ≡ refusal (earlyIndexedChecks (now (stakes .entry)) (now (store .entry)) (now (table .entry)) (now (index .entry)) (now (rec .entry)) ++ ((true ⇒ 15) ∷ [])) ⌝ }
 {
-    let early = feeding_indexed::early_refusal(stakes, store, table, index, rec);
+    let early = indexed_refusals::early_refusal(stakes, store, table, index, rec);
     if early != 0 {
         return early;
     }

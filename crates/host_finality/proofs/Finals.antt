@@ -21,10 +21,10 @@ use Rattle.finalization_interpreter.specs.Answers.{asFinality}
 use Rattle.finalization_interpreter.specs.declared.FinalityAnswer.{FinalityAnswer}
 use Rattle.finalization_interpreter.specs.declared.FinalityAnswer.the-variants.{Final, NotFinal, Refused}
 use Rattle.types.specs.Step.{locatorAt}
-use Rattle.host_lib.specs.Payload.{locatorOf, refusalBefore}
+use Rattle.host_locators.specs.Locators.{locatorOf, refusalBefore}
 use Rattle.host_finality.specs.Finality.{FinalityCall, finalityNumber, finalityOf, askedFinality, numbersFit}
 use Rattle.host_calls.proofs.Numbers.{checked-most}
-use Rattle.host_lib.proofs.Locators.{locator-none, locator-read}
+use Rattle.host_locators.proofs.Locators.{locator-none, locator-read}
 
 -- the numbers of the question are at most 41 (40 is its greatest)
 pub finality-most : (reading : Reading) (c : Committee) (s ps : List ℕ) (l : TransactionLocator) (n : ℕ) → finalityIn reading c s ps l .answer ≡ refused n → n ≤ 41

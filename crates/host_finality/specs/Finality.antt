@@ -15,7 +15,7 @@ use Rattle.readings.specs.Finality.{finalityIn}
 use Rattle.finalization_interpreter.specs.declared.FinalityAnswer.{FinalityAnswer}
 use Rattle.finalization_interpreter.specs.declared.FinalityAnswer.the-variants.{Final, NotFinal, Refused}
 use Rattle.host_calls.specs.Calls.{committeeOf}
-use Rattle.host_lib.specs.Payload.{locatorOf, refusalBefore}
+use Rattle.host_locators.specs.Locators.{locatorOf, refusalBefore}
 
 -- what the question answers, and the position bytes that it was lent afterwards
 pub record FinalityCall : Type 0 where

@@ -4,7 +4,7 @@ ghost use lib.ListN.{length};
 ghost use Rattle.finalization_interpreter.specs.Answers.{asFinality};
 ghost use Rattle.readings.specs.Readings.{readingOf};
 ghost use Rattle.host_calls.specs.Calls.{encoded};
-ghost use Rattle.host_lib.specs.Payload.{locatorOf};
+ghost use Rattle.host_locators.specs.Locators.{locatorOf};
 ghost use Rattle.host_finality.specs.Finality.{finalityNumber, askedFinality, finalityCall, numbersFit};
 ghost use Rattle.host_finality.specs.Claims.{Claims};
 use finalization_interpreter::FinalityAnswer;
@@ -48,10 +48,10 @@ fn finality_of(
     ensures bounded { λ r. ⌜ numbersFit r ⌝ }
 {
     if locator.len() != 56 {
-        return FinalityAnswer::Refused(host_lib::refusal_before(20, stakes, store));
+        return FinalityAnswer::Refused(host_locators::refusal_before(20, stakes, store));
     }
     if positions.len() != 8192 {
-        return FinalityAnswer::Refused(host_lib::refusal_before(40, stakes, store));
+        return FinalityAnswer::Refused(host_locators::refusal_before(40, stakes, store));
     }
     finality_words(stakes, store, positions, locator, withdrawing)
 }

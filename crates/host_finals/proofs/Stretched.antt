@@ -20,7 +20,7 @@ use Rattle.stretches.specs.Stretches.{Listing, lastLocator, stretchAt, fromFoun
 use Rattle.stretches.specs.Bulk.{Given, givenAfter, listStretches}
 use Rattle.final_list.specs.declared.StretchesAnswer.{StretchesAnswer}
 use Rattle.final_list.specs.declared.StretchesAnswer.the-variants.{Last, More, Refused}
-use Rattle.host_lib.specs.Payload.{refusalBefore}
+use Rattle.host_locators.specs.Locators.{refusalBefore}
 use Rattle.host_finals.specs.Stretches.{stretchesNumber, stretchesIn, askedStretches, countsFit}
 use Rattle.host_calls.proofs.Numbers.{checked-most}
 

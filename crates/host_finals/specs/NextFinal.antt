@@ -20,7 +20,7 @@ use Rattle.reading_lists.specs.Lists.{listing}
 use Rattle.host_finals.specs.declared.After.{After}
 use Rattle.host_finals.specs.declared.After.the-variants.{Place, Malformed}
 use Rattle.host_calls.specs.Calls.{committeeOf}
-use Rattle.host_lib.specs.Payload.{locatorOf, refusalBefore}
+use Rattle.host_locators.specs.Locators.{locatorOf, refusalBefore}
 
 unfoldable pub afterLocator : Option TransactionLocator → Option (Option TransactionLocator)
 afterLocator none = none

@@ -19,7 +19,7 @@ use Rattle.stored_finals.specs.Ordinary.{ordinary}
 use Rattle.readings.specs.Readings.{withdrawing}
 use Rattle.reading_lists.specs.Lists.{listing}
 use Rattle.host_calls.specs.Calls.{flag, committeeOf}
-use Rattle.host_lib.specs.Payload.{refusalBefore}
+use Rattle.host_locators.specs.Locators.{refusalBefore}
 use Rattle.host_finals.specs.NextFinal.{afterOf}
 
 -- what the question answers, and the bytes that it was lent for the stretches afterwards

@@ -50,10 +50,10 @@ pub fn next_final_of(
     ensures { λ r. ⌜ (r ≡ encoded (askedNextFinal (now (stakes .entry)) (now (store .entry)) (listing ordinary (readingOf withdrawing) (now (stakes .entry)) (blocksOf (now (store .entry)))) (afterOf (now (after .entry))) (now (found .entry)) .answer)) × (now (found .exit) ≡ askedNextFinal (now (stakes .entry)) (now (store .entry)) (listing ordinary (readingOf withdrawing) (now (stakes .entry)) (blocksOf (now (store .entry)))) (afterOf (now (after .entry))) (now (found .entry)) .found) ⌝ }
 {
     let After::Place(place) = after_of(after) else {
-        return REFUSED + host_lib::refusal_before(20, stakes, store);
+        return REFUSED + host_locators::refusal_before(20, stakes, store);
     };
     if found.len() != 56 {
-        return REFUSED + host_lib::refusal_before(40, stakes, store);
+        return REFUSED + host_locators::refusal_before(40, stakes, store);
     }
     match next_final::next_listed(stakes, store, ordinary, withdrawing, place) {
         NextFinalAnswer::Found(locator) => {
@@ -105,10 +105,10 @@ pub fn stretches_of(
     ensures { λ r. ⌜ (r ≡ encoded (askedStretches (now (stakes .entry)) (now (store .entry)) (listing ordinary (readingOf withdrawing) (now (stakes .entry)) (blocksOf (now (store .entry)))) (afterOf (now (after .entry))) (now (out .entry)) .answer)) × (now (out .exit) ≡ askedStretches (now (stakes .entry)) (now (store .entry)) (listing ordinary (readingOf withdrawing) (now (stakes .entry)) (blocksOf (now (store .entry)))) (afterOf (now (after .entry))) (now (out .entry)) .stretches) ⌝ }
 {
     let After::Place(place) = after_of(after) else {
-        return REFUSED + host_lib::refusal_before(20, stakes, store);
+        return REFUSED + host_locators::refusal_before(20, stakes, store);
     };
     if out.len() != 10240 {
-        return REFUSED + host_lib::refusal_before(40, stakes, store);
+        return REFUSED + host_locators::refusal_before(40, stakes, store);
     }
     match stretches_words(stakes, store, ordinary, withdrawing, place, out) {
         StretchesAnswer::Last(count) => 2 * count,

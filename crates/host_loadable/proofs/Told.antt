@@ -20,8 +20,8 @@ use Rattle.loadable_shares.specs.declared.LoadableList as all
 use Rattle.loadable_shares.specs.declared.LoadableList.the-variants.{Places, Refused as Denied}
 use Rattle.host_calls.specs.Calls.{flag, committeeOf, encoded}
 use Rattle.host_calls.proofs.Numbers.{checked-most}
-use Rattle.host_lib.specs.Payload.{locatorOf, asked}
-use Rattle.host_lib.proofs.Locators.{asked-most}
+use Rattle.host_locators.specs.Locators.{locatorOf, asked}
+use Rattle.host_locators.proofs.Locators.{asked-most}
 use Rattle.host_loadable.specs.Loading.{flagged, isLoadableCall, loadableCall}
 
 -- ---- yes or no

@@ -7,7 +7,7 @@ use Rattle.base.specs.Checks.{Answer, refused, answered}
 use Rattle.committee.specs.Committee.{Committee}
 use Rattle.loadable.specs.Question.{AskedList, loadableQuestion, loadableQuestions}
 use Rattle.host_calls.specs.Calls.{flag, committeeOf}
-use Rattle.host_lib.specs.Payload.{locatorOf, asked}
+use Rattle.host_locators.specs.Locators.{locatorOf, asked}
 
 -- yes as 1, no as 0
 unfoldable pub flagged : Answer Bool → Answer ℕ

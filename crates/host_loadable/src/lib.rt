@@ -5,7 +5,7 @@ ghost use mathlib.Core.Path.{_≡_};
 ghost use Rattle.loadable.specs.Question.{loadableQuestion};
 ghost use Rattle.loadable_share.specs.Answers.{asLoadable};
 ghost use Rattle.host_calls.specs.Calls.{encoded};
-ghost use Rattle.host_lib.specs.Payload.{locatorOf, asked};
+ghost use Rattle.host_locators.specs.Locators.{locatorOf, asked};
 ghost use Rattle.host_loadable.specs.Loading.{isLoadableCall, loadableCall};
 
 const REFUSED: u64 = 9223372036854775808;
@@ -15,7 +15,7 @@ fn is_loadable_of(stakes: &[u64], store: &[u8], locator: &[u8]) -> LoadableAnswe
     ensures { λ r. ⌜ asLoadable r ≡ asked (now (stakes .entry)) (now (store .entry)) (loadableQuestion (now (stakes .entry)) (now (store .entry))) (locatorOf (now (locator .entry))) ⌝ }
 {
     if locator.len() != 56 {
-        return LoadableAnswer::Refused(host_lib::refusal_before(20, stakes, store));
+        return LoadableAnswer::Refused(host_locators::refusal_before(20, stakes, store));
     }
     loadable_share::is_loadable(stakes, store, types::read_locator(locator, 0))
 }

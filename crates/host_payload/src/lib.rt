@@ -2,7 +2,7 @@
 // 2^63 + n is refusal n (`encoded` in host_calls, specs/Calls).
 ghost use mathlib.Core.Path.{_≡_};
 ghost use Rattle.host_calls.specs.Calls.{encoded};
-ghost use Rattle.host_lib.specs.Payload.{payloadLengthCall, payloadStartCall};
+ghost use Rattle.payload_bytes.specs.Payload.{payloadLengthCall, payloadStartCall};
 use payload::PayloadLength;
 use payload::PayloadPlace;
 
@@ -14,7 +14,7 @@ pub fn payload_length(stakes: &[u8], store: &[u8], locator: &[u8]) -> u64
 {
     let mut held = [0u64; 128];
     let n = host_calls::stakes_of(stakes, &mut held);
-    match host_lib::payload_length(&held[..n], store, locator) {
+    match payload_bytes::payload_length(&held[..n], store, locator) {
         PayloadLength::Bytes(length) => length,
         PayloadLength::Refused(number) => REFUSED + number,
     }
@@ -26,7 +26,7 @@ pub fn payload_start(stakes: &[u8], store: &[u8], locator: &[u8]) -> u64
 {
     let mut held = [0u64; 128];
     let n = host_calls::stakes_of(stakes, &mut held);
-    match host_lib::payload_place(&held[..n], store, locator) {
+    match payload_bytes::payload_place(&held[..n], store, locator) {
         PayloadPlace::Stands(start, _) => start as u64,
         PayloadPlace::Refused(number) => REFUSED + number,
     }

@@ -2,7 +2,7 @@
 // 2^63 + n is refusal n (`encoded` in host_calls, specs/Calls).
 ghost use mathlib.Core.Path.{_≡_};
 ghost use Rattle.host_calls.specs.Calls.{encoded};
-ghost use Rattle.host_lib.specs.Pending.{pendingStakeCall, pendingVotersCall};
+ghost use Rattle.pending_bytes.specs.Pending.{pendingStakeCall, pendingVotersCall};
 use pending::PendingAnswer;
 
 const REFUSED: u64 = 9223372036854775808;
@@ -13,7 +13,7 @@ pub fn pending_stake(stakes: &[u8], store: &[u8], table: &[u8], locator: &[u8]) 
 {
     let mut held = [0u64; 128];
     let n = host_calls::stakes_of(stakes, &mut held);
-    match host_lib::pending_of(&held[..n], store, table, locator) {
+    match pending_bytes::pending_of(&held[..n], store, table, locator) {
         PendingAnswer::Standing(stake, _) => stake.0,
         PendingAnswer::Refused(number) => REFUSED + number,
     }
@@ -25,7 +25,7 @@ pub fn pending_voters(stakes: &[u8], store: &[u8], table: &[u8], locator: &[u8])
 {
     let mut held = [0u64; 128];
     let n = host_calls::stakes_of(stakes, &mut held);
-    match host_lib::pending_of(&held[..n], store, table, locator) {
+    match pending_bytes::pending_of(&held[..n], store, table, locator) {
         PendingAnswer::Standing(_, voters) => voters,
         PendingAnswer::Refused(number) => REFUSED + number,
     }

@@ -28,8 +28,8 @@ use Rattle.whom_to_ring.specs.WhomToRing.{ringFor, ringAt, whomToRing}
 use Rattle.whom_to_ring.proofs.Asked.{asked-refused, asked-at}
 use Rattle.host_calls.specs.Calls.{committeeOf}
 use Rattle.host_calls.proofs.Numbers.{refusal-most, checked-most}
-use Rattle.host_lib.specs.Payload.{locatorOf, refusalBefore}
-use Rattle.host_lib.proofs.Locators.{before-most}
+use Rattle.host_locators.specs.Locators.{locatorOf, refusalBefore}
+use Rattle.host_locators.proofs.Locators.{before-most}
 use Rattle.host_ring.specs.Ring.{ringIn, askedRing, ringTold, whomToRingCall}
 
 module _ (c : Committee) (s t : List ℕ) (r : AuthoritySet) where

@@ -16,7 +16,7 @@ use Rattle.words.specs.Words.{wordsOf, bytesOf}
 use Rattle.feeds.specs.Pending.{pendingChecks}
 use Rattle.whom_to_ring.specs.WhomToRing.{whomToRing}
 use Rattle.host_calls.specs.Calls.{committeeOf}
-use Rattle.host_lib.specs.Payload.{locatorOf, refusalBefore}
+use Rattle.host_locators.specs.Locators.{locatorOf, refusalBefore}
 
 -- bytes that are no locator are malformed, 20, and a slice of n bytes that are not three words is 40, both after 5, 10, 11 and before 42, 60
 unfoldable pub ringIn : Committee → Bytes → List ℕ → AuthoritySet → Option TransactionLocator → ℕ → Answer Ring

@@ -6,7 +6,7 @@ ghost use mathlib.Core.Path.{_≡_};
 ghost use lib.ListN.{length};
 ghost use Rattle.ring.specs.Answers.{asRing};
 ghost use Rattle.host_calls.specs.Calls.{encoded};
-ghost use Rattle.host_lib.specs.Payload.{locatorOf};
+ghost use Rattle.host_locators.specs.Locators.{locatorOf};
 ghost use Rattle.host_ring.specs.Ring.{ringIn, askedRing, whomToRingCall};
 
 const REFUSED: u64 = 9223372036854775808;
@@ -52,7 +52,7 @@ fn ring_of(
     ensures { λ r. ⌜ asRing r ≡ askedRing (now (stakes .entry)) (now (store .entry)) (now (table .entry)) reachable (locatorOf (now (locator .entry))) room ⌝ }
 {
     if table.len() != 49160 {
-        return RingAnswer::Refused(host_lib::refusal_before(11, stakes, store));
+        return RingAnswer::Refused(host_locators::refusal_before(11, stakes, store));
     }
     let mut words = [0u64; 6145];
     words::words_of(table, &mut words);

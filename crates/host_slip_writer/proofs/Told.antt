@@ -13,13 +13,13 @@ use Rattle.finality.specs.Finality.{blocksOf}
 use Rattle.readings.specs.Readings.{Reading}
 use Rattle.slips.specs.Slip.{slipBytes}
 use Rattle.slips.specs.Writing.{slipFor, writeChecks, writeSlip}
-use Rattle.slip_writer.specs.Answers.{asSlipAnswer}
-use Rattle.slip_writer.specs.declared.SlipAnswer.{SlipAnswer}
-use Rattle.slip_writer.specs.declared.SlipAnswer.the-variants.{Written as Length, Refused}
+use Rattle.slip_bytes.specs.Answers.{asSlipAnswer}
+use Rattle.slip_bytes.specs.declared.SlipAnswer.{SlipAnswer}
+use Rattle.slip_bytes.specs.declared.SlipAnswer.the-variants.{Written as Length, Refused}
 use Rattle.host_calls.specs.Calls.{committeeOf, encoded}
 use Rattle.host_calls.proofs.Numbers.{checked-most}
-use Rattle.host_lib.specs.Payload.{locatorOf, refusalBefore}
-use Rattle.host_lib.proofs.Locators.{before-most}
+use Rattle.host_locators.specs.Locators.{locatorOf, refusalBefore}
+use Rattle.host_locators.proofs.Locators.{before-most}
 use Rattle.host_slip_writer.specs.WriteSlip.{askedSlip, writeSlipCall}
 
 asked-most : (reading : Reading) (c : Committee) (s : Bytes) (o : Option TransactionLocator) (out : Bytes) (n : ℕ) → askedSlip reading c s o out .answer ≡ refused n → n ≤ 52

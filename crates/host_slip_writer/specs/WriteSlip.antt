@@ -7,7 +7,7 @@ use Rattle.blocks.specs.Reference.{TransactionLocator}
 use Rattle.readings.specs.Readings.{Reading}
 use Rattle.slips.specs.Writing.{Written, writeSlip}
 use Rattle.host_calls.specs.Calls.{committeeOf}
-use Rattle.host_lib.specs.Payload.{locatorOf, refusalBefore}
+use Rattle.host_locators.specs.Locators.{locatorOf, refusalBefore}
 
 -- bytes that are no locator are malformed, 20, after 5 and 10 and before 52, 50
 unfoldable pub askedSlip : Reading → Committee → Bytes → Option TransactionLocator → Bytes → Written

@@ -1,10 +1,10 @@
 // The writer of slips, for a host: stakes and locator as bytes.
-use slip_writer::SlipAnswer;
+use slip_bytes::SlipAnswer;
 ghost use mathlib.Core.Path.{_≡_};
 ghost use Rattle.readings.specs.Readings.{readingOf};
-ghost use Rattle.slip_writer.specs.Answers.{asSlipAnswer};
+ghost use Rattle.slip_bytes.specs.Answers.{asSlipAnswer};
 ghost use Rattle.host_calls.specs.Calls.{encoded};
-ghost use Rattle.host_lib.specs.Payload.{locatorOf};
+ghost use Rattle.host_locators.specs.Locators.{locatorOf};
 ghost use Rattle.host_slip_writer.specs.WriteSlip.{askedSlip, writeSlipCall};
 
 const REFUSED: u64 = 9223372036854775808;
@@ -21,7 +21,7 @@ fn write_slip_of(
     ensures { λ r. ⌜ now (out .exit) ≡ askedSlip (readingOf withdrawing) (now (stakes .entry)) (now (store .entry)) (locatorOf (now (locator .entry))) (now (out .entry)) .out ⌝ }
 {
     if locator.len() != 56 {
-        return SlipAnswer::Refused(host_lib::refusal_before(20, stakes, store));
+        return SlipAnswer::Refused(host_locators::refusal_before(20, stakes, store));
     }
     slip_writer::write_slip_in(
         stakes,

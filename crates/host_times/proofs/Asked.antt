@@ -19,7 +19,7 @@ use Rattle.types.specs.Step.{referenceAt}
 use Rattle.types.proofs.Fixed.{fixed-reference, reference-value}
 use Rattle.block_time.specs.Times.{timeChecks, askTime}
 use Rattle.host_calls.proofs.Numbers.{checked-most}
-use Rattle.host_lib.specs.Payload.{refusalBefore}
+use Rattle.host_locators.specs.Locators.{refusalBefore}
 use Rattle.host_times.specs.Times.{referenceOf, foundIn, askedTime}
 
 -- 48 bytes are a reference

@@ -12,7 +12,7 @@ use Rattle.blocks.specs.Reference.{BlockReference}
 use Rattle.blocks.specs.Record.{readReference}
 use Rattle.block_time.specs.Times.{askTime}
 use Rattle.host_calls.specs.Calls.{committeeOf}
-use Rattle.host_lib.specs.Payload.{refusalBefore}
+use Rattle.host_locators.specs.Locators.{refusalBefore}
 
 -- a reference is the 48 bytes that it has in a record; bytes of another length are none
 unfoldable pub referenceOf : Bytes → Option BlockReference

@@ -10,10 +10,10 @@ fn time_of(stakes: &[u64], store: &[u8], reference: &[u8], found: &mut [u8]) -> 
     ensures { λ r. ⌜ (r ≡ encoded (askedTime (now (stakes .entry)) (now (store .entry)) (referenceOf (now (reference .entry))) (now (found .entry)) .answer)) × (now (found .exit) ≡ askedTime (now (stakes .entry)) (now (store .entry)) (referenceOf (now (reference .entry))) (now (found .entry)) .found) ⌝ }
 {
     if reference.len() != 48 {
-        return REFUSED + host_lib::refusal_before(20, stakes, store);
+        return REFUSED + host_locators::refusal_before(20, stakes, store);
     }
     if found.len() != 8 {
-        return REFUSED + host_lib::refusal_before(40, stakes, store);
+        return REFUSED + host_locators::refusal_before(40, stakes, store);
     }
     match block_time::creation_time(stakes, store, types::read_reference(reference, 0)) {
         TimeAnswer::Found(time) => {

@@ -13,7 +13,7 @@ use Rattle.store_layout.proofs.Claimed.{fresh-in-order}
 use Rattle.pending_items.specs.Table.{HoldsItems}
 use Rattle.feeds.specs.Feed.{feed, lentOf}
 use Rattle.feeds.proofs.Keeping.{State, feed-keeps, fresh-table}
-use Rattle.aggregator.proofs.Votes.{order-holds}
+use Rattle.counted_vote.proofs.Votes.{order-holds}
 use Rattle.promises.specs.Feeds.{Feed, Engine, fresh, outcome, left, run}
 use Rattle.listing_feeds.specs.Feeds.{engine, FedFrom, start}
 

@@ -1,5 +1,5 @@
 // The places of the list of loadable shares: what is written, read back, and looked up by halving.
-use loadable_share::Needed;
+use needed_change::Needed;
 use types::Ordering;
 use types::TransactionLocator;
 ghost use mathlib.Core.Path.{_≡_};
@@ -14,7 +14,7 @@ ghost use Rattle.types.specs.Values.{asLocator};
 ghost use Rattle.store_layout.specs.Entry.{isEntry};
 ghost use Rattle.loadable.specs.Loadable.{met};
 ghost use Rattle.loadable.specs.Question.{namedBy};
-ghost use Rattle.loadable_share.specs.Answers.{asNeeded};
+ghost use Rattle.needed_change.specs.Answers.{asNeeded};
 ghost use Rattle.loadable_places.specs.Listed.{placeAt, Listed, metBy};
 
 // The share that a place names.
@@ -83,7 +83,7 @@ pub fn list_share(
     ensures { λ r. ⌜ r ≡ pick (metBy (now (store .entry)) n (now (places .entry)) (asLocator share) (now (bytes .entry))) (n + 1) n ⌝ }
     ensures { λ r. ⌜ now (places .exit) ≡ pick (metBy (now (store .entry)) n (now (places .entry)) (asLocator share) (now (bytes .entry))) (sets (now (places .entry)) (2 * n) (at ∷ share .offset ∷ [])) (now (places .entry)) ⌝ }
 {
-    let needed = loadable_share::needed_by(bytes);
+    let needed = needed_change::needed_by(bytes);
     if !is_met(store, places, n, share, needed) {
         return n;
     }

@@ -1,7 +1,6 @@
 -- What the code's enums say. Assumes nothing: these are definitions.
 use mathlib.Core.Bool.{Bool, true, false}
 use mathlib.Core.List.{List}
-use mathlib.Core.Option.{Option, none, some}
 use lib.Dec.{ltb}
 use Rattle.base.specs.Checks.{Answer, refused, answered}
 use Rattle.committee.specs.Committee.{Committee}
@@ -9,8 +8,6 @@ use Rattle.blocks.specs.Reference.{TransactionLocator}
 use Rattle.blocks.specs.Block.{Block}
 use Rattle.types.specs.Values.{asLocator}
 use Rattle.loadable.specs.Loadable.{isLoadable}
-use Rattle.loadable_share.specs.declared.Needed.{Needed}
-use Rattle.loadable_share.specs.declared.Needed.the-variants.{Nothing, Change}
 use Rattle.loadable_share.specs.declared.Sight.{Sight}
 use Rattle.loadable_share.specs.declared.Sight.the-variants.{No, Yes, Needs}
 use Rattle.loadable_share.specs.declared.LoadableAnswer.{LoadableAnswer}
@@ -22,13 +19,7 @@ asLoadable Loadable = answered true
 asLoadable NotLoadable = answered false
 asLoadable (Refused n) = refused n
 
--- the change that is needed, if any
-unfoldable pub asNeeded : Needed → Option TransactionLocator
-asNeeded Nothing = none
-asNeeded (Change l) = some (asLocator l)
-
 -- ---- machinery for the contracts of private functions
-
 -- what a look says of a share: it is loadable or not, or as another is
 unfoldable pub seenBy : Committee → List Block → Sight → Bool
 seenBy c bs No = false

@@ -1,6 +1,7 @@
 // Whether a stored share is loadable, walking down the changes that are needed.
 use committee::NewCommittee;
 use committee::Stake;
+use needed_change::Needed;
 use payload::SharePlace;
 use types::TransactionLocator;
 ghost use mathlib.Core.Path.{_≡_};
@@ -12,16 +13,9 @@ ghost use Rattle.types.specs.Values.{asLocator};
 ghost use Rattle.finality.specs.Voters.{isFinal};
 ghost use Rattle.finality.specs.Finality.{blocksOf};
 ghost use Rattle.block_votes.specs.Walk.{Sorted};
-ghost use Rattle.loadable.specs.Needs.{neededBy};
 ghost use Rattle.loadable.specs.Loadable.{isLoadable};
 ghost use Rattle.loadable.specs.Question.{loadableQuestion};
-ghost use Rattle.loadable_share.specs.Answers.{asNeeded, seenBy, falls, asLoadable};
-
-// What a payload needs.
-pub enum Needed {
-    Nothing,
-    Change(TransactionLocator),
-}
+ghost use Rattle.loadable_share.specs.Answers.{seenBy, falls, asLoadable};
 
 // What one look at a share says: whether it is loadable, or the change of a lower round of which that depends.
 enum Sight {
@@ -37,19 +31,6 @@ pub enum LoadableAnswer {
     Refused(u64),
 }
 
-// What a payload needs: the locator after a first byte of 1; nothing by fewer than 57 bytes or another first byte.
-pub fn needed_by(bytes: &[u8]) -> Needed
-    ensures { λ r. ⌜ asNeeded r ≡ neededBy (now (bytes .entry)) ⌝ }
-{
-    if bytes.len() < 57 {
-        return Needed::Nothing;
-    }
-    if bytes[0] != 1 {
-        return Needed::Nothing;
-    }
-    Needed::Change(types::read_locator(bytes, 1))
-}
-
 // Whether a locator is final.
 fn is_final(
     stakes: &[u64],
@@ -62,7 +43,7 @@ fn is_final(
     ensures { λ r. ⌜ r ≡ isFinal (now (stakes .entry)) (blocksOf (now (store .entry))) (asLocator locator) ⌝ }
 {
     let mut positions = [0u64; 1024];
-    let found = finalization_interpreter::certifying_blocks(
+    let found = certifying_blocks::certifying_blocks(
         stakes,
         total,
         store,
@@ -92,7 +73,7 @@ fn look(
         return Sight::No;
     }
     let end = start + len;
-    let needed = needed_by(&store[start..end]);
+    let needed = needed_change::needed_by(&store[start..end]);
     let Needed::Change(change) = needed else {
         return Sight::Yes;
     };

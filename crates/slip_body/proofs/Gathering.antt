@@ -23,7 +23,7 @@ use Rattle.types.specs.Step.{referenceAt, locatorAt}
 use Rattle.slips.specs.Slip.{SlipCertifier, Slip, certifiersAscend, readCertifier, readSlip}
 use Rattle.slips.specs.Supplied.{suppliedBlocks}
 use Rattle.slips.specs.Reading.{missing, slipHolds}
-use Rattle.slip_paths.specs.Verdict.{verdict, worse}
+use Rattle.slip_verdicts.specs.Verdict.{verdict, worse}
 use Rattle.slip_voters.specs.Step.{Speak}
 use Rattle.slip_voters.proofs.Listed.{Listed, listed-start, listed-done, listed-none, listed-falls, listed-on}
 use Rattle.slip_voters.proofs.Taking.{not-first, speak-none, speak-more}

@@ -13,12 +13,12 @@ use Rattle.readings.specs.Readings.{Reading}
 use Rattle.slips.specs.Slip.{SlipCertifier, Slip}
 use Rattle.slips.specs.Paths.{named}
 use Rattle.slips.specs.Reading.{missingFrom, missing, certifierHolds, slipHolds}
-use Rattle.slip_paths.specs.Verdict.{verdict, worse}
-use Rattle.slip_paths.proofs.Verdicts.{worse-both}
+use Rattle.slip_verdicts.specs.Verdict.{verdict, worse}
+use Rattle.slip_verdicts.proofs.Verdicts.{worse-both}
 use Rattle.slip_voters.proofs.Taking.{or-none, and-none}
+use Rattle.base.proofs.Lists.{any-append}
 use Rattle.slip_certifier.specs.Verdict.{certifierVerdict}
 use Rattle.slip_certifier.proofs.Joining.{join-found, join-quorum}
-use Rattle.base.proofs.Lists.{any-append}
 use Rattle.slip_body.specs.Step.{certifiersVerdict}
 
 -- ---- all certifiers

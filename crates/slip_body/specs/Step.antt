@@ -19,7 +19,7 @@ use Rattle.slips.specs.Slip.{SlipCertifier, Slip, certifiersAscend, readCertifi
 use Rattle.slips.specs.Supplied.{suppliedBlocks}
 use Rattle.slips.specs.Paths.{named}
 use Rattle.slips.specs.Reading.{missingFrom, missing, certifierHolds, slipHolds}
-use Rattle.slip_paths.specs.Verdict.{verdict}
+use Rattle.slip_verdicts.specs.Verdict.{verdict}
 use Rattle.slip_certifier.specs.Step.{Known}
 use Rattle.slip_voters.specs.Step.{Speak}
 use Rattle.slip_body.specs.declared.TakenCertifiers.{TakenCertifiers}

@@ -83,7 +83,7 @@ fn take_certifiers(
         }
         let author = base::read_u64(slip, at);
         authors = slip_voters::with_author(authors, author);
-        shown = slip_paths::worse(shown, own);
+        shown = slip_verdicts::worse(shown, own);
         last = at;
         at = end;
         i = i + 1;

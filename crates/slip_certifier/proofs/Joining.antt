@@ -19,8 +19,8 @@ use Rattle.slips.specs.Ancestry.{lacksAncestor, hasRejected}
 use Rattle.slips.specs.Slip.{SlipVoter}
 use Rattle.slips.specs.Paths.{onFrom, leads}
 use Rattle.slips.specs.Reading.{isNotGiven, missingFrom, endsAtVote, certifierHolds}
-use Rattle.slip_paths.specs.Verdict.{verdict, worse}
-use Rattle.slip_paths.proofs.Verdicts.{worse-both}
+use Rattle.slip_verdicts.specs.Verdict.{verdict, worse}
+use Rattle.slip_verdicts.proofs.Verdicts.{worse-both}
 use Rattle.slip_voters.specs.Step.{Speak, votersVerdict}
 use Rattle.slip_certifier.specs.Verdict.{ownVerdict, standingVerdict, certifierVerdict}
 

@@ -17,7 +17,7 @@ use Rattle.slips.specs.Supplied.{suppliedBlocks}
 use Rattle.slips.specs.Paths.{named, toBlock, onFrom}
 use Rattle.slip_records.specs.Places.{Places}
 use Rattle.slip_paths.specs.declared.Led as code
-use Rattle.slip_paths.specs.Verdict.{worse}
+use Rattle.slip_verdicts.specs.Verdict.{worse}
 use Rattle.slip_paths.specs.Walk.{LedTo}
 use Rattle.slip_ancestry.specs.Lacking.{Right}
 use Rattle.slip_voters.specs.Step as voters

@@ -23,7 +23,7 @@ use Rattle.slips.specs.Supplied.{suppliedBlocks}
 use Rattle.slips.specs.Ancestry.{lacksAncestor, hasRejected}
 use Rattle.slips.proofs.Ancestry.{found-rejecter}
 use Rattle.slip_records.specs.Places.{blockAtPlace, Places}
-use Rattle.slip_paths.specs.Verdict.{verdict}
+use Rattle.slip_verdicts.specs.Verdict.{verdict}
 use Rattle.slip_voters.specs.Step.{Speak}
 use Rattle.slip_ancestry.specs.Lacking.{Right, LackingIn}
 use Rattle.slip_ancestry.proofs.Places.{right-falls, right-small}

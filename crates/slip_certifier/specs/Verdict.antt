@@ -11,7 +11,7 @@ use Rattle.readings.specs.Readings.{Reading}
 use Rattle.slips.specs.Slip.{SlipVoter}
 use Rattle.slips.specs.Ancestry.{lacksAncestor, hasRejected}
 use Rattle.slips.specs.Reading.{missingFrom, certifierHolds}
-use Rattle.slip_paths.specs.Verdict.{verdict}
+use Rattle.slip_verdicts.specs.Verdict.{verdict}
 
 -- by itself: it is given, and unmarked
 unfoldable pub ownVerdict : Option Block → ℕ

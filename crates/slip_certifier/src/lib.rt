@@ -102,9 +102,9 @@ pub fn take_certifier(
     ) else {
         return TakenCertifier::Malformed;
     };
-    let given = slip_paths::worse(own_verdict(records, order, certifier), shown);
+    let given = slip_verdicts::worse(own_verdict(records, order, certifier), shown);
     let standing = standing_verdict(lacking, rejecting, certifier, voters);
-    let shows = slip_paths::worse(given, standing);
+    let shows = slip_verdicts::worse(given, standing);
     if shows != 0 {
         return TakenCertifier::Certifier(end, shows);
     }

@@ -20,7 +20,8 @@ use Rattle.slip_distances.specs.Near.{Distances}
 use Rattle.slip_routes.specs.Reached.{votersAt, Reached, votersSize}
 use Rattle.slip_routes.proofs.Listing.{count-next, count-end, lengths, voters-length}
 use Rattle.finality.proofs.Fits.{block-fits}
-use Rattle.slip_certifiers.specs.Table.{placeIn, votersIn, Ready, certifierBytesAt, certifiersBytes, certifierSize, certifiersSize}
+use Rattle.slip_table.specs.Table.{placeIn, votersIn}
+use Rattle.slip_certifiers.specs.Ready.{Ready, certifierBytesAt, certifiersBytes, certifierSize, certifiersSize}
 
 pub few-voters : (v : AuthoritySet) → numberOfVoters v ≤ 128
 unfolding numberOfVoters members

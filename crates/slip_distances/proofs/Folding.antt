@@ -14,7 +14,8 @@ use Rattle.base.proofs.Members.{in-any, map-in}
 use Rattle.slips.specs.Paths.{lesserDistance, leastDistance, isAway, firstPlace}
 use Rattle.slips.proofs.Distances.{least-found}
 use Rattle.slips.proofs.Coding.{least-more, place-stays, place-new}
-use Rattle.slip_distances.specs.Near.{word, isNearer}
+use Rattle.slip_distances.specs.Near.{word}
+use Rattle.distance_rows.specs.Rows.{isNearer}
 
 -- ---- the tests of the words
 

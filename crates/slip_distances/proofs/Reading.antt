@@ -32,8 +32,9 @@ use Rattle.slips.specs.Reading.{votesAs}
 use Rattle.slips.proofs.Distances.{distance-step}
 use Rattle.slips.proofs.Fitting.{distance-below}
 use Rattle.finality.proofs.Fits.{block-fits}
-use Rattle.slip_distances.specs.Near.{away, word, Beside, Row, Folded, Distances}
-use Rattle.slip_distances.proofs.Rows.{beside-start, beside-more}
+use Rattle.slip_distances.specs.Near.{away, word, Distances}
+use Rattle.distance_rows.specs.Rows.{Beside, Row, Folded}
+use Rattle.distance_rows.proofs.Rows.{beside-start, beside-more}
 use Rattle.slip_distances.proofs.Folding.{nearer-word, least-next, first-next}
 
 -- the author of a block that votes is in the set of its own vote

@@ -1,46 +1,14 @@
 // How many includes each stored block is away from the nearest vote of each author, and by which include the nearest is reached first.
 use types::TransactionLocator;
 ghost use mathlib.Core.Path.{_≡_};
-ghost use Prim.Native.Nat.{ℕ, _+_, _*_, _≤_, _<_};
-ghost use lib.ListN.{length, getD, set};
+ghost use Prim.Native.Nat.{_+_, _*_, _≤_, _<_};
+ghost use lib.ListN.{length, set};
 ghost use Rattle.base.specs.Lists.{pick};
 ghost use Rattle.blocks.specs.Block.{author};
 ghost use Rattle.types.specs.Values.{asLocator};
 ghost use Rattle.finality.specs.Voters.{votesFor};
 ghost use Rattle.block_votes.specs.Walk.{SortedStore, blockAtPlace};
-ghost use Rattle.slip_distances.specs.Near.{isNearer, Folded, Distances};
-
-// Whether an include brings a vote nearer. A word is 0 where there is no vote, else the distance and one.
-fn is_nearer(found: u16, held: u16) -> bool
-    ensures { λ r. ⌜ r ≡ isNearer found held ⌝ }
-{
-    if found == 0 {
-        return false;
-    }
-    if held == 0 {
-        return true;
-    }
-    found < held - 1
-}
-
-// Takes the include of index j, which stands at place i, into the row of the block at place k: of equally near ones the first stays.
-fn fold_include(near: &mut [u16], steps: &mut [u8], k: usize, i: usize, j: u8)
-    requires { ⌜ ((length (now near) ≡ 131072) × (length (now steps) ≡ 131072)) × (((i < k) × (k < 1024)) × ((a : ℕ) → a < 128 → getD (now near) (128 * i + a) 0 < 65535)) ⌝ }
-    ensures { λ _. ⌜ Folded (now (near .entry)) (now (steps .entry)) k i j (now (near .exit)) (now (steps .exit)) 128 ⌝ }
-{
-    let mut a: usize = 0;
-    while a < 128 {
-        let found = near[128 * i + a];
-        let at = 128 * k + a;
-        let held = near[at];
-        a += 1;
-        if !is_nearer(found, held) {
-            continue;
-        }
-        near[at] = found + 1;
-        steps[at] = j;
-    }
-}
+ghost use Rattle.slip_distances.specs.Near.{Distances};
 
 // The author of the block at place k is no include away from its vote, if the block votes.
 fn note_own(store: &[u8], order: &[u64], locator: TransactionLocator, k: usize, near: &mut [u16])
@@ -73,7 +41,7 @@ fn read_block(
     let mut j: usize = 0;
     while j < count {
         let i = block_votes::place_of(store, order, block_votes::include_at(store, at, j));
-        fold_include(near, steps, k, i, j as u8);
+        distance_rows::fold_include(near, steps, k, i, j as u8);
         j += 1;
     }
     note_own(store, order, locator, k, near);

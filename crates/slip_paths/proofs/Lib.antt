@@ -1,4 +1,3 @@
 pub mod Found
 pub mod Walks
 pub mod Noting
-pub mod Verdicts

@@ -1,22 +1,17 @@
 -- Votes noted place by place. Assumes nothing.
-use mathlib.Core.Path.{_≡_, refl, _∙_}
+use mathlib.Core.Path.{_≡_, _∙_}
 use mathlib.Core.Bool.{Bool, true, false}
 use mathlib.Core.List.{List}
 use mir.Val.{boolByte}
 use Prim.Native.Nat.{ℕ, _+_, _<_}
 use native.Mathlib.Omega.{arith}
 use native.Mathlib.Decide.{ℕ-discrete}
-use lib.Dec.{eqb}
 use lib.ListN.{length, getD, set}
 use lib.Seq.{getD-set-same, getD-set-other}
-use borrow.Author.Tests.{eq-eqb, ne-eqb}
 use Rattle.base.specs.Lists.{pick}
 use Rattle.base.specs.Le.{Bytes}
-use Rattle.committee.specs.Committee.{AuthorityIndex}
 use Rattle.blocks.specs.Reference.{TransactionLocator}
-use Rattle.blocks.specs.Block.{Block, author}
 use Rattle.finality.specs.Voters.{votesFor}
-use Rattle.slips.specs.Reading.{votesAs}
 use Rattle.slip_records.specs.Places.{blockAtPlace}
 use Rattle.slip_paths.specs.Walk.{Noted}
 
@@ -35,17 +30,3 @@ module _ (q : Bytes) (order : List ℕ) (l : TransactionLocator) where
 pub byte-of : (t u : Bool) → t ≡ u → boolByte t ≡ pick u 1 0
 byte-of true u e = rw (← e)
 byte-of false u e = rw (← e)
-
--- what is noted, with the author
-pub vote-noted : (q : Bytes) (order votes : List ℕ) (l : TransactionLocator) (n j : ℕ) (a : AuthorityIndex) → Noted q order l n votes → j < n → author (blockAtPlace q order j) ≡ a
-    → eqb (getD votes j 0) 1 ≡ votesAs l a (blockAtPlace q order j)
-unfolding votesAs
-vote-noted q order votes l n j a k h e = rw (k .at j h, eq-eqb _ _ e) (go (votesFor (blockAtPlace q order j) l))
-  where
-    go : (t : Bool) → eqb (pick t 1 0) 1 ≡ t
-    go true = refl
-    go false = refl
-
-pub other-author : (l : TransactionLocator) (a : AuthorityIndex) (b : Block) → (author b ≡ a → ⊥) → false ≡ votesAs l a b
-unfolding votesAs
-other-author l a b f = rw (ne-eqb (author b) a f)

@@ -3,11 +3,10 @@ use mathlib.Core.Path.{_≡_, refl, sym, _∙_}
 use mathlib.Core.Bool.{Bool, true, false, not, _&&_}
 use mathlib.Core.List.{List}
 use mathlib.Core.Option.{none, some}
-use Prim.Native.Nat.{ℕ, _≤_, _<_}
+use Prim.Native.Nat.{ℕ, _≤_}
 use native.Mathlib.Omega.{arith}
-use native.Mathlib.Decide.{decLt}
 use lib.Dec.{eqb}
-use lib.ListN.{length, getD, replicate, length-replicate, getD-replicate, List·getD-eq-default}
+use lib.ListN.{length, getD}
 use borrow.Author.Tests.{not-true, le-leb}
 use Rattle.base.specs.Lists.{pick, isNone, allOf}
 use Rattle.base.specs.Le.{Bytes}
@@ -21,7 +20,7 @@ use Rattle.slips.specs.Slip.{Slip, namesReading, readSlip, slipIn}
 use Rattle.slips.specs.Supplied.{suppliedRecords, suppliedBlocks, rightBlocks}
 use Rattle.slips.specs.Reading.{missing, slipHolds, readChecks, readAnswer}
 use Rattle.slip_records.specs.Places.{rightRecords}
-use Rattle.slip_paths.specs.Verdict.{verdict}
+use Rattle.slip_verdicts.specs.Verdict.{verdict}
 use Rattle.slip_paths.specs.Walk.{Noted}
 use Rattle.slip_ancestry.specs.Lacking.{Right, LackingIn}
 use Rattle.slip_rejecters.specs.Rejecting.{RejectingIn}

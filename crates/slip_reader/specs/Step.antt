@@ -8,7 +8,7 @@ use Rattle.committee.specs.Committee.{Committee}
 use Rattle.slips.specs.Slip.{Slip, readSlip}
 use Rattle.slips.specs.Supplied.{suppliedBlocks}
 use Rattle.slips.specs.Reading.{missing, slipHolds}
-use Rattle.slip_paths.specs.Verdict.{verdict}
+use Rattle.slip_verdicts.specs.Verdict.{verdict}
 use Rattle.slip_body.specs.declared.TakenSlip.{TakenSlip}
 use Rattle.slip_body.specs.declared.TakenSlip.the-variants.{Shows, Malformed}
 

@@ -28,9 +28,9 @@ use Rattle.slips.specs.Supplied.{suppliedBlocks}
 use Rattle.slips.specs.Paths.{toBlock, onFrom, leads}
 use Rattle.slips.specs.Reading.{isNotGiven, endsAtVote}
 use Rattle.slip_paths.specs.declared.Led as code
-use Rattle.slip_paths.specs.Verdict.{verdict, worse, voterVerdict}
+use Rattle.slip_verdicts.specs.Verdict.{verdict, worse, voterVerdict}
 use Rattle.slip_paths.specs.Walk.{Noted, LedTo}
-use Rattle.slip_paths.proofs.Verdicts.{worse-both}
+use Rattle.slip_verdicts.proofs.Verdicts.{worse-both}
 use Rattle.base.proofs.Lists.{any-append}
 use Rattle.slip_voters.specs.Step.{voterAt, Speak, votersVerdict, Read}
 use Rattle.slip_voters.proofs.Listed.{Listed, listed-start, listed-done, listed-none, listed-falls, listed-on}

@@ -17,7 +17,7 @@ use Rattle.slips.specs.Slip.{SlipVoter, votersAscend, readVoter}
 use Rattle.slips.specs.Supplied.{suppliedBlocks}
 use Rattle.slips.specs.Paths.{toBlock, onFrom, leads}
 use Rattle.slips.specs.Reading.{isNotGiven, endsAtVote}
-use Rattle.slip_paths.specs.Verdict.{verdict}
+use Rattle.slip_verdicts.specs.Verdict.{verdict}
 use Rattle.slip_paths.specs.Walk.{Noted, LedTo}
 use Rattle.slip_paths.specs.declared.Led as code
 use Rattle.slip_voters.specs.declared.TakenVoter.{TakenVoter}

@@ -89,7 +89,7 @@ pub fn take_voters(
             return TakenVoters::Malformed;
         }
         let path = at + 10;
-        let own = slip_paths::voter_verdict(
+        let own = slip_verdicts::voter_verdict(
             records,
             order,
             votes,
@@ -98,7 +98,7 @@ pub fn take_voters(
             &slip[path..end],
         );
         authors = with_author(authors, author);
-        shown = slip_paths::worse(shown, own);
+        shown = slip_verdicts::worse(shown, own);
         last = author;
         at = end;
         i = i + 1;

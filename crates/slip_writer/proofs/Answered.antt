@@ -22,11 +22,11 @@ use Rattle.finality.specs.Finality.{blocksOf}
 use Rattle.readings.specs.Readings.{Reading, certifiesIn, isFinalIn}
 use Rattle.readings.specs.Finality.{certifyingPositionsIn}
 use Rattle.block_votes.specs.Walk.{Sorted}
-use Rattle.finalization_interpreter.proofs.Certifying.{certifying-all}
+use Rattle.certifying_blocks.proofs.Certifying.{certifying-all}
 use Rattle.slips.specs.Slip.{Slip, slipBytes}
 use Rattle.slips.specs.Writing.{certifierOf, slipFor, writeChecks, writeSlip}
 use Rattle.slips.proofs.Coding.{certifiers-at}
-use Rattle.slip_writer.specs.Listed.{slipAt, writtenOver}
+use Rattle.slip_bytes.specs.Listed.{slipAt, writtenOver}
 
 module _ (reading : Reading) (c : Committee) (s out : Bytes) (l : TransactionLocator) where
   pub slip-broken : broken c ≡ true → record { answer = refused 5; out = out } ≡ writeSlip reading c s out l

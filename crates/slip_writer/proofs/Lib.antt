@@ -1,3 +1,1 @@
-pub mod Over
-pub mod Same
 pub mod Answered

@@ -1,7 +1,6 @@
-use mathlib.Core.Path.{_≡_, refl, sym, ap, _∙_}
+use mathlib.Core.Path.{_≡_, refl, ap, _∙_}
 use Prim.Native.Nat.{_+_, _-_, _≤_, _<_}
 use native.Mathlib.Omega.{arith}
-use borrow.Author.Needs.{needs}
 use borrow.Author.Tests.{not-true, not-false}
 use lib.ListN.{length}
 use Rattle.blocks.specs.Block.{Statement, votedRange, countedOffsets, eventRoom}
@@ -9,9 +8,9 @@ use Rattle.blocks.specs.Record.{blockIn}
 use Rattle.statement_cursor.specs.Cursor.{cursorAt}
 use Rattle.statement_reader.specs.Values.{asStatement}
 use Rattle.shared_ranges.proofs.Walk.{placed-index, placed, checks-any, passes-at, offsetsCounted, counted-on}
-use Rattle.events.specs.Step.{withNew}
+use Rattle.missed_events.specs.Kinds.{withNew}
 use Rattle.aggregator.proofs.Counting.{Counting, counting-start, counting-long, counting-order, counting-on, counting-stop, counting-end}
-use Rattle.events.proofs.Telling.{stated-long}
+use Rattle.events.proofs.Announced.{stated-long}
 use Rattle.aggregator.proofs.count_votes.Statement.{statement}
 use Rattle.aggregator.proofs.count_votes.Tie as tie
 

@@ -1,4 +1,4 @@
-use mathlib.Core.Path.{_≡_, refl, sym, ap, _∙_}
+use mathlib.Core.Path.{refl, sym, ap, _∙_}
 use native.Mathlib.Omega.{arith}
 use borrow.Author.Tests.{not-true, not-false}
 use Rattle.base.proofs.Tests.{not-both}
@@ -8,7 +8,7 @@ use Rattle.store_layout.specs.Store.{usedLength}
 use Rattle.store_layout.proofs.Accepted.{known-author}
 use Rattle.store_layout.proofs.Check.{is-readable}
 use Rattle.pending.proofs.Lending.{laid-readable}
-use Rattle.aggregator.proofs.Votes.{order-holds}
+use Rattle.counted_vote.proofs.Votes.{order-holds}
 use Rattle.record_checks.proofs.Process.{statements-pass}
 use Rattle.aggregator.proofs.Process.{added-orderly, process-stop, process-voting, process-done}
 use borrow.Author.Needs.{needs}

@@ -1,10 +1,9 @@
 use Prim.Native.Nat.{_-_}
 use native.Mathlib.Omega.{arith}
-use borrow.Author.Needs.{needs}
 use Rattle.types.specs.Values.{asReference}
 use Rattle.pending_items.specs.Table.{itemsOf}
-use Rattle.events.specs.Step.{withNew}
-use Rattle.events.proofs.Telling.{Announcing, announcing-start, announcing-on, announcing-end, stated-long}
+use Rattle.missed_events.specs.Kinds.{withNew}
+use Rattle.events.proofs.Announced.{Announcing, announcing-start, announcing-on, announcing-end, stated-long}
 use Rattle.events.proofs.announce.Statement.{statement}
 use Rattle.events.proofs.announce.Tie as tie
 

@@ -1,10 +1,10 @@
-use mathlib.Core.Path.{_≡_, sym, ap, _∙_}
+use mathlib.Core.Path.{sym, ap, _∙_}
 use mathlib.Core.Option.{some}
 use borrow.Author.Tests.{not-true, not-false}
 use Rattle.table_words.specs.Answers.{asItem}
 use Rattle.table_words.proofs.Halves.{holds-ordered}
 use Rattle.pending.proofs.Lending.{index-found, at-none, at-some}
-use Rattle.events.proofs.Telling.{between-missed, between-processed, between-silent, stated-none, stated-by}
+use Rattle.events.proofs.Announced.{between-missed, between-processed, between-silent, stated-none, stated-by}
 use borrow.Author.Needs.{needs}
 use Rattle.events.proofs.stretch_events.Statement.{statement}
 use Rattle.events.proofs.stretch_events.Tie as tie

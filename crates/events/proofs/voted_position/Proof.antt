@@ -1,11 +1,11 @@
-use mathlib.Core.Path.{_≡_, sym, ap, _∙_}
+use mathlib.Core.Path.{sym, ap, _∙_}
 use native.Mathlib.Omega.{arith}
 use Rattle.blocks.specs.Reference.{BlockReference}
 use Rattle.types.specs.Values.{asReference, referenceOrder}
 use Rattle.store_layout.specs.Store.{usedLength}
 use Rattle.store_layout.proofs.Check.{is-readable}
 use Rattle.pending.proofs.Lending.{laid-readable}
-use Rattle.events.proofs.Missing.{position-own, position-less, position-greater}
+use Rattle.missed_events.proofs.Missing.{position-own, position-less, position-greater}
 use borrow.Author.Needs.{needs}
 use Rattle.events.proofs.voted_position.Statement.{statement}
 use Rattle.events.proofs.voted_position.Tie as tie

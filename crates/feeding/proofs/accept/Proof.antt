@@ -2,7 +2,7 @@ use Rattle.blocks.specs.Record.{blockIn}
 use Rattle.store_layout.specs.Store.{recordsOf, recordIn}
 use Rattle.store_layout.proofs.Accepted.{accepted-new}
 use Rattle.feeds.specs.Feed.{processed}
-use Rattle.feeding.proofs.Order.{accepted-as}
+use Rattle.feeding.proofs.Giving.{accepted-as}
 use borrow.Author.Needs.{needs}
 use Rattle.feeding.proofs.accept.Statement.{statement}
 use Rattle.feeding.proofs.accept.Tie as tie

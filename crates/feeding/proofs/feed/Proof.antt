@@ -1,8 +1,9 @@
-use mathlib.Core.Path.{_≡_, sym, _∙_}
+use mathlib.Core.Path.{sym, _∙_}
 use Rattle.store_layout.specs.Layout.{readRecord}
 use Rattle.feeds.specs.Feed.{Lent, lentOf}
 use Rattle.feeding.specs.Answers.{asFeedAnswer}
-use Rattle.feeding.proofs.Order.{feeds-lent, gives-refusal, gives-acceptance}
+use Rattle.feed_refusals.proofs.Order.{feeds-lent}
+use Rattle.feeding.proofs.Giving.{gives-refusal, gives-acceptance}
 use borrow.Author.Needs.{needs}
 use Rattle.feeding.proofs.feed.Statement.{statement}
 use Rattle.feeding.proofs.feed.Tie as tie

@@ -1,7 +1,7 @@
 use Rattle.final_search.proofs.Onward.{at-unshared, at-final, at-other}
 use Rattle.final_search.specs.Search.{asNext, FoundRight}
 use Rattle.final_walk.specs.Walk.{Certify}
-use Rattle.finalization_interpreter.proofs.Asking.{final-in-by}
+use Rattle.certifying_blocks.proofs.Finals.{final-in-by}
 use Rattle.finality.specs.Finality.{blocksOf}
 use Rattle.types.specs.Values.{asLocator}
 use Rattle.readings.specs.Readings.{readingOf}

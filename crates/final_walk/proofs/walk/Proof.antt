@@ -15,7 +15,7 @@ use Rattle.readings.specs.Finality.{certifyingPositionsIn}
 use Rattle.block_votes.specs.Walk.{blockAtPlace}
 use Rattle.block_votes.proofs.Sorting.{some-committee, place-entry, place-stored, place-author}
 use Rattle.voters.specs.Walk.{spokenAt}
-use Rattle.finalization_interpreter.proofs.Finding.{found, found-all, authors-all}
+use Rattle.certifying_blocks.proofs.Finding.{found, found-all, authors-all}
 use Rattle.include_places.specs.Places.{GatheredAt, setAt}
 use Rattle.include_places.proofs.Noting.{before-few}
 use Rattle.speakers.specs.Heard.{Owned, HeardBelow}

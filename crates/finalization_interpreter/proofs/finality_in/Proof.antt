@@ -14,7 +14,8 @@ use Rattle.finality.specs.Finality.{Asked}
 use Rattle.readings.specs.Readings.{readingOf}
 use Rattle.finalization_interpreter.specs.Answers.{asFinality}
 use Rattle.block_votes.proofs.Along.{sorted-count}
-use Rattle.finalization_interpreter.proofs.Asking.{final-in-by, finality-broken, finality-disordered, finality-short, finality-asked}
+use Rattle.certifying_blocks.proofs.Finals.{final-in-by}
+use Rattle.finalization_interpreter.proofs.Asking.{finality-broken, finality-disordered, finality-short, finality-asked}
 use borrow.Author.Needs.{needs}
 use Rattle.finalization_interpreter.proofs.finality_in.Statement.{statement}
 use Rattle.finalization_interpreter.proofs.finality_in.Tie as tie

@@ -1,6 +1,6 @@
-use Rattle.host_lib.proofs.Feeds.{fed-most}
+use Rattle.feed_bytes.proofs.Feeds.{fed-most}
 use Rattle.host_calls.specs.Calls.{encoded}
-use Rattle.host_lib.specs.Feed.{feedCall}
+use Rattle.feed_bytes.specs.Feed.{feedCall}
 use Rattle.feeding.specs.Answers.{asFeedAnswer}
 use native.Mathlib.Omega.{arith}
 use lib.ListN.{take}

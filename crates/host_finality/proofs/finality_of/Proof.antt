@@ -5,7 +5,7 @@ use Rattle.readings.specs.Readings.{readingOf}
 use Rattle.finalization_interpreter.specs.Answers.{asFinality}
 use Rattle.host_finality.specs.Finality.{FinalityCall, finalityNumber}
 use Rattle.host_finality.proofs.Finals.{asked-none, asked-ragged}
-use Rattle.host_lib.proofs.Locators.{before-most}
+use Rattle.host_locators.proofs.Locators.{before-most}
 use Rattle.host_finality.proofs.finality_of.Statement.{statement}
 use Rattle.host_finality.proofs.finality_of.Tie as tie
 

@@ -1,4 +1,4 @@
-use Rattle.host_lib.proofs.Locators.{locator-none, locator-read}
+use Rattle.host_locators.proofs.Locators.{locator-none, locator-read}
 use Rattle.host_finals.specs.NextFinal.{afterOf, asAfter, afterLocator}
 use Rattle.vote_starts.specs.Answers.{asMaybe}
 use lib.ListN.{length}

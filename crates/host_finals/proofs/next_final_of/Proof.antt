@@ -2,7 +2,7 @@ use Rattle.readings.specs.Readings.{readingOf}
 use Rattle.reading_lists.specs.Lists.{listing}
 use Rattle.finality.specs.Finality.{blocksOf}
 use Rattle.host_finals.proofs.NextFinals.{next-malformed, next-unsized, next-asked, next-most}
-use Rattle.host_lib.proofs.Locators.{before-most}
+use Rattle.host_locators.proofs.Locators.{before-most}
 use Rattle.host_finals.specs.NextFinal.{NextFinalCall, asAfter, afterOf, foundIn}
 use Rattle.host_calls.specs.Calls.{encoded}
 use Rattle.next_final.specs.Answers.{asNextFinal}

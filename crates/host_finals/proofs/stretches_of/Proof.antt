@@ -7,7 +7,7 @@ use Rattle.final_list.specs.Answers.{asStretches}
 use Rattle.host_calls.specs.Calls.{encoded, flag}
 use Rattle.host_finals.specs.NextFinal.{asAfter, afterOf}
 use Rattle.host_finals.specs.Stretches.{StretchesCall, stretchesNumber}
-use Rattle.host_lib.proofs.Locators.{before-most}
+use Rattle.host_locators.proofs.Locators.{before-most}
 use Rattle.host_finals.proofs.Stretched.{stretches-malformed, stretches-unsized, stretches-asked}
 use borrow.Author.Needs.{needs}
 use Rattle.host_finals.proofs.stretches_of.Statement.{statement}

@@ -1,8 +1,8 @@
 use mathlib.Core.Path.{ap}
 use Rattle.base.specs.Checks.{refused}
 use Rattle.loadable_share.specs.Answers.{asLoadable}
-use Rattle.host_lib.specs.Payload.{asked}
-use Rattle.host_lib.proofs.Locators.{locator-none, locator-read}
+use Rattle.host_locators.specs.Locators.{asked}
+use Rattle.host_locators.proofs.Locators.{locator-none, locator-read}
 use borrow.Author.Needs.{needs}
 use Rattle.host_loadable.proofs.is_loadable_of.Statement.{statement}
 use Rattle.host_loadable.proofs.is_loadable_of.Tie as tie

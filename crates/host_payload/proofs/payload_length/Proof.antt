@@ -5,9 +5,11 @@ use native.Mathlib.Omega.{arith}
 use borrow.Author.Needs.{needs}
 use Rattle.payload.specs.Answers.{asPayloadLength}
 use Rattle.store_layout.specs.Payload.{payloadLength}
-use Rattle.host_lib.specs.Payload.{locatorOf, payloadLengthCall}
+use Rattle.host_locators.specs.Locators.{locatorOf}
+use Rattle.payload_bytes.specs.Payload.{payloadLengthCall}
 use Rattle.host_calls.specs.Calls.{encoded}
-use Rattle.host_lib.proofs.Locators.{asked-most, length-most}
+use Rattle.host_locators.proofs.Locators.{asked-most}
+use Rattle.payload_bytes.proofs.Payloads.{length-most}
 use Rattle.host_payload.proofs.payload_length.Statement.{statement}
 use Rattle.host_payload.proofs.payload_length.Tie as tie
 

@@ -4,9 +4,11 @@ use lib.ListN.{take}
 use native.Mathlib.Omega.{arith}
 use borrow.Author.Needs.{needs}
 use Rattle.payload.specs.Answers.{asPlace, payloadPlace}
-use Rattle.host_lib.specs.Payload.{locatorOf, startOf, payloadStartCall}
+use Rattle.host_locators.specs.Locators.{locatorOf}
+use Rattle.payload_bytes.specs.Payload.{startOf, payloadStartCall}
 use Rattle.host_calls.specs.Calls.{encoded}
-use Rattle.host_lib.proofs.Locators.{asked-most, place-most}
+use Rattle.host_locators.proofs.Locators.{asked-most}
+use Rattle.payload_bytes.proofs.Payloads.{place-most}
 use Rattle.host_payload.proofs.payload_start.Statement.{statement}
 use Rattle.host_payload.proofs.payload_start.Tie as tie
 

@@ -1,7 +1,7 @@
 use mathlib.Core.Path.{refl, ap}
 use Rattle.base.specs.Checks.{refused}
-use Rattle.slip_writer.specs.Answers.{asSlipAnswer}
-use Rattle.host_lib.proofs.Locators.{locator-none, locator-read}
+use Rattle.slip_bytes.specs.Answers.{asSlipAnswer}
+use Rattle.host_locators.proofs.Locators.{locator-none, locator-read}
 use Rattle.host_slip_writer.specs.WriteSlip.{askedSlip}
 use borrow.Author.Needs.{needs}
 use Rattle.host_slip_writer.proofs.write_slip_of.Statement.{statement}

@@ -3,7 +3,7 @@ use borrow.Author.Tests.{lt-ltb, le-ltb}
 use Rattle.blocks.specs.Reference.{locator}
 use Rattle.types.specs.Values.{asReference, asLocator}
 use Rattle.loadable.specs.Loadable.{met}
-use Rattle.loadable_share.specs.Answers.{asNeeded}
+use Rattle.needed_change.specs.Answers.{asNeeded}
 use borrow.Author.Needs.{needs}
 use Rattle.loadable_places.proofs.is_met.Statement.{statement}
 use Rattle.loadable_places.proofs.is_met.Tie as tie

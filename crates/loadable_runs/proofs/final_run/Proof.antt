@@ -3,7 +3,7 @@ use Rattle.committee.specs.Committee.{quorumOf}
 use Rattle.authority_set.specs.AuthoritySet.{stakeOf}
 use Rattle.types.specs.Values.{asReference, asLocator}
 use Rattle.block_votes.proofs.Sorting.{some-committee}
-use Rattle.finalization_interpreter.proofs.Asking.{final-by}
+use Rattle.certifying_blocks.proofs.Finals.{final-by}
 use Rattle.finality.specs.Voters.{certifies, certifiers}
 use Rattle.readings.specs.Readings.{votersIn, certifiesIn, certifiersIn}
 use Rattle.block_spans.specs.Joined.{joinedAt, joinedSpans}

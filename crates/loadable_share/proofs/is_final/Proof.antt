@@ -2,7 +2,7 @@ use mathlib.Core.Path.{_≡_, _∙_}
 use Rattle.committee.specs.Committee.{quorumOf}
 use Rattle.authority_set.specs.AuthoritySet.{stakeOf}
 use Rattle.types.specs.Values.{asLocator}
-use Rattle.finalization_interpreter.proofs.Asking.{final-by}
+use Rattle.certifying_blocks.proofs.Finals.{final-by}
 use borrow.Author.Needs.{needs}
 use Rattle.loadable_share.proofs.is_final.Statement.{statement}
 use Rattle.loadable_share.proofs.is_final.Tie as tie

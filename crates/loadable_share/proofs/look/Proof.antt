@@ -12,7 +12,8 @@ use Rattle.finality.proofs.Asked.{in-order-stored}
 use Rattle.loadable.specs.Needs.{neededBy}
 use Rattle.loadable.proofs.Payloads.{payload-nowhere, payload-where}
 use Rattle.loadable.proofs.Looks.{no-share, not-final, needs-nothing, needs-late, needs-earlier}
-use Rattle.loadable_share.specs.Answers.{asNeeded, seenBy, falls}
+use Rattle.needed_change.specs.Answers.{asNeeded}
+use Rattle.loadable_share.specs.Answers.{seenBy, falls}
 use borrow.Author.Needs.{needs}
 use Rattle.loadable_share.proofs.look.Statement.{statement}
 use Rattle.loadable_share.proofs.look.Tie as tie

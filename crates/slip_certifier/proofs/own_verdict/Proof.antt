@@ -1,6 +1,6 @@
 use mathlib.Core.Path.{subst}
 use Rattle.base.specs.Lists.{isNone, holds}
-use Rattle.slip_paths.specs.Verdict.{verdict}
+use Rattle.slip_verdicts.specs.Verdict.{verdict}
 use Rattle.slip_paths.specs.Walk.{InPlace}
 use Rattle.slip_paths.proofs.Walks.{led-block, led-nowhere, led-missing, from-block, from-none, from-somewhere}
 use Rattle.slip_certifier.specs.Verdict.{ownVerdict}

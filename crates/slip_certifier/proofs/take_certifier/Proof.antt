@@ -5,7 +5,7 @@ use Prim.Native.Nat.{ℕ, _+_}
 use Rattle.blocks.specs.Reference.{BlockReference}
 use Rattle.slips.specs.Paths.{named, toBlock, onFrom}
 use Rattle.slips.specs.Supplied.{suppliedBlocks}
-use Rattle.slip_paths.specs.Verdict.{worse}
+use Rattle.slip_verdicts.specs.Verdict.{worse}
 use Rattle.slip_paths.specs.Walk.{LedTo}
 use Rattle.slip_paths.proofs.Walks.{in-place}
 use Rattle.slip_voters.specs.Step.{TookVoters}

@@ -2,7 +2,8 @@ use borrow.Author.Needs.{needs}
 use Prim.Native.Nat.{_+_, _-_, _*_, _≤_}
 use mathlib.Core.Path.{_≡_}
 use native.Mathlib.Omega.{arith}
-use Rattle.slip_certifiers.specs.Table.{placeIn, votersIn, certifiersSize}
+use Rattle.slip_table.specs.Table.{placeIn, votersIn}
+use Rattle.slip_certifiers.specs.Ready.{certifiersSize}
 use Rattle.slip_certifiers.proofs.Written.{sizeOn, size-first, size-next, size-last}
 use Rattle.slip_certifiers.proofs.certifiers_size.Statement.{statement}
 use Rattle.slip_certifiers.proofs.certifiers_size.Tie as tie

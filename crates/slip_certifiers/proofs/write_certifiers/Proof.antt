@@ -7,7 +7,8 @@ use lib.Seq.{sets}
 use Rattle.base.proofs.Le.{bytes-of}
 use Rattle.blocks.specs.Reference.{TransactionLocator}
 use Rattle.slip_distances.specs.Near.{Distances}
-use Rattle.slip_certifiers.specs.Table.{placeIn, votersIn, Ready, certifiersBytes, certifiersSize}
+use Rattle.slip_table.specs.Table.{placeIn, votersIn}
+use Rattle.slip_certifiers.specs.Ready.{Ready, certifiersBytes, certifiersSize}
 use Rattle.slip_certifiers.proofs.Written.{sizeOn, size-first, size-next, bytesOn, bytes-first, bytes-next, bytes-last}
 use Rattle.slip_certifiers.proofs.write_certifiers.Statement.{statement}
 use Rattle.slip_certifiers.proofs.write_certifiers.Tie as tie

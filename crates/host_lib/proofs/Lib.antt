@@ -1,4 +1,0 @@
-pub mod Locators
-pub mod Standings
-pub mod Feeds
-pub mod Kept

@@ -1,4 +1,0 @@
-pub mod Payload
-pub mod Pending
-pub mod Feed
-pub mod Claims
