@@ -149,7 +149,7 @@ fn fill(
     }
 }
 
-// The same with tables of 4,096 votes and rejects, and of 8,192 includes.
+// The same with tables of 12,288 votes and rejects, and of 8,192 includes.
 fn fill_large(
     stakes: &[u64],
     total: Stake,
@@ -164,7 +164,7 @@ fn fill_large(
     ensures { λ r. ⌜ asStretches r ≡ answered (givenAfter (listing ordinary (readingOf withdrawing) (now (stakes .entry)) (blocksOf (now (store .entry)))) (asMaybe after) (stretches (now (stakes .entry)) (blocksOf (now (store .entry))) (listing ordinary (readingOf withdrawing) (now (stakes .entry)) (blocksOf (now (store .entry)))) (length (now (out .entry)) / 10) (asMaybe after))) ⌝ }
     ensures { λ r. ⌜ now (out .exit) ≡ wordsAfter (stretches (now (stakes .entry)) (blocksOf (now (store .entry))) (listing ordinary (readingOf withdrawing) (now (stakes .entry)) (blocksOf (now (store .entry)))) (length (now (out .entry)) / 10) (asMaybe after)) (now (out .entry)) ⌝ }
 {
-    let mut table = [0u64; 36864];
+    let mut table = [0u64; 49152];
     let sizes = vote_table::table_both(store, order, &mut table, withdrawing);
     let mut places = [0u64; 8192];
     let noted = include_places::note_places(store, order, &mut places);
@@ -210,7 +210,7 @@ fn fill_small(
     ensures { λ r. ⌜ asStretches r ≡ answered (givenAfter (listing ordinary (readingOf withdrawing) (now (stakes .entry)) (blocksOf (now (store .entry)))) (asMaybe after) (stretches (now (stakes .entry)) (blocksOf (now (store .entry))) (listing ordinary (readingOf withdrawing) (now (stakes .entry)) (blocksOf (now (store .entry)))) (length (now (out .entry)) / 10) (asMaybe after))) ⌝ }
     ensures { λ r. ⌜ now (out .exit) ≡ wordsAfter (stretches (now (stakes .entry)) (blocksOf (now (store .entry))) (listing ordinary (readingOf withdrawing) (now (stakes .entry)) (blocksOf (now (store .entry)))) (length (now (out .entry)) / 10) (asMaybe after)) (now (out .entry)) ⌝ }
 {
-    let mut table = [0u64; 1152];
+    let mut table = [0u64; 512];
     let sizes = vote_table::table_both(store, order, &mut table, withdrawing);
     if !holds_all(sizes, order.len(), withdrawing) {
         return fill_large(

@@ -53,7 +53,7 @@ fn spoken_start(
     requires { ⌜ SortedStore (now store) (now order) × ((tabled ≤ length (now order)) × Tabled rejecting (now store) (now order) (now table) tabled m) ⌝ }
     ensures { λ r. ⌜ asMaybe r ≡ lesserOf (asMaybe best) (leastLocator (keep (isAfter (asMaybe last)) (spokenStarts rejecting (now (store .entry))))) ⌝ }
 {
-    let least = vote_table::table_start(table, m, last, best, rejecting);
+    let least = vote_table::table_start(store, table, m, last, best, rejecting);
     vote_starts::least_start(store, order, tabled, last, least, rejecting)
 }
 
@@ -83,7 +83,7 @@ fn first_start(
     if !withdrawing {
         return least;
     }
-    let from = 9 * sizes.votes;
+    let from = 4 * sizes.votes;
     spoken_start(
         store,
         order,
@@ -111,7 +111,7 @@ fn spoken_edge(
     requires { ⌜ SortedStore (now store) (now order) × ((tabled ≤ length (now order)) × Tabled rejecting (now store) (now order) (now table) tabled m) ⌝ }
     ensures { λ r. ⌜ r ≡ nearest offset best (edgesBy (rangesOf rejecting) (blocksOf (now (store .entry))) (asReference block)) ⌝ }
 {
-    let near = vote_table::table_edge(table, m, block, offset, best);
+    let near = vote_table::table_edge(store, table, m, block, offset, best);
     vote_edges::least_edge(store, order, tabled, block, offset, near, rejecting)
 }
 
@@ -142,7 +142,7 @@ pub fn next_edge(
     if !withdrawing {
         return near;
     }
-    let from = 9 * sizes.votes;
+    let from = 4 * sizes.votes;
     spoken_edge(
         store,
         order,

@@ -10,7 +10,7 @@ use Rattle.final_search.proofs.spoken_edge.Statement.{statement}
 use Rattle.final_search.proofs.spoken_edge.Tie as tie
 
 table-edge-requires : tie.Need-table-edge-requires
-table-edge-requires c κs = c .before .before .before .pre .1 .1 .room
+table-edge-requires c κs = let w = c .before .before .before .pre .1 .1 in (w .room, w .stands)
 
 least-edge-requires : tie.Need-least-edge-requires
 least-edge-requires c κs = (c .before .before .before .before .pre .0, c .before .before .before .before .pre .1 .0)

@@ -12,7 +12,7 @@ use Rattle.final_search.proofs.spoken_start.Statement.{statement}
 use Rattle.final_search.proofs.spoken_start.Tie as tie
 
 table-start-requires : tie.Need-table-start-requires
-table-start-requires c κs = c .before .before .before .pre .1 .1 .room
+table-start-requires c κs = let w = c .before .before .before .pre .1 .1 in (w .room, w .stands)
 
 least-start-requires : tie.Need-least-start-requires
 least-start-requires c κs = (c .before .before .before .before .pre .0, c .before .before .before .before .pre .1 .0)
