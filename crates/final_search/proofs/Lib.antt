@@ -1,4 +1,3 @@
-pub mod Spans
 pub mod Ways
 pub mod Onward
 pub mod Ending

@@ -4,7 +4,7 @@ use Rattle.vote_starts.specs.Answers.{asMaybe}
 use Rattle.finality.specs.Finality.{blocksOf}
 use Rattle.stretches.specs.Bulk.{AskedBulk}
 use Rattle.listed.specs.Listed.{listed}
-use Rattle.final_list.specs.Answers.{asStretches}
+use Rattle.stretch_words.specs.Answers.{asStretches}
 use native.Mathlib.Omega.{arith}
 use lib.ListN.{length}
 use borrow.Author.Needs.{needs}

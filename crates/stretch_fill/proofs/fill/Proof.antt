@@ -1,7 +1,7 @@
-use Rattle.final_list.proofs.Filling.{stretches-none, stretches-full, stretch-parts, fill-start, fill-more, fill-words, given-last, given-more}
-use Rattle.final_list.proofs.Counts.{certifying-many}
-use Rattle.final_list.specs.Step.{Filled}
-use Rattle.final_list.specs.Answers.{asStretches}
+use Rattle.stretch_words.proofs.Filling.{stretches-none, stretches-full, stretch-parts, fill-start, fill-more, fill-words, given-last, given-more}
+use Rattle.stretch_fill.proofs.Counts.{certifying-many}
+use Rattle.stretch_words.specs.Step.{Filled}
+use Rattle.stretch_words.specs.Answers.{asStretches}
 use Rattle.final_search.specs.Search.{asNext, FoundRight}
 use Rattle.final_walk.specs.Walk.{Certify}
 use Rattle.readings.specs.Readings.{readingOf, certifiersIn}
@@ -22,8 +22,8 @@ use mathlib.Core.Option.{none, some}
 use mathlib.Core.Path.{_≡_, refl, sym, ap, _∙_}
 use Prim.Native.Nat.{_-_, _*_, _/_, _<_, _≤_, _+_}
 use borrow.Author.Needs.{needs}
-use Rattle.final_list.proofs.fill.Statement.{statement}
-use Rattle.final_list.proofs.fill.Tie as tie
+use Rattle.stretch_fill.proofs.fill.Statement.{statement}
+use Rattle.stretch_fill.proofs.fill.Tie as tie
 
 abbrev Inv-loop : tie.InvT-loop
 Inv-loop stakes total store order table sizes places noted ordinary withdrawing out₀ room certified₀ n₀ last₀ out certified n last = (length certified ≡ 1024) × Filled stakes (blocksOf store) (listing ordinary (readingOf withdrawing) stakes (blocksOf store)) room (asMaybe last₀) out₀ out (asMaybe last) n

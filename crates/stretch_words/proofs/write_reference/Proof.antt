@@ -5,10 +5,10 @@ use native.Mathlib.Numerals.{towards-suc}
 use lib.ListN.{length-set}
 use Rattle.types.specs.Values.{digestBytes, asReference}
 use Rattle.stretches.specs.Bulk.{digestWords, referenceWords}
-use Rattle.final_list.proofs.Words.{digest-words}
+use Rattle.stretch_words.proofs.Words.{digest-words}
 use borrow.Author.Needs.{needs}
-use Rattle.final_list.proofs.write_reference.Statement.{statement}
-use Rattle.final_list.proofs.write_reference.Tie as tie
+use Rattle.stretch_words.proofs.write_reference.Statement.{statement}
+use Rattle.stretch_words.proofs.write_reference.Tie as tie
 
 mul-out : tie.Need-mul-out
 mul-out c = search needs

@@ -8,11 +8,11 @@ use Rattle.blocks.specs.Reference.{TransactionLocator}
 use Rattle.finality.specs.NextFinal.{isAfter, leastLocator}
 use Rattle.vote_starts.specs.Answers.{asMaybe}
 use Rattle.vote_starts.specs.Walk.{lesserOf}
-use Rattle.final_search.specs.Search.{spokenStarts, startsIn}
-use Rattle.final_search.proofs.Spans.{starts-both, rejects-part}
+use Rattle.spoken_places.specs.Search.{spokenStarts, startsIn}
+use Rattle.spoken_places.proofs.Spans.{starts-both, rejects-part}
 use borrow.Author.Needs.{needs}
-use Rattle.final_search.proofs.first_start.Statement.{statement}
-use Rattle.final_search.proofs.first_start.Tie as tie
+use Rattle.spoken_places.proofs.first_start.Statement.{statement}
+use Rattle.spoken_places.proofs.first_start.Tie as tie
 
 spoken-start-requires : tie.Need-spoken-start-requires
 spoken-start-requires c κs = let p = c .before .before .before .pre in (p .0, (p .1 .voting, p .1 .votes))

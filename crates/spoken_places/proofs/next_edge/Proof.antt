@@ -8,11 +8,11 @@ use Rattle.finality.specs.Finality.{blocksOf}
 use Rattle.stretches.specs.Stretches.{edgesBy, nearest}
 use Rattle.stretches.proofs.Nearest.{nearest-append}
 use Rattle.block_spans.specs.Ranges.{rangesOf}
-use Rattle.final_search.specs.Search.{cutsIn}
-use Rattle.final_search.proofs.Spans.{rejects-part}
+use Rattle.spoken_places.specs.Search.{cutsIn}
+use Rattle.spoken_places.proofs.Spans.{rejects-part}
 use borrow.Author.Needs.{needs}
-use Rattle.final_search.proofs.next_edge.Statement.{statement}
-use Rattle.final_search.proofs.next_edge.Tie as tie
+use Rattle.spoken_places.proofs.next_edge.Statement.{statement}
+use Rattle.spoken_places.proofs.next_edge.Tie as tie
 
 spoken-edge-requires : tie.Need-spoken-edge-requires
 spoken-edge-requires c κs = let p = c .before .before .before .pre in (p .0, (p .1 .voting, p .1 .votes))

@@ -17,7 +17,7 @@ use Rattle.blocks.specs.Block.{Block, author}
 use Rattle.finalization_interpreter.proofs.Certify.{written-more}
 use Rattle.stretches.specs.Stretches.{Listing, FinalStretch, lastLocator, stretchEnd, stretchAt, fromFound, stretches, reached, moreFollow}
 use Rattle.stretches.specs.Bulk.{digestWords, referenceWords, stretchWords, Given, givenAfter, wordsAfter}
-use Rattle.final_list.specs.Step.{stretchOf, Filled}
+use Rattle.stretch_words.specs.Step.{stretchOf, Filled}
 
 -- ---- one stretch more, or none
 

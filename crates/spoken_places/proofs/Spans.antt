@@ -33,7 +33,7 @@ use Rattle.vote_table.specs.declared.TableSizes as sizes
 use Rattle.vote_rows.specs.Row.{placeAt, rangeAt}
 use Rattle.vote_table.specs.Table.{tableRanges, Tabled, BothTabled}
 use Rattle.final_walk.proofs.Counting.{place-in}
-use Rattle.final_search.specs.Search.{spokenStarts}
+use Rattle.spoken_places.specs.Search.{spokenStarts}
 
 dropped-in : (n : ℕ) (xs : List ℕ) (x : ℕ) → x ∈ drop n xs → x ∈ xs
 dropped-in zero xs x m = m

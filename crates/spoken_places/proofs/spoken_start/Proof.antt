@@ -1,4 +1,4 @@
-use Rattle.final_search.proofs.Spans.{starts-best}
+use Rattle.spoken_places.proofs.Spans.{starts-best}
 use Rattle.vote_starts.specs.Walk.{lesserOf, startsAt}
 use Rattle.vote_starts.specs.Answers.{asMaybe}
 use Rattle.finality.specs.NextFinal.{isAfter, leastLocator}
@@ -8,8 +8,8 @@ use lib.ListN.{drop}
 use mathlib.Core.Option.{Option}
 use mathlib.Core.Path.{ap, _∙_}
 use borrow.Author.Needs.{needs}
-use Rattle.final_search.proofs.spoken_start.Statement.{statement}
-use Rattle.final_search.proofs.spoken_start.Tie as tie
+use Rattle.spoken_places.proofs.spoken_start.Statement.{statement}
+use Rattle.spoken_places.proofs.spoken_start.Tie as tie
 
 table-start-requires : tie.Need-table-start-requires
 table-start-requires c κs = let w = c .before .before .before .pre .1 .1 in (w .room, w .stands)

@@ -4,11 +4,11 @@ use lib.ListN.{length-set}
 use Rattle.blocks.specs.Reference.{locator}
 use Rattle.types.specs.Values.{asReference, asLocator}
 use Rattle.stretches.specs.Bulk.{stretchWords}
-use Rattle.final_list.specs.Step.{stretchOf}
-use Rattle.final_list.proofs.Words.{rest-written}
+use Rattle.stretch_words.specs.Step.{stretchOf}
+use Rattle.stretch_words.proofs.Words.{rest-written}
 use borrow.Author.Needs.{needs}
-use Rattle.final_list.proofs.write_stretch.Statement.{statement}
-use Rattle.final_list.proofs.write_stretch.Tie as tie
+use Rattle.stretch_words.proofs.write_stretch.Statement.{statement}
+use Rattle.stretch_words.proofs.write_stretch.Tie as tie
 
 mul-at : tie.Need-mul-at
 mul-at c = search needs

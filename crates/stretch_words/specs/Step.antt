@@ -1,4 +1,4 @@
--- Machinery for the contracts of private functions: the slice as it fills. Assumes nothing: these are definitions.
+-- Machinery for the contracts of inner functions: a stretch from its parts, and the slice as it fills. Assumes nothing: these are definitions.
 use Prim.Native.Nat.{ℕ, _*_, _-_, _≤_}
 use mathlib.Core.Path.{_≡_}
 use mathlib.Core.List.{List, _++_, map, flatten}

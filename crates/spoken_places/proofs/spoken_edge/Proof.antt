@@ -1,4 +1,4 @@
-use Rattle.final_search.proofs.Spans.{edges-all}
+use Rattle.spoken_places.proofs.Spans.{edges-all}
 use Rattle.vote_edges.specs.Edges.{edgesAt}
 use Rattle.stretches.specs.Stretches.{nearest}
 use Rattle.types.specs.Values.{asReference}
@@ -6,8 +6,8 @@ use lib.ListN.{drop}
 use mathlib.Core.Path.{ap, _∙_}
 use Prim.Native.Nat.{ℕ}
 use borrow.Author.Needs.{needs}
-use Rattle.final_search.proofs.spoken_edge.Statement.{statement}
-use Rattle.final_search.proofs.spoken_edge.Tie as tie
+use Rattle.spoken_places.proofs.spoken_edge.Statement.{statement}
+use Rattle.spoken_places.proofs.spoken_edge.Tie as tie
 
 table-edge-requires : tie.Need-table-edge-requires
 table-edge-requires c κs = let w = c .before .before .before .pre .1 .1 in (w .room, w .stands)
