@@ -39,6 +39,19 @@ pub fn generated(count: usize) -> Vec<Block> {
     (0..count).map(block).collect()
 }
 
+/// Four owners as above, but each block accepts the other three's shares of the last rounds, up to ten.
+pub fn voting(count: usize) -> Vec<Block> {
+    let mut blocks = generated(count);
+    for n in 8..count {
+        let author = blocks[n].reference.author;
+        let before = (4..n / 4 * 4).rev().map(|k| blocks[k].reference).filter(|other| other.author != author);
+        let accepted: Vec<Statement> = before.take(10).map(|other| Statement::Accept(Locator::new(other, 0))).collect();
+        blocks[n].statements.truncate(1);
+        blocks[n].statements.extend(accepted);
+    }
+    blocks
+}
+
 /// Four owners as above, but each block above round 0 has 100 shares, and above round 1 three ranges that accept the other three's: at the
 /// end, or among the shares, of which two then stand alone. The first share needs the one that its owner's block before begins with.
 pub fn shared(count: usize, among: bool) -> Vec<Block> {

@@ -1,4 +1,1 @@
-pub mod Words
-pub mod Filling
 pub mod Asking
-pub mod Counts

@@ -1,155 +1,27 @@
-// The lists of final locators in bulk, the ordinary and the wide one: stretches of locators that have the same certifying blocks.
+// The lists of final locators in bulk, the ordinary and the wide one, in either reading of a reject: stretches of locators that have the same certifying blocks.
 use committee::NewCommittee;
 use committee::Stake;
-use final_search::NextStretch;
-use types::BlockReference;
-use types::TransactionLocator;
+use stretch_words::StretchesAnswer;
 use vote_starts::MaybeLocator;
 use vote_table::TableSizes;
 ghost use mathlib.Core.Path.{_≡_};
 ghost use mathlib.Core.Bool.{true, false};
-ghost use Prim.Native.Nat.{_+_, _*_, _/_, _≤_, _<_};
+ghost use Prim.Native.Nat.{_/_};
 ghost use lib.ListN.{length};
-ghost use lib.Seq.{sets};
 ghost use Rattle.base.specs.Checks.{answered};
-ghost use Rattle.types.specs.Values.{asReference, asLocator};
 ghost use Rattle.finality.specs.Finality.{blocksOf};
 ghost use Rattle.vote_starts.specs.Answers.{asMaybe};
 ghost use Rattle.stretches.specs.Stretches.{stretches};
-ghost use Rattle.stretches.specs.Bulk.{referenceWords, stretchWords, givenAfter, wordsAfter, finalStretches};
+ghost use Rattle.stretches.specs.Bulk.{givenAfter, wordsAfter, finalStretches};
 ghost use Rattle.stored_finals.specs.Ordinary.{shareStretches};
 ghost use Rattle.readings.specs.Readings.{withdrawing, readingOf};
 ghost use Rattle.reading_lists.specs.Lists.{listing, listedStretches};
-ghost use Rattle.final_search.specs.Search.{Ready, Tables};
-ghost use Rattle.final_list.specs.Answers.{asStretches};
-ghost use Rattle.final_list.specs.Step.{stretchOf};
-
-// ---- the slice
-
-// A word as it is: the contract tells its bound, which is not known of a field.
-fn word(x: u64) -> u64
-    ensures { λ r. ⌜ (r ≡ x) × (r < 18446744073709551616) ⌝ }
-{
-    x
-}
-
-// Writes the six words of a reference.
-fn write_reference(out: &mut [u64], at: usize, block: BlockReference)
-    requires { ⌜ at + 6 ≤ length (now out) ⌝ }
-    ensures { λ _. ⌜ now (out .exit) ≡ sets (now (out .entry)) at (referenceWords (asReference block)) ⌝ }
-{
-    let digest = block.digest;
-    out[at] = block.authority.0;
-    out[at + 1] = block.round.0;
-    out[at + 2] = word(digest.0);
-    out[at + 3] = word(digest.1);
-    out[at + 4] = word(digest.2);
-    out[at + 5] = word(digest.3);
-}
-
-// Writes the ten words of a stretch.
-pub fn write_stretch(
-    out: &mut [u64],
-    n: usize,
-    locator: TransactionLocator,
-    end: u64,
-    blocks: u64,
-    stake: Stake,
-)
-    requires { ⌜ 10 * n + 10 ≤ length (now out) ⌝ }
-    ensures { λ _. ⌜ now (out .exit) ≡ sets (now (out .entry)) (10 * n) (stretchWords (stretchOf (asLocator locator) end blocks (stake .0))) ⌝ }
-{
-    let at = 10 * n;
-    write_reference(out, at, locator.block);
-    out[at + 6] = locator.offset;
-    out[at + 7] = end;
-    out[at + 8] = blocks;
-    out[at + 9] = stake.0;
-}
+ghost use Rattle.final_search.specs.Search.{Ready};
+ghost use Rattle.stretch_words.specs.Answers.{asStretches};
 
 // ---- the question in bulk
 
-// How many stretches were written, and whether more locators of the list follow; or the refusal number.
-pub enum StretchesAnswer {
-    // no locator follows them
-    Last(u64),
-    More(u64),
-    Refused(u64),
-}
-
-// Writes stretches until the slice is full or no locator of the list follows: the votes of the first blocks and the places of the includes of the
-// first blocks are in tables, the rest is read from the store.
-fn fill(
-    stakes: &[u64],
-    total: Stake,
-    store: &[u8],
-    order: &[u64],
-    table: &[u64],
-    sizes: TableSizes,
-    places: &[u64],
-    noted: usize,
-    ordinary: bool,
-    withdrawing: bool,
-    out: &mut [u64],
-    after: MaybeLocator,
-) -> StretchesAnswer
-    requires { ⌜ Ready (now stakes) (total .0) (now store) (now order) × Tables (now store) (now order) (now table) sizes (now places) noted ⌝ }
-    ensures { λ r. ⌜ asStretches r ≡ answered (givenAfter (listing ordinary (readingOf withdrawing) (now (stakes .entry)) (blocksOf (now (store .entry)))) (asMaybe after) (stretches (now (stakes .entry)) (blocksOf (now (store .entry))) (listing ordinary (readingOf withdrawing) (now (stakes .entry)) (blocksOf (now (store .entry)))) (length (now (out .entry)) / 10) (asMaybe after))) ⌝ }
-    ensures { λ r. ⌜ now (out .exit) ≡ wordsAfter (stretches (now (stakes .entry)) (blocksOf (now (store .entry))) (listing ordinary (readingOf withdrawing) (now (stakes .entry)) (blocksOf (now (store .entry)))) (length (now (out .entry)) / 10) (asMaybe after)) (now (out .entry)) ⌝ }
-{
-    let room = out.len() / 10;
-    let mut certified = [0u64; 1024];
-    let mut n: usize = 0;
-    let mut last = after;
-    loop {
-        let next = final_search::final_after(
-            stakes,
-            total,
-            store,
-            order,
-            table,
-            sizes,
-            places,
-            noted,
-            ordinary,
-            withdrawing,
-            last,
-            &mut certified,
-        );
-        let NextStretch::At(at) = next else {
-            return StretchesAnswer::Last(n as u64);
-        };
-        if n == room {
-            return StretchesAnswer::More(n as u64); // the slice is full
-        }
-        let locator = at.locator;
-        let found = at.found;
-        let stake = authority_set::stake_of(stakes, found.authors);
-        let end = final_search::stretch_end(
-            stakes,
-            total,
-            store,
-            order,
-            table,
-            sizes,
-            places,
-            noted,
-            ordinary,
-            withdrawing,
-            locator,
-            &certified,
-        );
-        write_stretch(out, n, locator, end, found.blocks as u64, stake);
-        let block = locator.block;
-        last = MaybeLocator::Locator(TransactionLocator {
-            block,
-            offset: end - 1, // the last one written
-        });
-        n += 1;
-    }
-}
-
-// The same with tables of 4,096 votes and rejects, and of 8,192 includes.
+// The same with tables of 12,288 votes and rejects, and of 8,192 includes.
 fn fill_large(
     stakes: &[u64],
     total: Stake,
@@ -164,11 +36,11 @@ fn fill_large(
     ensures { λ r. ⌜ asStretches r ≡ answered (givenAfter (listing ordinary (readingOf withdrawing) (now (stakes .entry)) (blocksOf (now (store .entry)))) (asMaybe after) (stretches (now (stakes .entry)) (blocksOf (now (store .entry))) (listing ordinary (readingOf withdrawing) (now (stakes .entry)) (blocksOf (now (store .entry)))) (length (now (out .entry)) / 10) (asMaybe after))) ⌝ }
     ensures { λ r. ⌜ now (out .exit) ≡ wordsAfter (stretches (now (stakes .entry)) (blocksOf (now (store .entry))) (listing ordinary (readingOf withdrawing) (now (stakes .entry)) (blocksOf (now (store .entry)))) (length (now (out .entry)) / 10) (asMaybe after)) (now (out .entry)) ⌝ }
 {
-    let mut table = [0u64; 36864];
+    let mut table = [0u64; 49152];
     let sizes = vote_table::table_both(store, order, &mut table, withdrawing);
     let mut places = [0u64; 8192];
     let noted = include_places::note_places(store, order, &mut places);
-    fill(
+    stretch_fill::fill(
         stakes,
         total,
         store,
@@ -210,7 +82,7 @@ fn fill_small(
     ensures { λ r. ⌜ asStretches r ≡ answered (givenAfter (listing ordinary (readingOf withdrawing) (now (stakes .entry)) (blocksOf (now (store .entry)))) (asMaybe after) (stretches (now (stakes .entry)) (blocksOf (now (store .entry))) (listing ordinary (readingOf withdrawing) (now (stakes .entry)) (blocksOf (now (store .entry)))) (length (now (out .entry)) / 10) (asMaybe after))) ⌝ }
     ensures { λ r. ⌜ now (out .exit) ≡ wordsAfter (stretches (now (stakes .entry)) (blocksOf (now (store .entry))) (listing ordinary (readingOf withdrawing) (now (stakes .entry)) (blocksOf (now (store .entry)))) (length (now (out .entry)) / 10) (asMaybe after)) (now (out .entry)) ⌝ }
 {
-    let mut table = [0u64; 1152];
+    let mut table = [0u64; 512];
     let sizes = vote_table::table_both(store, order, &mut table, withdrawing);
     if !holds_all(sizes, order.len(), withdrawing) {
         return fill_large(
@@ -238,7 +110,7 @@ fn fill_small(
             after,
         );
     }
-    fill(
+    stretch_fill::fill(
         stakes,
         total,
         store,

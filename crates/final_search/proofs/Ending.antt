@@ -26,7 +26,8 @@ use Rattle.reading_lists.specs.Lists.{listing}
 use Rattle.reading_lists.proofs.Least.{lists-lawful}
 use Rattle.final_walk.specs.Walk.{Flags, SameWords}
 use Rattle.types.specs.Values.{asLocator}
-use Rattle.final_search.specs.Search.{cutsIn, whenShown, asNext, FoundRight}
+use Rattle.spoken_places.specs.Search.{cutsIn}
+use Rattle.final_search.specs.Search.{whenShown, asNext, FoundRight}
 use Rattle.final_search.specs.declared.FoundFinal.{FoundFinal}
 use Rattle.final_search.specs.declared.NextStretch.{NextStretch}
 use Rattle.final_search.specs.declared.NextStretch.the-variants.{At}

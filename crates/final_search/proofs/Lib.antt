@@ -1,4 +1,3 @@
-pub mod Spans
 pub mod Runs
 pub mod Ways
 pub mod Onward

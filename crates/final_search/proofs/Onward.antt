@@ -22,7 +22,8 @@ use Rattle.stretches.specs.Stretches.{Listing}
 use Rattle.stretches.proofs.Starting as starting
 use Rattle.reading_lists.specs.Lists.{listing}
 use Rattle.reading_lists.proofs.Least.{listed-final, lists-lawful}
-use Rattle.final_search.specs.Search.{startsIn, leastStart, mayShow, whenShown}
+use Rattle.spoken_places.specs.Search.{startsIn}
+use Rattle.final_search.specs.Search.{leastStart, mayShow, whenShown}
 use Rattle.final_search.proofs.Ways.{listing-shows, list-starts}
 
 -- ---- a locator by itself

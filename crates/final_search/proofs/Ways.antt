@@ -38,8 +38,9 @@ use Rattle.reading_lists.specs.Lists.{isListed, listing}
 use Rattle.reading_lists.proofs.Between.{NoCut, votes-same, edges-told}
 use Rattle.reading_lists.proofs.Least.{listed-final}
 use Rattle.vote_starts.specs.Walk.{startOf}
-use Rattle.final_search.specs.Search.{spokenStarts, startsIn, cutsIn, mayShow}
+use Rattle.final_search.specs.Search.{mayShow}
 use Rattle.final_search.proofs.Runs.{around-run, share-below}
+use Rattle.spoken_places.specs.Search.{spokenStarts, startsIn, cutsIn}
 
 -- what is shown is final, and a stored share where the list is the ordinary one
 pub listing-shows : (o : Bool) (reading : Reading) (c : Committee) (bs : List Block) (l : TransactionLocator) → listing o reading c bs .shows l ≡ mayShow o bs l && isFinalIn reading c bs l

@@ -1,24 +1,21 @@
 -- Machinery for the contracts of inner functions: what the search stands on, and what it finds. Assumes nothing: these are definitions.
 use Prim.Native.Nat.{ℕ, _≤_}
 use mathlib.Core.Path.{_≡_}
-use mathlib.Core.Bool.{Bool, true, false, not, _&&_, _||_}
-use mathlib.Core.List.{List, _++_, map, flatten}
+use mathlib.Core.Bool.{Bool, not, _&&_, _||_}
+use mathlib.Core.List.{List}
 use mathlib.Core.Option.{Option, none, some}
 use lib.ListN.{length}
 use Rattle.base.specs.Lists.{pick, keep}
 use Rattle.base.specs.Le.{Bytes}
 use Rattle.committee.specs.Committee.{Committee, Stake, totalStake}
-use Rattle.blocks.specs.Reference.{BlockReference, TransactionLocator}
+use Rattle.blocks.specs.Reference.{TransactionLocator}
 use Rattle.blocks.specs.Block.{Block}
 use Rattle.types.specs.Values.{asLocator}
 use Rattle.store_layout.specs.Shares.{isStoredShare}
-use Rattle.finality.specs.Finality.{blocksOf}
 use Rattle.finality.specs.NextFinal.{isAfter, leastLocator}
 use Rattle.block_votes.specs.Walk.{Sorted}
-use Rattle.block_spans.specs.Ranges.{rangesOf}
-use Rattle.vote_starts.specs.Walk.{startOf}
 use Rattle.readings.specs.Readings.{Reading}
-use Rattle.stretches.specs.Stretches.{Listing, edgesBy}
+use Rattle.stretches.specs.Stretches.{Listing}
 use Rattle.vote_table.specs.declared.TableSizes as sizes
 use Rattle.vote_table.specs.Table.{BothTabled}
 use Rattle.include_places.specs.Places.{Placed}
@@ -33,20 +30,6 @@ Ready c total s order = (Sorted c s order × (total ≡ totalStake c)) × (lengt
 -- the votes of the first blocks and behind them their rejects in a table, and the places of the includes of the first blocks
 abbrev pub Tables : Bytes → List ℕ → List ℕ → sizes.TableSizes → List ℕ → ℕ → Type 0
 Tables s order table a places noted = BothTabled s order table a × Placed s order places noted
-
--- where the votes of the stored blocks begin, or just after what they reject
-unfoldable pub spokenStarts : Bool → Bytes → List TransactionLocator
-spokenStarts rejecting s = flatten (map (λ b. map (startOf rejecting) (rangesOf rejecting b)) (blocksOf s))
-
--- where a list can go on: where a vote begins and, where owners may withdraw, just after a rejected locator
-unfoldable pub startsIn : Bool → Bytes → List TransactionLocator
-startsIn true s = spokenStarts false s ++ spokenStarts true s
-startsIn false s = spokenStarts false s
-
--- where it can change: where a vote begins and ends and, where owners may withdraw, where a reject does
-unfoldable pub cutsIn : Bool → Bytes → BlockReference → List ℕ
-cutsIn true s r = edgesBy (rangesOf false) (blocksOf s) r ++ edgesBy (rangesOf true) (blocksOf s) r
-cutsIn false s r = edgesBy (rangesOf false) (blocksOf s) r
 
 -- the least of some places after a locator that a list shows
 unfoldable pub leastStart : Listing → List TransactionLocator → Option TransactionLocator → Option TransactionLocator

@@ -1,30 +1,22 @@
-// The next stretch of a list of final locators, the ordinary or the wide one, in either reading of a reject: the least locator that it shows after a
-// given one, and where its stretch ends.
+// The next stretch of a list of final locators, the ordinary or the wide one, in either reading of a reject: the least locator that it shows after a given one, and where its stretch ends.
 use certifying_blocks::Certifiers;
 use committee::Stake;
-use types::BlockReference;
 use types::TransactionLocator;
 use vote_starts::MaybeLocator;
 use vote_table::TableSizes;
 ghost use mathlib.Core.Path.{_≡_};
 ghost use mathlib.Core.Bool.{true};
-ghost use Prim.Native.Nat.{_≤_};
 ghost use lib.ListN.{length};
-ghost use Rattle.base.specs.Lists.{keep};
-ghost use Rattle.types.specs.Values.{asReference, asLocator};
+ghost use Rattle.types.specs.Values.{asLocator};
 ghost use Rattle.finality.specs.Finality.{blocksOf};
-ghost use Rattle.finality.specs.NextFinal.{isAfter, leastLocator};
 ghost use Rattle.readings.specs.Readings.{readingOf};
 ghost use Rattle.vote_starts.specs.Answers.{asMaybe};
-ghost use Rattle.vote_starts.specs.Walk.{lesserOf};
-ghost use Rattle.block_votes.specs.Walk.{SortedStore};
-ghost use Rattle.block_spans.specs.Ranges.{rangesOf};
-ghost use Rattle.stretches.specs.Stretches.{edgesBy, nearest, stretchEnd};
+ghost use Rattle.stretches.specs.Stretches.{stretchEnd};
 ghost use Rattle.stored_shares.specs.Stores.{Ordered};
 ghost use Rattle.reading_lists.specs.Lists.{listing};
-ghost use Rattle.vote_table.specs.Table.{Tabled, BothTabled};
 ghost use Rattle.final_walk.specs.Walk.{Flags};
-ghost use Rattle.final_search.specs.Search.{Ready, Tables, spokenStarts, startsIn, cutsIn, leastStart, mayShow, whenShown, asNext, FoundRight};
+ghost use Rattle.spoken_places.specs.Search.{startsIn};
+ghost use Rattle.final_search.specs.Search.{Ready, Tables, leastStart, mayShow, whenShown, asNext, FoundRight};
 
 // A final locator, and its certifying blocks.
 pub struct FoundFinal {
@@ -35,125 +27,6 @@ pub struct FoundFinal {
 pub enum NextStretch {
     At(FoundFinal),
     Nothing,
-}
-
-// ---- the table first, then the store
-
-// The lesser of the least locator so far and the least one after the given one at which a vote begins, or just after a rejected one.
-fn spoken_start(
-    store: &[u8],
-    order: &[u64],
-    table: &[u64],
-    m: usize,
-    tabled: usize,
-    last: MaybeLocator,
-    best: MaybeLocator,
-    rejecting: bool,
-) -> MaybeLocator
-    requires { ⌜ SortedStore (now store) (now order) × ((tabled ≤ length (now order)) × Tabled rejecting (now store) (now order) (now table) tabled m) ⌝ }
-    ensures { λ r. ⌜ asMaybe r ≡ lesserOf (asMaybe best) (leastLocator (keep (isAfter (asMaybe last)) (spokenStarts rejecting (now (store .entry))))) ⌝ }
-{
-    let least = vote_table::table_start(table, m, last, best, rejecting);
-    vote_starts::least_start(store, order, tabled, last, least, rejecting)
-}
-
-// The least locator after the given one at which a vote begins and, where owners may withdraw, just after a rejected one.
-fn first_start(
-    store: &[u8],
-    order: &[u64],
-    table: &[u64],
-    sizes: TableSizes,
-    withdrawing: bool,
-    last: MaybeLocator,
-) -> MaybeLocator
-    requires { ⌜ SortedStore (now store) (now order) × BothTabled (now store) (now order) (now table) sizes ⌝ }
-    ensures { λ r. ⌜ asMaybe r ≡ leastLocator (keep (isAfter (asMaybe last)) (startsIn withdrawing (now (store .entry)))) ⌝ }
-{
-    let none = MaybeLocator::Nothing;
-    let least = spoken_start(
-        store,
-        order,
-        table,
-        sizes.votes,
-        sizes.voting,
-        last,
-        none,
-        false,
-    );
-    if !withdrawing {
-        return least;
-    }
-    let from = 9 * sizes.votes;
-    spoken_start(
-        store,
-        order,
-        &table[from..],
-        sizes.rejects,
-        sizes.rejecting,
-        last,
-        least,
-        true,
-    )
-}
-
-// The least of the best so far, 0 where there is none, and the offsets of a block above a given one at which a vote, or a reject, begins or ends.
-fn spoken_edge(
-    store: &[u8],
-    order: &[u64],
-    table: &[u64],
-    m: usize,
-    tabled: usize,
-    block: BlockReference,
-    offset: u64,
-    best: u64,
-    rejecting: bool,
-) -> u64
-    requires { ⌜ SortedStore (now store) (now order) × ((tabled ≤ length (now order)) × Tabled rejecting (now store) (now order) (now table) tabled m) ⌝ }
-    ensures { λ r. ⌜ r ≡ nearest offset best (edgesBy (rangesOf rejecting) (blocksOf (now (store .entry))) (asReference block)) ⌝ }
-{
-    let near = vote_table::table_edge(table, m, block, offset, best);
-    vote_edges::least_edge(store, order, tabled, block, offset, near, rejecting)
-}
-
-// The least offset of a block above a given one at which a vote begins or ends and, where owners may withdraw, a reject; 0 where there is none.
-pub fn next_edge(
-    store: &[u8],
-    order: &[u64],
-    table: &[u64],
-    sizes: TableSizes,
-    withdrawing: bool,
-    block: BlockReference,
-    offset: u64,
-) -> u64
-    requires { ⌜ SortedStore (now store) (now order) × BothTabled (now store) (now order) (now table) sizes ⌝ }
-    ensures { λ r. ⌜ r ≡ nearest offset 0 (cutsIn withdrawing (now (store .entry)) (asReference block)) ⌝ }
-{
-    let near = spoken_edge(
-        store,
-        order,
-        table,
-        sizes.votes,
-        sizes.voting,
-        block,
-        offset,
-        0,
-        false,
-    );
-    if !withdrawing {
-        return near;
-    }
-    let from = 9 * sizes.votes;
-    spoken_edge(
-        store,
-        order,
-        &table[from..],
-        sizes.rejects,
-        sizes.rejecting,
-        block,
-        offset,
-        near,
-        true,
-    )
 }
 
 // ---- a locator by itself
@@ -232,7 +105,7 @@ fn shown_start(
 {
     let mut last = after;
     loop {
-        let start = first_start(store, order, table, sizes, withdrawing, last);
+        let start = spoken_places::first_start(store, order, table, sizes, withdrawing, last);
         let MaybeLocator::Locator(locator) = start else {
             return NextStretch::Nothing;
         };
@@ -368,7 +241,7 @@ pub fn stretch_end(
     ensures { λ r. ⌜ r ≡ stretchEnd (blocksOf (now (store .entry))) (listing ordinary (readingOf withdrawing) (now (stakes .entry)) (blocksOf (now (store .entry)))) (asLocator locator) ⌝ }
 {
     let mut other = [0u64; 1024];
-    let mut end = next_edge(
+    let mut end = spoken_places::next_edge(
         store,
         order,
         table,
@@ -400,6 +273,6 @@ pub fn stretch_end(
         if !final_walk::same_words(certified, &other, order.len()) {
             return end;
         }
-        end = next_edge(store, order, table, sizes, withdrawing, block, end);
+        end = spoken_places::next_edge(store, order, table, sizes, withdrawing, block, end);
     }
 }

@@ -127,7 +127,7 @@ fn withdrawn(
     ensures { λ r. ⌜ CertifyFlagged withdrawing (now (stakes .entry)) (now (store .entry)) (now (order .entry)) (asLocator locator) (now (certified .exit)) r ⌝ }
 {
     let mut marks = [0u64; 1024];
-    let from = 9 * sizes.votes;
+    let from = 4 * sizes.votes;
     speakers::mark(
         store,
         order,

@@ -15,11 +15,11 @@ use Rattle.blocks.specs.Block.{Block}
 use Rattle.words.specs.Words.{wordsIn, wordsOf, bytesOf}
 use Rattle.finality.specs.Finality.{blocksOf}
 use Rattle.finality.specs.NextFinal.{nextFinalChecks}
-use Rattle.final_list.specs.Answers.{asStretches}
+use Rattle.stretch_words.specs.Answers.{asStretches}
 use Rattle.stretches.specs.Stretches.{Listing, lastLocator, stretchAt, fromFound, stretches}
 use Rattle.stretches.specs.Bulk.{Given, givenAfter, listStretches}
-use Rattle.final_list.specs.declared.StretchesAnswer.{StretchesAnswer}
-use Rattle.final_list.specs.declared.StretchesAnswer.the-variants.{Last, More, Refused}
+use Rattle.stretch_words.specs.declared.StretchesAnswer.{StretchesAnswer}
+use Rattle.stretch_words.specs.declared.StretchesAnswer.the-variants.{Last, More, Refused}
 use Rattle.host_locators.specs.Locators.{refusalBefore}
 use Rattle.host_finals.specs.Stretches.{stretchesNumber, stretchesIn, askedStretches, countsFit}
 use Rattle.host_calls.proofs.Numbers.{checked-most}

@@ -10,8 +10,8 @@ use Rattle.base.specs.Checks.{Answer, refused, answered}
 use Rattle.committee.specs.Committee.{Committee}
 use Rattle.blocks.specs.Reference.{TransactionLocator}
 use Rattle.words.specs.Words.{wordsOf, bytesOf}
-use Rattle.final_list.specs.declared.StretchesAnswer.{StretchesAnswer}
-use Rattle.final_list.specs.declared.StretchesAnswer.the-variants.{Last, More, Refused}
+use Rattle.stretch_words.specs.declared.StretchesAnswer.{StretchesAnswer}
+use Rattle.stretch_words.specs.declared.StretchesAnswer.the-variants.{Last, More, Refused}
 use Rattle.finality.specs.Finality.{blocksOf}
 use Rattle.stretches.specs.Stretches.{Listing, wide}
 use Rattle.stretches.specs.Bulk.{Given, listStretches}

@@ -11,10 +11,10 @@ ghost use Rattle.reading_lists.specs.Lists.{listing};
 ghost use Rattle.host_calls.specs.Calls.{encoded};
 ghost use Rattle.host_finals.specs.NextFinal.{afterOf, asAfter, askedNextFinal};
 ghost use Rattle.vote_starts.specs.Answers.{asMaybe};
-ghost use Rattle.final_list.specs.Answers.{asStretches};
+ghost use Rattle.stretch_words.specs.Answers.{asStretches};
 ghost use Rattle.host_finals.specs.Stretches.{stretchesNumber, stretchesIn, askedStretches, countsFit};
-use final_list::StretchesAnswer;
 use next_final::NextFinalAnswer;
+use stretch_words::StretchesAnswer;
 use vote_starts::MaybeLocator;
 
 const REFUSED: u64 = 9223372036854775808;

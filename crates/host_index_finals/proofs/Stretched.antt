@@ -17,9 +17,9 @@ use Rattle.blocks.specs.Reference.{TransactionLocator}
 use Rattle.words.specs.Words.{wordsIn, wordsOf, bytesOf}
 use Rattle.finality.specs.Finality.{blocksOf}
 use Rattle.finality.specs.NextFinal.{nextFinalChecks}
-use Rattle.final_list.specs.Answers.{asStretches}
-use Rattle.final_list.specs.declared.StretchesAnswer.{StretchesAnswer}
-use Rattle.final_list.specs.declared.StretchesAnswer.the-variants.{Last, More, Refused}
+use Rattle.stretch_words.specs.Answers.{asStretches}
+use Rattle.stretch_words.specs.declared.StretchesAnswer.{StretchesAnswer}
+use Rattle.stretch_words.specs.declared.StretchesAnswer.the-variants.{Last, More, Refused}
 use Rattle.stretches.specs.Stretches.{Listing, stretches}
 use Rattle.stretches.specs.Bulk.{Given, givenAfter}
 use Rattle.indexed_lists.specs.Indexed.{indexedChecks, listStretchesIndexed}

@@ -14,8 +14,8 @@ use Rattle.words.specs.Words.{wordsOf, bytesOf}
 use Rattle.finality.specs.Finality.{blocksOf}
 use Rattle.stretches.specs.Stretches.{Listing, wide}
 use Rattle.stored_finals.specs.Ordinary.{ordinary}
-use Rattle.final_list.specs.declared.StretchesAnswer.{StretchesAnswer}
-use Rattle.final_list.specs.declared.StretchesAnswer.the-variants.{Last, More, Refused}
+use Rattle.stretch_words.specs.declared.StretchesAnswer.{StretchesAnswer}
+use Rattle.stretch_words.specs.declared.StretchesAnswer.the-variants.{Last, More, Refused}
 use Rattle.indexed_lists.specs.Indexed.{indexedChecks, listStretchesIndexed}
 use Rattle.host_calls.specs.Calls.{committeeOf}
 use Rattle.host_finals.specs.NextFinal.{afterOf}

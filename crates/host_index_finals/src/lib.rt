@@ -1,6 +1,6 @@
 // What the host's calls about the lists with the index are made of: the index crosses as words, the rest as bytes.
-use final_list::StretchesAnswer;
 use host_finals::After;
+use stretch_words::StretchesAnswer;
 use vote_starts::MaybeLocator;
 ghost use mathlib.Core.Path.{_≡_};
 ghost use lib.ListN.{length};
@@ -8,7 +8,7 @@ ghost use Rattle.finality.specs.Finality.{blocksOf};
 ghost use Rattle.readings.specs.Readings.{old};
 ghost use Rattle.reading_lists.specs.Lists.{listing};
 ghost use Rattle.vote_starts.specs.Answers.{asMaybe};
-ghost use Rattle.final_list.specs.Answers.{asStretches};
+ghost use Rattle.stretch_words.specs.Answers.{asStretches};
 ghost use Rattle.host_calls.specs.Calls.{encoded};
 ghost use Rattle.host_finals.specs.NextFinal.{afterOf};
 ghost use Rattle.host_finals.specs.Stretches.{stretchesNumber};

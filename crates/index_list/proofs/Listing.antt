@@ -35,8 +35,8 @@ use Rattle.voters_index.specs.Walk.{Past, byBlock, byOffset, Place, beyond, At}
 use Rattle.index_search.specs.Search.{Alike, Ended}
 use Rattle.index_search.proofs.Counting.{final-alike}
 use Rattle.index_listed.specs.Shown.{ShownAt}
-use Rattle.final_list.specs.Step.{stretchOf}
-use Rattle.final_list.proofs.Filling.{stretch-parts}
+use Rattle.stretch_words.specs.Step.{stretchOf}
+use Rattle.stretch_words.proofs.Filling.{stretch-parts}
 use Rattle.index_list.specs.After.{nextOffset, placeAfter}
 
 -- a list goes on at a place: what is after the last locator stands there, and what is shown from there on is after it

@@ -1,9 +1,9 @@
 // The lists of final locators in bulk, with the index: certifying blocks and voters come from the parts.
 use committee::NewCommittee;
 use committee::Stake;
-use final_list::StretchesAnswer;
 use index_listed::NextListed;
 use index_runs::Place;
+use stretch_words::StretchesAnswer;
 use types::TransactionLocator;
 use vote_starts::MaybeLocator;
 ghost use mathlib.Core.Path.{_≡_};
@@ -20,7 +20,7 @@ ghost use Rattle.stretches.specs.Bulk.{givenAfter, wordsAfter};
 ghost use Rattle.stored_finals.specs.Ordinary.{ordinary};
 ghost use Rattle.readings.specs.Readings.{old};
 ghost use Rattle.reading_lists.specs.Lists.{listing};
-ghost use Rattle.final_list.specs.Answers.{asStretches};
+ghost use Rattle.stretch_words.specs.Answers.{asStretches};
 ghost use Rattle.indexed_lists.specs.Indexed.{indexedChecks, listStretchesIndexed};
 ghost use Rattle.index_runs.specs.Values.{asPlace};
 ghost use Rattle.index_check.specs.Known.{Known};
@@ -99,7 +99,7 @@ fn fill(
             flags,
             cursors,
         );
-        final_list::write_stretch(out, n, locator, end, found.blocks as u64, stake);
+        stretch_words::write_stretch(out, n, locator, end, found.blocks as u64, stake);
         let block = locator.block;
         last = MaybeLocator::Locator(TransactionLocator {
             block,

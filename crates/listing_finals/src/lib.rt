@@ -1,7 +1,7 @@
 // The ordinary list, or the wide one, printed as far as it goes.
 use committee::AuthorityIndex;
 use committee::RoundNumber;
-use final_list::StretchesAnswer;
+use stretch_words::StretchesAnswer;
 use types::BlockDigest;
 use types::BlockReference;
 use types::TransactionLocator;
@@ -15,7 +15,7 @@ ghost use Rattle.stretches.specs.Bulk.{listStretches};
 ghost use Rattle.readings.specs.Readings.{old};
 ghost use Rattle.reading_lists.specs.Lists.{listing};
 ghost use Rattle.vote_starts.specs.Answers.{asMaybe};
-ghost use Rattle.final_list.specs.Answers.{asStretches};
+ghost use Rattle.stretch_words.specs.Answers.{asStretches};
 
 // How far the buffer is filled, how many locators were final, the last of them, and whether there may be more.
 pub struct Listed {

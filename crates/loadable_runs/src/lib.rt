@@ -46,7 +46,15 @@ fn final_run(
         &mut certified,
     );
     let finals = committee::is_quorum(total, authority_set::stake_of(stakes, found.authors));
-    let end = final_search::next_edge(store, order, table, sizes, false, share.block, share.offset);
+    let end = spoken_places::next_edge(
+        store,
+        order,
+        table,
+        sizes,
+        false,
+        share.block,
+        share.offset,
+    );
     if end == 0 {
         // No edge follows a locator that nobody votes for.
         return FinalRun {

@@ -23,7 +23,8 @@ use Rattle.block_spans.specs.Ranges.{rangesAt, rangesOf}
 use Rattle.block_spans.proofs.Joining.{joined-votes}
 use Rattle.block_spans.proofs.Rejecting.{rejected-covers}
 use Rattle.include_places.specs.Places.{setAt}
-use Rattle.vote_table.specs.Table.{placeAt, rangeAt, Tabled, Marks}
+use Rattle.vote_rows.specs.Row.{rangeAt}
+use Rattle.vote_table.specs.Table.{Tabled, Marks}
 use Rattle.speakers.specs.Heard.{withSet, Owned, OwnedBelow}
 
 -- ---- two words
@@ -62,7 +63,7 @@ unfolding rangesOf rangesAt joinedAt joinedSpans
 said-covers true b l low = rejected-covers b l (λ e. let h = low refl in omega arith)
 said-covers false b l low = joined-votes b l
 
-pub marks-below : (rejecting : Bool) (s : Bytes) (order t : List ℕ) (n m : ℕ) (l : TransactionLocator) (own : List ℕ) → (rejecting ≡ true → l .offset < 18446744073709551615) → Tabled rejecting s order t n m → Marks t m l own → OwnedBelow rejecting s order l own n
+pub marks-below : (rejecting : Bool) (s : Bytes) (order t : List ℕ) (n m : ℕ) (l : TransactionLocator) (own : List ℕ) → (rejecting ≡ true → l .offset < 18446744073709551615) → Tabled rejecting s order t n m → Marks s t m l own → OwnedBelow rejecting s order l own n
 unfolding OwnedBelow Marks
 marks-below rejecting s order t n m l own low w x k h = go (decLt k n)
   where
@@ -70,7 +71,7 @@ marks-below rejecting s order t n m l own low w x k h = go (decLt k n)
     there-too e =
         let y = x .1 k (eqb-true (getD own k 0) 1 e) in
         let z = w .sound (y .0) (y .1 .0) in
-        sym (said-covers rejecting (blockAtPlace s order k) l low) ∙ in-any (λ q. covers q l) (subst (λ (j : ℕ). rangeAt t (y .0) ∈ rangesOf rejecting (blockAtPlace s order j)) (y .1 .1 .0) (z .1)) (y .1 .1 .1)
+        sym (said-covers rejecting (blockAtPlace s order k) l low) ∙ in-any (λ q. covers q l) (subst (λ (j : ℕ). rangeAt s t (y .0) ∈ rangesOf rejecting (blockAtPlace s order j)) (y .1 .1 .0) (z .1)) (y .1 .1 .1)
 
     back : k < n → says rejecting (blockAtPlace s order k) l ≡ true → eqb (getD own k 0) 1 ≡ true
     back i e =

@@ -57,7 +57,7 @@ pub fn mark(
     requires { ⌜ ((SortedStore (now store) (now order) × (length (now order) ≤ length (now own))) × ((tabled ≤ length (now order)) × Tabled rejecting (now store) (now order) (now table) tabled m)) × (((k : ℕ) → getD (now own) k 0 ≡ 0) × (rejecting ≡ true → locator .offset < 18446744073709551615)) ⌝ }
     ensures { λ _. ⌜ Owned rejecting (now (store .entry)) (now (order .entry)) (asLocator locator) (now (own .exit)) ⌝ }
 {
-    vote_table::mark_votes(table, m, locator, own);
+    vote_table::mark_votes(store, table, m, locator, own);
     mark_rest(store, order, tabled, locator, own, rejecting);
 }
 

@@ -15,7 +15,7 @@ ghost use Rattle.stretches.specs.Stretches.{edgesOf, nearer, nearest};
 ghost use Rattle.vote_edges.specs.Edges.{edgesIn, edgesAt};
 
 // The lesser of the best so far, 0 where there is none, and an edge above the offset.
-fn nearer(offset: u64, best: u64, edge: u64) -> u64
+pub fn nearer(offset: u64, best: u64, edge: u64) -> u64
     ensures { λ r. ⌜ r ≡ nearer offset best edge ⌝ }
 {
     if edge <= offset {

@@ -37,7 +37,7 @@ fn is_after(last: MaybeLocator, locator: TransactionLocator) -> bool
 }
 
 // The lesser of the least locator so far and another, if that comes after the given one.
-pub fn lesser(best: MaybeLocator, last: MaybeLocator, locator: TransactionLocator) -> MaybeLocator
+fn lesser(best: MaybeLocator, last: MaybeLocator, locator: TransactionLocator) -> MaybeLocator
     ensures { λ r. ⌜ asMaybe r ≡ lesserOf (asMaybe best) (leastLocator (keep (isAfter (asMaybe last)) (asLocator locator ∷ []))) ⌝ }
 {
     if !is_after(last, locator) {
@@ -53,7 +53,7 @@ pub fn lesser(best: MaybeLocator, last: MaybeLocator, locator: TransactionLocato
 }
 
 // Where a vote for a range begins, or just after a rejected one.
-pub fn start_of(range: TransactionLocatorRange, rejecting: bool) -> TransactionLocator
+fn start_of(range: TransactionLocatorRange, rejecting: bool) -> TransactionLocator
     ensures { λ r. ⌜ asLocator r ≡ startOf rejecting (asRange range) ⌝ }
 {
     let block = range.block;

@@ -1,21 +1,16 @@
-// The votes of the stored blocks in a table of nine words each, and their rejects behind them, as far as it reaches.
+// The votes of the stored blocks in a table of four words each, and their rejects behind them, as far as it reaches.
 use block_spans::Vote;
-use committee::AuthorityIndex;
-use committee::RoundNumber;
-use types::BlockDigest;
 use types::BlockReference;
 use types::TransactionLocator;
-use types::TransactionLocatorRange;
 use vote_starts::MaybeLocator;
 ghost use mathlib.Core.Path.{_≡_};
 ghost use mathlib.Core.Bool.{true};
 ghost use mathlib.Core.List.{map};
 ghost use Prim.Native.Nat.{ℕ, _+_, _*_, _≤_, _<_};
 ghost use lib.ListN.{length, getD};
-ghost use lib.Seq.{sets};
-ghost use Rattle.base.specs.Lists.{keep};
+ghost use Rattle.base.specs.Lists.{pick, keep};
 ghost use Rattle.blocks.specs.Record.{wellFormed, blockIn};
-ghost use Rattle.types.specs.Values.{asReference, asLocator, asRange};
+ghost use Rattle.types.specs.Values.{asReference, asLocator};
 ghost use Rattle.finality.specs.NextFinal.{isAfter, leastLocator};
 ghost use Rattle.block_votes.specs.Walk.{SortedStore};
 ghost use Rattle.block_spans.specs.Joined.{VotesFit};
@@ -23,7 +18,8 @@ ghost use Rattle.vote_starts.specs.Answers.{asMaybe};
 ghost use Rattle.vote_starts.specs.Walk.{startOf, lesserOf};
 ghost use Rattle.stretches.specs.Stretches.{nearest};
 ghost use Rattle.vote_edges.specs.Edges.{edgesIn};
-ghost use Rattle.vote_table.specs.Table.{voteWords, placeAt, rangeAt, tableRanges, RecordedBy, Tabled, BothTabled, Marks};
+ghost use Rattle.vote_rows.specs.Row.{placeAt};
+ghost use Rattle.vote_table.specs.Table.{tableRanges, Standing, RecordedBy, Tabled, BothTabled, Marks};
 
 // How many votes the table holds; or it is too short.
 enum Tabling {
@@ -45,50 +41,32 @@ pub struct TableSizes {
     pub rejects: usize,
 }
 
-// Writes a vote, or a reject, of the block at a place.
-fn write_vote(votes: &mut [u64], m: usize, k: usize, range: TransactionLocatorRange)
-    requires { ⌜ 9 * m + 9 ≤ length (now votes) ⌝ }
-    ensures { λ _. ⌜ now (votes .exit) ≡ sets (now (votes .entry)) (9 * m) (voteWords k range) ⌝ }
+// Where the reference of a range of a record stands: after the kind of the statement at a position of the record, or at its start, as that of its shares.
+fn reference_position(store: &[u8], start: usize, here: usize, block: BlockReference) -> usize
+    requires { ⌜ start ≤ length (now store) ⌝ }
 {
-    let at = 9 * m;
-    let block = range.block;
-    let digest = block.digest;
-    votes[at] = k as u64;
-    votes[at + 1] = block.authority.0;
-    votes[at + 2] = block.round.0;
-    votes[at + 3] = digest.0;
-    votes[at + 4] = digest.1;
-    votes[at + 5] = digest.2;
-    votes[at + 6] = digest.3;
-    votes[at + 7] = range.offset_start_inclusive;
-    votes[at + 8] = range.offset_end_exclusive;
-}
-
-// The range of a vote, or of a reject.
-fn read_vote(votes: &[u64], i: usize) -> TransactionLocatorRange
-    requires { ⌜ 9 * i + 9 ≤ length (now votes) ⌝ }
-    ensures { λ r. ⌜ asRange r ≡ rangeAt (now (votes .entry)) i ⌝ }
-{
-    let at = 9 * i;
-    let authority = AuthorityIndex(votes[at + 1]);
-    let round = RoundNumber(votes[at + 2]);
-    let digest = BlockDigest(votes[at + 3], votes[at + 4], votes[at + 5], votes[at + 6]);
-    let block = BlockReference {
-        authority,
-        round,
-        digest,
-    };
-    TransactionLocatorRange {
-        block,
-        offset_start_inclusive: votes[at + 7],
-        offset_end_exclusive: votes[at + 8],
+    if store.len() - start <= here {
+        return start;
     }
+    let at = start + here + 1;
+    if vote_rows::stands_at(store, at, block) {
+        return at;
+    }
+    start
 }
 
-// Puts the votes, or the rejects, of the block of a record, which stands at a place, after the first m.
-fn table_record(rec: &[u8], k: usize, votes: &mut [u64], m: usize, rejecting: bool) -> Tabling
-    requires { ⌜ ((wellFormed (now rec) ≡ true) × VotesFit (blockIn (now rec))) × (9 * m ≤ length (now votes)) ⌝ }
-    ensures { λ r. ⌜ RecordedBy rejecting (blockIn (now (rec .entry))) k (now (votes .entry)) (now (votes .exit)) m r ⌝ }
+// Puts the votes, or the rejects, of the block of a record, which stands at a place and starts at a position of the store, after the first m.
+fn table_record(
+    store: &[u8],
+    start: usize,
+    rec: &[u8],
+    k: usize,
+    votes: &mut [u64],
+    m: usize,
+    rejecting: bool,
+) -> Tabling
+    requires { ⌜ ((wellFormed (now rec) ≡ true) × VotesFit (blockIn (now rec))) × ((4 * m ≤ length (now votes)) × (start ≤ length (now store))) ⌝ }
+    ensures { λ r. ⌜ RecordedBy rejecting (now (store .entry)) (blockIn (now (rec .entry))) k (now (votes .entry)) (now (votes .exit)) m r ⌝ }
 {
     let count = block_record::statement_count(rec);
     let block = block_record::reference(rec);
@@ -97,14 +75,27 @@ fn table_record(rec: &[u8], k: usize, votes: &mut [u64], m: usize, rejecting: bo
     while cursor.index < count {
         let found = block_spans::next_span(rec, block, cursor, rejecting);
         let vote = found.vote;
+        let here = cursor.at;
         cursor = found.next;
         let Vote::Range(range) = vote else {
             continue;
         };
-        if votes.len() - 9 * n < 9 {
+        if votes.len() - 4 * n < 4 {
             return Tabling::Full;
         }
-        write_vote(votes, n, k, range);
+        let at = reference_position(store, start, here, range.block);
+        if !vote_rows::stands_at(store, at, range.block) {
+            // Never so: the reference stands at one of the two.
+            return Tabling::Full;
+        }
+        vote_rows::write_row(
+            votes,
+            n,
+            k,
+            at,
+            range.offset_start_inclusive,
+            range.offset_end_exclusive,
+        );
         n += 1;
     }
     Tabling::Now(n)
@@ -121,7 +112,7 @@ fn table_votes(store: &[u8], order: &[u64], votes: &mut [u64], rejecting: bool) 
         let at = order[k] as usize;
         let start = at + 8;
         let end = store_entries::record_end(store, at);
-        let tabled = table_record(&store[start..end], k, votes, m, rejecting);
+        let tabled = table_record(store, start, &store[start..end], k, votes, m, rejecting);
         let Tabling::Now(n) = tabled else {
             return TableSize { blocks: k, held: m };
         };
@@ -145,7 +136,7 @@ pub fn table_both(store: &[u8], order: &[u64], table: &mut [u64], withdrawing: b
             rejects: 0,
         };
     }
-    let from = 9 * votes.held;
+    let from = 4 * votes.held;
     let rejects = table_votes(store, order, &mut table[from..], true);
     TableSizes {
         voting: votes.blocks,
@@ -157,53 +148,96 @@ pub fn table_both(store: &[u8], order: &[u64], table: &mut [u64], withdrawing: b
 
 // ---- what is asked of the table
 
+// Where a vote begins, or just after a rejected range.
+fn start_word(votes: &[u64], i: usize, rejecting: bool) -> u64
+    requires { ⌜ 4 * i + 4 ≤ length (now votes) ⌝ }
+    ensures { λ r. ⌜ r ≡ pick rejecting (getD (now (votes .entry)) (4 * i + 3) 0) (getD (now (votes .entry)) (4 * i + 2) 0) ⌝ }
+{
+    if rejecting {
+        return votes[4 * i + 3];
+    }
+    votes[4 * i + 2]
+}
+
 // The lesser of the least locator so far and the least one after the given one at which a vote of the table begins, or just after a rejected one.
 pub fn table_start(
+    store: &[u8],
     votes: &[u64],
     m: usize,
     last: MaybeLocator,
     best: MaybeLocator,
     rejecting: bool,
 ) -> MaybeLocator
-    requires { ⌜ 9 * m ≤ length (now votes) ⌝ }
-    ensures { λ r. ⌜ asMaybe r ≡ lesserOf (asMaybe best) (leastLocator (keep (isAfter (asMaybe last)) (map (startOf rejecting) (tableRanges (now (votes .entry)) m)))) ⌝ }
+    requires { ⌜ (4 * m ≤ length (now votes)) × Standing (now store) (now votes) m ⌝ }
+    ensures { λ r. ⌜ asMaybe r ≡ lesserOf (asMaybe best) (leastLocator (keep (isAfter (asMaybe last)) (map (startOf rejecting) (tableRanges (now (store .entry)) (now (votes .entry)) m)))) ⌝ }
 {
     let mut least = best;
     let mut i: usize = 0;
     while i < m {
-        let range = read_vote(votes, i);
-        least = vote_starts::lesser(least, last, vote_starts::start_of(range, rejecting));
+        let at = votes[4 * i + 1] as usize;
+        let offset = start_word(votes, i, rejecting);
         i += 1;
+        if !vote_rows::follows(store, at, offset, last) {
+            continue;
+        }
+        if vote_rows::is_past(store, at, offset, least) {
+            continue;
+        }
+        let block = types::read_reference(store, at);
+        least = MaybeLocator::Locator(TransactionLocator { block, offset });
     }
     least
 }
 
 // The least of the best so far, 0 where there is none, and the offsets of a block above a given one at which a range of the table begins or ends.
-pub fn table_edge(votes: &[u64], m: usize, block: BlockReference, offset: u64, best: u64) -> u64
-    requires { ⌜ 9 * m ≤ length (now votes) ⌝ }
-    ensures { λ r. ⌜ r ≡ nearest offset best (edgesIn (asReference block) (tableRanges (now (votes .entry)) m)) ⌝ }
+pub fn table_edge(
+    store: &[u8],
+    votes: &[u64],
+    m: usize,
+    block: BlockReference,
+    offset: u64,
+    best: u64,
+) -> u64
+    requires { ⌜ (4 * m ≤ length (now votes)) × Standing (now store) (now votes) m ⌝ }
+    ensures { λ r. ⌜ r ≡ nearest offset best (edgesIn (asReference block) (tableRanges (now (store .entry)) (now (votes .entry)) m)) ⌝ }
 {
     let mut near = best;
     let mut i: usize = 0;
     while i < m {
-        let range = read_vote(votes, i);
-        near = vote_edges::range_edges(block, offset, near, range);
+        let at = votes[4 * i + 1] as usize;
+        near = vote_rows::edges_at(
+            store,
+            at,
+            votes[4 * i + 2],
+            votes[4 * i + 3],
+            block,
+            offset,
+            near,
+        );
         i += 1;
     }
     near
 }
 
 // Marks the places of the blocks that vote for a locator, or reject it.
-pub fn mark_votes(votes: &[u64], m: usize, locator: TransactionLocator, own: &mut [u64])
-    requires { ⌜ ((9 * m ≤ length (now votes)) × ((j : ℕ) → j < m → placeAt (now votes) j < length (now own))) × ((k : ℕ) → getD (now own) k 0 ≡ 0) ⌝ }
-    ensures { λ _. ⌜ Marks (now (votes .entry)) m (asLocator locator) (now (own .exit)) ⌝ }
+pub fn mark_votes(
+    store: &[u8],
+    votes: &[u64],
+    m: usize,
+    locator: TransactionLocator,
+    own: &mut [u64],
+)
+    requires { ⌜ (((4 * m ≤ length (now votes)) × Standing (now store) (now votes) m) × ((j : ℕ) → j < m → placeAt (now votes) j < length (now own))) × ((k : ℕ) → getD (now own) k 0 ≡ 0) ⌝ }
+    ensures { λ _. ⌜ Marks (now (store .entry)) (now (votes .entry)) m (asLocator locator) (now (own .exit)) ⌝ }
 {
     let mut i: usize = 0;
     while i < m {
-        let range = read_vote(votes, i);
-        let k = votes[9 * i] as usize;
+        let k = votes[4 * i] as usize;
+        let at = votes[4 * i + 1] as usize;
+        let start = votes[4 * i + 2];
+        let end = votes[4 * i + 3];
         i += 1;
-        if !block_votes::covers(range, locator) {
+        if !vote_rows::covers_at(store, at, start, end, locator) {
             continue;
         }
         own[k] = 1;

@@ -27,6 +27,7 @@ fn main() {
             check_indexes();
         }
         Some("withdrawing") => withdrawing(),
+        Some("votes") => votes(),
         _ => table(),
     }
 }
@@ -72,12 +73,28 @@ fn table() {
     feeding_indexed();
     sorted(&graphs::generated(1000), 10_000);
     println!();
+    votes();
     withdrawing();
     check(100);
     check(1000);
     check_indexes();
     longest_listing();
     peak_memory();
+}
+
+/// The lists of 1,000 blocks with three accepts each, and with ten.
+fn votes() {
+    let (three, ten) = (fed(&graphs::generated(1000)), fed(&graphs::voting(1000)));
+    assert_eq!(wide_list(&three), wide_list(&ten), "the same locators are final");
+    for (name, list) in [("wide", wide_list as fn(&Memory) -> u64), ("ordinary", final_list)] {
+        let (few, many) = (least(|| list(&three)), least(|| list(&ten)));
+        println!(
+            "{name} list in bulk, 1,000 blocks with three votes each: {}; with ten {}, {:.2} times as long",
+            time(few),
+            time(many),
+            many / few
+        );
+    }
 }
 
 /// The wide list in both readings, with no rejects and with three in each block: of its first include the share, where owner 3 speaks, else offsets

@@ -1,5 +1,5 @@
 use Rattle.final_list.proofs.Asking.{bulk-broken, bulk-disordered, bulk-asked}
-use Rattle.final_list.specs.Answers.{asStretches}
+use Rattle.stretch_words.specs.Answers.{asStretches}
 use Rattle.stretches.specs.Bulk.{AskedBulk}
 use Rattle.readings.specs.Readings.{readingOf}
 use Rattle.reading_lists.specs.Lists.{listing}

@@ -1,5 +1,6 @@
 use Rattle.final_search.proofs.Onward.{when-yes, when-shown, when-hidden}
-use Rattle.final_search.specs.Search.{startsIn, leastStart, asNext, FoundRight}
+use Rattle.spoken_places.specs.Search.{startsIn}
+use Rattle.final_search.specs.Search.{leastStart, asNext, FoundRight}
 use Rattle.readings.specs.Readings.{readingOf}
 use Rattle.reading_lists.specs.Lists.{listing}
 use Rattle.vote_starts.proofs.Starts.{none-final, one-final, not-final, fewer}

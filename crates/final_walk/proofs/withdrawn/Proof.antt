@@ -39,7 +39,7 @@ slice-aggregate-mark c = search needs
 mark-requires : tie.Need-mark-requires
 mark-requires c κs = let a = c .before .before .before .before .before .before .before .before .before .before .args in
     let p = c .before .before .before .before .before .before .before .before .before .before .pre in
-    (((some-committee (p .0 .0 .0 .0 .0), omega (arith, p .0 .0 .0 .1)), (p .0 .1 .0 .rejecting, subst (λ (t : List ℕ). Tabled true (a .store .now) (a .order .now) t (a .sizes .rejecting) (a .sizes .rejects)) (sym (take-all (length (a .table .now) - 9 * a .sizes .votes) (drop (9 * a .sizes .votes) (a .table .now)) (omega (arith, length-drop (9 * a .sizes .votes) (a .table .now))))) (p .0 .1 .0 .rejects))), ((λ k. zeros-at 1024 k), λ e. p .1 .0))
+    (((some-committee (p .0 .0 .0 .0 .0), omega (arith, p .0 .0 .0 .1)), (p .0 .1 .0 .rejecting, subst (λ (t : List ℕ). Tabled true (a .store .now) (a .order .now) t (a .sizes .rejecting) (a .sizes .rejects)) (sym (take-all (length (a .table .now) - 4 * a .sizes .votes) (drop (4 * a .sizes .votes) (a .table .now)) (omega (arith, length-drop (4 * a .sizes .votes) (a .table .now))))) (p .0 .1 .0 .rejects))), ((λ k. zeros-at 1024 k), λ e. p .1 .0))
 
 slice-aggregate-any-marked : tie.Need-slice-aggregate-any-marked
 slice-aggregate-any-marked c = search needs

@@ -3,7 +3,7 @@ use Rattle.reading_lists.specs.Lists.{listing}
 use Rattle.finality.specs.Finality.{blocksOf}
 use mathlib.Core.Path.{sym, ap, _∙_}
 use native.Mathlib.Omega.{arith}
-use Rattle.final_list.specs.Answers.{asStretches}
+use Rattle.stretch_words.specs.Answers.{asStretches}
 use Rattle.host_calls.specs.Calls.{encoded, flag}
 use Rattle.host_finals.specs.NextFinal.{asAfter, afterOf}
 use Rattle.host_finals.specs.Stretches.{StretchesCall, stretchesNumber}

@@ -14,9 +14,9 @@ use Rattle.stretches.specs.Bulk.{Given}
 use Rattle.stretches.specs.Stretches.{lastLocator, stretchAt}
 use Rattle.readings.specs.Readings.{old}
 use Rattle.reading_lists.specs.Lists.{listing}
-use Rattle.final_list.specs.Answers.{asStretches}
-use Rattle.final_list.specs.Step.{Filled}
-use Rattle.final_list.proofs.Filling.{stretches-none, stretches-full, fill-start, fill-more, fill-words, given-last, given-more}
+use Rattle.stretch_words.specs.Answers.{asStretches}
+use Rattle.stretch_words.specs.Step.{Filled}
+use Rattle.stretch_words.proofs.Filling.{stretches-none, stretches-full, fill-start, fill-more, fill-words, given-last, given-more}
 use Rattle.index_watch.specs.Watch.{Watched}
 use Rattle.index_listed.specs.Shown.{ShownFrom}
 use Rattle.index_list.specs.After.{placeAfter}

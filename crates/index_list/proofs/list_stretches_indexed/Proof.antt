@@ -5,7 +5,7 @@ use Rattle.finality.specs.Finality.{blocksOf}
 use Rattle.stretches.specs.Bulk.{AskedBulk}
 use Rattle.readings.specs.Readings.{old}
 use Rattle.reading_lists.specs.Lists.{listing}
-use Rattle.final_list.specs.Answers.{asStretches}
+use Rattle.stretch_words.specs.Answers.{asStretches}
 use native.Mathlib.Omega.{arith}
 use lib.ListN.{length}
 use borrow.Author.Needs.{needs}

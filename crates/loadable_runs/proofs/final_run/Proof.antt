@@ -9,7 +9,7 @@ use Rattle.readings.specs.Readings.{votersIn, certifiesIn, certifiersIn}
 use Rattle.block_spans.specs.Joined.{joinedAt, joinedSpans}
 use Rattle.block_spans.specs.Ranges.{rangesAt, rangesOf}
 use Rattle.final_walk.specs.Walk.{Certify}
-use Rattle.final_search.specs.Search.{cutsIn}
+use Rattle.spoken_places.specs.Search.{cutsIn}
 use Rattle.loadable_runs.proofs.Edges.{told-one, told-on}
 use borrow.Author.Needs.{needs}
 use Rattle.loadable_runs.proofs.final_run.Statement.{statement}

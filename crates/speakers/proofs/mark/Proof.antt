@@ -8,13 +8,13 @@ use Rattle.speakers.proofs.mark.Tie as tie
 
 mark-votes-requires : tie.Need-mark-votes-requires
 mark-votes-requires c κs = let p = c .before .before .before .before .before .pre in
-    ((p .0 .1 .1 .room, λ j h. omega (arith, p .0 .1 .1 .sound j h .0, p .0 .1 .0, p .0 .0 .1)), p .1 .0)
+    (((p .0 .1 .1 .room, p .0 .1 .1 .stands), λ j h. omega (arith, p .0 .1 .1 .sound j h .0, p .0 .1 .0, p .0 .0 .1)), p .1 .0)
 
 mark-rest-requires : tie.Need-mark-rest-requires
 unfolding asLocator locator
 mark-rest-requires c κs = let a = c .before .before .before .before .before .before .before .before .before .args in
     let p = c .before .before .before .before .before .before .before .before .before .pre in
-    ((p .0 .0 .0, p .0 .1 .0), (omega (arith, c .before .before .before .mark-votes .kept .1 .1 .1 .0, p .0 .0 .1), marks-below (a .rejecting) (a .store .now) (a .order .now) (a .table .now) (a .tabled) (a .m) (asLocator (a .locator)) _ (p .1 .1) (p .0 .1 .1) (c .before .before .before .mark-votes .ensures)))
+    ((p .0 .0 .0, p .0 .1 .0), (omega (arith, c .before .before .before .mark-votes .kept .1 .1 .1 .1 .0, p .0 .0 .1), marks-below (a .rejecting) (a .store .now) (a .order .now) (a .table .now) (a .tabled) (a .m) (asLocator (a .locator)) _ (p .1 .1) (p .0 .1 .1) (c .before .before .before .mark-votes .ensures)))
 
 same-length : tie.Need-same-length
 same-length c = search needs

@@ -46,7 +46,7 @@ returns-2 c = let e = c .before .before .before .before .before .before .before 
     let x = c .before .before .table-votes2 .ensures in
     let a = c .before .before .before .before .before .before .before .before .before .before .before .before .before .args in
     let t = c .before .before .before .before .before .before .before .before .table-votes .last .1 .1 .0 in
-    let n = 9 * (c .before .before .before .before .before .before .before .before .table-votes .result .held) in
+    let n = 4 * (c .before .before .before .before .before .before .before .before .table-votes .result .held) in
     put-behind (a .store .now) (a .order .now) t (c .before .before .table-votes2 .last .1 .1 .0) _ (e .0) (e .1) (x .0) (x .1) (c .before .before .table-votes2 .kept .1 .1 .0 ∙ ap length (take-all (length t - n) (drop n t) (omega (arith, length-drop n t))))
 
 pub table-both-spec : {M : Type 1} → statement M

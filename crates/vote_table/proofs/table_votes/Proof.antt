@@ -53,7 +53,7 @@ table-record-requires c κs = let a = (c .before .before .before .before .before
     let bytes = bytes-of (a .store .now) (λ j l. omega (arith, c .before .before .before .before .before .before .before .before .shared-slice-known .given j)) in (
       rw (record-part (a .store .now) (getD (a .order .now) (g .k) 0) (c .before .before .record-end .result) (c .before .before .record-end .ensures))
           (entry-room (a .store .now) _ (place-entry (a .store .now) (a .order .now) (c .before .before .before .before .before .before .before .before .before .pre) (c .before .before .before .before .before .loop .k) (c .before .before .before .before .loop-test .taken)) .formed, votes-fit (o .0) (a .store .now) bytes (o .1 .inOrder) _ (place-stored (a .store .now) (a .order .now) o (g .k) (c .before .before .before .before .loop-test .taken))),
-      g .inv .1 .1 .room,
+      (g .inv .1 .1 .room, omega (arith, entry-room (a .store .now) _ (place-entry (a .store .now) (a .order .now) o (g .k) (c .before .before .before .before .loop-test .taken)) .inside)),
     )
 
 enum-known-tabled : tie.Need-enum-known-tabled Inv-loop μ-loop
@@ -63,7 +63,7 @@ enum-told : tie.Need-enum-told Inv-loop μ-loop
 enum-told c = search needs
 
 same-length : tie.Need-same-length Inv-loop μ-loop
-same-length c = c .before .before .before .before .table-record .kept .1 .1 .0 ∙ c .before .before .before .before .before .before .before .before .before .before .loop .inv .0
+same-length c = c .before .before .before .before .table-record .kept .1 .1 .1 .1 .0 ∙ c .before .before .before .before .before .before .before .before .before .before .loop .inv .0
 
 returns : tie.Need-returns Inv-loop μ-loop
 unfolding RecordedBy
@@ -83,7 +83,7 @@ unfolding RecordedBy blockAt blockAtPlace
 loop-again c = let a = (c .before .before .before .before .before .before .before .before .before .before .before .before .before .before .before .args) in
     let g = (c .before .before .before .before .before .before .before .before .before .before .before .loop) in
     let r = rw (record-part (a .store .now) (getD (a .order .now) (g .k) 0) (c .before .before .before .before .before .before .before .before .record-end .result) (c .before .before .before .before .before .before .before .before .record-end .ensures), c .before .tabled .given .1) at (c .before .before .before .before .before .table-record .ensures) in
-    (c .before .before .before .before .before .table-record .kept .1 .1 .0 ∙ g .inv .0, (omega (arith, c .before .before .before .before .before .before .before .before .before .before .loop-test .taken), table-more (a .rejecting) (a .store .now) (a .order .now) (g .votes) _ (g .k) (g .m) _ (g .inv .1 .1) r))
+    (c .before .before .before .before .before .table-record .kept .1 .1 .1 .1 .0 ∙ g .inv .0, (omega (arith, c .before .before .before .before .before .before .before .before .before .before .loop-test .taken), table-more (a .rejecting) (a .store .now) (a .order .now) (g .votes) _ (g .k) (g .m) _ (g .inv .1 .1) r))
 
 same-length-2 : tie.Need-same-length-2 Inv-loop μ-loop
 same-length-2 c = c .before .loop .inv .0

@@ -1,0 +1,26 @@
+use Rattle.vote_rows.specs.Row.{isPast}
+use Rattle.vote_starts.specs.Answers.{asMaybe}
+use borrow.Author.Needs.{needs}
+use Rattle.vote_rows.proofs.is_past.Statement.{statement}
+use Rattle.vote_rows.proofs.is_past.Tie as tie
+
+enum-known-best : tie.Need-enum-known-best
+enum-known-best c = search needs
+
+enum-told : tie.Need-enum-told
+enum-told c = search needs
+
+returns : tie.Need-returns
+unfolding isPast asMaybe
+returns c = rw (c .enum-told .given .1)
+
+comes-after-requires : tie.Need-comes-after-requires
+comes-after-requires c κs = search needs
+
+returns-2 : tie.Need-returns-2
+unfolding isPast asMaybe
+returns-2 c = rw (c .before .before .best .given .1) (c .comes-after .ensures)
+
+pub is-past-spec : {M : Type 1} → statement M
+is-past-spec =
+    tie.close (tie.spec enum-known-best enum-told returns comes-after-requires returns-2)
