@@ -12,13 +12,6 @@ ghost use Rattle.stretch_words.specs.Step.{stretchOf};
 
 // ---- the slice
 
-// A word as it is: the contract tells its bound, which is not known of a field.
-fn word(x: u64) -> u64
-    ensures { λ r. ⌜ (r ≡ x) × (r < 18446744073709551616) ⌝ }
-{
-    x
-}
-
 // Writes the six words of a reference.
 fn write_reference(out: &mut [u64], at: usize, block: BlockReference)
     requires { ⌜ at + 6 ≤ length (now out) ⌝ }
@@ -27,10 +20,10 @@ fn write_reference(out: &mut [u64], at: usize, block: BlockReference)
     let digest = block.digest;
     out[at] = block.authority.0;
     out[at + 1] = block.round.0;
-    out[at + 2] = word(digest.0);
-    out[at + 3] = word(digest.1);
-    out[at + 4] = word(digest.2);
-    out[at + 5] = word(digest.3);
+    out[at + 2] = digest.0;
+    out[at + 3] = digest.1;
+    out[at + 4] = digest.2;
+    out[at + 5] = digest.3;
 }
 
 // Writes the ten words of a stretch.
