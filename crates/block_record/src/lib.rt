@@ -1,4 +1,5 @@
 // The record of a block: well formed or not, and its parts. Follows types.rs.
+use committee::AuthorityIndex;
 use types::BlockReference;
 ghost use mathlib.Core.Path.{_≡_};
 ghost use Prim.Native.Nat.{_<_};
@@ -48,6 +49,14 @@ pub fn reference(rec: &[u8]) -> BlockReference
     ensures { λ r. ⌜ asReference r ≡ blockIn (now (rec .entry)) .reference ⌝ }
 {
     types::read_reference(rec, 0)
+}
+
+// Its author alone.
+pub fn author(rec: &[u8]) -> AuthorityIndex
+    requires { ⌜ wellFormed (now rec) ≡ true ⌝ }
+    ensures { λ r. ⌜ r .0 ≡ blockIn (now (rec .entry)) .reference .authority ⌝ }
+{
+    AuthorityIndex(base::read_u64(rec, 0))
 }
 
 // Its epoch mark.

@@ -100,8 +100,8 @@ fn walk(
             continue;
         }
         blocks += 1;
-        let block = store_entries::reference_at(store, at);
-        authors = authors.insert(block.authority);
+        let author = store_entries::author_at(store, at);
+        authors = authors.insert(author);
     }
     Certifiers { blocks, authors }
 }

@@ -86,8 +86,8 @@ pub fn with_own(store: &[u8], at: usize, mark: u64, below: AuthoritySet) -> Auth
     if mark != 1 {
         return voters::union(AuthoritySet::new(), below);
     }
-    let block = store_entries::reference_at(store, at);
-    let own = AuthoritySet::new().insert(block.authority);
+    let author = store_entries::author_at(store, at);
+    let own = AuthoritySet::new().insert(author);
     voters::union(own, below)
 }
 

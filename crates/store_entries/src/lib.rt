@@ -1,4 +1,5 @@
 // The entries of a store, by position and by reference.
+use committee::AuthorityIndex;
 use reference_search::FoundPlace;
 use types::BlockReference;
 ghost use Prim.Native.Nat.{_+_};
@@ -26,6 +27,16 @@ pub fn reference_at(store: &[u8], at: usize) -> BlockReference
     let from = at + 8;
     let end = record_end(store, at);
     block_record::reference(&store[from..end])
+}
+
+// Its author alone.
+pub fn author_at(store: &[u8], at: usize) -> AuthorityIndex
+    requires { ⌜ isEntry (now store) at ≡ true ⌝ }
+    ensures { λ r. ⌜ r .0 ≡ blockAt (now (store .entry)) at .reference .authority ⌝ }
+{
+    let from = at + 8;
+    let end = record_end(store, at);
+    block_record::author(&store[from..end])
 }
 
 // The position of the block of that reference, by its place among the positions in ascending reference order; zero where it is not stored.

@@ -140,12 +140,12 @@ loop-again c = let a = c .before .before .before .before .before .before .before
 add-blocks : tie.Need-add-blocks Inv-loop μ-loop
 add-blocks c = omega (arith, c .before .before .before .before .before .before .before .before .before .before .before .before .before .before .before .loop .inv .0 .few, c .before .before .before .before .before .before .before .before .before .before .before .before .before .before .loop-test .taken, c .before .before .before .before .before .before .before .before .before .before .before .before .before .before .before .before .before .before .before .before .before .before .before .before .before .pre .0 .0 .1)
 
-reference-at-requires : tie.Need-reference-at-requires Inv-loop μ-loop
-reference-at-requires c κs = let a = c .before .before .before .before .before .before .before .before .before .before .before .before .before .before .before .before .before .before .before .before .before .before .before .before .before .args in place-entry (a .store .now) (a .order .now) (some-committee (c .before .before .before .before .before .before .before .before .before .before .before .before .before .before .before .before .before .before .before .before .before .before .before .before .before .pre .0 .0 .0 .0)) (c .before .before .before .before .before .before .before .before .before .before .before .before .before .before .before .loop .k) (c .before .before .before .before .before .before .before .before .before .before .before .before .before .before .loop-test .taken)
+author-at-requires : tie.Need-author-at-requires Inv-loop μ-loop
+author-at-requires c κs = let a = c .before .before .before .before .before .before .before .before .before .before .before .before .before .before .before .before .before .before .before .before .before .before .before .before .before .args in place-entry (a .store .now) (a .order .now) (some-committee (c .before .before .before .before .before .before .before .before .before .before .before .before .before .before .before .before .before .before .before .before .before .before .before .before .before .pre .0 .0 .0 .0)) (c .before .before .before .before .before .before .before .before .before .before .before .before .before .before .before .loop .k) (c .before .before .before .before .before .before .before .before .before .before .before .before .before .before .loop-test .taken)
 
 insert-requires : tie.Need-insert-requires Inv-loop μ-loop
 unfolding asReference blockAtPlace
-insert-requires c κs = let a = c .before .before .before .before .before .before .before .before .before .before .before .before .before .before .before .before .before .before .before .before .before .before .before .before .before .before .args in rw (ap (λ r. r .authority) (c .reference-at .ensures)) (place-author (a .store .now) (a .order .now) (some-committee (c .before .before .before .before .before .before .before .before .before .before .before .before .before .before .before .before .before .before .before .before .before .before .before .before .before .before .pre .0 .0 .0 .0)) (c .before .before .before .before .before .before .before .before .before .before .before .before .before .before .before .before .loop .k) (c .before .before .before .before .before .before .before .before .before .before .before .before .before .before .before .loop-test .taken))
+insert-requires c κs = let a = c .before .before .before .before .before .before .before .before .before .before .before .before .before .before .before .before .before .before .before .before .before .before .before .before .before .before .args in rw (c .author-at .ensures) (place-author (a .store .now) (a .order .now) (some-committee (c .before .before .before .before .before .before .before .before .before .before .before .before .before .before .before .before .before .before .before .before .before .before .before .before .before .before .pre .0 .0 .0 .0)) (c .before .before .before .before .before .before .before .before .before .before .before .before .before .before .before .before .loop .k) (c .before .before .before .before .before .before .before .before .before .before .before .before .before .before .before .loop-test .taken))
 
 loop-less-2 : tie.Need-loop-less-2 Inv-loop μ-loop
 loop-less-2 c = omega (arith, c .before .before .before .before .before .before .before .before .before .before .before .before .before .before .before .before .loop-test .taken)
@@ -162,7 +162,7 @@ loop-again-2 c = let a = c .before .before .before .before .before .before .befo
     λ l w. c .before .before .before .before .before .before .before .before .before .before .with-own .ensures ∙ all-heard false (a .store .now) (a .order .now) (some-committee (p .0 .0 .0 .0)) l (g .k) h (a .own .now) w (c .before .before .before .before .before .before .before .before .before .before .before .before .gather-at .result) (c .before .before .before .before .before .before .before .before .before .before .before .before .gather-at .ensures ownVote l (g .inv .1 .0 l w)) in
     let q = sym (c .before .before .before .before .certifies-at .ensures) ∙ not-false _ (c .before .before .if1 .left) in
     let x : c .before .before .before .flag .result ≡ 1 = rw (not-false (c .before .before .before .before .certifies-at .result) (c .before .before .if1 .left)) at (c .before .before .before .flag .ensures) in
-    rw (c .before .before .before .before .before .before .before .before .note-set .ensures, x, c .insert .ensures, ap (λ r. r .authority) (c .before .reference-at .ensures)) (
+    rw (c .before .before .before .before .before .before .before .before .note-set .ensures, x, c .insert .ensures, c .before .author-at .ensures) (
       going-more (a .stakes .now) (a .store .now) (a .order .now) (g .memo) (g .certified) (g .blocks) (g .checked) (g .i) (g .k) (g .inv .0) h v (c .before .before .before .before .before .check .result) (z .1) _ (c .before .before .before .before .before .before .before .before .before .before .before .before .before .before .include-count-at .ensures) (g .blocks + 1) (omega (arith, g .inv .0 .few)) 1,
       (
         λ l w. heard-more false (a .store .now) (a .order .now) l (g .memo) (g .k) (g .inv .1 .0 l w) (omega (arith, h, g .inv .0 .long, p .0 .0 .1)) v (heard l w),
@@ -215,7 +215,7 @@ walk-spec =
     loop-less
     loop-again
     add-blocks
-    reference-at-requires
+    author-at-requires
     insert-requires
     loop-less-2
     loop-again-2

@@ -1,8 +1,6 @@
 use mathlib.Core.Path.{_≡_, refl, ap, _∙_}
 use borrow.Author.Tests.{eq-eqb, ne-eqb}
 use Rattle.authority_set.specs.AuthoritySet.{AuthoritySet, united}
-use Rattle.blocks.specs.Reference.{BlockReference}
-use Rattle.types.specs.Values.{asReference}
 use borrow.Author.Needs.{needs}
 use Rattle.speakers.proofs.with_own.Statement.{statement}
 use Rattle.speakers.proofs.with_own.Tie as tie
@@ -16,22 +14,20 @@ union-requires c κs = search needs
 returns : tie.Need-returns
 returns c = rw (ne-eqb (c .before .before .before .before .args .mark) 1 (c .before .before .if1 .taken)) (c .union .ensures ∙ ap (λ (v : AuthoritySet). united v (c .before .before .before .before .args .below)) (c .before .new .ensures))
 
-reference-at-requires : tie.Need-reference-at-requires
-reference-at-requires c κs = search needs
+author-at-requires : tie.Need-author-at-requires
+author-at-requires c κs = search needs
 
 new-requires-2 : tie.Need-new-requires-2
 new-requires-2 c κs = search needs
 
 insert-requires : tie.Need-insert-requires
-unfolding asReference
-insert-requires c κs = rw (ap (λ (r : BlockReference). r .authority) (c .before .reference-at .ensures)) (c .before .before .before .before .pre .1)
+insert-requires c κs = rw (c .before .author-at .ensures) (c .before .before .before .before .pre .1)
 
 union-requires-2 : tie.Need-union-requires-2
 union-requires-2 c κs = search needs
 
 returns-2 : tie.Need-returns-2
-unfolding asReference
-returns-2 c = rw (eq-eqb (c .before .before .before .before .before .before .args .mark) 1 (c .before .before .before .before .if1 .left)) (c .union2 .ensures ∙ ap (λ (v : AuthoritySet). united v (c .before .before .before .before .before .before .args .below)) (c .before .insert .ensures ∙ rw (c .before .before .new2 .ensures, ap (λ (r : BlockReference). r .authority) (c .before .before .before .reference-at .ensures))))
+returns-2 c = rw (eq-eqb (c .before .before .before .before .before .before .args .mark) 1 (c .before .before .before .before .if1 .left)) (c .union2 .ensures ∙ ap (λ (v : AuthoritySet). united v (c .before .before .before .before .before .before .args .below)) (c .before .insert .ensures ∙ rw (c .before .before .new2 .ensures, c .before .before .before .author-at .ensures)))
 
 pub with-own-spec : {M : Type 1} → statement M
 with-own-spec =
@@ -40,7 +36,7 @@ with-own-spec =
     new-requires
     union-requires
     returns
-    reference-at-requires
+    author-at-requires
     new-requires-2
     insert-requires
     union-requires-2
