@@ -20,9 +20,9 @@ fn agrees(stakes: &[u64], store: &[u8], index: &[u64]) -> bool
     requires { ⌜ (broken (now stakes) ≡ false) × (storeInOrder (now stakes) (now store) ≡ true) ⌝ }
     ensures { λ r. ⌜ r ≡ indexAgrees (blocksOf (now (store .entry))) (now (index .entry)) ⌝ }
 {
-    let mut order = [0u64; 1024];
+    let mut order = [0u64; types::MAX_BLOCKS];
     let count = block_votes::sorted_positions(store, &mut order);
-    let mut starts = [0u64; 1024];
+    let mut starts = [0u64; types::MAX_BLOCKS];
     index_check::index_agrees(store, &order[..count], index, &mut starts)
 }
 
@@ -48,7 +48,7 @@ pub fn answer_sorted(
         return SortedAnswer::Refused(54);
     }
     let sorted = sorted_answers::is_sorted_list(locators);
-    let count = locators.len() / 56;
+    let count = locators.len() / types::LOCATOR_BYTES;
     let words = 3 * count;
     let short = replies.len() < words;
     if !sorted {

@@ -8,6 +8,9 @@ ghost use Rattle.blast_windows.specs.Calendar.{week, windows, goodCalendar, Fir
 ghost use Rattle.blast_calendar.specs.Answers.{asOpen, asNextOpen};
 ghost use Rattle.blast_windows.specs.Free.{Free};
 
+// The most words of a calendar: 64 windows, two each.
+pub const MAX_WORDS: usize = 128;
+
 // The last second of the count.
 const LAST_SECOND: u64 = 18446744073709551615;
 
@@ -32,7 +35,7 @@ pub fn is_good(calendar: &[u64]) -> bool
     if calendar.len() % 2 != 0 {
         return false;
     }
-    if 128 < calendar.len() {
+    if MAX_WORDS < calendar.len() {
         return false;
     }
     let mut last_end = 0;

@@ -9,6 +9,11 @@ ghost use Rattle.blocks.specs.Record.{wellFormed, blockIn, timeIn, noReference}
 ghost use Rattle.types.specs.Values.{asReference};
 ghost use Rattle.block_record.specs.Values.{asTime};
 
+// The most includes and the most statements of a record.
+pub const MAX_INCLUDES: usize = 256;
+
+pub const MAX_STATEMENTS: usize = 1024;
+
 // The time of a block's creation, in nanoseconds, where its record has one.
 pub enum CreationTime {
     Given(u64),
@@ -19,28 +24,28 @@ pub enum CreationTime {
 pub fn well_formed(rec: &[u8]) -> bool
     ensures { λ r. ⌜ r ≡ wellFormed (now (rec .entry)) ⌝ }
 {
-    if rec.len() < 56 {
+    if rec.len() < record_edition::HEAD_BYTES {
         return false;
     }
     if 1 < rec[48] {
         return false;
     }
     let includes = base::read_u16(rec, 49) as usize;
-    if 256 < includes {
+    if MAX_INCLUDES < includes {
         return false;
     }
     let statements = base::read_u16(rec, 51) as usize;
-    if 1024 < statements {
+    if MAX_STATEMENTS < statements {
         return false;
     }
     if !record_edition::edition_formed(rec) {
         return false;
     }
     let body = record_edition::body_start(rec);
-    if rec.len() - body < includes * 48 {
+    if rec.len() - body < includes * types::REFERENCE_BYTES {
         return false;
     }
-    statement_reader::statements_only(rec, body + includes * 48, statements)
+    statement_reader::statements_only(rec, body + includes * types::REFERENCE_BYTES, statements)
 }
 
 // Of a well-formed record: its reference.
@@ -80,7 +85,10 @@ pub fn include(rec: &[u8], k: usize) -> BlockReference
     requires { ⌜ (wellFormed (now rec) ≡ true) × (k < length (blockIn (now rec) .includes)) ⌝ }
     ensures { λ r. ⌜ asReference r ≡ getD (blockIn (now (rec .entry)) .includes) k noReference ⌝ }
 {
-    types::read_reference(rec, record_edition::body_start(rec) + k * 48)
+    types::read_reference(
+        rec,
+        record_edition::body_start(rec) + k * types::REFERENCE_BYTES,
+    )
 }
 
 // The time of its creation, in nanoseconds, where it has one.
@@ -91,7 +99,7 @@ pub fn creation_time(rec: &[u8]) -> CreationTime
     if rec[53] != 2 {
         return CreationTime::NotGiven;
     }
-    CreationTime::Given(base::read_u64(rec, 56))
+    CreationTime::Given(base::read_u64(rec, record_edition::HEAD_BYTES))
 }
 
 // The number of its statements.

@@ -50,7 +50,7 @@ fn voted(statement: BaseStatement) -> Vote
 fn rejected_range(locator: TransactionLocator) -> Vote
     ensures { λ r. ⌜ votedBy r ≡ rejectedRange (asLocator locator) ⌝ }
 {
-    if locator.offset == 18446744073709551615 {
+    if locator.offset == types::LAST_OFFSET {
         return Vote::Nothing;
     }
     Vote::Range(TransactionLocatorRange::one(locator))

@@ -23,9 +23,9 @@ pub fn fold_include(near: &mut [u16], steps: &mut [u8], k: usize, i: usize, j: u
     ensures { λ _. ⌜ Folded (now (near .entry)) (now (steps .entry)) k i j (now (near .exit)) (now (steps .exit)) 128 ⌝ }
 {
     let mut a: usize = 0;
-    while a < 128 {
-        let found = near[128 * i + a];
-        let at = 128 * k + a;
+    while a < committee::MAX_MEMBERS {
+        let found = near[committee::MAX_MEMBERS * i + a];
+        let at = committee::MAX_MEMBERS * k + a;
         let held = near[at];
         a += 1;
         if !is_nearer(found, held) {

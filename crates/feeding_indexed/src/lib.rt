@@ -23,8 +23,8 @@ pub fn feed_indexed(
     ensures { λ _. ⌜ now (index .exit) ≡ feedIndexed (now (stakes .entry)) (lentOf (now (store .entry)) (now (table .entry)) (now (work .entry)) (now (events .entry))) (now (index .entry)) (now (rec .entry)) .index ⌝ }
     ensures { λ _. ⌜ now (events .exit) ≡ feedIndexed (now (stakes .entry)) (lentOf (now (store .entry)) (now (table .entry)) (now (work .entry)) (now (events .entry))) (now (index .entry)) (now (rec .entry)) .fed .events ⌝ }
 {
-    let mut order = [0u64; 1024];
-    let mut starts = [0u64; 1024];
+    let mut order = [0u64; types::MAX_BLOCKS];
+    let mut starts = [0u64; types::MAX_BLOCKS];
     let lent = indexed_refusals::lent_refusal(stakes, store, table, index, &mut order, &mut starts);
     if lent.refusal != 0 {
         return FeedAnswer::Refused(lent.refusal);

@@ -145,7 +145,7 @@ pub fn list_stretches(
     if !store_order::in_order(stakes, store) {
         return StretchesAnswer::Refused(10);
     }
-    let mut order = [0u64; 1024];
+    let mut order = [0u64; types::MAX_BLOCKS];
     let count = block_votes::sorted_positions(store, &mut order);
     fill_small(
         stakes,

@@ -164,7 +164,7 @@ pub fn final_after(
             certified,
         );
     };
-    if given.offset == 18446744073709551615 {
+    if given.offset == types::LAST_OFFSET {
         // No offset follows, so only a later block can have the next one.
         return shown_start(
             stakes,
@@ -240,7 +240,7 @@ pub fn stretch_end(
     requires { ⌜ ((Ready (now stakes) (total .0) (now store) (now order) × (length (now certified) ≡ 1024)) × Tables (now store) (now order) (now table) sizes (now places) noted) × ((listing ordinary (readingOf withdrawing) (now stakes) (blocksOf (now store)) .shows (asLocator locator) ≡ true) × Flags (readingOf withdrawing) (now stakes) (now store) (now order) (asLocator locator) (now certified)) ⌝ }
     ensures { λ r. ⌜ r ≡ stretchEnd (blocksOf (now (store .entry))) (listing ordinary (readingOf withdrawing) (now (stakes .entry)) (blocksOf (now (store .entry)))) (asLocator locator) ⌝ }
 {
-    let mut other = [0u64; 1024];
+    let mut other = [0u64; types::MAX_BLOCKS];
     let mut end = spoken_places::next_edge(
         store,
         order,

@@ -126,8 +126,8 @@ fn withdrawn(
     requires { ⌜ ((((Sorted (now stakes) (now store) (now order) × (total .0 ≡ totalStake (now stakes))) × (length (now order) ≤ 1024)) × (length (now certified) ≡ 1024)) × (BothTabled (now store) (now order) (now table) sizes × Placed (now store) (now order) (now places) noted)) × ((locator .offset < 18446744073709551615) × ((length (now own) ≡ 1024) × Owned false (now store) (now order) (asLocator locator) (now own))) ⌝ }
     ensures { λ r. ⌜ CertifyFlagged withdrawing (now (stakes .entry)) (now (store .entry)) (now (order .entry)) (asLocator locator) (now (certified .exit)) r ⌝ }
 {
-    let mut marks = [0u64; 1024];
-    let from = 4 * sizes.votes;
+    let mut marks = [0u64; types::MAX_BLOCKS];
+    let from = vote_rows::ROW_WORDS * sizes.votes;
     speakers::mark(
         store,
         order,
@@ -187,7 +187,7 @@ pub fn certifiers_of(
     requires { ⌜ (((Sorted (now stakes) (now store) (now order) × (total .0 ≡ totalStake (now stakes))) × (length (now order) ≤ 1024)) × (length (now certified) ≡ 1024)) × (BothTabled (now store) (now order) (now table) sizes × Placed (now store) (now order) (now places) noted) ⌝ }
     ensures { λ r. ⌜ CertifyFlagged (readingOf withdrawing) (now (stakes .entry)) (now (store .entry)) (now (order .entry)) (asLocator locator) (now (certified .exit)) r ⌝ }
 {
-    let mut own = [0u64; 1024];
+    let mut own = [0u64; types::MAX_BLOCKS];
     speakers::mark(
         store,
         order,
@@ -213,7 +213,7 @@ pub fn certifiers_of(
             certified,
         );
     }
-    if locator.offset == 18446744073709551615 {
+    if locator.offset == types::LAST_OFFSET {
         // No vote reaches the last offset, so nothing is withdrawn there.
         return walk(
             stakes,

@@ -139,7 +139,7 @@ pub extern "C" fn lomkhvide_next_final(
     ensures { λ r. ⌜ r ≡ encoded (nextFinalCall (now (stakes .entry)) (now (store .entry)) (now (after .entry)) (now (found .entry)) .answer) ⌝ }
     ensures { λ r. ⌜ now (found .exit) ≡ nextFinalCall (now (stakes .entry)) (now (store .entry)) (now (after .entry)) (now (found .entry)) .found ⌝ }
 {
-    let mut held = [0u64; 128];
+    let mut held = [0u64; committee::MAX_MEMBERS];
     let n = host_calls::stakes_of(stakes, &mut held);
     host_finals::next_final_of(&held[..n], store, true, false, after, found)
 }
@@ -156,7 +156,7 @@ pub extern "C" fn lomkhvide_final_stretches(
     ensures { λ r. ⌜ r ≡ encoded (stretchesCall (now (stakes .entry)) (now (store .entry)) (now (after .entry)) (now (out .entry)) .answer) ⌝ }
     ensures { λ r. ⌜ now (out .exit) ≡ stretchesCall (now (stakes .entry)) (now (store .entry)) (now (after .entry)) (now (out .entry)) .stretches ⌝ }
 {
-    let mut held = [0u64; 128];
+    let mut held = [0u64; committee::MAX_MEMBERS];
     let n = host_calls::stakes_of(stakes, &mut held);
     host_finals::stretches_of(&held[..n], store, true, false, after, out)
 }
@@ -172,7 +172,7 @@ pub extern "C" fn lomkhvide_next_wide(
     ensures { λ r. ⌜ r ≡ encoded (nextWideCall (now (stakes .entry)) (now (store .entry)) (now (after .entry)) (now (found .entry)) .answer) ⌝ }
     ensures { λ r. ⌜ now (found .exit) ≡ nextWideCall (now (stakes .entry)) (now (store .entry)) (now (after .entry)) (now (found .entry)) .found ⌝ }
 {
-    let mut held = [0u64; 128];
+    let mut held = [0u64; committee::MAX_MEMBERS];
     let n = host_calls::stakes_of(stakes, &mut held);
     host_finals::next_final_of(&held[..n], store, false, false, after, found)
 }
@@ -188,7 +188,7 @@ pub extern "C" fn lomkhvide_wide_stretches(
     ensures { λ r. ⌜ r ≡ encoded (wideStretchesCall (now (stakes .entry)) (now (store .entry)) (now (after .entry)) (now (out .entry)) .answer) ⌝ }
     ensures { λ r. ⌜ now (out .exit) ≡ wideStretchesCall (now (stakes .entry)) (now (store .entry)) (now (after .entry)) (now (out .entry)) .stretches ⌝ }
 {
-    let mut held = [0u64; 128];
+    let mut held = [0u64; committee::MAX_MEMBERS];
     let n = host_calls::stakes_of(stakes, &mut held);
     host_finals::stretches_of(&held[..n], store, false, false, after, out)
 }
@@ -204,7 +204,7 @@ pub extern "C" fn lomkhvide_next_final_withdrawing(
     ensures { λ r. ⌜ r ≡ encoded (nextFinalWithdrawingCall (now (stakes .entry)) (now (store .entry)) (now (after .entry)) (now (found .entry)) .answer) ⌝ }
     ensures { λ r. ⌜ now (found .exit) ≡ nextFinalWithdrawingCall (now (stakes .entry)) (now (store .entry)) (now (after .entry)) (now (found .entry)) .found ⌝ }
 {
-    let mut held = [0u64; 128];
+    let mut held = [0u64; committee::MAX_MEMBERS];
     let n = host_calls::stakes_of(stakes, &mut held);
     host_finals::next_final_of(&held[..n], store, true, true, after, found)
 }
@@ -220,7 +220,7 @@ pub extern "C" fn lomkhvide_final_stretches_withdrawing(
     ensures { λ r. ⌜ r ≡ encoded (stretchesWithdrawingCall (now (stakes .entry)) (now (store .entry)) (now (after .entry)) (now (out .entry)) .answer) ⌝ }
     ensures { λ r. ⌜ now (out .exit) ≡ stretchesWithdrawingCall (now (stakes .entry)) (now (store .entry)) (now (after .entry)) (now (out .entry)) .stretches ⌝ }
 {
-    let mut held = [0u64; 128];
+    let mut held = [0u64; committee::MAX_MEMBERS];
     let n = host_calls::stakes_of(stakes, &mut held);
     host_finals::stretches_of(&held[..n], store, true, true, after, out)
 }
@@ -236,7 +236,7 @@ pub extern "C" fn lomkhvide_next_wide_withdrawing(
     ensures { λ r. ⌜ r ≡ encoded (nextWideWithdrawingCall (now (stakes .entry)) (now (store .entry)) (now (after .entry)) (now (found .entry)) .answer) ⌝ }
     ensures { λ r. ⌜ now (found .exit) ≡ nextWideWithdrawingCall (now (stakes .entry)) (now (store .entry)) (now (after .entry)) (now (found .entry)) .found ⌝ }
 {
-    let mut held = [0u64; 128];
+    let mut held = [0u64; committee::MAX_MEMBERS];
     let n = host_calls::stakes_of(stakes, &mut held);
     host_finals::next_final_of(&held[..n], store, false, true, after, found)
 }
@@ -252,7 +252,7 @@ pub extern "C" fn lomkhvide_wide_stretches_withdrawing(
     ensures { λ r. ⌜ r ≡ encoded (wideStretchesWithdrawingCall (now (stakes .entry)) (now (store .entry)) (now (after .entry)) (now (out .entry)) .answer) ⌝ }
     ensures { λ r. ⌜ now (out .exit) ≡ wideStretchesWithdrawingCall (now (stakes .entry)) (now (store .entry)) (now (after .entry)) (now (out .entry)) .stretches ⌝ }
 {
-    let mut held = [0u64; 128];
+    let mut held = [0u64; committee::MAX_MEMBERS];
     let n = host_calls::stakes_of(stakes, &mut held);
     host_finals::stretches_of(&held[..n], store, false, true, after, out)
 }
@@ -269,7 +269,7 @@ pub extern "C" fn lomkhvide_final_stretches_indexed(
     ensures { λ r. ⌜ r ≡ encoded (stretchesIndexedCall (now (stakes .entry)) (now (store .entry)) (now (index .entry)) (now (after .entry)) (now (out .entry)) .answer) ⌝ }
     ensures { λ r. ⌜ now (out .exit) ≡ stretchesIndexedCall (now (stakes .entry)) (now (store .entry)) (now (index .entry)) (now (after .entry)) (now (out .entry)) .stretches ⌝ }
 {
-    let mut held = [0u64; 128];
+    let mut held = [0u64; committee::MAX_MEMBERS];
     let n = host_calls::stakes_of(stakes, &mut held);
     host_index_finals::stretches_of(&held[..n], store, true, index, after, out)
 }
@@ -286,7 +286,7 @@ pub extern "C" fn lomkhvide_wide_stretches_indexed(
     ensures { λ r. ⌜ r ≡ encoded (wideStretchesIndexedCall (now (stakes .entry)) (now (store .entry)) (now (index .entry)) (now (after .entry)) (now (out .entry)) .answer) ⌝ }
     ensures { λ r. ⌜ now (out .exit) ≡ wideStretchesIndexedCall (now (stakes .entry)) (now (store .entry)) (now (index .entry)) (now (after .entry)) (now (out .entry)) .stretches ⌝ }
 {
-    let mut held = [0u64; 128];
+    let mut held = [0u64; committee::MAX_MEMBERS];
     let n = host_calls::stakes_of(stakes, &mut held);
     host_index_finals::stretches_of(&held[..n], store, false, index, after, out)
 }

@@ -15,8 +15,6 @@ ghost use Rattle.stake_aggregator.specs.Answers.{asAggregator, asAddAnswer};
 ghost use Rattle.host_calls.specs.Calls.{encoded};
 ghost use Rattle.host_add.specs.Add.{aggregatorOf, aggregatorBytes, numbered, addOf, addCall};
 
-const REFUSED: u64 = 9223372036854775808;
-
 fn read_aggregator(bytes: &[u8]) -> StakeAggregator
     requires { ⌜ length (now bytes) ≡ 24 ⌝ }
     ensures { λ r. ⌜ asAggregator r ≡ aggregatorOf (now (bytes .entry)) ⌝ }
@@ -66,13 +64,13 @@ pub fn add(stakes: &[u8], aggregator: &mut [u8], voter: u64) -> u64
     ensures { λ r. ⌜ r ≡ encoded (addCall (now (stakes .entry)) (now (aggregator .entry)) voter .answer) ⌝ }
     ensures { λ r. ⌜ now (aggregator .exit) ≡ addCall (now (stakes .entry)) (now (aggregator .entry)) voter .aggregator ⌝ }
 {
-    let mut held = [0u64; 128];
+    let mut held = [0u64; committee::MAX_MEMBERS];
     let n = host_calls::stakes_of(stakes, &mut held);
     match add_of(&held[..n], aggregator, voter) {
         AddAnswer::RepeatedBelow => 0,
         AddAnswer::RepeatedWith => 1,
         AddAnswer::NewBelow => 2,
         AddAnswer::NewWith(crossed) => { if crossed { 4 } else { 3 } }
-        AddAnswer::Refused(number) => REFUSED + number,
+        AddAnswer::Refused(number) => host_calls::REFUSED + number,
     }
 }

@@ -6,8 +6,6 @@ ghost use Rattle.host_calendar.specs.Calendar.{holdsWords, isOpenCall, n
 use blast_calendar::NextOpenAnswer;
 use blast_calendar::OpenAnswer;
 
-const REFUSED: u64 = 9223372036854775808;
-
 // How many words a good calendar has; or bytes that are none.
 enum Held {
     Words(usize),
@@ -23,7 +21,7 @@ fn words_in(calendar: &[u8], held: &mut [u64]) -> Held
         return Held::Malformed;
     }
     let n = calendar.len() / 8;
-    if 128 < n {
+    if blast_calendar::MAX_WORDS < n {
         return Held::Malformed;
     }
     words::words_of(calendar, &mut held[..n]);
@@ -37,14 +35,14 @@ fn words_in(calendar: &[u8], held: &mut [u64]) -> Held
 pub fn is_open(calendar: &[u8], time: u64) -> u64
     ensures { λ r. ⌜ r ≡ encoded (isOpenCall (now (calendar .entry)) time) ⌝ }
 {
-    let mut held = [0u64; 128];
+    let mut held = [0u64; blast_calendar::MAX_WORDS];
     let Held::Words(n) = words_in(calendar, &mut held) else {
-        return REFUSED + 59;
+        return host_calls::REFUSED + 59;
     };
     match blast_calendar::is_open(&held[..n], time) {
         OpenAnswer::Open => 1,
         OpenAnswer::Closed => 0,
-        OpenAnswer::Refused(number) => REFUSED + number,
+        OpenAnswer::Refused(number) => host_calls::REFUSED + number,
     }
 }
 
@@ -52,12 +50,12 @@ pub fn is_open(calendar: &[u8], time: u64) -> u64
 pub fn next_open(calendar: &[u8], time: u64, found: &mut [u8]) -> u64
     ensures { λ r. ⌜ (r ≡ encoded (nextOpenCall (now (calendar .entry)) time (now (found .entry)) .answer)) × (now (found .exit) ≡ nextOpenCall (now (calendar .entry)) time (now (found .entry)) .found) ⌝ }
 {
-    let mut held = [0u64; 128];
+    let mut held = [0u64; blast_calendar::MAX_WORDS];
     let Held::Words(n) = words_in(calendar, &mut held) else {
-        return REFUSED + 59;
+        return host_calls::REFUSED + 59;
     };
     if found.len() != 8 {
-        return REFUSED + 40;
+        return host_calls::REFUSED + 40;
     }
     match blast_calendar::next_open(&held[..n], time) {
         NextOpenAnswer::Found(second) => {
@@ -65,6 +63,6 @@ pub fn next_open(calendar: &[u8], time: u64, found: &mut [u8]) -> u64
             1
         }
         NextOpenAnswer::NoneLeft => 0,
-        NextOpenAnswer::Refused(number) => REFUSED + number,
+        NextOpenAnswer::Refused(number) => host_calls::REFUSED + number,
     }
 }

@@ -8,6 +8,9 @@ ghost use Rattle.words.specs.Words.{wordsOf};
 ghost use Rattle.host_calls.specs.Calls.{flag, committeeOf};
 ghost use Rattle.host_calls.specs.Claims.{Claims};
 
+// A refusal is its number and this.
+pub const REFUSED: u64 = 9223372036854775808;
+
 // Whether one of the words is zero.
 pub fn has_zero_word(bytes: &[u8]) -> bool
     ensures { λ r. ⌜ r ≡ anyOf (λ s. eqb s 0) (wordsOf (now (bytes .entry))) ⌝ }
@@ -32,7 +35,7 @@ pub fn stakes_of(bytes: &[u8], stakes: &mut [u64]) -> usize
         return 0;
     }
     let n = bytes.len() / 8;
-    if 128 < n {
+    if committee::MAX_MEMBERS < n {
         return 0;
     }
     words::words_of(bytes, &mut stakes[..n]);

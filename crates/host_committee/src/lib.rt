@@ -6,26 +6,24 @@ ghost use Rattle.host_calls.specs.Calls.{encoded, flag, newCommitteeCall};
 use committee::NewCommittee;
 use committee::Stake;
 
-const REFUSED: u64 = 9223372036854775808;
-
 // Sets a committee: its total stake.
 pub fn new_committee(stakes: &[u8]) -> u64
     ensures { λ r. ⌜ r ≡ encoded (newCommitteeCall (now (stakes .entry))) ⌝ }
 {
     if stakes.len() % 8 != 0 {
-        return REFUSED + 5;
+        return host_calls::REFUSED + 5;
     }
-    if 128 < stakes.len() / 8 {
+    if committee::MAX_MEMBERS < stakes.len() / 8 {
         if host_calls::has_zero_word(stakes) {
-            return REFUSED + 2;
+            return host_calls::REFUSED + 2;
         }
-        return REFUSED + 3;
+        return host_calls::REFUSED + 3;
     }
-    let mut held = [0u64; 128];
+    let mut held = [0u64; committee::MAX_MEMBERS];
     let n = host_calls::stakes_of(stakes, &mut held);
     match committee::new_committee(&held[..n]) {
         NewCommittee::Taken(total) => total.0,
-        NewCommittee::Broken(number) => REFUSED + number,
+        NewCommittee::Broken(number) => host_calls::REFUSED + number,
     }
 }
 

@@ -5,8 +5,6 @@ ghost use Rattle.host_calls.specs.Calls.{encoded};
 ghost use Rattle.feed_bytes.specs.Feed.{feedCall};
 use feeding::FeedAnswer;
 
-const REFUSED: u64 = 9223372036854775808;
-
 // Feeds a record: the number of events, which stand at the front, three words each.
 pub fn feed(stakes: &[u8], store: &mut [u8], table: &mut [u8], events: &mut [u8], rec: &[u8]) -> u64
     ensures { λ r. ⌜ r ≡ encoded (feedCall (now (stakes .entry)) (now (store .entry)) (now (table .entry)) (now (events .entry)) (now (rec .entry)) .answer) ⌝ }
@@ -14,10 +12,10 @@ pub fn feed(stakes: &[u8], store: &mut [u8], table: &mut [u8], events: &mut [u8]
     ensures { λ r. ⌜ now (table .exit) ≡ feedCall (now (stakes .entry)) (now (store .entry)) (now (table .entry)) (now (events .entry)) (now (rec .entry)) .table ⌝ }
     ensures { λ r. ⌜ now (events .exit) ≡ feedCall (now (stakes .entry)) (now (store .entry)) (now (table .entry)) (now (events .entry)) (now (rec .entry)) .events ⌝ }
 {
-    let mut held = [0u64; 128];
+    let mut held = [0u64; committee::MAX_MEMBERS];
     let n = host_calls::stakes_of(stakes, &mut held);
     match feed_bytes::feed_of(&held[..n], store, table, events, rec) {
         FeedAnswer::Events(count) => count,
-        FeedAnswer::Refused(number) => REFUSED + number,
+        FeedAnswer::Refused(number) => host_calls::REFUSED + number,
     }
 }

@@ -12,8 +12,6 @@ ghost use Rattle.indexed_refusals.specs.Refusals.{earlyIndexedChecks};
 ghost use Rattle.host_calls.specs.Calls.{encoded};
 ghost use Rattle.host_feed_indexed.specs.IndexedFeed.{fedWith, feedIndexedOf, feedIndexedCall};
 
-const REFUSED: u64 = 9223372036854775808;
-
 // Feeds a record: the number of events, which stand at the front, three words each. Its part is appended to the index.
 pub fn feed_indexed(
     stakes: &[u8],
@@ -29,11 +27,11 @@ pub fn feed_indexed(
     ensures { λ _. ⌜ now (index .exit) ≡ feedIndexedCall (now (stakes .entry)) (now (store .entry)) (now (table .entry)) (now (index .entry)) (now (events .entry)) (now (rec .entry)) .index ⌝ }
     ensures { λ _. ⌜ now (events .exit) ≡ feedIndexedCall (now (stakes .entry)) (now (store .entry)) (now (table .entry)) (now (index .entry)) (now (events .entry)) (now (rec .entry)) .events ⌝ }
 {
-    let mut held = [0u64; 128];
+    let mut held = [0u64; committee::MAX_MEMBERS];
     let n = host_calls::stakes_of(stakes, &mut held);
     match feed_of(&held[..n], store, table, index, events, rec) {
         FeedAnswer::Events(count) => count,
-        FeedAnswer::Refused(number) => REFUSED + number,
+        FeedAnswer::Refused(number) => host_calls::REFUSED + number,
     }
 }
 

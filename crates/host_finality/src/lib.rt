@@ -9,8 +9,6 @@ ghost use Rattle.host_finality.specs.Finality.{finalityNumber, askedFina
 ghost use Rattle.host_finality.specs.Claims.{Claims};
 use finalization_interpreter::FinalityAnswer;
 
-const REFUSED: u64 = 9223372036854775808;
-
 // The question itself, with the positions as words.
 fn finality_words(
     stakes: &[u64],
@@ -23,7 +21,7 @@ fn finality_words(
     ensures asked { λ r. ⌜ (finalityNumber (asFinality r) ≡ askedFinality (readingOf withdrawing) (now (stakes .entry)) (now (store .entry)) (now (positions .entry)) (locatorOf (now (locator .entry))) .answer) × (now (positions .exit) ≡ askedFinality (readingOf withdrawing) (now (stakes .entry)) (now (store .entry)) (now (positions .entry)) (locatorOf (now (locator .entry))) .positions) ⌝ }
     ensures bounded { λ r. ⌜ numbersFit r ⌝ }
 {
-    let mut words = [0u64; 1024];
+    let mut words = [0u64; types::MAX_BLOCKS];
     words::words_of(positions, &mut words);
     let place = types::read_locator(locator, 0);
     let answer = finalization_interpreter::finality_in(
@@ -47,7 +45,7 @@ fn finality_of(
     ensures asked { λ r. ⌜ (finalityNumber (asFinality r) ≡ askedFinality (readingOf withdrawing) (now (stakes .entry)) (now (store .entry)) (now (positions .entry)) (locatorOf (now (locator .entry))) .answer) × (now (positions .exit) ≡ askedFinality (readingOf withdrawing) (now (stakes .entry)) (now (store .entry)) (now (positions .entry)) (locatorOf (now (locator .entry))) .positions) ⌝ }
     ensures bounded { λ r. ⌜ numbersFit r ⌝ }
 {
-    if locator.len() != 56 {
+    if locator.len() != types::LOCATOR_BYTES {
         return FinalityAnswer::Refused(host_locators::refusal_before(20, stakes, store));
     }
     if positions.len() != 8192 {
@@ -67,12 +65,12 @@ pub fn finality_call(
     ensures { λ r. ⌜ r ≡ encoded (finalityCall (readingOf withdrawing) (now (stakes .entry)) (now (store .entry)) (now (positions .entry)) (now (locator .entry)) .answer) ⌝ }
     ensures { λ r. ⌜ now (positions .exit) ≡ finalityCall (readingOf withdrawing) (now (stakes .entry)) (now (store .entry)) (now (positions .entry)) (now (locator .entry)) .positions ⌝ }
 {
-    let mut held = [0u64; 128];
+    let mut held = [0u64; committee::MAX_MEMBERS];
     let n = host_calls::stakes_of(stakes, &mut held);
     match finality_of(&held[..n], store, positions, locator, withdrawing) {
         FinalityAnswer::Final(count) => 2 * count + 1,
         FinalityAnswer::NotFinal(count) => 2 * count,
-        FinalityAnswer::Refused(number) => REFUSED + number,
+        FinalityAnswer::Refused(number) => host_calls::REFUSED + number,
     }
 }
 

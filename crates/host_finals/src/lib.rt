@@ -17,8 +17,6 @@ use next_final::NextFinalAnswer;
 use stretch_words::StretchesAnswer;
 use vote_starts::MaybeLocator;
 
-const REFUSED: u64 = 9223372036854775808;
-
 // ---- the next locator of a list
 
 // Where a question goes on: after a locator, or from the start; or bytes that are neither.
@@ -33,7 +31,7 @@ pub fn after_of(bytes: &[u8]) -> After
     if bytes.len() == 0 {
         return After::Place(MaybeLocator::Nothing);
     }
-    if bytes.len() != 56 {
+    if bytes.len() != types::LOCATOR_BYTES {
         return After::Malformed;
     }
     After::Place(MaybeLocator::Locator(types::read_locator(bytes, 0)))
@@ -50,10 +48,10 @@ pub fn next_final_of(
     ensures { λ r. ⌜ (r ≡ encoded (askedNextFinal (now (stakes .entry)) (now (store .entry)) (listing ordinary (readingOf withdrawing) (now (stakes .entry)) (blocksOf (now (store .entry)))) (afterOf (now (after .entry))) (now (found .entry)) .answer)) × (now (found .exit) ≡ askedNextFinal (now (stakes .entry)) (now (store .entry)) (listing ordinary (readingOf withdrawing) (now (stakes .entry)) (blocksOf (now (store .entry)))) (afterOf (now (after .entry))) (now (found .entry)) .found) ⌝ }
 {
     let After::Place(place) = after_of(after) else {
-        return REFUSED + host_locators::refusal_before(20, stakes, store);
+        return host_calls::REFUSED + host_locators::refusal_before(20, stakes, store);
     };
-    if found.len() != 56 {
-        return REFUSED + host_locators::refusal_before(40, stakes, store);
+    if found.len() != types::LOCATOR_BYTES {
+        return host_calls::REFUSED + host_locators::refusal_before(40, stakes, store);
     }
     match next_final::next_listed(stakes, store, ordinary, withdrawing, place) {
         NextFinalAnswer::Found(locator) => {
@@ -61,7 +59,7 @@ pub fn next_final_of(
             1
         }
         NextFinalAnswer::NoneLeft => 0,
-        NextFinalAnswer::Refused(number) => REFUSED + number,
+        NextFinalAnswer::Refused(number) => host_calls::REFUSED + number,
     }
 }
 
@@ -105,14 +103,14 @@ pub fn stretches_of(
     ensures { λ r. ⌜ (r ≡ encoded (askedStretches (now (stakes .entry)) (now (store .entry)) (listing ordinary (readingOf withdrawing) (now (stakes .entry)) (blocksOf (now (store .entry)))) (afterOf (now (after .entry))) (now (out .entry)) .answer)) × (now (out .exit) ≡ askedStretches (now (stakes .entry)) (now (store .entry)) (listing ordinary (readingOf withdrawing) (now (stakes .entry)) (blocksOf (now (store .entry)))) (afterOf (now (after .entry))) (now (out .entry)) .stretches) ⌝ }
 {
     let After::Place(place) = after_of(after) else {
-        return REFUSED + host_locators::refusal_before(20, stakes, store);
+        return host_calls::REFUSED + host_locators::refusal_before(20, stakes, store);
     };
     if out.len() != 10240 {
-        return REFUSED + host_locators::refusal_before(40, stakes, store);
+        return host_calls::REFUSED + host_locators::refusal_before(40, stakes, store);
     }
     match stretches_words(stakes, store, ordinary, withdrawing, place, out) {
         StretchesAnswer::Last(count) => 2 * count,
         StretchesAnswer::More(count) => 2 * count + 1,
-        StretchesAnswer::Refused(number) => REFUSED + number,
+        StretchesAnswer::Refused(number) => host_calls::REFUSED + number,
     }
 }

@@ -14,8 +14,6 @@ ghost use Rattle.host_finals.specs.NextFinal.{afterOf};
 ghost use Rattle.host_finals.specs.Stretches.{stretchesNumber};
 ghost use Rattle.host_index_finals.specs.Indexed.{refusalIndexed, stretchesIndexedIn, askedStretchesIndexed, indexedFit};
 
-const REFUSED: u64 = 9223372036854775808;
-
 // The number of a refusal that applies in any case: 5, 10 and 54 come first.
 fn refusal_indexed(number: u64, stakes: &[u64], store: &[u8], index: &[u64]) -> u64
     ensures { λ r. ⌜ r ≡ refusalIndexed number (now (stakes .entry)) (now (store .entry)) (now (index .entry)) ⌝ }
@@ -65,14 +63,14 @@ pub fn stretches_of(
     ensures { λ r. ⌜ (r ≡ encoded (askedStretchesIndexed (now (stakes .entry)) (now (store .entry)) (now (index .entry)) (listing ordinary old (now (stakes .entry)) (blocksOf (now (store .entry)))) (afterOf (now (after .entry))) (now (out .entry)) .answer)) × (now (out .exit) ≡ askedStretchesIndexed (now (stakes .entry)) (now (store .entry)) (now (index .entry)) (listing ordinary old (now (stakes .entry)) (blocksOf (now (store .entry)))) (afterOf (now (after .entry))) (now (out .entry)) .stretches) ⌝ }
 {
     let After::Place(place) = host_finals::after_of(after) else {
-        return REFUSED + refusal_indexed(20, stakes, store, index);
+        return host_calls::REFUSED + refusal_indexed(20, stakes, store, index);
     };
     if out.len() != 10240 {
-        return REFUSED + refusal_indexed(40, stakes, store, index);
+        return host_calls::REFUSED + refusal_indexed(40, stakes, store, index);
     }
     match indexed_words(stakes, store, ordinary, index, place, out) {
         StretchesAnswer::Last(count) => 2 * count,
         StretchesAnswer::More(count) => 2 * count + 1,
-        StretchesAnswer::Refused(number) => REFUSED + number,
+        StretchesAnswer::Refused(number) => host_calls::REFUSED + number,
     }
 }

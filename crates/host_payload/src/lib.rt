@@ -6,17 +6,15 @@ ghost use Rattle.payload_bytes.specs.Payload.{payloadLengthCall, payloadStartCa
 use payload::PayloadLength;
 use payload::PayloadPlace;
 
-const REFUSED: u64 = 9223372036854775808;
-
 // The length of a share's payload.
 pub fn payload_length(stakes: &[u8], store: &[u8], locator: &[u8]) -> u64
     ensures { λ r. ⌜ r ≡ encoded (payloadLengthCall (now (stakes .entry)) (now (store .entry)) (now (locator .entry))) ⌝ }
 {
-    let mut held = [0u64; 128];
+    let mut held = [0u64; committee::MAX_MEMBERS];
     let n = host_calls::stakes_of(stakes, &mut held);
     match payload_bytes::payload_length(&held[..n], store, locator) {
         PayloadLength::Bytes(length) => length,
-        PayloadLength::Refused(number) => REFUSED + number,
+        PayloadLength::Refused(number) => host_calls::REFUSED + number,
     }
 }
 
@@ -24,10 +22,10 @@ pub fn payload_length(stakes: &[u8], store: &[u8], locator: &[u8]) -> u64
 pub fn payload_start(stakes: &[u8], store: &[u8], locator: &[u8]) -> u64
     ensures { λ r. ⌜ r ≡ encoded (payloadStartCall (now (stakes .entry)) (now (store .entry)) (now (locator .entry))) ⌝ }
 {
-    let mut held = [0u64; 128];
+    let mut held = [0u64; committee::MAX_MEMBERS];
     let n = host_calls::stakes_of(stakes, &mut held);
     match payload_bytes::payload_place(&held[..n], store, locator) {
         PayloadPlace::Stands(start, _) => start as u64,
-        PayloadPlace::Refused(number) => REFUSED + number,
+        PayloadPlace::Refused(number) => host_calls::REFUSED + number,
     }
 }

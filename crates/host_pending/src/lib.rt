@@ -5,17 +5,15 @@ ghost use Rattle.host_calls.specs.Calls.{encoded};
 ghost use Rattle.pending_bytes.specs.Pending.{pendingStakeCall, pendingVotersCall};
 use pending::PendingAnswer;
 
-const REFUSED: u64 = 9223372036854775808;
-
 // The stake of a pending locator.
 pub fn pending_stake(stakes: &[u8], store: &[u8], table: &[u8], locator: &[u8]) -> u64
     ensures { λ r. ⌜ r ≡ encoded (pendingStakeCall (now (stakes .entry)) (now (store .entry)) (now (table .entry)) (now (locator .entry))) ⌝ }
 {
-    let mut held = [0u64; 128];
+    let mut held = [0u64; committee::MAX_MEMBERS];
     let n = host_calls::stakes_of(stakes, &mut held);
     match pending_bytes::pending_of(&held[..n], store, table, locator) {
         PendingAnswer::Standing(stake, _) => stake.0,
-        PendingAnswer::Refused(number) => REFUSED + number,
+        PendingAnswer::Refused(number) => host_calls::REFUSED + number,
     }
 }
 
@@ -23,10 +21,10 @@ pub fn pending_stake(stakes: &[u8], store: &[u8], table: &[u8], locator: &[u8]) 
 pub fn pending_voters(stakes: &[u8], store: &[u8], table: &[u8], locator: &[u8]) -> u64
     ensures { λ r. ⌜ r ≡ encoded (pendingVotersCall (now (stakes .entry)) (now (store .entry)) (now (table .entry)) (now (locator .entry))) ⌝ }
 {
-    let mut held = [0u64; 128];
+    let mut held = [0u64; committee::MAX_MEMBERS];
     let n = host_calls::stakes_of(stakes, &mut held);
     match pending_bytes::pending_of(&held[..n], store, table, locator) {
         PendingAnswer::Standing(_, voters) => voters,
-        PendingAnswer::Refused(number) => REFUSED + number,
+        PendingAnswer::Refused(number) => host_calls::REFUSED + number,
     }
 }

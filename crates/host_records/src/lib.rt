@@ -8,8 +8,6 @@ ghost use Rattle.drafts.specs.Writing.{writeTimed, writeRecord};
 ghost use Rattle.record_size.specs.Asked.{requested};
 ghost use Rattle.host_calls.specs.Calls.{encoded};
 
-const REFUSED: u64 = 9223372036854775808;
-
 pub fn write_record_of(
     author: u64,
     round: u64,
@@ -32,7 +30,7 @@ pub fn write_record_of(
         out,
     ) {
         WriteAnswer::Written(length) => length as u64,
-        WriteAnswer::Refused(number) => REFUSED + number,
+        WriteAnswer::Refused(number) => host_calls::REFUSED + number, // no byte is written
     }
 }
 
@@ -60,6 +58,6 @@ pub fn write_timed_record_of(
         out,
     ) {
         WriteAnswer::Written(length) => length as u64,
-        WriteAnswer::Refused(number) => REFUSED + number,
+        WriteAnswer::Refused(number) => host_calls::REFUSED + number,
     }
 }

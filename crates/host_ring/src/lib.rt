@@ -9,8 +9,6 @@ ghost use Rattle.host_calls.specs.Calls.{encoded};
 ghost use Rattle.host_locators.specs.Locators.{locatorOf};
 ghost use Rattle.host_ring.specs.Ring.{ringIn, askedRing, whomToRingCall};
 
-const REFUSED: u64 = 9223372036854775808;
-
 // 5, 10, 11, then 20 for bytes that are no locator, 40 for no room of three words, then whom to ring.
 fn ring_in(
     stakes: &[u64],
@@ -26,7 +24,7 @@ fn ring_in(
     if refusal != 0 {
         return RingAnswer::Refused(refusal);
     }
-    if locator.len() != 56 {
+    if locator.len() != types::LOCATOR_BYTES {
         return RingAnswer::Refused(20);
     }
     if room != 24 {
@@ -72,7 +70,7 @@ pub fn whom_to_ring(
     ensures { λ r. ⌜ r ≡ encoded (whomToRingCall (now (stakes .entry)) (now (store .entry)) (now (table .entry)) low high (now (locator .entry)) (now (found .entry)) .answer) ⌝ }
     ensures { λ r. ⌜ now (found .exit) ≡ whomToRingCall (now (stakes .entry)) (now (store .entry)) (now (table .entry)) low high (now (locator .entry)) (now (found .entry)) .found ⌝ }
 {
-    let mut held = [0u64; 128];
+    let mut held = [0u64; committee::MAX_MEMBERS];
     let n = host_calls::stakes_of(stakes, &mut held);
     let reachable = AuthoritySet { low, high };
     match ring_of(&held[..n], store, table, reachable, locator, found.len()) {
@@ -86,6 +84,6 @@ pub fn whom_to_ring(
             );
             owners.count()
         }
-        RingAnswer::Refused(number) => REFUSED + number,
+        RingAnswer::Refused(number) => host_calls::REFUSED + number,
     }
 }

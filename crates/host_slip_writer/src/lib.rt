@@ -7,8 +7,6 @@ ghost use Rattle.host_calls.specs.Calls.{encoded};
 ghost use Rattle.host_locators.specs.Locators.{locatorOf};
 ghost use Rattle.host_slip_writer.specs.WriteSlip.{askedSlip, writeSlipCall};
 
-const REFUSED: u64 = 9223372036854775808;
-
 // 20 for bytes that are no locator, after 5 and 10.
 fn write_slip_of(
     stakes: &[u64],
@@ -20,7 +18,7 @@ fn write_slip_of(
     ensures { λ r. ⌜ asSlipAnswer r ≡ askedSlip (readingOf withdrawing) (now (stakes .entry)) (now (store .entry)) (locatorOf (now (locator .entry))) (now (out .entry)) .answer ⌝ }
     ensures { λ r. ⌜ now (out .exit) ≡ askedSlip (readingOf withdrawing) (now (stakes .entry)) (now (store .entry)) (locatorOf (now (locator .entry))) (now (out .entry)) .out ⌝ }
 {
-    if locator.len() != 56 {
+    if locator.len() != types::LOCATOR_BYTES {
         return SlipAnswer::Refused(host_locators::refusal_before(20, stakes, store));
     }
     slip_writer::write_slip_in(
@@ -43,10 +41,10 @@ pub fn write_slip(
     ensures { λ r. ⌜ r ≡ encoded (writeSlipCall (readingOf withdrawing) (now (stakes .entry)) (now (store .entry)) (now (locator .entry)) (now (out .entry)) .answer) ⌝ }
     ensures { λ r. ⌜ now (out .exit) ≡ writeSlipCall (readingOf withdrawing) (now (stakes .entry)) (now (store .entry)) (now (locator .entry)) (now (out .entry)) .out ⌝ }
 {
-    let mut held = [0u64; 128];
+    let mut held = [0u64; committee::MAX_MEMBERS];
     let n = host_calls::stakes_of(stakes, &mut held);
     match write_slip_of(&held[..n], store, locator, withdrawing, out) {
         SlipAnswer::Written(length) => length as u64,
-        SlipAnswer::Refused(number) => REFUSED + number,
+        SlipAnswer::Refused(number) => host_calls::REFUSED + number,
     }
 }

@@ -4,8 +4,6 @@ ghost use mathlib.Core.Path.{_≡_};
 ghost use Rattle.sorted_replies.specs.Sorted.{answerSorted};
 ghost use Rattle.host_calls.specs.Calls.{encoded, committeeOf};
 
-const REFUSED: u64 = 9223372036854775808;
-
 // The number of locators; their replies stand in front of `replies`.
 pub fn answer_sorted_of(
     stakes: &[u8],
@@ -17,10 +15,10 @@ pub fn answer_sorted_of(
     ensures { λ r. ⌜ r ≡ encoded (answerSorted (committeeOf (now (stakes .entry))) (now (store .entry)) (now (index .entry)) (now (locators .entry)) (now (replies .entry)) .answer) ⌝ }
     ensures { λ r. ⌜ now (replies .exit) ≡ answerSorted (committeeOf (now (stakes .entry))) (now (store .entry)) (now (index .entry)) (now (locators .entry)) (now (replies .entry)) .out ⌝ }
 {
-    let mut held = [0u64; 128];
+    let mut held = [0u64; committee::MAX_MEMBERS];
     let n = host_calls::stakes_of(stakes, &mut held);
     match answer_sorted::answer_sorted(&held[..n], store, index, locators, replies) {
         SortedAnswer::Replies(count) => count,
-        SortedAnswer::Refused(number) => REFUSED + number,
+        SortedAnswer::Refused(number) => host_calls::REFUSED + number,
     }
 }

@@ -7,15 +7,13 @@ ghost use Rattle.host_calls.specs.Calls.{encoded};
 ghost use Rattle.host_stakes.specs.LoadStakes.{loadedBytes, loadStakesCall};
 use stakes_file::LoadAnswer;
 
-const REFUSED: u64 = 9223372036854775808;
-
 // Puts the stakes of the members in front, 8 bytes each, and answers how many there are.
 fn put_stakes(members: &[u64], stakes: &mut [u8]) -> u64
     requires { ⌜ length (now members) ≤ 128 ⌝ }
     ensures { λ r. ⌜ (r ≡ encoded (loadedBytes (answered (now (members .entry))) (now (stakes .entry)) .answer)) × (now (stakes .exit) ≡ loadedBytes (answered (now (members .entry))) (now (stakes .entry)) .stakes) ⌝ }
 {
     if stakes.len() != 1024 {
-        return REFUSED + 40;
+        return host_calls::REFUSED + 40;
     }
     let end = 8 * members.len();
     words::bytes_of(members, &mut stakes[..end]);
@@ -25,9 +23,9 @@ fn put_stakes(members: &[u64], stakes: &mut [u8]) -> u64
 pub fn load_stakes(file: &[u8], stakes: &mut [u8]) -> u64
     ensures { λ r. ⌜ (r ≡ encoded (loadStakesCall (now (file .entry)) (now (stakes .entry)) .answer)) × (now (stakes .exit) ≡ loadStakesCall (now (file .entry)) (now (stakes .entry)) .stakes) ⌝ }
 {
-    let mut held = [0u64; 128];
+    let mut held = [0u64; committee::MAX_MEMBERS];
     match stakes_file::load(file, &mut held) {
         LoadAnswer::Members(n) => put_stakes(&held[..n], stakes),
-        LoadAnswer::Refused(number) => REFUSED + number,
+        LoadAnswer::Refused(number) => host_calls::REFUSED + number,
     }
 }

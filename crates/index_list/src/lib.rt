@@ -36,7 +36,7 @@ fn place_after(after: MaybeLocator) -> Place
         return Place::Anywhere;
     };
     let block = locator.block;
-    if locator.offset == 18446744073709551615 {
+    if locator.offset == types::LAST_OFFSET {
         return Place::Beyond(block, locator.offset);
     }
     Place::Beyond(block, locator.offset + 1)
@@ -62,7 +62,7 @@ fn fill(
     ensures { λ r. ⌜ asStretches r ≡ answered (givenAfter (listing ordinary old (now (stakes .entry)) (blocksOf (now (store .entry)))) (asMaybe after) (stretches (now (stakes .entry)) (blocksOf (now (store .entry))) (listing ordinary old (now (stakes .entry)) (blocksOf (now (store .entry)))) (length (now (out .entry)) / 10) (asMaybe after))) ⌝ }
     ensures { λ r. ⌜ now (out .exit) ≡ wordsAfter (stretches (now (stakes .entry)) (blocksOf (now (store .entry))) (listing ordinary old (now (stakes .entry)) (blocksOf (now (store .entry)))) (length (now (out .entry)) / 10) (asMaybe after)) (now (out .entry)) ⌝ }
 {
-    let room = out.len() / 10;
+    let room = out.len() / stretch_words::STRETCH_WORDS;
     let mut n: usize = 0;
     let mut last = after;
     loop {
@@ -177,10 +177,10 @@ fn fill_watched(
     ensures { λ r. ⌜ now (out .exit) ≡ wordsAfter (stretches (now (stakes .entry)) (blocksOf (now (store .entry))) (listing ordinary old (now (stakes .entry)) (blocksOf (now (store .entry)))) (length (now (out .entry)) / 10) (asMaybe after)) (now (out .entry)) ⌝ }
 {
     let n = order.len();
-    let mut ends = [0u64; 1024];
-    let mut cursors = [0u64; 1024];
-    let mut owners = [0u64; 1024];
-    let mut flags = [0u64; 1024];
+    let mut ends = [0u64; types::MAX_BLOCKS];
+    let mut cursors = [0u64; types::MAX_BLOCKS];
+    let mut owners = [0u64; types::MAX_BLOCKS];
+    let mut flags = [0u64; types::MAX_BLOCKS];
     fill_opened(
         stakes,
         total,
@@ -208,9 +208,9 @@ pub fn indexed_refusal(stakes: &[u64], store: &[u8], index: &[u64]) -> u64
     if !store_order::in_order(stakes, store) {
         return 10;
     }
-    let mut order = [0u64; 1024];
+    let mut order = [0u64; types::MAX_BLOCKS];
     let count = block_votes::sorted_positions(store, &mut order);
-    let mut starts = [0u64; 1024];
+    let mut starts = [0u64; types::MAX_BLOCKS];
     if !index_check::index_agrees(store, &order[..count], index, &mut starts) {
         return 54;
     }
@@ -235,9 +235,9 @@ pub fn list_stretches_indexed(
     if !store_order::in_order(stakes, store) {
         return StretchesAnswer::Refused(10);
     }
-    let mut order = [0u64; 1024];
+    let mut order = [0u64; types::MAX_BLOCKS];
     let count = block_votes::sorted_positions(store, &mut order);
-    let mut starts = [0u64; 1024];
+    let mut starts = [0u64; types::MAX_BLOCKS];
     if !index_check::index_agrees(store, &order[..count], index, &mut starts) {
         return StretchesAnswer::Refused(54);
     }

@@ -17,8 +17,8 @@ pub struct Lent {
 pub fn early_refusal(stakes: &[u64], store: &[u8], table: &[u64], index: &[u64], rec: &[u8]) -> u64
     ensures { λ r. ⌜ r ≡ refusal (earlyIndexedChecks (now (stakes .entry)) (now (store .entry)) (now (table .entry)) (now (index .entry)) (now (rec .entry))) ⌝ }
 {
-    let mut order = [0u64; 1024];
-    let mut starts = [0u64; 1024];
+    let mut order = [0u64; types::MAX_BLOCKS];
+    let mut starts = [0u64; types::MAX_BLOCKS];
     let lent = lent_refusal(stakes, store, table, index, &mut order, &mut starts);
     if lent.refusal != 0 {
         return lent.refusal;

@@ -31,7 +31,7 @@ fn final_run(
     requires { ⌜ (Ready (now stakes) (total .0) (now store) (now order) × Tables (now store) (now order) (now table) sizes (now includes) noted) × (share .offset < 18446744073709551615) ⌝ }
     ensures { λ r. ⌜ (share .offset < r .end) × Told (now (stakes .entry)) (now (store .entry)) (asReference (share .block)) (share .offset) r ⌝ }
 {
-    let mut certified = [0u64; 1024];
+    let mut certified = [0u64; types::MAX_BLOCKS];
     let found = final_walk::certifiers_of(
         stakes,
         total,

@@ -42,7 +42,7 @@ fn is_final(
     requires { ⌜ (Sorted (now stakes) (now store) (now order) × (total .0 ≡ totalStake (now stakes))) × (length (now order) ≤ 1024) ⌝ }
     ensures { λ r. ⌜ r ≡ isFinal (now (stakes .entry)) (blocksOf (now (store .entry))) (asLocator locator) ⌝ }
 {
-    let mut positions = [0u64; 1024];
+    let mut positions = [0u64; types::MAX_BLOCKS];
     let found = certifying_blocks::certifying_blocks(
         stakes,
         total,
@@ -121,7 +121,7 @@ pub fn is_loadable(stakes: &[u64], store: &[u8], locator: TransactionLocator) ->
     if !store_order::in_order(stakes, store) {
         return LoadableAnswer::Refused(10);
     }
-    let mut order = [0u64; 1024];
+    let mut order = [0u64; types::MAX_BLOCKS];
     let count = block_votes::sorted_positions(store, &mut order);
     if walk_down(stakes, total, store, &order[..count], locator) {
         return LoadableAnswer::Loadable;

@@ -58,7 +58,7 @@ pub fn loadable(stakes: &[u64], store: &[u8], places: &mut [u64]) -> LoadableLis
     if !store_order::in_order(stakes, store) {
         return LoadableList::Refused(10);
     }
-    let mut order = [0u64; 1024];
+    let mut order = [0u64; types::MAX_BLOCKS];
     let count = block_votes::sorted_positions(store, &mut order);
     if places.len() / 2 < share_count::count_shares(stakes, store, &order[..count]) {
         return LoadableList::Refused(58);

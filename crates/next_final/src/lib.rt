@@ -36,7 +36,7 @@ pub fn next_listed(
     if !store_order::in_order(stakes, store) {
         return NextFinalAnswer::Refused(10);
     }
-    let mut order = [0u64; 1024];
+    let mut order = [0u64; types::MAX_BLOCKS];
     let count = block_votes::sorted_positions(store, &mut order);
     // Nothing is put into tables for one locator: the blocks are read from the store.
     let table = [0u64; 1];
@@ -47,7 +47,7 @@ pub fn next_listed(
         rejects: 0,
     };
     let places = [0u64; 1];
-    let mut certified = [0u64; 1024];
+    let mut certified = [0u64; types::MAX_BLOCKS];
     let next = final_search::final_after(
         stakes,
         total,

@@ -9,7 +9,7 @@ ghost use Rattle.host_locators.specs.Locators.{locatorOf, asked};
 pub fn payload_length(stakes: &[u64], store: &[u8], locator: &[u8]) -> PayloadLength
     ensures { λ r. ⌜ asPayloadLength r ≡ asked (now (stakes .entry)) (now (store .entry)) (payloadLength (now (stakes .entry)) (now (store .entry))) (locatorOf (now (locator .entry))) ⌝ }
 {
-    if locator.len() != 56 {
+    if locator.len() != types::LOCATOR_BYTES {
         return PayloadLength::Refused(host_locators::refusal_before(20, stakes, store));
     }
     payload::payload_length(stakes, store, types::read_locator(locator, 0))
@@ -18,7 +18,7 @@ pub fn payload_length(stakes: &[u64], store: &[u8], locator: &[u8]) -> PayloadLe
 pub fn payload_place(stakes: &[u64], store: &[u8], locator: &[u8]) -> PayloadPlace
     ensures { λ r. ⌜ asPlace r ≡ asked (now (stakes .entry)) (now (store .entry)) (payloadPlace (now (stakes .entry)) (now (store .entry))) (locatorOf (now (locator .entry))) ⌝ }
 {
-    if locator.len() != 56 {
+    if locator.len() != types::LOCATOR_BYTES {
         return PayloadPlace::Refused(host_locators::refusal_before(20, stakes, store));
     }
     payload::find_payload(stakes, store, types::read_locator(locator, 0))

@@ -24,7 +24,7 @@ fn no_locator(stakes: &[u64], store: &[u8], table: &[u64]) -> u64
 fn pending_in(stakes: &[u64], store: &[u8], table: &[u64], locator: &[u8]) -> PendingAnswer
     ensures { λ r. ⌜ asPending r ≡ pendingIn (now (stakes .entry)) (now (store .entry)) (now (table .entry)) (locatorOf (now (locator .entry))) ⌝ }
 {
-    if locator.len() != 56 {
+    if locator.len() != types::LOCATOR_BYTES {
         return PendingAnswer::Refused(no_locator(stakes, store, table));
     }
     pending::pending(stakes, store, table, types::read_locator(locator, 0))

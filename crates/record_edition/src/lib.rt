@@ -5,6 +5,9 @@ ghost use lib.ListN.{length};
 ghost use Rattle.blocks.specs.Record.{bodyStart};
 ghost use Rattle.record_edition.specs.Step.{editionRight};
 
+// The bytes before the time of edition 2, or before the includes.
+pub const HEAD_BYTES: usize = 56;
+
 // The three bytes of the edition are 0 0 0, or 2 0 0 and a time of 64 bits follows.
 pub fn edition_formed(rec: &[u8]) -> bool
     requires { ⌜ 56 ≤ length (now rec) ⌝ }
@@ -36,5 +39,5 @@ pub fn body_start(rec: &[u8]) -> usize
     if rec[53] == 2 {
         return 72;
     }
-    56
+    HEAD_BYTES
 }

@@ -58,7 +58,7 @@ pub fn write_edition(out: &mut [u8], time: CreationTime)
     out[53] = 2;
     out[54] = 0;
     out[55] = 0;
-    base::write_u64(out, 56, nanoseconds);
+    base::write_u64(out, record_edition::HEAD_BYTES, nanoseconds);
     base::write_u64(out, 64, 0);
 }
 

@@ -30,7 +30,7 @@ fn measure(s: &[u8]) -> Measured
         let Size::Bytes(size) = statement_writer::statement_size(statement) else {
             return Measured::Malformed;
         };
-        if count == 1024 {
+        if count == block_record::MAX_STATEMENTS {
             return Measured::Malformed;
         }
         count = count + 1;
@@ -50,14 +50,14 @@ pub fn measure_record(digest: &[u8], mark: u64, includes: &[u8], statements: &[u
     if 1 < mark {
         return Measured::Malformed;
     }
-    if includes.len() % 48 != 0 {
+    if includes.len() % types::REFERENCE_BYTES != 0 {
         return Measured::Malformed;
     }
-    if 256 < includes.len() / 48 {
+    if block_record::MAX_INCLUDES < includes.len() / types::REFERENCE_BYTES {
         return Measured::Malformed;
     }
     let Measured::Fits(count, bytes) = measure(statements) else {
         return Measured::Malformed;
     };
-    Measured::Fits(count, 56 + includes.len() + bytes)
+    Measured::Fits(count, record_edition::HEAD_BYTES + includes.len() + bytes)
 }

@@ -18,8 +18,6 @@ ghost use Rattle.finality.specs.Finality.{blocksOf};
 ghost use Rattle.statement_cursor.specs.Cursor.{cursorAt};
 ghost use Rattle.share_runs.specs.Runs.{RunFrom};
 
-const LAST: u64 = 18446744073709551615;
-
 // Offsets of one block; both the last one where there are none.
 pub struct ShownRun {
     pub start: u64,
@@ -49,16 +47,16 @@ fn share_run(rec: &[u8], from: u64) -> ShownRun
     let count = block_record::statement_count(rec);
     if count as u64 <= from {
         return ShownRun {
-            start: LAST,
-            end: LAST,
+            start: types::LAST_OFFSET,
+            end: types::LAST_OFFSET,
         };
     }
     let place = statement_place(rec, from as usize);
     let first = shared_ranges::skip_statements(rec, place, false);
     if count <= first.index {
         return ShownRun {
-            start: LAST,
-            end: LAST,
+            start: types::LAST_OFFSET,
+            end: types::LAST_OFFSET,
         };
     }
     let last = shared_ranges::skip_statements(rec, first, true);
@@ -76,8 +74,8 @@ fn stored_run(store: &[u8], block: BlockReference, from: u64) -> ShownRun
     let at = block_store::lookup(store, block);
     if at == 0 {
         return ShownRun {
-            start: LAST,
-            end: LAST,
+            start: types::LAST_OFFSET,
+            end: types::LAST_OFFSET,
         };
     }
     let begin = at + 8;
@@ -95,6 +93,6 @@ pub fn shown_run(store: &[u8], ordinary: bool, from: TransactionLocator) -> Show
     }
     ShownRun {
         start: from.offset,
-        end: LAST,
+        end: types::LAST_OFFSET,
     }
 }

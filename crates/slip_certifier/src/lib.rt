@@ -90,7 +90,7 @@ pub fn take_certifier(
         return TakenCertifier::Malformed;
     }
     let certifier = slip_paths::find(records, order, types::read_reference(slip, at));
-    let count = slip[at + 48] as usize;
+    let count = slip[at + types::REFERENCE_BYTES] as usize;
     let TakenVoters::Voters(end, voters, shown) = slip_voters::take_voters(
         slip,
         at + 49,

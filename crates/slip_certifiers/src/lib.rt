@@ -45,7 +45,7 @@ fn write_certifier(
 {
     let block = store_entries::reference_at(store, order[k] as usize);
     types::write_reference(out, at, block);
-    out[at + 48] = voters.count() as u8;
+    out[at + types::REFERENCE_BYTES] = voters.count() as u8;
     slip_routes::write_voters(store, order, near, steps, k, voters, out, at + 49)
 }
 

@@ -21,7 +21,7 @@ fn note_own(store: &[u8], order: &[u64], locator: TransactionLocator, k: usize, 
     if !own.contains(block.authority) {
         return;
     }
-    near[128 * k + block.authority.0 as usize] = 1;
+    near[committee::MAX_MEMBERS * k + block.authority.0 as usize] = 1;
 }
 
 // The rows of the block at place k; its includes stand at lower places.

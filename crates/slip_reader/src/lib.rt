@@ -40,9 +40,9 @@ fn show_slip(stakes: &[u64], total: Stake, slip: &[u8], records: &[u8], order: &
 {
     let locator = types::read_locator(slip, 1);
     let withdrawing = slip[0] == 1;
-    let mut votes = [0u8; 1024];
+    let mut votes = [0u8; types::MAX_BLOCKS];
     slip_paths::note_votes(records, order, locator, &mut votes);
-    let mut lacking = [0u8; 1024];
+    let mut lacking = [0u8; types::MAX_BLOCKS];
     slip_ancestry::note_lacking(records, order, withdrawing, &mut lacking);
     let mut rejecting = [0u64; 2048];
     slip_rejecters::note_rejecters(records, order, locator, withdrawing, &mut rejecting);
@@ -72,7 +72,7 @@ pub fn read_slip(stakes: &[u64], slip: &[u8], records: &[u8]) -> SlipAnswer
     if slip.len() < 59 {
         return SlipAnswer::Refused(52);
     }
-    let mut order = [0u64; 1024];
+    let mut order = [0u64; types::MAX_BLOCKS];
     let SortedRecords::Right(count) = slip_records::sort_records(stakes, records, &mut order) else {
         return SlipAnswer::Refused(52);
     };

@@ -28,10 +28,10 @@ fn write_path(
     ensures { λ _. ⌜ ((l : TransactionLocator) → Distances (now (store .entry)) (now (order .entry)) l (now (near .entry)) (now (steps .entry)) (length (now (order .entry))) → now (out .exit) ≡ sets (now (out .entry)) at (pathTo (votesAs l a) (blocksOf (now (store .entry))) (blockAtPlace (now (store .entry)) (now (order .entry)) k))) ⌝ }
 {
     let mut p = k;
-    let mut left = near[128 * k + a] - 1;
+    let mut left = near[committee::MAX_MEMBERS * k + a] - 1;
     let mut to = at;
     while 0 < left {
-        let j = steps[128 * p + a];
+        let j = steps[committee::MAX_MEMBERS * p + a];
         out[to] = j;
         let include = block_votes::include_at(store, order[p] as usize, j as usize);
         p = block_votes::place_of(store, order, include);
@@ -55,7 +55,7 @@ fn write_voter(
     ensures { λ r. ⌜ r ≡ at + (9 + getD (now (near .entry)) (128 * k + a) 0) ⌝ }
     ensures { λ r. ⌜ ((l : TransactionLocator) → Distances (now (store .entry)) (now (order .entry)) l (now (near .entry)) (now (steps .entry)) (length (now (order .entry))) → now (out .exit) ≡ sets (now (out .entry)) at (voterAt (now (store .entry)) (now (order .entry)) l k a)) ⌝ }
 {
-    let away = near[128 * k + a];
+    let away = near[committee::MAX_MEMBERS * k + a];
     base::write_u64(out, at, a as u64);
     base::write_u16(out, at + 8, away - 1);
     write_path(store, order, near, steps, k, a, out, at + 10);
@@ -70,8 +70,8 @@ pub fn voters_size(near: &[u16], k: usize, voters: AuthoritySet) -> usize
 {
     let mut size: usize = 0;
     let mut a: usize = 0;
-    while a < 128 {
-        let more = 9 + near[128 * k + a] as usize;
+    while a < committee::MAX_MEMBERS {
+        let more = 9 + near[committee::MAX_MEMBERS * k + a] as usize;
         let votes = voters.contains(AuthorityIndex(a as u64));
         a += 1;
         if !votes {
@@ -99,7 +99,7 @@ pub fn write_voters(
 {
     let mut to = at;
     let mut a: usize = 0;
-    while a < 128 {
+    while a < committee::MAX_MEMBERS {
         let author = a;
         a += 1;
         if !voters.contains(AuthorityIndex(author as u64)) {

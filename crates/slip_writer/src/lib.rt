@@ -27,7 +27,7 @@ fn write_found(
     ensures { λ r. ⌜ asSlipAnswer r ≡ writeSlip (readingOf withdrawing) (now (stakes .entry)) (now (store .entry)) (now (out .entry)) (asLocator locator) .answer ⌝ }
     ensures { λ r. ⌜ now (out .exit) ≡ writeSlip (readingOf withdrawing) (now (stakes .entry)) (now (store .entry)) (now (out .entry)) (asLocator locator) .out ⌝ }
 {
-    let mut positions = [0u64; 1024];
+    let mut positions = [0u64; types::MAX_BLOCKS];
     let found = certifying_blocks::certifying_blocks_in(
         stakes,
         total,
@@ -67,7 +67,7 @@ pub fn write_slip_in(
     if !store_order::in_order(stakes, store) {
         return SlipAnswer::Refused(10);
     }
-    let mut order = [0u64; 1024];
+    let mut order = [0u64; types::MAX_BLOCKS];
     let count = block_votes::sorted_positions(store, &mut order);
     write_found(
         stakes,

@@ -18,14 +18,14 @@ ghost use Rattle.sorted_step.specs.Step.{repliesWords, Listed};
 pub fn is_sorted_list(locators: &[u8]) -> bool
     ensures { λ r. ⌜ r ≡ holds sortedLocators (locatorsOf (now (locators .entry))) ⌝ }
 {
-    if locators.len() % 56 != 0 {
+    if locators.len() % types::LOCATOR_BYTES != 0 {
         return false;
     }
-    let n = locators.len() / 56;
+    let n = locators.len() / types::LOCATOR_BYTES;
     let mut i: usize = 1;
     while i < n {
-        let last = types::read_locator(locators, 56 * (i - 1));
-        let next = types::read_locator(locators, 56 * i);
+        let last = types::read_locator(locators, types::LOCATOR_BYTES * (i - 1));
+        let next = types::read_locator(locators, types::LOCATOR_BYTES * i);
         if types::locator_before(next, last) {
             return false;
         }

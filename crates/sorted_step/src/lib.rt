@@ -88,7 +88,7 @@ fn merge(
     requires { ⌜ ((broken (now stakes) ≡ false) × (total .0 ≡ totalStake (now stakes))) × (((author .0 < 128) × PartWords (now part)) × (Listed (now locators) (asked (now locators)) × Settled (now stakes) (length (asked (now locators))) (now replies))) ⌝ }
     ensures { λ _. ⌜ ((b : Block) → b .marked ≡ false → authorOf b ≡ author .0 → now (replies .exit) ≡ stepWords (now (stakes .entry)) b (partAt (now (part .entry)) 0) (asked (now (locators .entry))) (now (replies .entry))) ⌝ }
 {
-    let n = locators.len() / 56;
+    let n = locators.len() / types::LOCATOR_BYTES;
     let m = part[0] as usize;
     let mut last = quorum_check::nobody();
     let mut i: usize = 0;
@@ -99,7 +99,7 @@ fn merge(
             return;
         }
         let run = index_runs::read_run(part, 10 * j + 1);
-        let locator = types::read_locator(locators, 56 * i);
+        let locator = types::read_locator(locators, types::LOCATOR_BYTES * i);
         let stands = side_of(run, locator);
         match stands {
             Side::Past => {

@@ -63,7 +63,7 @@ pub fn first_start(
     if !withdrawing {
         return least;
     }
-    let from = 4 * sizes.votes;
+    let from = vote_rows::ROW_WORDS * sizes.votes;
     spoken_start(
         store,
         order,
@@ -122,7 +122,7 @@ pub fn next_edge(
     if !withdrawing {
         return near;
     }
-    let from = 4 * sizes.votes;
+    let from = vote_rows::ROW_WORDS * sizes.votes;
     spoken_edge(
         store,
         order,

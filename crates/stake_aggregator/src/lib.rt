@@ -42,7 +42,7 @@ fn all_known(stakes: &[u64], votes: AuthoritySet) -> bool
     ensures { λ r. ⌜ r ≡ allOf (known (now (stakes .entry))) (members votes) ⌝ }
 {
     let mut i = stakes.len();
-    while i < 128 {
+    while i < committee::MAX_MEMBERS {
         if votes.contains(AuthorityIndex(i as u64)) {
             return false;
         }

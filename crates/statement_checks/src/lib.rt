@@ -32,7 +32,7 @@ fn statement_refusal(statement: BaseStatement) -> u64
 fn accept_refusal(offset: u64) -> u64
     ensures { λ r. ⌜ r ≡ pick (eqb offset 18446744073709551615) 28 0 ⌝ }
 {
-    if offset == 18446744073709551615 {
+    if offset == types::LAST_OFFSET {
         return 28;
     }
     0

@@ -28,7 +28,8 @@ pub fn first_statement(rec: &[u8]) -> StatementCursor
     ensures { λ r. ⌜ r ≡ cursorAt (now (rec .entry)) 0 ⌝ }
 {
     StatementCursor {
-        at: record_edition::body_start(rec) + 48 * block_record::include_count(rec),
+        at: record_edition::body_start(rec)
+            + types::REFERENCE_BYTES * block_record::include_count(rec),
         index: 0,
     }
 }

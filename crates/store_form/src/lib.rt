@@ -6,6 +6,11 @@ ghost use lib.ListN.{length, take};
 ghost use Rattle.store_layout.specs.Store.{blockCount, recordsOf};
 ghost use Rattle.store_layout.specs.Entry.{positions, headerRight, readable};
 
+// The most bytes of a store, and the most blocks, as its count of two bytes has it.
+const MAX_BYTES: usize = 4294967295;
+
+pub const MAX_BLOCKS: u16 = 1024;
+
 // Whether the length is allowed and the header's numbers can be those of a store.
 pub fn header_right(store: &[u8]) -> bool
     ensures { λ r. ⌜ r ≡ headerRight (now (store .entry)) ⌝ }
@@ -13,13 +18,13 @@ pub fn header_right(store: &[u8]) -> bool
     if store.len() < 16 {
         return false;
     }
-    if 4294967295 < store.len() {
+    if MAX_BYTES < store.len() {
         return false;
     }
     if store.len() < base::read_u32(store, 4) as usize {
         return false;
     }
-    if 1024 < base::read_u16(store, 8) {
+    if MAX_BLOCKS < base::read_u16(store, 8) {
         return false;
     }
     if base::read_u32(store, 10) != 0 {

@@ -90,12 +90,12 @@ pub fn in_order(stakes: &[u64], store: &[u8]) -> bool
     if !store_form::header_right(store) {
         return false;
     }
-    let mut starts = [0u64; 1024];
+    let mut starts = [0u64; types::MAX_BLOCKS];
     if !store_form::entries_readable(store, &mut starts) {
         return false;
     }
     let count = base::read_u16(store, 8) as usize;
-    let mut order = [0u64; 1024];
+    let mut order = [0u64; types::MAX_BLOCKS];
     if !store_chain::chain_right(store, &starts[..count], &mut order) {
         return false;
     }

@@ -40,8 +40,8 @@ pub fn fill(
     ensures { λ r. ⌜ asStretches r ≡ answered (givenAfter (listing ordinary (readingOf withdrawing) (now (stakes .entry)) (blocksOf (now (store .entry)))) (asMaybe after) (stretches (now (stakes .entry)) (blocksOf (now (store .entry))) (listing ordinary (readingOf withdrawing) (now (stakes .entry)) (blocksOf (now (store .entry)))) (length (now (out .entry)) / 10) (asMaybe after))) ⌝ }
     ensures { λ r. ⌜ now (out .exit) ≡ wordsAfter (stretches (now (stakes .entry)) (blocksOf (now (store .entry))) (listing ordinary (readingOf withdrawing) (now (stakes .entry)) (blocksOf (now (store .entry)))) (length (now (out .entry)) / 10) (asMaybe after)) (now (out .entry)) ⌝ }
 {
-    let room = out.len() / 10;
-    let mut certified = [0u64; 1024];
+    let room = out.len() / stretch_words::STRETCH_WORDS;
+    let mut certified = [0u64; types::MAX_BLOCKS];
     let mut n: usize = 0;
     let mut last = after;
     loop {

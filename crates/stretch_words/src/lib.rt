@@ -10,6 +10,9 @@ ghost use Rattle.types.specs.Values.{asReference, asLocator};
 ghost use Rattle.stretches.specs.Bulk.{referenceWords, stretchWords};
 ghost use Rattle.stretch_words.specs.Step.{stretchOf};
 
+// The words of a stretch.
+pub const STRETCH_WORDS: usize = 10;
+
 // ---- the slice
 
 // Writes the six words of a reference.
@@ -38,7 +41,7 @@ pub fn write_stretch(
     requires { ⌜ 10 * n + 10 ≤ length (now out) ⌝ }
     ensures { λ _. ⌜ now (out .exit) ≡ sets (now (out .entry)) (10 * n) (stretchWords (stretchOf (asLocator locator) end blocks (stake .0))) ⌝ }
 {
-    let at = 10 * n;
+    let at = STRETCH_WORDS * n;
     write_reference(out, at, locator.block);
     out[at + 6] = locator.offset;
     out[at + 7] = end;

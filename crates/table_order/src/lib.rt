@@ -35,11 +35,11 @@ fn laid_out(t: &[u64]) -> bool
         return false;
     }
     let n = t[0];
-    let most = (t.len() - 1) / 6;
+    let most = (t.len() - 1) / table_words::ITEM_WORDS;
     if (most as u64) < n {
         return false;
     }
-    zero_from(t, 6 * (n as usize) + 1)
+    zero_from(t, table_words::ITEM_WORDS * (n as usize) + 1)
 }
 
 // Whether an item stands before another: of an earlier entry, or below it.

@@ -11,6 +11,9 @@ ghost use Rattle.pending_items.specs.Table.{itemWords, room, itemsOf, Laid, Hol
 ghost use Rattle.table_words.specs.Answers.{asItem, FoundBy, Constant};
 ghost use Rattle.table_words.specs.Step.{slot, MovedUp, Cleared, endsBefore, Parted};
 
+// The words of an item; a table has one word before its items.
+pub const ITEM_WORDS: usize = 6;
+
 // A range of offsets of the entry at a position, with its votes.
 pub struct Item {
     pub position: u64,
@@ -61,7 +64,7 @@ pub fn room_of(t: &[u64]) -> usize
     if t.len() == 0 {
         return 0;
     }
-    (t.len() - 1) / 6
+    (t.len() - 1) / ITEM_WORDS
 }
 
 // The item in the six words at an index.
@@ -69,7 +72,7 @@ pub fn read_item(t: &[u64], i: usize) -> Item
     requires { ⌜ 6 * i + 7 ≤ length (now t) ⌝ }
     ensures { λ r. ⌜ asItem r ≡ slot (now (t .entry)) i ⌝ }
 {
-    let b = 6 * i + 1;
+    let b = ITEM_WORDS * i + 1;
     Item {
         position: t[b],
         start: t[b + 1],
@@ -97,7 +100,7 @@ pub fn put_item(t: &mut [u64], i: usize, x: Item)
     requires { ⌜ 6 * i + 7 ≤ length (now t) ⌝ }
     ensures { λ _. ⌜ now (t .exit) ≡ sets (now (t .entry)) (6 * i + 1) (itemWords (asItem x)) ⌝ }
 {
-    let b = 6 * i + 1;
+    let b = ITEM_WORDS * i + 1;
     t[b] = x.position;
     t[b + 1] = x.start;
     t[b + 2] = x.end;

@@ -10,6 +10,17 @@ ghost use Rattle.blocks.specs.Reference.{newRange, oneRange, locatorBefore};
 ghost use Rattle.blocks.specs.Record.{referenceBytes, locatorBytes};
 ghost use Rattle.types.specs.Values.{beBytes, digestBytes, asReference, asLocator, asRange, wordOrder, keyOrder, referenceOrder, locatorOrder};
 
+// The bytes of a reference, and of a locator.
+pub const REFERENCE_BYTES: usize = 48;
+
+pub const LOCATOR_BYTES: usize = 56;
+
+// No vote reaches the last offset.
+pub const LAST_OFFSET: u64 = 18446744073709551615;
+
+// The most blocks of a store.
+pub const MAX_BLOCKS: usize = 1024;
+
 // The 32 bytes of a digest as four words, the highest byte first, so that comparing words is comparing bytes.
 pub struct BlockDigest(pub u64, pub u64, pub u64, pub u64);
 
@@ -189,7 +200,7 @@ pub fn read_locator(s: &[u8], at: usize) -> TransactionLocator
     ensures { λ r. ⌜ asLocator r ≡ locatorAt (now (s .entry)) at ⌝ }
 {
     let block = read_reference(s, at);
-    let offset = base::read_u64(s, at + 48);
+    let offset = base::read_u64(s, at + REFERENCE_BYTES);
     TransactionLocator { block, offset }
 }
 
@@ -248,5 +259,5 @@ pub fn write_locator(s: &mut [u8], at: usize, locator: TransactionLocator)
     ensures { λ _. ⌜ now (s .exit) ≡ sets (now (s .entry)) at (locatorBytes (asLocator locator)) ⌝ }
 {
     write_reference(s, at, locator.block);
-    base::write_u64(s, at + 48, locator.offset);
+    base::write_u64(s, at + REFERENCE_BYTES, locator.offset);
 }

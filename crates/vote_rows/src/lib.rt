@@ -16,6 +16,9 @@ ghost use Rattle.vote_starts.specs.Answers.{asMaybe};
 ghost use Rattle.stretches.specs.Stretches.{edgesOf, nearest};
 ghost use Rattle.vote_rows.specs.Row.{rowWords, StandsAt, isPast};
 
+// The words of a row.
+pub const ROW_WORDS: usize = 4;
+
 // ---- its words
 
 // Writes the four words of a row.
@@ -23,7 +26,7 @@ pub fn write_row(table: &mut [u64], m: usize, k: usize, at: usize, start: u64, e
     requires { ⌜ 4 * m + 4 ≤ length (now table) ⌝ }
     ensures { λ _. ⌜ now (table .exit) ≡ sets (now (table .entry)) (4 * m) (rowWords k at start end) ⌝ }
 {
-    let from = 4 * m;
+    let from = ROW_WORDS * m;
     table[from] = k as u64;
     table[from + 1] = at as u64;
     table[from + 2] = start;
@@ -34,10 +37,10 @@ pub fn write_row(table: &mut [u64], m: usize, k: usize, at: usize, start: u64, e
 pub fn stands_at(store: &[u8], at: usize, block: BlockReference) -> bool
     ensures { λ r. ⌜ (r ≡ true → StandsAt (now (store .entry)) at (asReference block)) ⌝ }
 {
-    if store.len() < 48 {
+    if store.len() < types::REFERENCE_BYTES {
         return false;
     }
-    if store.len() - 48 < at {
+    if store.len() - types::REFERENCE_BYTES < at {
         return false;
     }
     block_votes::same_reference(types::read_reference(store, at), block)

@@ -80,7 +80,7 @@ fn table_record(
         let Vote::Range(range) = vote else {
             continue;
         };
-        if votes.len() - 4 * n < 4 {
+        if votes.len() - vote_rows::ROW_WORDS * n < vote_rows::ROW_WORDS {
             return Tabling::Full;
         }
         let at = reference_position(store, start, here, range.block);
@@ -136,7 +136,7 @@ pub fn table_both(store: &[u8], order: &[u64], table: &mut [u64], withdrawing: b
             rejects: 0,
         };
     }
-    let from = 4 * votes.held;
+    let from = vote_rows::ROW_WORDS * votes.held;
     let rejects = table_votes(store, order, &mut table[from..], true);
     TableSizes {
         voting: votes.blocks,
@@ -154,9 +154,9 @@ fn start_word(votes: &[u64], i: usize, rejecting: bool) -> u64
     ensures { λ r. ⌜ r ≡ pick rejecting (getD (now (votes .entry)) (4 * i + 3) 0) (getD (now (votes .entry)) (4 * i + 2) 0) ⌝ }
 {
     if rejecting {
-        return votes[4 * i + 3];
+        return votes[vote_rows::ROW_WORDS * i + 3];
     }
-    votes[4 * i + 2]
+    votes[vote_rows::ROW_WORDS * i + 2]
 }
 
 // The lesser of the least locator so far and the least one after the given one at which a vote of the table begins, or just after a rejected one.
@@ -174,7 +174,7 @@ pub fn table_start(
     let mut least = best;
     let mut i: usize = 0;
     while i < m {
-        let at = votes[4 * i + 1] as usize;
+        let at = votes[vote_rows::ROW_WORDS * i + 1] as usize;
         let offset = start_word(votes, i, rejecting);
         i += 1;
         if !vote_rows::follows(store, at, offset, last) {
@@ -204,12 +204,12 @@ pub fn table_edge(
     let mut near = best;
     let mut i: usize = 0;
     while i < m {
-        let at = votes[4 * i + 1] as usize;
+        let at = votes[vote_rows::ROW_WORDS * i + 1] as usize;
         near = vote_rows::edges_at(
             store,
             at,
-            votes[4 * i + 2],
-            votes[4 * i + 3],
+            votes[vote_rows::ROW_WORDS * i + 2],
+            votes[vote_rows::ROW_WORDS * i + 3],
             block,
             offset,
             near,
@@ -232,10 +232,10 @@ pub fn mark_votes(
 {
     let mut i: usize = 0;
     while i < m {
-        let k = votes[4 * i] as usize;
-        let at = votes[4 * i + 1] as usize;
-        let start = votes[4 * i + 2];
-        let end = votes[4 * i + 3];
+        let k = votes[vote_rows::ROW_WORDS * i] as usize;
+        let at = votes[vote_rows::ROW_WORDS * i + 1] as usize;
+        let start = votes[vote_rows::ROW_WORDS * i + 2];
+        let end = votes[vote_rows::ROW_WORDS * i + 3];
         i += 1;
         if !vote_rows::covers_at(store, at, start, end, locator) {
             continue;

@@ -47,10 +47,19 @@ fn write_in(
         return WriteAnswer::Refused(50);
     }
     record_parts::write_front(out, author, round, digest);
-    record_parts::write_counts(out, mark as u8, (includes.len() / 48) as u16, count as u16);
+    record_parts::write_counts(
+        out,
+        mark as u8,
+        (includes.len() / types::REFERENCE_BYTES) as u16,
+        count as u16,
+    );
     record_parts::write_edition(out, time);
-    base::copy_to(out, 56 + extra, includes);
-    record_parts::write_statements(out, 56 + extra + includes.len(), statements);
+    base::copy_to(out, record_edition::HEAD_BYTES + extra, includes);
+    record_parts::write_statements(
+        out,
+        record_edition::HEAD_BYTES + extra + includes.len(),
+        statements,
+    );
     WriteAnswer::Written(bytes + extra)
 }
 
