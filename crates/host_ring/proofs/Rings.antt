@@ -16,7 +16,7 @@ use Rattle.base.proofs.Lists.{none-of, and}
 use Rattle.base.proofs.Refusals.{Numbered, refusal-first, refusal-then}
 use Rattle.committee.specs.Committee.{Committee}
 use Rattle.authority_set.specs.AuthoritySet.{AuthoritySet}
-use Rattle.ring.specs.Ranked.{Ring, ringChecks, ring}
+use Rattle.rung_owners.specs.Ranked.{Ring, ringChecks, ring}
 use Rattle.blocks.specs.Reference.{TransactionLocator}
 use Rattle.pending_items.specs.Items.{Item, itemAt}
 use Rattle.pending_items.specs.Table.{itemsOf}

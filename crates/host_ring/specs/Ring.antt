@@ -10,7 +10,7 @@ use Rattle.base.specs.Le.{Bytes}
 use Rattle.base.specs.Checks.{_⇒_, refusal, Answer, refused, answered}
 use Rattle.committee.specs.Committee.{Committee}
 use Rattle.authority_set.specs.AuthoritySet.{AuthoritySet, numberOfVoters}
-use Rattle.ring.specs.Ranked.{Ring}
+use Rattle.rung_owners.specs.Ranked.{Ring}
 use Rattle.blocks.specs.Reference.{TransactionLocator}
 use Rattle.words.specs.Words.{wordsOf, bytesOf}
 use Rattle.feeds.specs.Pending.{pendingChecks}

@@ -2,7 +2,7 @@
 use Rattle.base.specs.Checks.{Answer, refused, answered}
 use Rattle.ring.specs.declared.RingAnswer.{RingAnswer}
 use Rattle.ring.specs.declared.RingAnswer.the-variants.{Owners, Refused}
-use Rattle.ring.specs.Ranked.{Ring}
+use Rattle.rung_owners.specs.Ranked.{Ring}
 
 -- the owners and their stake, or the refusal's number
 unfoldable pub asRing : RingAnswer → Answer Ring

@@ -1,6 +1,1 @@
-pub mod Rung
-pub mod Ranked
-pub mod Step
 pub mod Answers
-pub mod Claims
-pub mod Cards

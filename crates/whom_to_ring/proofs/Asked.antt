@@ -13,7 +13,7 @@ use Rattle.base.proofs.Tests.{fails}
 use Rattle.base.proofs.Refusals.{passes-zero}
 use Rattle.committee.specs.Committee.{Committee}
 use Rattle.authority_set.specs.AuthoritySet.{AuthoritySet}
-use Rattle.ring.specs.Ranked.{Ring, ring}
+use Rattle.rung_owners.specs.Ranked.{Ring, ring}
 use Rattle.blocks.specs.Reference.{TransactionLocator}
 use Rattle.store_layout.specs.Layout.{entries, positionOf, lookup}
 use Rattle.store_layout.specs.Store.{recordsOf}

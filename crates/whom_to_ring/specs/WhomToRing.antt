@@ -8,7 +8,7 @@ use Rattle.base.specs.Le.{Bytes}
 use Rattle.base.specs.Checks.{refusal, passes, Answer, refused}
 use Rattle.committee.specs.Committee.{Committee}
 use Rattle.authority_set.specs.AuthoritySet.{AuthoritySet}
-use Rattle.ring.specs.Ranked.{Ring, ring}
+use Rattle.rung_owners.specs.Ranked.{Ring, ring}
 use Rattle.blocks.specs.Reference.{TransactionLocator}
 use Rattle.store_layout.specs.Layout.{entries, positionOf, lookup}
 use Rattle.store_layout.specs.Store.{recordsOf}

@@ -7,8 +7,8 @@ use Rattle.committee.specs.Committee.{isQuorum}
 use Rattle.committee.proofs.Answers.{taken-sound, broken-sound}
 use Rattle.authority_set.specs.AuthoritySet.{united, stakeOf}
 use Rattle.ring.specs.Answers.{asRing}
-use Rattle.ring.proofs.Turns.{quorum-is}
-use Rattle.ring.proofs.Claimed.{ring-broken, ring-missed, ring-given}
+use Rattle.rung_owners.proofs.Turns.{quorum-is}
+use Rattle.rung_owners.proofs.Claimed.{ring-broken, ring-missed, ring-given}
 use Rattle.ring.proofs.fewest_owners.Statement.{statement}
 use Rattle.ring.proofs.fewest_owners.Tie as tie
 

@@ -7,7 +7,7 @@ use Rattle.committee.specs.Committee.{getStake}
 use Rattle.committee.proofs.Bounds.{few-members, total-most}
 use Rattle.authority_set.specs.AuthoritySet.{numberOfVoters, inserted}
 use Rattle.authority_set.proofs.Sums.{stake-most}
-use Rattle.ring.proofs.Turns.{someone, first-known, quorum-is, held-more, counted-more, Ringing, ringing-start, ringing-turn, ringing-end}
+use Rattle.rung_owners.proofs.Turns.{someone, first-known, quorum-is, held-more, counted-more, Ringing, ringing-start, ringing-turn, ringing-end}
 use Rattle.ring.proofs.until_quorum.Statement.{statement}
 use Rattle.ring.proofs.until_quorum.Tie as tie
 

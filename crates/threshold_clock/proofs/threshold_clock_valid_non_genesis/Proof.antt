@@ -1,5 +1,6 @@
-use mathlib.Core.Path.{_∙_}
-use Rattle.committee.specs.Committee.{isQuorum}
+use mathlib.Core.Path.{ap, _∙_}
+use Prim.Native.Nat.{ℕ}
+use Rattle.committee.specs.Committee.{quorumOf, isQuorum}
 use Rattle.blocks.specs.Verify.{clockValid}
 use borrow.Author.Needs.{needs}
 use Rattle.threshold_clock.proofs.threshold_clock_valid_non_genesis.Statement.{statement}
@@ -18,7 +19,9 @@ returns : tie.Need-returns
 unfolding clockValid isQuorum
 returns c =
     let o = c .before .before .before .before .before in
-    c .is-quorum .ensures ∙ rw (o .pre .1, c .before .stake-of .ensures, c .before .before .previous-authors .ensures)
+    c .is-quorum .ensures
+    ∙ ap (λ (t : ℕ). quorumOf t (c .before .stake-of .result .0)) (o .pre .1)
+    ∙ rw (c .before .stake-of .ensures, c .before .before .previous-authors .ensures)
 
 pub threshold-clock-valid-non-genesis-spec : {M : Type 1} → statement M
 threshold-clock-valid-non-genesis-spec =

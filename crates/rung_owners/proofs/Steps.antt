@@ -15,10 +15,10 @@ use Rattle.committee.specs.Committee.{AuthorityIndex, Stake, Committee, isQuoru
 use Rattle.authority_set.specs.AuthoritySet.{member, inserted, setOf}
 use Rattle.authority_set.proofs.Votes.{member-inserted}
 use Rattle.authority_set.proofs.Words.{small-inserted, set-ext}
-use Rattle.ring.specs.Ranked.{ahead, placed, ranked, untilQuorum}
-use Rattle.ring.specs.Step.{First}
-use Rattle.ring.proofs.Ranking.{ranked-in}
-use Rattle.ring.proofs.Kept.{keep-all, small-set, set-in, in-set}
+use Rattle.rung_owners.specs.Ranked.{ahead, placed, ranked, untilQuorum}
+use Rattle.rung_owners.specs.Step.{First}
+use Rattle.rung_owners.proofs.Ranking.{ranked-in}
+use Rattle.rung_owners.proofs.Kept.{keep-all, small-set, set-in, in-set}
 
 abbrev pub others : AuthorityIndex → List AuthorityIndex → List AuthorityIndex
 others h xs = keep (λ a. not (eqb a h)) xs

@@ -1,9 +1,9 @@
 -- Whom to ring at small values, evaluated. Assumes nothing.
 use mathlib.Core.Path.{refl}
 use Rattle.authority_set.proofs.Computing.{computing as computing-sets}
-use Rattle.ring.specs.Rung.{ringable}
-use Rattle.ring.specs.Ranked.{reached, ahead, placed, ranked, untilQuorum, rung, ringChecks, ring}
-use Rattle.ring.specs.Cards.{Cards}
+use Rattle.rung_owners.specs.Rung.{ringable}
+use Rattle.rung_owners.specs.Ranked.{reached, ahead, placed, ranked, untilQuorum, rung, ringChecks, ring}
+use Rattle.rung_owners.specs.Cards.{Cards}
 
 pub evaluated : Cards
 unfolding computing-sets ringable reached ahead placed ranked untilQuorum rung ringChecks ring

@@ -7,8 +7,8 @@ use Rattle.base.specs.Lists.{sumOf}
 use Rattle.base.specs.Checks.{refused, answered}
 use Rattle.committee.specs.Committee.{Committee, broken, isQuorum, getStake}
 use Rattle.authority_set.specs.AuthoritySet.{AuthoritySet, nobody, united, setOf, stakeOf}
-use Rattle.ring.specs.Rung.{Suffices, Rung}
-use Rattle.ring.specs.Ranked.{rung, Ring, ringOf, ring}
+use Rattle.rung_owners.specs.Rung.{Suffices, Rung}
+use Rattle.rung_owners.specs.Ranked.{rung, Ring, ringOf, ring}
 
 -- the set that is answered is the one that 02 wants, with its stake
 unfoldable pub RungIsIt : Type 0

@@ -19,12 +19,12 @@ use Rattle.authority_set.proofs.Stakes.{weigh, weigh-same, stake-of}
 use Rattle.authority_set.proofs.Members.{stake-members, members-in, in-members}
 use Rattle.authority_set.proofs.Votes.{member-united}
 use Rattle.authority_set.proofs.Words.{Small, set-ext}
-use Rattle.ring.specs.Rung.{ringable, Suffices, Rung}
-use Rattle.ring.specs.Ranked.{reached, ranked, rung}
-use Rattle.ring.proofs.Totals.{total, total-sum, topmost, take-most}
-use Rattle.ring.proofs.Ranking.{Fits, ranked-falls, ranked-total, ranked-length, ranked-in, ranked-once}
-use Rattle.ring.proofs.Weights.{bonus, scale, weight, stake-fits, weight-fits, weight-total, first-more, Ascends}
-use Rattle.ring.proofs.Kept.{keep-keep, keep-same, keep-all, keep-front, take-in, take-length, set-in, in-set, small-set, kept-ascends, Until, until, weigh-apart}
+use Rattle.rung_owners.specs.Rung.{ringable, Suffices, Rung}
+use Rattle.rung_owners.specs.Ranked.{reached, ranked, rung}
+use Rattle.rung_owners.proofs.Totals.{total, total-sum, topmost, take-most}
+use Rattle.rung_owners.proofs.Ranking.{Fits, ranked-falls, ranked-total, ranked-length, ranked-in, ranked-once}
+use Rattle.rung_owners.proofs.Weights.{bonus, scale, weight, stake-fits, weight-fits, weight-total, first-more, Ascends}
+use Rattle.rung_owners.proofs.Kept.{keep-keep, keep-same, keep-all, keep-front, take-in, take-length, set-in, in-set, small-set, kept-ascends, Until, until, weigh-apart}
 
 module _ (c : Committee) (few : length c ≤ 128) (v r : AuthoritySet) where
   -- a set of owners who can be rung

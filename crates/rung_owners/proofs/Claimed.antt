@@ -11,12 +11,12 @@ use Rattle.committee.specs.Committee.{Committee, broken, isQuorum, getStake}
 use Rattle.authority_set.specs.AuthoritySet.{AuthoritySet, nobody, united, setOf, stakeOf}
 use Rattle.committee.proofs.Bounds.{few-members, more-quorum}
 use Rattle.base.proofs.Checks.{refused-answered}
-use Rattle.ring.specs.Rung.{Suffices, Rung}
-use Rattle.ring.specs.Ranked.{reached, ranked, rung, ringChecks, ringOf, ring}
-use Rattle.ring.specs.Claims.{RungIsIt, OnlyRung, NoneSuffices, RefusedMeant, NoneExactly, NobodyRung, StakeSummed, Claims}
-use Rattle.ring.proofs.Totals.{total-sum}
-use Rattle.ring.proofs.Turns.{none-rung}
-use Rattle.ring.proofs.Chosen.{first-stake, all-stake, reached-until, no-more, rung-is-it, only-one}
+use Rattle.rung_owners.specs.Rung.{Suffices, Rung}
+use Rattle.rung_owners.specs.Ranked.{reached, ranked, rung, ringChecks, ringOf, ring}
+use Rattle.rung_owners.specs.Claims.{RungIsIt, OnlyRung, NoneSuffices, RefusedMeant, NoneExactly, NobodyRung, StakeSummed, Claims}
+use Rattle.rung_owners.proofs.Totals.{total-sum}
+use Rattle.rung_owners.proofs.Turns.{none-rung}
+use Rattle.rung_owners.proofs.Chosen.{first-stake, all-stake, reached-until, no-more, rung-is-it, only-one}
 
 -- the answer, by its checks
 module _ (c : Committee) (v r : AuthoritySet) where

@@ -19,14 +19,14 @@ use Rattle.authority_set.proofs.Stakes.{weigh-mono, stake-of}
 use Rattle.authority_set.proofs.Votes.{member-inserted, member-united}
 use Rattle.stake_aggregator.proofs.Aggregators.{stake-inserted}
 use Rattle.committee.proofs.Bounds.{more-quorum}
-use Rattle.ring.specs.Rung.{ringable}
-use Rattle.ring.specs.Ranked.{reached, ranked, untilQuorum, rung}
-use Rattle.ring.specs.Step.{First}
-use Rattle.ring.proofs.Totals.{total}
-use Rattle.ring.proofs.Kept.{keep-both, keep-same}
-use Rattle.ring.proofs.Chosen.{all-stake}
-use Rattle.ring.proofs.Steps.{others, rung-next, set-next}
-use Rattle.ring.proofs.Scans.{ringable-known, ringable-new}
+use Rattle.rung_owners.specs.Rung.{ringable}
+use Rattle.rung_owners.specs.Ranked.{reached, ranked, untilQuorum, rung}
+use Rattle.rung_owners.specs.Step.{First}
+use Rattle.rung_owners.proofs.Totals.{total}
+use Rattle.rung_owners.proofs.Kept.{keep-both, keep-same}
+use Rattle.rung_owners.proofs.Chosen.{all-stake}
+use Rattle.rung_owners.proofs.Steps.{others, rung-next, set-next}
+use Rattle.rung_owners.proofs.Scans.{ringable-known, ringable-new}
 
 pub quorum-is : (c : Committee) (t s : Stake) → t ≡ totalStake c → quorumOf t s ≡ isQuorum c s
 unfolding isQuorum

@@ -1,11 +1,12 @@
+use mathlib.Core.Path.{_∙_}
 use mathlib.Core.Logic.{⊎-elim}
 use Prim.Native.Nat.{_≤_, _-_}
 use native.Mathlib.Omega.{arith}
 use lib.ListN.{length}
 use borrow.Author.Needs.{needs}
-use Rattle.ring.proofs.Scans.{Scanned, scan-start, scan-better, scan-worse, scan-end}
-use Rattle.ring.proofs.next_to_ring.Statement.{statement}
-use Rattle.ring.proofs.next_to_ring.Tie as tie
+use Rattle.rung_owners.proofs.Scans.{Scanned, scan-start, scan-better, scan-worse, scan-end}
+use Rattle.rung_owners.proofs.next_to_ring.Statement.{statement}
+use Rattle.rung_owners.proofs.next_to_ring.Tie as tie
 
 abbrev Inv-loop : tie.InvT-loop
 Inv-loop stakes counted reachable best₀ most₀ i₀ best most i = (i ≤ length stakes) × Scanned stakes counted reachable i best most
@@ -30,7 +31,7 @@ loop-again c =
     let at = c .before .before .before .loop in
     let start = c .before .before .before .before .before in
     ⊎-elim
-    (λ w. (omega arith, rw (w .1, w .2, c .before .gain .ensures) (scan-better _ _ _ (at .i) (at .best) (at .most) (rw (c .before .gain .ensures) at (w .0 .taken)) (at .inv .1))))
+    (λ w. (omega arith, rw (w .1, w .2 ∙ c .before .gain .ensures) (scan-better _ _ _ (at .i) (at .best) (at .most) (rw (c .before .gain .ensures) at (w .0 .taken)) (at .inv .1))))
     (λ w. (omega arith, rw (w .1, w .2) (scan-worse _ _ _ (at .i) (at .best) (at .most) (start .pre .0) (c .before .before .loop-test .taken) (rw (c .before .gain .ensures) at (w .0 .left)) (at .inv .1))))
     (c .if1 .came)
 

@@ -7,7 +7,7 @@ use Rattle.base.specs.Lists.{pick, keep, countFrom}
 use Rattle.base.specs.Checks.{Check, _⇒_, Answer, checked}
 use Rattle.committee.specs.Committee.{AuthorityIndex, Stake, Committee, broken, isQuorum, getStake}
 use Rattle.authority_set.specs.AuthoritySet.{AuthoritySet, united, setOf, stakeOf}
-use Rattle.ring.specs.Rung.{ringable}
+use Rattle.rung_owners.specs.Rung.{ringable}
 
 -- the owners who can be rung, ascending
 unfoldable pub reached : Committee → AuthoritySet → AuthoritySet → List AuthorityIndex

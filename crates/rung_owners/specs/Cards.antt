@@ -5,7 +5,7 @@ use mathlib.Core.List.{[], _∷_}
 use Rattle.base.specs.Checks.{refused, answered}
 use Rattle.committee.specs.Committee.{courseCommittee}
 use Rattle.authority_set.specs.AuthoritySet.{AuthoritySet}
-use Rattle.ring.specs.Ranked.{ring}
+use Rattle.rung_owners.specs.Ranked.{ring}
 
 -- owners below 64
 abbrev pub set : ℕ → AuthoritySet

@@ -5,7 +5,7 @@ use mathlib.Core.Bool.{true}
 use mathlib.Core.List.{List}
 use Rattle.base.specs.Lists.{_∈_}
 use Rattle.committee.specs.Committee.{AuthorityIndex, Committee}
-use Rattle.ring.specs.Ranked.{ahead}
+use Rattle.rung_owners.specs.Ranked.{ahead}
 
 -- the owner h of a list is ahead of all others
 pub record First (c : Committee) (xs : List AuthorityIndex) (h : AuthorityIndex) : Type 0 where

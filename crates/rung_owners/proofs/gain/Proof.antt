@@ -2,9 +2,9 @@ use mathlib.Core.Path.{sym, _∙_}
 use borrow.Author.Tests.{not-true, not-false}
 use borrow.Author.Needs.{needs}
 use Rattle.committee.specs.Committee.{getStake}
-use Rattle.ring.proofs.Scans.{not-reached, has-voted, is-ringable}
-use Rattle.ring.proofs.gain.Statement.{statement}
-use Rattle.ring.proofs.gain.Tie as tie
+use Rattle.rung_owners.proofs.Scans.{not-reached, has-voted, is-ringable}
+use Rattle.rung_owners.proofs.gain.Statement.{statement}
+use Rattle.rung_owners.proofs.gain.Tie as tie
 
 contains-requires : tie.Need-contains-requires
 contains-requires c κs = search needs

@@ -17,11 +17,11 @@ use Rattle.base.proofs.Tests.{fails, not-both, and-left, and-right}
 use Rattle.committee.specs.Committee.{AuthorityIndex, Stake, Committee, committeeChecks, broken, known, getStake}
 use Rattle.committee.proofs.Bounds.{few-members, known-below}
 use Rattle.authority_set.specs.AuthoritySet.{AuthoritySet, member}
-use Rattle.ring.specs.Rung.{ringable}
-use Rattle.ring.specs.Ranked.{reached}
-use Rattle.ring.specs.Step.{First}
-use Rattle.ring.proofs.Kept.{keep-none}
-use Rattle.ring.proofs.Steps.{first-one, first-scan}
+use Rattle.rung_owners.specs.Rung.{ringable}
+use Rattle.rung_owners.specs.Ranked.{reached}
+use Rattle.rung_owners.specs.Step.{First}
+use Rattle.rung_owners.proofs.Kept.{keep-none}
+use Rattle.rung_owners.proofs.Steps.{first-one, first-scan}
 
 -- no member has a stake of zero
 stake-above : (c : Committee) (i : AuthorityIndex) → broken c ≡ false → i < length c → 0 < getStake c i

@@ -17,9 +17,9 @@ use Rattle.authority_set.proofs.Stakes.{weigh}
 use Rattle.authority_set.proofs.Votes.{member-setOf}
 use Rattle.authority_set.proofs.Words.{Small, small-nobody, small-inserted}
 use Rattle.committee.proofs.Bounds.{more-quorum}
-use Rattle.ring.specs.Ranked.{untilQuorum}
-use Rattle.ring.proofs.Totals.{total}
-use Rattle.ring.proofs.Weights.{Ascends, none-left, next-up}
+use Rattle.rung_owners.specs.Ranked.{untilQuorum}
+use Rattle.rung_owners.proofs.Totals.{total}
+use Rattle.rung_owners.proofs.Weights.{Ascends, none-left, next-up}
 
 -- a stronger test after a weaker one
 pub keep-keep : (p q : ℕ → Bool) (xs : List ℕ) → ((a : ℕ) → p a ≡ true → q a ≡ true) → keep p (keep q xs) ≡ keep p xs
