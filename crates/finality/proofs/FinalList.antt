@@ -8,7 +8,7 @@ use native.Mathlib.Omega.{arith}
 use native.Mathlib.Decide.{ℕ-discrete}
 use Rattle.base.specs.Lists.{pick, keep, countFrom, _∈_, here, there}
 use Rattle.base.proofs.Tests.{not-both, holds-or-not}
-use Rattle.base.proofs.Members.{in-empty, in-cases, in-first, in-flatten, in-map, in-keep, keep-in}
+use Rattle.base.proofs.Members.{in-empty, in-cases, in-first, in-flatten, in-map, in-keep, keep-in, in-countFrom}
 use Rattle.committee.specs.Committee.{Committee}
 use Rattle.blocks.specs.Reference.{TransactionLocator, TransactionLocatorRange, locator, sameLocator, locatorBefore, offsets, locators}
 use Rattle.blocks.specs.Block.{Block, spans}
@@ -131,15 +131,6 @@ in-ascending x (l ∷ ls) (there k) = placed-other l x (ascendingLocators ls) (i
 
 -- ---- every final locator is voted for
 
-in-count : (o start n : ℕ) → start ≤ o → o < start + n → o ∈ countFrom start n
-unfolding countFrom
-in-count o start zero h k = absurd (omega arith)
-in-count o start (suc n) h k = split (ℕ-discrete o start) (λ l. in-count o (start + 1) n l (omega arith))
-  where
-    split : Dec (o ≡ start) → (start + 1 ≤ o → o ∈ countFrom (start + 1) n) → o ∈ (start ∷ countFrom (start + 1) n)
-    split (yes e) f = in-first e
-    split (no e) f = there (f (omega arith))
-
 -- the locators for which a block votes
 abbrev pub voted : Block → List TransactionLocator
 voted b = flatten (map locators (spans b))
@@ -150,7 +141,7 @@ covered-in r l k =
     let e : r .block ≡ l .block = k .of in
     let own : locator (r .block) (l .offset) ≡ l = λ i. record { block = e i; offset = l .offset } in
     subst (λ (x : TransactionLocator). x ∈ map (locator (r .block)) (countFrom (r .start) (r .end - r .start))) own
-    (in-map (locator (r .block)) (in-count (l .offset) (r .start) (r .end - r .start) (k .from) (omega (arith, k .from, k .below))))
+    (in-map (locator (r .block)) (in-countFrom (r .start) (r .end - r .start) (l .offset) (k .from) (omega (arith, k .from, k .below))))
 
 pub vote-voted : (d : Block) (l : TransactionLocator) → votesFor d l ≡ true → l ∈ voted d
 vote-voted d l h = let v = spanned d l h in in-flatten (covered-in (v .span) l (v .covering)) (in-map locators (v .stands))

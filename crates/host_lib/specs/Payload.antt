@@ -10,7 +10,7 @@ use Rattle.committee.specs.Committee.{Committee, broken}
 use Rattle.blocks.specs.Reference.{TransactionLocator}
 use Rattle.blocks.specs.Record.{readLocator}
 use Rattle.store_layout.specs.Store.{storeInOrder}
-use Rattle.store_layout.specs.Payload.{Stretch, payloadLength}
+use Rattle.store_layout.specs.Payload.{StoreStretch, payloadLength}
 use Rattle.payload.specs.Answers.{payloadPlace}
 use Rattle.host_calls.specs.Calls.{committeeOf}
 
@@ -37,7 +37,7 @@ payloadLengthCall stakes s b =
     let c : Committee = committeeOf stakes in
     asked c s (payloadLength c s) (locatorOf b)
 
-unfoldable pub startOf : Answer Stretch → Answer ℕ
+unfoldable pub startOf : Answer StoreStretch → Answer ℕ
 startOf (answered p) = answered (p .start)
 startOf (refused n) = refused n
 

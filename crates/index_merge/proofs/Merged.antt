@@ -16,7 +16,7 @@ use Rattle.voters_index.specs.Runs.{Run, run, touches, sameVoters}
 use Rattle.voters_index.specs.Walk.{Past, byBlock, byOffset, Place, beyond, At, NextRun}
 use Rattle.voters_index.proofs.Sets.{same-voters, voters-same}
 use Rattle.voters_index.proofs.Chain.{past-itself, past-trans, touching, touched}
-use Rattle.voters_index.proofs.Unique.{Placed, earlier, later, alike, placed}
+use Rattle.voters_index.proofs.Unique.{PlaceOrder, earlier, later, alike, place-order}
 use Rattle.index_runs.specs.Pieces.{Ahead, Piece, NobodyFrom, AheadOr, PieceOr}
 use Rattle.index_runs.proofs.Pieces.{past-not, pieces-same}
 use Rattle.index_merge.specs.Sources.{namedBy, Ready, Moved, Merging, ended, GrownFrom}
@@ -72,11 +72,11 @@ module _ {f : TransactionLocator → AuthoritySet} where
       record {
         there = c .there;
         stretch = c .ahead .stretch;
-        onward = λ e. split e (placed (x .reference) (x .end) (y .reference) (y .start));
+        onward = λ e. split e (place-order (x .reference) (x .end) (y .reference) (y .start));
         first = c .ahead .first;
       }
     where
-      split : f (locator (x .reference) (x .end)) ≡ x .votes → Placed (x .reference) (x .end) (y .reference) (y .start) → ⊥
+      split : f (locator (x .reference) (x .end)) ≡ x .votes → PlaceOrder (x .reference) (x .end) (y .reference) (y .start) → ⊥
       split e (earlier k) = c .ahead .stretch .voted (sym e ∙ d .ahead .first (locator (x .reference) (x .end)) (past-itself (x .reference) (x .end)) k)
       split e (later k) = past-not (d .there) k
       split e (alike r o) =

@@ -18,7 +18,7 @@ use Rattle.voters_index.specs.Part.{RunsOf}
 use Rattle.voters_index.specs.Index.{digestWords, runWords, partWords}
 use Rattle.voters_index.specs.Walk.{Past, byBlock, byOffset, Place, anywhere, beyond, At, Unfolded, digestOf, runFrom, runsFrom}
 use Rattle.voters_index.proofs.Chain.{past-trans, Chain, end, link, Differs, past-head, chain-from, nobody-before, passed-out}
-use Rattle.voters_index.proofs.Unique.{Placed, earlier, later, alike, placed}
+use Rattle.voters_index.proofs.Unique.{PlaceOrder, earlier, later, alike, place-order}
 use Rattle.voters_index.proofs.Relation.{runs-chain, runs-told, chain-runs}
 use Rattle.index_runs.proofs.Pieces.{past-not, at-beyond}
 use Rattle.index_merge.specs.Sources.{namedBy}
@@ -57,9 +57,9 @@ module _ {f : TransactionLocator → AuthoritySet} where
 
 at-or-not : (p : Place) (r : BlockReference) (o : ℕ) → (At p r o) ⊎ (At p r o → ⊥)
 at-or-not anywhere r o = inl tt
-at-or-not (beyond q e) r o = go (placed q e r o)
+at-or-not (beyond q e) r o = go (place-order q e r o)
   where
-    go : Placed q e r o → (Past q e r o) ⊎ (Past q e r o → ⊥)
+    go : PlaceOrder q e r o → (Past q e r o) ⊎ (Past q e r o → ⊥)
     go (earlier (byBlock k)) = inl (byBlock k)
     go (earlier (byOffset k m)) = inl (byOffset k (omega arith))
     go (later k) = inr (λ a. past-not a k)

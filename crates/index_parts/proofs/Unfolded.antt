@@ -12,7 +12,7 @@ use Rattle.voters_index.specs.Runs.{Run, votersIn}
 use Rattle.voters_index.specs.Part.{Stretch, RunsOf}
 use Rattle.voters_index.specs.Walk.{Past, byBlock, byOffset, Place, anywhere, beyond, At, NextRun, Unfolded, done, more}
 use Rattle.voters_index.proofs.Chain.{Covered, Chain, end, link, Differs, past-head, nobody-before, at-head}
-use Rattle.voters_index.proofs.Unique.{Placed, earlier, later, alike, placed, at-end}
+use Rattle.voters_index.proofs.Unique.{PlaceOrder, earlier, later, alike, place-order, at-end}
 use Rattle.voters_index.proofs.Relation.{runs-chain, runs-told}
 use Rattle.index_runs.proofs.Pieces.{at-beyond}
 
@@ -76,9 +76,9 @@ module _ {f : TransactionLocator → AuthoritySet} where
 
   -- there is one next run
   one-next : (p : Place) (x y : Run) → NextRun f p x → NextRun f p y → x ≡ y
-  one-next p x y n m = split (placed (x .reference) (x .start) (y .reference) (y .start))
+  one-next p x y n m = split (place-order (x .reference) (x .start) (y .reference) (y .start))
     where
-      split : Placed (x .reference) (x .start) (y .reference) (y .start) → x ≡ y
+      split : PlaceOrder (x .reference) (x .start) (y .reference) (y .start) → x ≡ y
       split (earlier k) = absurd (no-later p x y n m k)
       split (later k) = absurd (no-later p y x m n k)
       split (alike r s) =

@@ -14,7 +14,7 @@ use Rattle.types.proofs.Words.{compared-equal, compared-less}
 use Rattle.voters_index.specs.Runs.{Run, votesAt, votersIn}
 use Rattle.voters_index.specs.Walk.{Past, byBlock, byOffset, Place, anywhere, beyond, At, NextRun}
 use Rattle.voters_index.proofs.Chain.{past-trans, Covered, Good, Chain, end, link, Differs, past-head, chain-from, nobody-before, at-head, passed-out}
-use Rattle.voters_index.proofs.Unique.{Placed, earlier, later, alike, placed, at-end}
+use Rattle.voters_index.proofs.Unique.{PlaceOrder, earlier, later, alike, place-order, at-end}
 use Rattle.index_runs.proofs.Pieces.{at-later, at-beyond}
 use Rattle.index_prefix.specs.Prefix.{PastRun, Nexts, here, onward}
 
@@ -26,9 +26,9 @@ past-one (byOffset e h) m = byOffset e (omega arith)
 
 -- what is not past a place is before it
 pub not-past : (q : BlockReference) (e : ℕ) (r : BlockReference) (o : ℕ) → (Past q e r o → ⊥) → Past r (o + 1) q e
-not-past q e r o h = go (placed q e r o)
+not-past q e r o h = go (place-order q e r o)
   where
-    go : Placed q e r o → Past r (o + 1) q e
+    go : PlaceOrder q e r o → Past r (o + 1) q e
     go (earlier (byBlock k)) = absurd (h (byBlock k))
     go (earlier (byOffset k m)) = absurd (h (byOffset k (omega arith)))
     go (later k) = k

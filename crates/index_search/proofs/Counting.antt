@@ -22,9 +22,9 @@ use Rattle.blocks.proofs.References as order
 use Rattle.finality.specs.Voters.{certifies, certifiers, isFinal}
 use Rattle.vote_starts.proofs.Starts.{fewer-kept}
 use Rattle.voters_index.specs.Walk.{Past, byBlock, byOffset, Place, anywhere, beyond, At}
-use Rattle.voters_index.proofs.Certifying.{stake-nobody}
 use Rattle.index_marks.specs.Marks.{flagged}
 use Rattle.index_watch.specs.Watch.{Owners}
+use Rattle.authority_set.proofs.Votes.{stake-nobody}
 use Rattle.index_search.specs.Search.{Flags, isPast, runEdges, edgesPast}
 
 -- ---- the certifying blocks

@@ -25,9 +25,9 @@ use Rattle.voters_index.specs.Certified.{quorumRun}
 use Rattle.voters_index.specs.Walk.{Past, byBlock, byOffset, Place, anywhere, beyond, At, runFrom}
 use Rattle.voters_index.proofs.Chain.{Covered, covered, is-covered, past-trans, Chain, link, end, Differs, past-head, nobody-before, at-head, rest-nobody, chain-drop}
 use Rattle.voters_index.proofs.Relation.{runs-chain}
-use Rattle.voters_index.proofs.Certifying.{stake-nobody}
 use Rattle.index_cursors.specs.Cursors.{passedBy, passed, dull, Skipped}
 use Rattle.index_marks.specs.Marks.{coversAt}
+use Rattle.authority_set.proofs.Votes.{stake-nobody}
 use Rattle.index_watch.specs.Watch.{quorumAt, Source, Watch}
 
 -- ---- passed or not

@@ -17,7 +17,7 @@ use Rattle.blocks.specs.Claims.{areBytes}
 use Rattle.blocks.proofs.Claimed.{bytes-fit}
 use Rattle.store_layout.specs.Layout.{blocks, entries}
 use Rattle.store_layout.specs.Store.{recordsOf, storeInOrder}
-use Rattle.store_layout.specs.Payload.{Stretch, payloadAt, payloadChecks, stretchOf, payload}
+use Rattle.store_layout.specs.Payload.{StoreStretch, payloadAt, payloadChecks, stretchOf, payload}
 use Rattle.store_layout.proofs.Stored.{WellStored}
 use Rattle.store_layout.proofs.Store.{in-order}
 use Rattle.store_layout.proofs.Chain.{distinct}
@@ -102,13 +102,13 @@ module _ (c : Committee) (s : Bytes) (a : AllBytes s) (h : storeInOrder c s ≡ 
       go none k = refl
       go (some p) k = absurd (not-both {t = not (isNone (payloadIn (blocksOf s) l))} (unfold isNone in rw k) (there-too ∙ (unfold isNone in rw e)))
 
-  pub payload-where : (t : Stretch) → payloadAt s l ≡ some t → payloadIn (blocksOf s) l ≡ some (take (t .count) (drop (t .start) s))
+  pub payload-where : (t : StoreStretch) → payloadAt s l ≡ some t → payloadIn (blocksOf s) l ≡ some (take (t .count) (drop (t .start) s))
   unfolding stretchOf
   payload-where t e = go (payloadIn (blocksOf s) l) refl
     where
       go : (o : Option Bytes) → payloadIn (blocksOf s) l ≡ o → o ≡ some (take (t .count) (drop (t .start) s))
       go none k = absurd (not-both {t = not (isNone (payloadAt s l))} (unfold isNone in rw e) (sym there-too ∙ (unfold isNone in rw k)))
-      go (some p) k = ap {B = Option Bytes} some (sym (payload-stretch p k) ∙ ap (λ (o : Option Stretch). stretchOf o s) e)
+      go (some p) k = ap {B = Option Bytes} some (sym (payload-stretch p k) ∙ ap (λ (o : Option StoreStretch). stretchOf o s) e)
 
 -- ---- the payload question
 

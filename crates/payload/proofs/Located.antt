@@ -30,7 +30,7 @@ use Rattle.store_layout.specs.Layout.{blocks, Entry, entries, positionOf, looku
 use Rattle.store_layout.specs.Shares.{isStoredShare}
 use Rattle.store_layout.specs.Store.{recordsOf, storeInOrder}
 use Rattle.store_layout.specs.Entry.{recordAt, blockAt, laidOut, isEntry}
-use Rattle.store_layout.specs.Payload.{Stretch, shareStretch, payloadOf, payloadAt, payloadChecks, stretchOf, payload, payloadLength}
+use Rattle.store_layout.specs.Payload.{StoreStretch, shareStretch, payloadOf, payloadAt, payloadChecks, stretchOf, payload, payloadLength}
 use Rattle.base.proofs.Lists.{element-at}
 use Rattle.payload.specs.Answers.{asShare, shareWithin, payloadPlace}
 use Rattle.payload.specs.declared.SharePlace.{SharePlace}
@@ -111,7 +111,7 @@ module _ (c : Committee) (s : Bytes) (l : TransactionLocator) where
   unfolding payloadPlace payloadChecks checked passes refusal allOf isNone
   place-none h k n = rw (h, k, share-has-payload c s k l, n)
 
-  pub place-some : broken c ≡ false → storeInOrder c s ≡ true → (t : Stretch) → payloadAt s l ≡ some t → answered t ≡ payloadPlace c s l
+  pub place-some : broken c ≡ false → storeInOrder c s ≡ true → (t : StoreStretch) → payloadAt s l ≡ some t → answered t ≡ payloadPlace c s l
   unfolding payloadPlace payloadChecks checked passes refusal allOf isNone
   place-some h k t n = rw (h, k, share-has-payload c s k l, n)
 
@@ -130,7 +130,7 @@ module _ (c : Committee) (s : Bytes) (l : TransactionLocator) where
   unfolding payloadPlace payload payloadLength checked payloadChecks stretchOf isNone
   place-stands start count h inside = go (passes (payloadChecks c s l)) refl h
     where
-      by-place : (o : Option Stretch) → payloadAt s l ≡ o → passes (payloadChecks c s l) ≡ true → _≡_ {A = Stretch} (record { start = start; count = count }) (Option·getD o (record { start = 0; count = 0 }))
+      by-place : (o : Option StoreStretch) → payloadAt s l ≡ o → passes (payloadChecks c s l) ≡ true → _≡_ {A = StoreStretch} (record { start = start; count = count }) (Option·getD o (record { start = 0; count = 0 }))
           → (take count (drop start s) ≡ stretchOf o s) × (answered count ≡ answered (length (stretchOf o s)))
       by-place none q p e =
           let k : storeInOrder c s ≡ true = not-false (storeInOrder c s) (passes-none (payloadChecks c s l) p (not (storeInOrder c s) ⇒ 10) (there here)) in
@@ -142,11 +142,11 @@ module _ (c : Committee) (s : Bytes) (l : TransactionLocator) where
       go : (t : Bool) → passes (payloadChecks c s l) ≡ t → answered (record { start = start; count = count }) ≡ pick t (answered (Option·getD (payloadAt s l) (record { start = 0; count = 0 }))) (refused (refusal (payloadChecks c s l)))
           → (take count (drop start s) ≡ pick t (stretchOf (payloadAt s l) s) []) × (answered count ≡ pick t (answered (length (stretchOf (payloadAt s l) s))) (refused (refusal (payloadChecks c s l))))
       go false p e = absurd (let z : _≡_ {A = ℕ} 0 1 = cc in omega arith)
-      go true p e = let same : _≡_ {A = Stretch} (record { start = start; count = count }) (Option·getD (payloadAt s l) (record { start = 0; count = 0 })) = cc in by-place (payloadAt s l) refl p same
+      go true p e = let same : _≡_ {A = StoreStretch} (record { start = start; count = count }) (Option·getD (payloadAt s l) (record { start = 0; count = 0 })) = cc in by-place (payloadAt s l) refl p same
 
 -- ---- where the store has it
 
-shifted : (q p : ℕ) (o : Option Statement) (t : Option Stretch) → t ≡ shareStretch p o → shareStretch (q + p) o ≡ Option·map (λ (x : Stretch). record { start = q + x .start; count = x .count }) t
+shifted : (q p : ℕ) (o : Option Statement) (t : Option StoreStretch) → t ≡ shareStretch p o → shareStretch (q + p) o ≡ Option·map (λ (x : StoreStretch). record { start = q + x .start; count = x .count }) t
 unfolding shareStretch
 shifted q p none t h = rw h
 shifted q p (some (share v)) t h = let e : q + p + 3 ≡ q + (p + 3) = omega arith in rw (h, e)
@@ -163,8 +163,8 @@ module _ (s : Bytes) (laid : laidOut s ≡ true) (l : TransactionLocator) (at : 
   payload-entry f = found-stands s laid (l .block) at found f
 
   -- from what the record has
-  pub payload-found : (at ≡ 0 → ⊥) → (t : Option Stretch) → t ≡ shareStretch (statementStart (recordAt s at) (l .offset)) (getElem? (blockAt s at .statements) (l .offset))
-      → payloadAt s l ≡ Option·map (λ (x : Stretch). record { start = at + 8 + x .start; count = x .count }) t
+  pub payload-found : (at ≡ 0 → ⊥) → (t : Option StoreStretch) → t ≡ shareStretch (statementStart (recordAt s at) (l .offset)) (getElem? (blockAt s at .statements) (l .offset))
+      → payloadAt s l ≡ Option·map (λ (x : StoreStretch). record { start = at + 8 + x .start; count = x .count }) t
   unfolding payloadAt payloadOf
   payload-found f t h =
       let e : FoundEntry s (l .block) at = found-entry s laid (l .block) at found f in

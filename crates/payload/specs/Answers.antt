@@ -7,7 +7,7 @@ use Rattle.base.specs.Le.{Bytes}
 use Rattle.base.specs.Checks.{Answer, refused, answered, checked}
 use Rattle.committee.specs.Committee.{Committee}
 use Rattle.blocks.specs.Reference.{TransactionLocator}
-use Rattle.store_layout.specs.Payload.{Stretch, payloadAt, payloadChecks}
+use Rattle.store_layout.specs.Payload.{StoreStretch, payloadAt, payloadChecks}
 use Rattle.payload.specs.declared.SharePlace.{SharePlace}
 use Rattle.payload.specs.declared.SharePlace.the-variants.{Payload, NoShare}
 use Rattle.payload.specs.declared.PayloadPlace.{PayloadPlace}
@@ -23,7 +23,7 @@ asPayloadLength (Unanswered k) = refused k
 -- ---- machinery for the contracts of private functions
 
 -- where a record has a share's payload
-unfoldable pub asShare : SharePlace → Option Stretch
+unfoldable pub asShare : SharePlace → Option StoreStretch
 asShare (Payload start count) = some (record { start = start; count = count })
 asShare NoShare = none
 
@@ -33,7 +33,7 @@ shareWithin n (Payload start count) = leb (start + count) n
 shareWithin n NoShare = true
 
 -- where the store has it, or 5, 10, 41
-unfoldable pub asPlace : PayloadPlace → Answer Stretch
+unfoldable pub asPlace : PayloadPlace → Answer StoreStretch
 asPlace (Stands start count) = answered (record { start = start; count = count })
 asPlace (Refused k) = refused k
 
@@ -41,5 +41,5 @@ unfoldable pub placeWithin : ℕ → PayloadPlace → Bool
 placeWithin n (Stands start count) = leb (start + count) n
 placeWithin n (Refused k) = true
 
-unfoldable pub payloadPlace : Committee → Bytes → TransactionLocator → Answer Stretch
+unfoldable pub payloadPlace : Committee → Bytes → TransactionLocator → Answer StoreStretch
 payloadPlace c s l = checked (payloadChecks c s l) (Option·getD (payloadAt s l) (record { start = 0; count = 0 }))

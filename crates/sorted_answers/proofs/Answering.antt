@@ -27,10 +27,10 @@ use Rattle.voters_index.specs.Part.{partIn}
 use Rattle.voters_index.specs.Index.{Indexed, indexed, indexAgrees}
 use Rattle.voters_index.specs.Walk.{partAt}
 use Rattle.voters_index.specs.Certified.{partCertifies}
-use Rattle.voters_index.proofs.Certifying.{stake-nobody}
 use Rattle.sorted_replies.specs.Sorted.{Reply, noReply, replyWords, replyOf, stepReply, step, repliesAfter, asked}
 use Rattle.sorted_step.specs.Step.{repliesFrom, repliesWords, stepWords, Settled, PartWords}
 use Rattle.sorted_step.proofs.Words.{replies-back, settled-words}
+use Rattle.authority_set.proofs.Votes.{stake-nobody}
 use Rattle.sorted_answers.proofs.Arriving.{Arriving, arriving-start, Arrived, arrived-all}
 
 -- ---- replies

@@ -13,7 +13,7 @@ use Rattle.base.proofs.Tests.{not-both}
 use Rattle.base.proofs.Checks.{passes-first, passes-others}
 use Rattle.committee.specs.Committee.{AuthorityIndex, Committee, broken, totalStake, isQuorum}
 use Rattle.authority_set.specs.AuthoritySet.{nobody, inserted, setOf, stakeFrom, stakeOf}
-use Rattle.authority_set.proofs.Votes.{member-nobody}
+use Rattle.authority_set.proofs.Votes.{member-nobody, stake-nobody}
 use Rattle.blocks.specs.Reference.{TransactionLocator}
 use Rattle.blocks.specs.Block.{Block, author}
 use Rattle.store_layout.specs.Store.{storeInOrder}
@@ -25,7 +25,7 @@ use Rattle.voters_index.specs.Part.{partIn}
 use Rattle.voters_index.specs.Index.{indexed}
 use Rattle.base.proofs.Lists.{keep-same}
 use Rattle.sorted_replies.specs.Sorted.{Reply, replyWords, singleReply, noReply, replyOf, stepReply, step, repliesAfter, asked, sortedChecks, answerSorted}
-use Rattle.voters_index.proofs.Certifying.{stake-nobody, older-certify, part-certifies}
+use Rattle.voters_index.proofs.Certifying.{older-certify, part-certifies}
 
 -- ---- no blocks
 

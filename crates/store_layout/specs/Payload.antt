@@ -16,12 +16,12 @@ use Rattle.store_layout.specs.Shares.{isStoredShare}
 use Rattle.store_layout.specs.Store.{recordsOf, storeInOrder}
 
 -- a stretch of the store
-pub record Stretch : Type 0 where
+pub record StoreStretch : Type 0 where
   pub start : ℕ
   pub count : ℕ
 
 -- the payload of the share whose statement starts at p: it stands after the kind byte and the length
-unfoldable pub shareStretch : ℕ → Option Statement → Option Stretch
+unfoldable pub shareStretch : ℕ → Option Statement → Option StoreStretch
 shareStretch p none = none
 shareStretch p (some (share payload)) = some (record { start = p + 3; count = length payload })
 shareStretch p (some (accept l)) = none
@@ -29,12 +29,12 @@ shareStretch p (some (reject l other)) = none
 shareStretch p (some (voteRange r)) = none
 
 -- the record stands after the entry's 8 bytes
-unfoldable pub payloadOf : Option Entry → ℕ → Option Stretch
+unfoldable pub payloadOf : Option Entry → ℕ → Option StoreStretch
 payloadOf none o = none
 payloadOf (some e) o = shareStretch (e .position + 8 + statementStart (e .bytes) o) (getElem? (e .block .statements) o)
 
 -- where the store has a share's payload; none where the locator names no stored share
-unfoldable pub payloadAt : Bytes → TransactionLocator → Option Stretch
+unfoldable pub payloadAt : Bytes → TransactionLocator → Option StoreStretch
 payloadAt s l = payloadOf (lookup (entries (recordsOf s)) (l .block)) (l .offset)
 
 -- 01: "Queries check 5, 10, .. then 41 for a payload's length", "41 no such share"
@@ -45,7 +45,7 @@ payloadChecks c s l =
     ∷ (not (isStoredShare (blocks (recordsOf s)) l) ⇒ 41)
     ∷ []
 
-unfoldable pub stretchOf : Option Stretch → Bytes → Bytes
+unfoldable pub stretchOf : Option StoreStretch → Bytes → Bytes
 stretchOf none s = []
 stretchOf (some p) s = take (p .count) (drop (p .start) s)
 

@@ -6,11 +6,11 @@ use Rattle.base.specs.Lists.{isNone}
 use Rattle.base.specs.Le.{Bytes}
 use Rattle.blocks.specs.Reference.{TransactionLocator}
 use Rattle.store_layout.specs.Shares.{isStoredShare}
-use Rattle.store_layout.specs.Payload.{Stretch, payloadAt}
+use Rattle.store_layout.specs.Payload.{StoreStretch, payloadAt}
 use Rattle.store_layout.proofs.Shares.{share-has-payload}
 use Rattle.finality.specs.Finality.{blocksOf}
 use Rattle.stored_shares.specs.Stores.{Ordered}
 
-pub share-told : (s : Bytes) → Ordered s → (l : TransactionLocator) (o : Option Stretch) → o ≡ payloadAt s l → not (isNone o) ≡ isStoredShare (blocksOf s) l
+pub share-told : (s : Bytes) → Ordered s → (l : TransactionLocator) (o : Option StoreStretch) → o ≡ payloadAt s l → not (isNone o) ≡ isStoredShare (blocksOf s) l
 unfolding blocksOf
-share-told s h l o e = ap (λ (x : Option Stretch). not (isNone x)) e ∙ sym (share-has-payload (h .0) s (h .1) l)
+share-told s h l o e = ap (λ (x : Option StoreStretch). not (isNone x)) e ∙ sym (share-has-payload (h .0) s (h .1) l)

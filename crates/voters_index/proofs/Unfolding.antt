@@ -16,7 +16,7 @@ use Rattle.voters_index.specs.Part.{Stretch, RunsOf}
 use Rattle.voters_index.specs.Walk.{Past, byBlock, byOffset, Place, anywhere, beyond, At, NextRun, Unfolded, done, more}
 use Rattle.voters_index.proofs.Sets.{united-comm, united-nobody-left}
 use Rattle.voters_index.proofs.Chain.{past-trans, touched, Covered, covered, is-covered, votes-in, Good, Chain, end, link, Differs, no-next, other, past-head, chain-from, nobody-before, at-head}
-use Rattle.voters_index.proofs.Unique.{Placed, earlier, later, alike, placed}
+use Rattle.voters_index.proofs.Unique.{PlaceOrder, earlier, later, alike, place-order}
 use Rattle.voters_index.proofs.Relation.{out-chain, chain-runs}
 
 -- ---- one after the other
@@ -39,7 +39,7 @@ module _ {f : TransactionLocator → AuthoritySet} where
   unfolded-told : {p : Place} (xs : List Run) → Unfolded f p xs → (l : TransactionLocator) → At p (l .block) (l .offset) → votersIn xs l ≡ f l
   unfolding votersIn locator
   unfolded-told [] (done h) l a = sym (h l a)
-  unfolded-told (x ∷ xs) (more n u) l a = split (placed (l .block) (l .offset) (x .reference) (x .start)) (decLt (l .offset) (x .end)) (unfolded-told xs u l)
+  unfolded-told (x ∷ xs) (more n u) l a = split (place-order (l .block) (l .offset) (x .reference) (x .start)) (decLt (l .offset) (x .end)) (unfolded-told xs u l)
     where
       inside : Covered x l → votersIn (x ∷ xs) l ≡ f l
       inside c =
@@ -47,7 +47,7 @@ module _ {f : TransactionLocator → AuthoritySet} where
           ∙ sym (n .stretch .told (l .offset) (c .from) (c .below))
           ∙ ap (λ (r : BlockReference). f (locator r (l .offset))) (c .of)
 
-      split : Placed (l .block) (l .offset) (x .reference) (x .start) → Dec (l .offset < x .end)
+      split : PlaceOrder (l .block) (l .offset) (x .reference) (x .start) → Dec (l .offset < x .end)
           → (At (beyond (x .reference) (x .end)) (l .block) (l .offset) → votersIn xs l ≡ f l) → votersIn (x ∷ xs) l ≡ f l
       split (earlier e) d ih =
           nobody-before (l .block) (l .offset) (x ∷ xs) (link e (good n) (next-differs x xs n u) (unfolded-chain xs u)) ∙ sym (n .first l a e)

@@ -19,16 +19,16 @@ unfolding locator
 starts x g = record { of = refl; from = omega arith; below = g .full }
 
 -- two places: one is past the other, or they are one
-pub data Placed (q : BlockReference) (e : ℕ) (r : BlockReference) (o : ℕ) : Type 0 where
-  earlier : Past q (e + 1) r o → Placed q e r o
-  later : Past r (o + 1) q e → Placed q e r o
-  alike : q ≡ r → e ≡ o → Placed q e r o
+pub data PlaceOrder (q : BlockReference) (e : ℕ) (r : BlockReference) (o : ℕ) : Type 0 where
+  earlier : Past q (e + 1) r o → PlaceOrder q e r o
+  later : Past r (o + 1) q e → PlaceOrder q e r o
+  alike : q ≡ r → e ≡ o → PlaceOrder q e r o
 
-pub placed : (q : BlockReference) (e : ℕ) (r : BlockReference) (o : ℕ) → Placed q e r o
-placed q e r o = split (holds-or-not (referenceBefore q r)) (holds-or-not (referenceBefore r q)) (decLt e o) (decLt o e)
+pub place-order : (q : BlockReference) (e : ℕ) (r : BlockReference) (o : ℕ) → PlaceOrder q e r o
+place-order q e r o = split (holds-or-not (referenceBefore q r)) (holds-or-not (referenceBefore r q)) (decLt e o) (decLt o e)
   where
     split : (referenceBefore q r ≡ true) ⊎ (referenceBefore q r ≡ false) → (referenceBefore r q ≡ true) ⊎ (referenceBefore r q ≡ false)
-        → Dec (e < o) → Dec (o < e) → Placed q e r o
+        → Dec (e < o) → Dec (o < e) → PlaceOrder q e r o
     split (inl h) k m n = earlier (byBlock h)
     split (inr h) (inl k) m n = later (byBlock k)
     split (inr h) (inr k) (yes m) n = earlier (byOffset (reference-total q r h k) (omega arith))
@@ -86,7 +86,7 @@ chains-equal [] (y ∷ ys) h (link b g e m) f =
     absurd (g .voted (sym (at-head y ys m (locator (y .reference) (y .start)) (starts y g)) ∙ sym (f (locator (y .reference) (y .start)))))
 chains-equal (x ∷ xs) [] (link a g d h) k f =
     absurd (g .voted (sym (at-head x xs h (locator (x .reference) (x .start)) (starts x g)) ∙ f (locator (x .reference) (x .start))))
-chains-equal (x ∷ xs) (y ∷ ys) (link a g d h) (link b k e m) f = split (placed (x .reference) (x .start) (y .reference) (y .start)) (chains-equal xs ys h m)
+chains-equal (x ∷ xs) (y ∷ ys) (link a g d h) (link b k e m) f = split (place-order (x .reference) (x .start) (y .reference) (y .start)) (chains-equal xs ys h m)
   where
     left : Chain Differs anywhere (x ∷ xs)
     left = link {p = anywhere} tt g d h
@@ -120,7 +120,7 @@ chains-equal (x ∷ xs) (y ∷ ys) (link a g d h) (link b k e m) f = split (plac
         go (inr u) (inr v) =
             sym (past-head x xs l (λ c. not-both (is-covered x l c) u)) ∙ f l ∙ past-head y ys l (λ c. not-both (is-covered y l c) v)
 
-    split : Placed (x .reference) (x .start) (y .reference) (y .start) → (((l : TransactionLocator) → votersIn xs l ≡ votersIn ys l) → xs ≡ ys) → x ∷ xs ≡ y ∷ ys
+    split : PlaceOrder (x .reference) (x .start) (y .reference) (y .start) → (((l : TransactionLocator) → votersIn xs l ≡ votersIn ys l) → xs ≡ ys) → x ∷ xs ≡ y ∷ ys
     split (earlier n) ih = absurd (no-earlier left right f n)
     split (later n) ih = absurd (no-earlier right left (λ l. sym (f l)) n)
     split (alike r s) ih =
