@@ -12,13 +12,11 @@ use Rattle.base.proofs.Tests.{and-both, and-left, and-right, not-both}
 use Rattle.committee.specs.Committee.{AuthorityIndex, Committee}
 use Rattle.blocks.specs.Reference.{newRange}
 use Rattle.blocks.specs.Block.{Block, sharedRanges}
-use Rattle.statement_cursor.specs.Cursor.{cursorAt}
 use Rattle.shared_ranges.specs.Cursor.{runsLeft, runsTold}
 use Rattle.shared_ranges.specs.declared.SharedRange.the-variants.{Run, End}
 use Rattle.statement_cursor.specs.declared.StatementCursor.{StatementCursor}
 use Rattle.pending_items.specs.Items.{Item, itemBefore, itemFull, firstVote, registered, register}
 use Rattle.pending_items.specs.Table.{tableOf, itemsOf, room, HoldsItems}
-use Rattle.pending_items.proofs.Items.{Ordered}
 use Rattle.range_votes.proofs.Voting.{Written, written}
 use Rattle.table_words.proofs.Slots.{table-holding}
 use Rattle.aggregator.specs.Step.{Orderly, Registered}

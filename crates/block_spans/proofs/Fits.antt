@@ -1,33 +1,16 @@
 -- The votes of a store in order end at the last offset or before it, since 28 refuses accepts of it. Assumes nothing.
-use mathlib.Core.Path.{_≡_, refl, subst, _∙_}
-use mathlib.Core.Bool.{true, false}
-use mathlib.Core.List.{List, [], _∷_, map, flatten}
-use mathlib.Core.Option.{some, Option·some-injective, Option·none-ne-some}
-use Prim.Native.Nat.{ℕ, zero, suc, _+_, _≤_, _<_}
-use lib.ListN.{length, getElem?}
+use mathlib.Core.Path.{_≡_, refl, _∙_}
+use mathlib.Core.Bool.{true}
+use Prim.Native.Nat.{_<_}
 use native.Mathlib.Omega.{arith}
-use native.Mathlib.Decide.{decLt}
-use lib.Dec.{eqb}
-use borrow.Author.Tests.{eqb-false}
-use Rattle.base.specs.Lists.{holds, _∈_, here, there}
+use Rattle.base.specs.Lists.{_∈_}
 use Rattle.base.specs.Le.{Bytes}
-use Rattle.base.specs.Checks.{_⇒_, passes}
 use Rattle.base.proofs.Le.{AllBytes}
-use Rattle.base.proofs.Tests.{and-left, and-right, not-both}
-use Rattle.base.proofs.Lists.{every-in}
-use Rattle.base.proofs.Members.{in-empty, in-left, in-right, in-flatten, in-map, map-in}
-use Rattle.base.proofs.Checks.{passes-none}
 use Rattle.committee.specs.Committee.{Committee}
-use Rattle.blocks.specs.Reference.{TransactionLocator, TransactionLocatorRange, locator, newRange, oneRange}
-use Rattle.blocks.specs.Block.{Statement, share, accept, reject, voteRange, Block, isShare, votedRange, spans}
-use Rattle.blocks.specs.Verify.{headChecks, includeChecks, statementChecks, bodyChecks}
-use Rattle.blocks.proofs.Spans.{Span, ofShare, ofVote, span-of, share-index}
-use Rattle.blocks.proofs.Records.{StatementFits, BlockFits, blockOf-fits}
-use Rattle.store_layout.specs.Layout.{Record}
+use Rattle.blocks.specs.Reference.{TransactionLocator}
+use Rattle.blocks.specs.Block.{Block, votedRange}
 use Rattle.store_layout.specs.Store.{recordsOf, storeInOrder}
-use Rattle.store_layout.specs.Accept.{blockChecks, allAccepted}
-use Rattle.store_layout.proofs.Store.{in-order, right-block, recordsOf-right, recordsOf-bytes}
-use Rattle.store_layout.proofs.Accepted.{blocks}
+use Rattle.store_layout.proofs.Store.{in-order}
 use Rattle.finality.specs.Voters.{votesFor, isFinal}
 use Rattle.finality.specs.Finality.{blocksOf}
 use Rattle.finality.proofs.Votes.{spanned}

@@ -1,8 +1,8 @@
 -- Neighbouring shares in one range: the same votes in fewer ranges. Assumes nothing.
-use mathlib.Core.Path.{_≡_, refl, sym, ap, ap₂, _∙_}
+use mathlib.Core.Path.{_≡_, refl, sym, ap, _∙_}
 use mathlib.Core.Bool.{Bool, true, false, _&&_, _||_, or-assoc}
 use mathlib.Core.List.{List, [], _∷_, _++_, Option·toList}
-use Prim.Native.Nat.{ℕ, zero, suc, _+_, _≤_, _<_}
+use Prim.Native.Nat.{ℕ, suc, _+_, _≤_, _<_}
 use native.Mathlib.Omega.{arith}
 use native.Mathlib.Numerals.{add-one}
 use lib.ListN.{length, getD, drop, length-drop, drop-of-length-le}
@@ -17,7 +17,7 @@ use Rattle.blocks.proofs.Ranges.{within-parts}
 use Rattle.finality.specs.Voters.{votesFor}
 use Rattle.finality.proofs.Votes.{covered, is-covered}
 use Rattle.shared_ranges.specs.Step.{isOfKind, leading}
-use Rattle.stretches.proofs.Wide.{Over, Telling}
+use Rattle.stretches.proofs.Wide.{Telling}
 use Rattle.base.specs.Le.{Bytes}
 use Rattle.statement_cursor.specs.Cursor.{cursorAt}
 use Rattle.statement_cursor.specs.declared.StatementCursor.{StatementCursor}

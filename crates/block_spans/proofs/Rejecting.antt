@@ -7,7 +7,7 @@ use Prim.Native.Nat.{ℕ, _+_, _≤_, _<_}
 use native.Mathlib.Omega.{arith}
 use native.Mathlib.Numerals.{add-one}
 use lib.Dec.{eqb}
-use lib.ListN.{length, getD, drop, drop-of-length-le}
+use lib.ListN.{length, getD, drop-of-length-le}
 use lib.Seq.{drop-cons}
 use borrow.Author.Tests.{ne-eqb}
 use Rattle.base.specs.Lists.{pick, anyOf, _∈_, here}
@@ -15,7 +15,7 @@ use Rattle.base.specs.Le.{Bytes}
 use Rattle.base.proofs.Tests.{same-test}
 use Rattle.base.proofs.Members.{in-cases, in-empty, in-flatten, flatten-in, in-map, map-in, any-in, in-any}
 use Rattle.blocks.specs.Reference.{TransactionLocator, TransactionLocatorRange, sameLocator, newRange, oneRange, covers}
-use Rattle.blocks.specs.Block.{Statement, Block}
+use Rattle.blocks.specs.Block.{Block}
 use Rattle.blocks.specs.Record.{noStatement}
 use Rattle.blocks.proofs.References.{same-locator}
 use Rattle.finality.proofs.Votes.{covered, is-covered}

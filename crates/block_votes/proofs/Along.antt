@@ -2,7 +2,6 @@
 use mathlib.Core.Path.{_≡_, refl, sym, ap, _∙_}
 use mathlib.Core.Bool.{true}
 use mathlib.Core.List.{List, [], _∷_, _++_, map}
-use mathlib.Core.Option.{none, some}
 use Prim.Native.Nat.{ℕ, suc, _+_, _<_, _≤_}
 use native.Mathlib.Omega.{arith}
 use native.Mathlib.Numerals.{add-one}
@@ -17,7 +16,7 @@ use Rattle.store_layout.specs.Store.{blockCount, recordsOf}
 use Rattle.store_layout.specs.Entry.{sortedPositions, laidOut, isEntry}
 use Rattle.store_layout.specs.Step.{first}
 use Rattle.store_layout.proofs.Chain.{least-first, next-after}
-use Rattle.store_layout.proofs.Search.{LaidOut, laid-out, order-entry}
+use Rattle.store_layout.proofs.Search.{laid-out, order-entry}
 use Rattle.store_layout.proofs.Visit.{ascending-in, length-ascending, length-entries}
 
 first-place : (ys : List Entry) → positionOf (first ys) ≡ getD (map (λ e. e .position) ys) 0 0

@@ -1,20 +1,18 @@
 -- Where a record of either edition has its edition, its time and its statements. Assumes nothing.
-use mathlib.Core.Path.{_≡_, refl, sym, ap, _∙_}
+use mathlib.Core.Path.{_≡_, refl, ap, _∙_}
 use mathlib.Core.List.{List, [], _∷_, _++_, map, flatten}
 use mathlib.Core.Option.{Option, none, some}
 use Prim.Native.Nat.{ℕ, zero, suc, _+_, _*_, _<_}
 use native.Mathlib.Nat.{div-eq-of-lt}
-use native.Mathlib.Omega.{arith}
 use lib.ListN.{length, take, drop, replicate}
 use lib.Seq.{take-at, drop-append-add}
 use Rattle.base.specs.Lists.{sumOf}
 use Rattle.base.specs.Le.{leBytes}
 use Rattle.base.proofs.Le.{AllBytes, length-leBytes, leBytes-add}
 use Rattle.base.proofs.Read.{One}
-use Rattle.blocks.specs.Block.{Block}
-use Rattle.blocks.specs.Record.{statementBytes, Edition, old, timed, Timed, editionOf, timedOf, blockOf, bodyFrom, bodyStart, statementStart, timeBytes, bytesIn, editionFor, timedBytes}
+use Rattle.blocks.specs.Record.{statementBytes, Edition, old, timed, Timed, timedOf, blockOf, bodyFrom, bodyStart, statementStart, timeBytes, bytesIn, editionFor, timedBytes}
 use Rattle.blocks.specs.Claims.{StandsIn}
-use Rattle.blocks.proofs.Records.{BlockFits, TimeFits, InFits, past-edition, past-includes, edition-place, edition-said, timed-back, block-in}
+use Rattle.blocks.proofs.Records.{TimeFits, InFits, past-edition, past-includes, edition-place, edition-said, timed-back, block-in}
 
 drop-written : {A : Type 0} (w : A → List ℕ) (i : ℕ) (xs : List A) → drop (sumOf (map (λ x. length (w x)) (take i xs))) (flatten (map w xs)) ≡ flatten (map w (drop i xs))
 unfolding sumOf flatten

@@ -1,15 +1,15 @@
 -- The list in bulk, asked on, is what the single questions give. Assumes nothing.
-use mathlib.Core.Path.{_≡_, refl, sym, ap, subst, _∙_}
+use mathlib.Core.Path.{_≡_, sym, ap, subst, _∙_}
 use mathlib.Core.Logic.{_⊎_, inl, inr}
 use mathlib.Core.Bool.{Bool, true, false}
-use mathlib.Core.List.{List, [], _∷_, _++_, map, map-append, append-assoc, flatten}
+use mathlib.Core.List.{List, [], _++_, map, map-append}
 use mathlib.Core.Option.{Option}
 use Prim.Native.Nat.{ℕ, _/_}
 use native.Mathlib.Omega.{arith}
 use lib.ListN.{length}
 use Rattle.base.specs.Lists.{_∈_, allOf}
 use Rattle.base.specs.Le.{Bytes}
-use Rattle.base.specs.Checks.{answered, checked, passes}
+use Rattle.base.specs.Checks.{checked, passes}
 use Rattle.base.proofs.Lists.{append-nil, flatten-append}
 use Rattle.base.proofs.Members.{in-append}
 use Rattle.committee.specs.Committee.{Committee, broken}

@@ -1,6 +1,5 @@
 -- The marked cards hold: evaluated, where a card is about given values. Assumes nothing.
 use mathlib.Core.Path.{refl}
-use Rattle.committee.specs.Committee.{isQuorum, isValid}
 use Rattle.promises.proofs.Computing.{computing}
 use Rattle.cards.specs.Marked.{MarkedCards}
 

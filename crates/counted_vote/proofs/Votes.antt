@@ -29,7 +29,7 @@ use Rattle.pending_items.specs.Table.{HoldsItems, tableOf, itemsOf, room, table
 use Rattle.pending_items.proofs.Items.{ordered-voteOver}
 use Rattle.pending_items.proofs.Order.{Pending, InOrder, in-order, room-fits, pending-voteOver, length-voteOver}
 use Rattle.table_order.proofs.Forming.{order-parts}
-use Rattle.range_votes.proofs.Voting.{Formed, formed, Written, written}
+use Rattle.range_votes.proofs.Voting.{formed, Written, written}
 use Rattle.feeds.specs.ProcessBlock.{Event, wordsOf, eventOf, Processing, vote}
 use Rattle.events.specs.Step.{toldAt, eventsBetween, StatedAt, told}
 use Rattle.missed_events.specs.Kinds.{withNew}

@@ -6,12 +6,11 @@ use Prim.Native.Nat.{ℕ}
 use native.Mathlib.Omega.{arith}
 use lib.ListN.{length, drop, take, getD, replicate, length-replicate, take-append-drop}
 use lib.Seq.{drop-cons}
-use Rattle.base.specs.Lists.{_∈_, here, there}
+use Rattle.base.specs.Lists.{_∈_, here}
 use Rattle.base.proofs.Lists.{none-of, and, every-in}
 use Rattle.base.proofs.Members.{in-empty}
-use Rattle.blocks.specs.Reference.{TransactionLocator}
 use Rattle.blocks.specs.Block.{Statement, accept, voteRange, Block}
-use Rattle.blocks.specs.Record.{noBlock, blockIn}
+use Rattle.blocks.specs.Record.{noBlock}
 use Rattle.store_layout.specs.Store.{recordIn}
 use Rattle.finality.specs.Ancestry.{VoteIn, byAccept, byRange}
 use Rattle.promises.specs.Feeds.{Feed, run, Accepted, accepted, storedBlocks}

@@ -2,7 +2,6 @@
 use mathlib.Core.Path.{_≡_}
 use mathlib.Core.List.{List, [], _∷_}
 use lib.ListN.{drop, replicate}
-use Rattle.base.specs.Le.{Bytes}
 use Rattle.base.specs.Checks.{answered}
 use Rattle.blocks.specs.Block.{share, accept}
 use Rattle.feeds.specs.Feed.{Lent}

@@ -11,7 +11,7 @@ use borrow.Author.Tests.{eqb-true, eqb-false}
 use Rattle.base.specs.Lists.{pick, isEmpty}
 use Rattle.base.specs.Le.{leBytes}
 use Rattle.base.specs.Read.{give, onward, _>>=_, repeated}
-use Rattle.base.proofs.Lists.{append-nil, Every, and, every}
+use Rattle.base.proofs.Lists.{append-nil, Every, every}
 use Rattle.base.proofs.Le.{AllBytes}
 use Rattle.base.proofs.UpTo.{ReadAll, to-end-reads, to-end-back}
 use Rattle.base.proofs.Read.{items-reads, number-reads, ReadsBack, repeated-reads, complete-reads, Back, bind-back, map-back, Items, items-back, Number, number-back, One, Many, repeated-back, complete-back}

@@ -11,7 +11,7 @@ use lib.Seq.{take-at, drop-at}
 use borrow.Author.Tests.{ltb-true, ltb-false, le-ltb, eqb-true, eq-eqb, not-false}
 use Rattle.base.specs.Lists.{pick, allOf, anyOf, isNone}
 use Rattle.base.specs.Le.{Bytes}
-use Rattle.base.specs.Checks.{refusal, passes, refused, answered, checked}
+use Rattle.base.specs.Checks.{passes, refused, answered, checked}
 use Rattle.base.proofs.Tests.{and-left, and-right, neither-left, neither-right}
 use Rattle.base.proofs.Lists.{Every, none-of, and, every}
 use Rattle.base.proofs.Le.{AllBytes}

@@ -9,7 +9,6 @@ use native.Mathlib.Omega.{arith}
 use lib.ListN.{length, length-append}
 use lib.Seq.{sets, length-sets}
 use Rattle.base.specs.Lists.{pick, countFrom}
-use Rattle.base.proofs.Le.{sets-append}
 use Rattle.base.proofs.Lists.{length-flatten, length-countFrom, countFrom-add, flatten-append}
 use Rattle.committee.specs.Committee.{Committee, Stake, totalStake, isQuorum, quorumOf}
 use Rattle.stake_aggregator.specs.StakeAggregator.{hasQuorum}

@@ -1,6 +1,6 @@
 -- Feeding a record: the first refusal or the number of events, and every lent slice afterwards. Assumes nothing: these are definitions.
 use Prim.Native.Nat.{ℕ}
-use mathlib.Core.Bool.{true, not}
+use mathlib.Core.Bool.{true}
 use mathlib.Core.List.{List, [], _∷_, _++_}
 use mathlib.Core.Option.{Option, none, some}
 use lib.Dec.{ltb}
@@ -8,12 +8,12 @@ use lib.ListN.{length, drop}
 use Rattle.base.specs.Lists.{pick}
 use Rattle.base.specs.Le.{Bytes}
 use Rattle.base.specs.Checks.{Check, _⇒_, refusal, passes, Answer, refused, answered}
-use Rattle.committee.specs.Committee.{Committee, broken}
+use Rattle.committee.specs.Committee.{Committee}
 use Rattle.blocks.specs.Block.{eventRoom}
 use Rattle.store_layout.specs.Layout.{Record, readRecord, entries}
 use Rattle.store_layout.specs.Accept.{blockChecks}
-use Rattle.store_layout.specs.Store.{recordsOf, storeInOrder, storeFull, storeHolding}
-use Rattle.pending_items.specs.Table.{tableOf, itemsOf, tableInOrder, room}
+use Rattle.store_layout.specs.Store.{recordsOf, storeFull, storeHolding}
+use Rattle.pending_items.specs.Table.{tableOf, itemsOf, room}
 use Rattle.feeds.specs.Pending.{pendingChecks}
 use Rattle.feeds.specs.ProcessBlock.{wordsOf, Processing, processBlock}
 

@@ -1,12 +1,11 @@
 -- The voters that count, in either reading. Assumes nothing.
 use mathlib.Core.Path.{_≡_, refl, sym, ap, subst, _∙_}
-use mathlib.Core.Bool.{Bool, true, false}
+use mathlib.Core.Bool.{true, false}
 use mathlib.Core.List.{List, _∷_}
 use Prim.Native.Nat.{ℕ, suc, _<_}
 use native.Mathlib.Omega.{arith}
-use native.Mathlib.Decide.{decLt}
 use lib.Dec.{eqb}
-use lib.ListN.{length, getD, replicate, length-replicate, getD-replicate, List·getD-eq-default}
+use lib.ListN.{length, getD}
 use Rattle.base.specs.Lists.{_∈_, here, there}
 use Rattle.base.specs.Le.{Bytes}
 use Rattle.base.proofs.Le.{AllBytes}
@@ -27,7 +26,6 @@ use Rattle.voters.specs.Walk.{spokenAt}
 use Rattle.certifying_blocks.proofs.Finding.{block-position}
 use Rattle.reading_lists.proofs.Between.{no-voters}
 use Rattle.speakers.specs.Heard.{Owned, HeardBelow}
-use Rattle.base.proofs.Lists.{zeros-at}
 use Rattle.final_walk.specs.Walk.{counted, CountedRight}
 
 -- a number stands at a place of a list

@@ -6,8 +6,8 @@ use mathlib.Core.List.{List, map}
 use lib.ListN.{length, getD}
 use Rattle.base.specs.Lists.{pick}
 use Rattle.base.specs.Le.{Bytes}
-use Rattle.committee.specs.Committee.{Committee, isQuorum}
-use Rattle.authority_set.specs.AuthoritySet.{AuthoritySet, setOf, stakeOf}
+use Rattle.committee.specs.Committee.{Committee}
+use Rattle.authority_set.specs.AuthoritySet.{AuthoritySet, setOf}
 use Rattle.blocks.specs.Reference.{TransactionLocator}
 use Rattle.blocks.specs.Block.{author}
 use Rattle.finality.specs.Voters.{ownVote}

@@ -9,7 +9,7 @@ ghost use mathlib.Core.Bool.{true, false, not, _&&_};
 ghost use Prim.Native.Nat.{_+_, _*_, _≤_, _<_};
 ghost use lib.ListN.{length};
 ghost use Rattle.base.specs.Lists.{pick};
-ghost use Rattle.committee.specs.Committee.{broken, totalStake};
+ghost use Rattle.committee.specs.Committee.{totalStake};
 ghost use Rattle.types.specs.Values.{asLocator};
 ghost use Rattle.store_layout.specs.Entry.{blockAt, isEntry};
 ghost use Rattle.readings.specs.Readings.{withdrawing, readingOf};

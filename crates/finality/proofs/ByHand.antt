@@ -1,15 +1,12 @@
 -- A certificate and finality, shown by hand. Assumes nothing.
 use Prim.Native.Nat.{ℕ}
 use mathlib.Core.Path.{_≡_, refl}
-use mathlib.Core.Bool.{true, false}
-use mathlib.Core.List.{List, [], _∷_}
+use mathlib.Core.List.{[], _∷_}
 use native.Mathlib.Omega.{arith}
 use lib.Dec.{lit<}
 use Rattle.base.specs.Lists.{_∈_, here, there, Once, empty, also}
-use Rattle.committee.specs.Committee.{AuthorityIndex, Committee}
+use Rattle.committee.specs.Committee.{AuthorityIndex}
 use Rattle.committee.specs.Quorum.{HoldQuorum}
-use Rattle.blocks.specs.Reference.{BlockReference, TransactionLocator}
-use Rattle.blocks.specs.Block.{share, accept, Block}
 use Rattle.finality.specs.Ancestry.{itself, included, byShare, byVote, byAccept, Voter, Certificate, Final}
 use Rattle.finality.specs.ByHand.{the, shared, voted, top, stored, two, ByHand}
 use Rattle.finality.proofs.Computing.{computing}

@@ -3,9 +3,8 @@ use mathlib.Core.Path.{_≡_, refl, sym, ap₂, _∙_, subst}
 use mathlib.Core.Logic.{_⊎_, inl, inr, _↔_}
 use mathlib.Core.Bool.{Bool, true, false}
 use mathlib.Core.List.{List, [], _∷_, map, flatten}
-use Prim.Native.Nat.{ℕ, zero, suc, _+_, _-_, _≤_, _<_}
+use Prim.Native.Nat.{_-_}
 use native.Mathlib.Omega.{arith}
-use native.Mathlib.Decide.{ℕ-discrete}
 use Rattle.base.specs.Lists.{pick, keep, countFrom, _∈_, here, there}
 use Rattle.base.proofs.Tests.{not-both, holds-or-not}
 use Rattle.base.proofs.Members.{in-empty, in-cases, in-first, in-flatten, in-map, in-keep, keep-in, in-countFrom}

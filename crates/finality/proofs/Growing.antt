@@ -2,15 +2,13 @@
 use mathlib.Core.Path.{_≡_, sym, ap, _∙_}
 use mathlib.Core.Bool.{true, not}
 use mathlib.Core.List.{List, map}
-use Prim.Native.Nat.{_*_, _≤_, _<_}
-use native.Mathlib.Omega.{arith}
+use Prim.Native.Nat.{_<_}
 use lib.Dec.{eqb}
 use lib.ListN.{length}
-use borrow.Author.Tests.{lt-ltb, ltb-true}
 use Rattle.base.specs.Lists.{_∈_}
 use Rattle.base.proofs.Tests.{and-both, and-left, and-right}
 use Rattle.base.proofs.Members.{any-in, in-any, in-map, map-in, in-keep, keep-in}
-use Rattle.committee.specs.Committee.{AuthorityIndex, Committee, Stake, totalStake, isQuorum}
+use Rattle.committee.specs.Committee.{AuthorityIndex, Committee}
 use Rattle.authority_set.specs.AuthoritySet.{AuthoritySet, member, setOf, stakeOf}
 use Rattle.authority_set.proofs.Votes.{member-setOf}
 use Rattle.authority_set.proofs.Quorums.{stake-mono, counted-quorum, quorum-member}

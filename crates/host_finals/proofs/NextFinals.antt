@@ -13,7 +13,6 @@ use Rattle.finality.specs.NextFinal.{nextFinalChecks}
 use Rattle.stretches.specs.Stretches.{Listing}
 use Rattle.stretches.specs.Bulk.{listNext}
 use Rattle.host_locators.specs.Locators.{refusalBefore}
-use Rattle.reading_lists.specs.Lists.{nextListed}
 use Rattle.host_finals.specs.NextFinal.{foundIn, askedNextFinal}
 use Rattle.host_calls.proofs.Numbers.{checked-most}
 

@@ -1,10 +1,7 @@
 // What the host's calls about the ordinary and the wide list, in either reading of a reject, are made of, over byte slices.
 ghost use mathlib.Core.Path.{_≡_};
-ghost use Prim.Native.Nat.{_+_, _≤_};
+ghost use Prim.Native.Nat.{_+_};
 ghost use lib.ListN.{length};
-ghost use lib.Seq.{sets};
-ghost use Rattle.types.specs.Values.{beBytes, digestBytes, asLocator};
-ghost use Rattle.blocks.specs.Record.{locatorBytes};
 ghost use Rattle.finality.specs.Finality.{blocksOf};
 ghost use Rattle.readings.specs.Readings.{readingOf};
 ghost use Rattle.reading_lists.specs.Lists.{listing};

@@ -10,9 +10,6 @@ use Rattle.committee.specs.Committee.{Committee, broken}
 use Rattle.blocks.specs.Reference.{TransactionLocator}
 use Rattle.blocks.specs.Record.{readLocator}
 use Rattle.store_layout.specs.Store.{storeInOrder}
-use Rattle.store_layout.specs.Payload.{StoreStretch, payloadLength}
-use Rattle.payload.specs.Answers.{payloadPlace}
-use Rattle.host_calls.specs.Calls.{committeeOf}
 
 -- a locator is the 56 bytes that it has in a record; bytes of another length are none
 unfoldable pub locatorOf : Bytes → Option TransactionLocator

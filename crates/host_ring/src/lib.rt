@@ -3,7 +3,6 @@ use authority_set::AuthoritySet;
 use ring::RingAnswer;
 use stake_aggregator::StakeAggregator;
 ghost use mathlib.Core.Path.{_≡_};
-ghost use lib.ListN.{length};
 ghost use Rattle.ring.specs.Answers.{asRing};
 ghost use Rattle.host_calls.specs.Calls.{encoded};
 ghost use Rattle.host_locators.specs.Locators.{locatorOf};

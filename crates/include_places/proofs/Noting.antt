@@ -1,16 +1,14 @@
 -- Noting the places of includes, and gathering who speaks in the ancestry of the blocks at them. Assumes nothing.
 use mathlib.Core.Path.{_≡_, refl, sym, ap, subst, _∙_}
-use mathlib.Core.List.{List, [], _∷_, _++_, map, map-append}
+use mathlib.Core.List.{List, [], _∷_, map, map-append}
 use Prim.Native.Nat.{ℕ, zero, suc, _+_, _*_, _≤_, _<_}
 use native.Mathlib.Omega.{arith}
 use native.Mathlib.Numerals.{add-one}
 use native.Mathlib.Decide.{ℕ-discrete}
-use lib.Bits.{or-zero-l}
 use lib.ListN.{length, getD, set, take, length-set}
 use lib.Seq.{take-suc, take-length, getD-set-same, getD-set-other}
 use Rattle.base.specs.Le.{Bytes}
 use Rattle.authority_set.specs.AuthoritySet.{AuthoritySet, nobody, united}
-use Rattle.authority_set.proofs.Words.{united-assoc, united-nobody, nobody-united}
 use Rattle.blocks.specs.Reference.{BlockReference, TransactionLocator}
 use Rattle.blocks.specs.Record.{noReference}
 use Rattle.finality.specs.Voters.{Speech, unions, spoken}

@@ -3,22 +3,22 @@ use mathlib.Core.Path.{_≡_, refl, sym, ap, subst, _∙_}
 use mathlib.Core.Logic.{_⊎_, inl, inr}
 use mathlib.Core.Bool.{true, false}
 use mathlib.Core.List.{List, [], _∷_, _++_, map, map-append}
-use Prim.Native.Nat.{ℕ, _+_, _*_, _≤_, _<_}
+use Prim.Native.Nat.{ℕ, _+_, _≤_, _<_}
 use native.Mathlib.Omega.{arith}
 use native.Mathlib.Decide.{decLt, ℕ-discrete}
 use lib.Dec.{eqb}
 use lib.ListN.{length, getD, drop, set, length-set}
 use lib.Seq.{getD-set-same, getD-set-other}
 use borrow.Author.Tests.{eq-eqb, ne-eqb}
-use Rattle.base.specs.Lists.{_∈_, here, there}
+use Rattle.base.specs.Lists.{_∈_}
 use Rattle.base.specs.Le.{Bytes, leAt}
-use Rattle.base.proofs.Tests.{holds-or-not, not-both, fails}
+use Rattle.base.proofs.Tests.{fails}
 use Rattle.base.proofs.Le.{AllBytes}
 use Rattle.base.proofs.Members.{in-empty, in-cases, in-right, map-in}
 use Rattle.base.proofs.Lists.{every-in}
 use Rattle.committee.specs.Committee.{Committee}
-use Rattle.blocks.specs.Reference.{BlockReference, TransactionLocatorRange, referenceBefore}
-use Rattle.blocks.specs.Block.{Block, spans}
+use Rattle.blocks.specs.Reference.{BlockReference, referenceBefore}
+use Rattle.blocks.specs.Block.{Block}
 use Rattle.blocks.proofs.References.{reference-refl, other-reference, reference-irrefl}
 use Rattle.blocks.proofs.Records.{ReferenceFits, BlockFits, blockOf-fits}
 use Rattle.store_layout.specs.Layout.{Record, usedBy}
@@ -33,7 +33,6 @@ use Rattle.block_votes.specs.Walk.{Sorted, blockAtPlace}
 use Rattle.voters_index.specs.Runs.{Run}
 use Rattle.voters_index.specs.Part.{partFrom, partIn}
 use Rattle.voters_index.specs.Index.{partWords, indexed, bodyWords, usedWords, indexAgrees}
-use Rattle.voters_index.specs.Walk.{partAt}
 use Rattle.voters_index.proofs.Grown.{used-grows, agrees-used}
 use Rattle.voters_index.proofs.Checking.{agrees-part, Checked, checked-start, checked-on, checked-end}
 use Rattle.voters_index.proofs.Reading.{part-back}

@@ -1,8 +1,8 @@
 -- The stored blocks one after the other in order of arrival, and what is known of the next. Assumes nothing.
 use mathlib.Core.Path.{_≡_, refl, sym, ap, subst, _∙_}
-use mathlib.Core.Bool.{true, false}
-use mathlib.Core.List.{List, [], _∷_, _++_, map}
-use Prim.Native.Nat.{ℕ, _+_, _-_, _≤_, _<_}
+use mathlib.Core.Bool.{true}
+use mathlib.Core.List.{List, [], _∷_, _++_}
+use Prim.Native.Nat.{ℕ, _+_, _-_, _<_}
 use native.Mathlib.Omega.{arith}
 use native.Mathlib.Numerals.{add-one}
 use lib.ListN.{length, getD, take, drop, length-drop, take-append-drop}
@@ -10,23 +10,22 @@ use lib.Seq.{drop-cons}
 use Rattle.base.specs.Lists.{_∈_, here, there}
 use Rattle.base.specs.Le.{Bytes}
 use Rattle.base.specs.Checks.{passes}
-use Rattle.base.proofs.Tests.{and-left, and-right}
+use Rattle.base.proofs.Tests.{and-left}
 use Rattle.base.proofs.Le.{AllBytes}
 use Rattle.base.proofs.Lists.{every-in}
-use Rattle.base.proofs.Members.{in-right, in-map, in-any, map-in}
-use Rattle.committee.specs.Committee.{Committee, broken}
+use Rattle.base.proofs.Members.{in-right, in-any, map-in}
+use Rattle.committee.specs.Committee.{Committee}
 use Rattle.committee.proofs.Bounds.{few-members, known-below}
 use Rattle.blocks.specs.Reference.{BlockReference, sameReference}
 use Rattle.blocks.specs.Block.{Block, author, spans}
-use Rattle.blocks.specs.Record.{wellFormed, blockIn}
 use Rattle.blocks.proofs.References.{same-reference}
 use Rattle.blocks.proofs.Records.{BlockFits, blockOf-fits}
 use Rattle.store_layout.specs.Layout.{Record, usedBy}
-use Rattle.store_layout.specs.Store.{recordsOf, recordIn, storeInOrder}
+use Rattle.store_layout.specs.Store.{recordsOf, recordIn}
 use Rattle.store_layout.specs.Accept.{isStored, blockChecks, allAccepted}
-use Rattle.store_layout.specs.Entry.{recordAt, blockAt, positions, laidOut, isEntry}
+use Rattle.store_layout.specs.Entry.{recordAt, blockAt, positions, isEntry}
 use Rattle.store_layout.proofs.Walk.{Walked, then, walked-drop, Stands}
-use Rattle.store_layout.proofs.Loops.{record-at, formed-at, block-at, place-entry, length-positions}
+use Rattle.store_layout.proofs.Loops.{formed-at, block-at, place-entry, length-positions}
 use Rattle.store_layout.proofs.Sorted.{is-in}
 use Rattle.store_layout.proofs.Search.{laid-out}
 use Rattle.store_layout.proofs.Lookups.{accepted-older, position-at}

@@ -1,24 +1,15 @@
 -- The votes of an accepted block: their ends are offsets, and their references fit. Assumes nothing.
-use mathlib.Core.Path.{_≡_, refl, sym, subst}
+use mathlib.Core.Path.{_≡_, sym, subst}
 use mathlib.Core.Bool.{true}
-use mathlib.Core.List.{List, [], _∷_, map, flatten}
+use mathlib.Core.List.{List}
 use mathlib.Core.Option.{some, Option·some-injective, Option·none-ne-some}
-use Prim.Native.Nat.{ℕ, zero, suc, _≤_, _<_}
-use native.Mathlib.Omega.{arith}
-use lib.Dec.{eqb}
-use lib.ListN.{length, getElem?}
-use borrow.Author.Tests.{eqb-false}
-use Rattle.base.specs.Lists.{holds, _∈_, here, there}
-use Rattle.base.specs.Checks.{_⇒_, passes}
-use Rattle.base.proofs.Tests.{not-both}
+use Rattle.base.specs.Lists.{_∈_}
+use Rattle.base.specs.Checks.{passes}
 use Rattle.base.proofs.Lists.{every-in}
-use Rattle.base.proofs.Members.{in-left, in-right, in-flatten, in-map}
-use Rattle.base.proofs.Checks.{passes-none}
 use Rattle.committee.specs.Committee.{Committee}
-use Rattle.blocks.specs.Reference.{BlockReference, TransactionLocator, TransactionLocatorRange, locator, newRange, oneRange}
-use Rattle.blocks.specs.Block.{Statement, share, accept, reject, voteRange, Block, isShare, votedRange, spans}
-use Rattle.blocks.specs.Verify.{headChecks, includeChecks, statementChecks, bodyChecks}
-use Rattle.blocks.proofs.Spans.{Span, ofShare, ofVote, span-of, share-index}
+use Rattle.blocks.specs.Reference.{TransactionLocatorRange, locator, newRange, oneRange}
+use Rattle.blocks.specs.Block.{Statement, share, accept, reject, voteRange, Block, votedRange, spans}
+use Rattle.blocks.proofs.Spans.{Span, ofShare, ofVote, span-of}
 use Rattle.blocks.proofs.Records.{ReferenceFits, StatementFits, BlockFits}
 use Rattle.store_layout.specs.Layout.{Record}
 use Rattle.store_layout.specs.Accept.{blockChecks}

@@ -4,27 +4,24 @@ use mathlib.Core.List.{List, [], _∷_, _++_, map, flatten}
 use Prim.Native.Nat.{ℕ, zero, suc, _+_, _*_, _≤_, _<_}
 use native.Mathlib.Omega.{arith}
 use native.Mathlib.Decide.{decLt}
-use native.Mathlib.Numerals.{add-one}
 use lib.ListN.{length, getD, take, drop, set, length-set}
 use lib.Seq.{take-suc, take-length, getD-set-same, getD-set-other}
-use Rattle.base.specs.Lists.{_∈_, here, there}
 use Rattle.base.specs.Le.{Bytes}
 use Rattle.base.proofs.Places.{in-place}
-use Rattle.authority_set.specs.AuthoritySet.{AuthoritySet, nobody, united}
-use Rattle.authority_set.proofs.Words.{united-nobody, united-assoc, nobody-united}
+use Rattle.authority_set.specs.AuthoritySet.{AuthoritySet, united}
 use Rattle.blocks.specs.Reference.{BlockReference, TransactionLocator}
 use Rattle.blocks.specs.Block.{Block}
 use Rattle.blocks.specs.Record.{noReference}
 use Rattle.finality.specs.Voters.{ownVote, unions}
 use Rattle.block_votes.specs.Walk.{blockAtPlace}
-use Rattle.voters_index.specs.Runs.{Run, votersIn, stretched}
+use Rattle.voters_index.specs.Runs.{Run, votersIn}
 use Rattle.voters_index.specs.Part.{RunsOf, ownRuns, partFrom, partIn}
 use Rattle.voters_index.specs.Walk.{Place, anywhere, runsFrom, partAt}
 use Rattle.voters_index.proofs.Chain.{Anything, Chain, end, link, Differs}
 use Rattle.voters_index.proofs.Relation.{runs-chain}
 use Rattle.voters_index.proofs.Ascending.{stretched-runs}
 use Rattle.voters_index.proofs.Parts.{part-runs, from-names}
-use Rattle.index_merge.specs.Sources.{cursorAt, cursorLeft, source, namedBy, Ready}
+use Rattle.index_merge.specs.Sources.{cursorAt, cursorLeft, source, namedBy}
 use Rattle.index_parts.specs.Parts.{merged}
 use Rattle.finality.proofs.Spoken.{unions-more}
 use Rattle.index_check.specs.Known.{Stands, Known, Rooted, Opened}

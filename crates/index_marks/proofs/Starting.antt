@@ -7,13 +7,9 @@ use Prim.Native.Nat.{ℕ, _+_, _≤_, _<_}
 use native.Mathlib.Omega.{arith}
 use native.Mathlib.Decide.{ℕ-discrete}
 use lib.ListN.{length, getD}
-use Rattle.base.proofs.Tests.{holds-or-not, fails, not-both}
-use Rattle.blocks.specs.Reference.{TransactionLocator, sameLocator, locatorBefore}
-use Rattle.blocks.proofs.References.{locator-irrefl, locator-trans, locator-same, locator-total, not-before-trans}
-use Rattle.types.specs.Values.{locatorOrder}
-use Rattle.types.specs.declared.Ordering.{Ordering}
-use Rattle.types.specs.declared.Ordering.the-variants.{Less, Equal, Greater}
-use Rattle.types.proofs.Words.{order-less, order-equal, order-greater}
+use Rattle.base.proofs.Tests.{fails}
+use Rattle.blocks.specs.Reference.{TransactionLocator, locatorBefore}
+use Rattle.blocks.proofs.References.{locator-irrefl, locator-trans, not-before-trans}
 use Rattle.base.specs.Lists.{pick}
 use Rattle.finality.specs.NextFinal.{lesserLocator}
 use Rattle.voters_index.specs.Walk.{Place}

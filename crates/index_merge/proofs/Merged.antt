@@ -1,23 +1,23 @@
 -- A run from its first piece on, piece after piece. Assumes nothing.
 use mathlib.Core.Path.{_≡_, refl, sym, ap, subst, _∙_}
-use mathlib.Core.Bool.{Bool, true, false, _&&_}
+use mathlib.Core.Bool.{true, false, _&&_}
 use mathlib.Core.List.{List}
 use mathlib.Core.Option.{Option, none, some}
-use Prim.Native.Nat.{ℕ, _+_, _≤_, _<_}
+use Prim.Native.Nat.{ℕ, _≤_, _<_}
 use native.Mathlib.Omega.{arith}
 use native.Mathlib.Decide.{decLt}
 use lib.ListN.{length}
 use Rattle.base.proofs.Tests.{and-both, and-left, and-right, not-both}
-use Rattle.authority_set.specs.AuthoritySet.{AuthoritySet, nobody, united}
+use Rattle.authority_set.specs.AuthoritySet.{AuthoritySet, united}
 use Rattle.blocks.specs.Reference.{BlockReference, TransactionLocator, locator}
 use Rattle.blocks.specs.Block.{Block}
 use Rattle.finality.specs.Voters.{ownVote}
 use Rattle.voters_index.specs.Runs.{Run, run, touches, sameVoters}
-use Rattle.voters_index.specs.Walk.{Past, byBlock, byOffset, Place, beyond, At, NextRun}
+use Rattle.voters_index.specs.Walk.{Past, Place, beyond, At, NextRun}
 use Rattle.voters_index.proofs.Sets.{same-voters, voters-same}
 use Rattle.voters_index.proofs.Chain.{past-itself, past-trans, touching, touched}
 use Rattle.voters_index.proofs.Unique.{PlaceOrder, earlier, later, alike, place-order}
-use Rattle.index_pieces.specs.Pieces.{Ahead, Piece, NobodyFrom, AheadOr, PieceOr}
+use Rattle.index_pieces.specs.Pieces.{Piece, NobodyFrom, AheadOr, PieceOr}
 use Rattle.index_pieces.proofs.Pieces.{past-not, pieces-same}
 use Rattle.index_merge.specs.Sources.{namedBy, Ready, Moved, Merging, ended, GrownFrom}
 

@@ -1,7 +1,7 @@
 -- The pieces of a block's own votes, statement by statement. Assumes nothing.
 use mathlib.Core.Path.{_≡_, refl, sym, ap, subst, _∙_}
 use mathlib.Core.Bool.{Bool, true, false}
-use mathlib.Core.List.{List, [], _∷_, _++_, map, map-append, Option·toList}
+use mathlib.Core.List.{List, [], _∷_, map, map-append}
 use mathlib.Core.Option.{Option, none, some}
 use Prim.Native.Nat.{ℕ, zero, suc, _+_, _≤_, _<_}
 use native.Mathlib.Omega.{arith}
@@ -25,9 +25,9 @@ use Rattle.block_votes.specs.Walk.{spanOf}
 use Rattle.block_votes.proofs.Reading.{spans-on, spans-end}
 use Rattle.voters_index.specs.Runs.{Run, run, votersIn}
 use Rattle.voters_index.specs.Part.{ownRun, ownRuns}
-use Rattle.voters_index.specs.Walk.{Place, anywhere, At}
+use Rattle.voters_index.specs.Walk.{Place, anywhere}
 use Rattle.voters_index.proofs.Sets.{one-not-nobody}
-use Rattle.voters_index.proofs.Chain.{Covered, Good, Anything, Chain, end, link, past-head}
+use Rattle.voters_index.proofs.Chain.{Anything, Chain, end, link, past-head}
 use Rattle.voters_index.proofs.Pointwise.{append-names}
 use Rattle.voters_index.proofs.Parts.{own-runs}
 use Rattle.index_pieces.specs.Pieces.{NobodyFrom, PieceOr, fromPlace, both, orElse, firstPiece}

@@ -17,7 +17,7 @@ use Rattle.voters_index.specs.Runs.{Run, votersIn}
 use Rattle.voters_index.specs.Part.{RunsOf}
 use Rattle.voters_index.specs.Index.{digestWords, runWords, partWords}
 use Rattle.voters_index.specs.Walk.{Past, byBlock, byOffset, Place, anywhere, beyond, At, Unfolded, digestOf, runFrom, runsFrom}
-use Rattle.voters_index.proofs.Chain.{past-trans, Chain, end, link, Differs, past-head, chain-from, nobody-before, passed-out}
+use Rattle.voters_index.proofs.Chain.{past-trans, Chain, link, Differs, past-head, chain-from, nobody-before, passed-out}
 use Rattle.voters_index.proofs.Unique.{PlaceOrder, earlier, later, alike, place-order}
 use Rattle.voters_index.proofs.Relation.{runs-chain, runs-told, chain-runs}
 use Rattle.index_pieces.proofs.Pieces.{past-not, at-beyond}

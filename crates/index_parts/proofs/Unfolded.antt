@@ -9,7 +9,7 @@ use Rattle.authority_set.specs.AuthoritySet.{AuthoritySet, nobody}
 use Rattle.blocks.specs.Reference.{BlockReference, TransactionLocator, locator, referenceBefore}
 use Rattle.blocks.proofs.References.{reference-irrefl}
 use Rattle.voters_index.specs.Runs.{Run, votersIn}
-use Rattle.voters_index.specs.Part.{Stretch, RunsOf}
+use Rattle.voters_index.specs.Part.{RunsOf}
 use Rattle.voters_index.specs.Walk.{Past, byBlock, byOffset, Place, anywhere, beyond, At, NextRun, Unfolded, done, more}
 use Rattle.voters_index.proofs.Chain.{Covered, Chain, end, link, Differs, past-head, nobody-before, at-head}
 use Rattle.voters_index.proofs.Unique.{PlaceOrder, earlier, later, alike, place-order, at-end}

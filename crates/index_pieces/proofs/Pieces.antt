@@ -1,6 +1,5 @@
 -- The first piece from a place on: of one run, of two together, of ascending runs. Assumes nothing.
 use mathlib.Core.Path.{_≡_, refl, sym, ap, subst, _∙_}
-use mathlib.Core.Logic.{_⊎_, inl, inr}
 use mathlib.Core.Bool.{Bool, true, false}
 use mathlib.Core.List.{List, [], _∷_}
 use mathlib.Core.Option.{Option, none, some}
@@ -18,11 +17,10 @@ use Rattle.types.specs.declared.Ordering.{Ordering}
 use Rattle.types.specs.declared.Ordering.the-variants.{Less, Equal, Greater}
 use Rattle.types.proofs.Words.{compared-equal, compared-less, compared-greater}
 use Rattle.voters_index.specs.Runs.{Run, run, votersIn}
-use Rattle.voters_index.specs.Part.{Stretch}
 use Rattle.voters_index.specs.Walk.{Past, byBlock, byOffset, Place, anywhere, beyond, At}
 use Rattle.voters_index.proofs.Sets.{united-comm, united-nobody-left}
-use Rattle.voters_index.proofs.Chain.{past-trans, Covered, Good, Chain, end, link, past-head, chain-from, nobody-before, at-head}
-use Rattle.index_pieces.specs.Pieces.{Ahead, Piece, NobodyFrom, AheadOr, PieceOr, fromOffset, fromPlace, nearer, cut, overlaidBy, overlaid, both, orElse, firstPiece, keptIf, skipped}
+use Rattle.voters_index.proofs.Chain.{past-trans, Covered, Chain, end, link, past-head, nobody-before, at-head}
+use Rattle.index_pieces.specs.Pieces.{Ahead, Piece, NobodyFrom, PieceOr, fromOffset, fromPlace, nearer, cut, overlaidBy, overlaid, both, orElse, firstPiece, keptIf, skipped}
 
 -- ---- places
 

@@ -1,19 +1,18 @@
 -- The first runs of a chain: what they name, and that they are the next runs where others name nobody. Assumes nothing.
 use mathlib.Core.Path.{_≡_, refl, sym, ap, subst, _∙_}
-use mathlib.Core.Bool.{true}
 use mathlib.Core.List.{List, [], _∷_, _++_}
 use mathlib.Core.Option.{Option, none, some}
 use Prim.Native.Nat.{ℕ, _+_, _≤_, _<_}
 use native.Mathlib.Omega.{arith}
-use Rattle.authority_set.specs.AuthoritySet.{AuthoritySet, nobody, united}
-use Rattle.blocks.specs.Reference.{BlockReference, TransactionLocator, locator, referenceBefore}
-use Rattle.blocks.proofs.References.{reference-same, reference-irrefl}
+use Rattle.authority_set.specs.AuthoritySet.{AuthoritySet, united}
+use Rattle.blocks.specs.Reference.{BlockReference, TransactionLocator, locator}
+use Rattle.blocks.proofs.References.{reference-same}
 use Rattle.types.specs.Values.{referenceOrder}
 use Rattle.types.specs.declared.Ordering.the-variants.{Less, Equal}
 use Rattle.types.proofs.Words.{compared-equal, compared-less}
 use Rattle.voters_index.specs.Runs.{Run, votesAt, votersIn}
 use Rattle.voters_index.specs.Walk.{Past, byBlock, byOffset, Place, anywhere, beyond, At, NextRun}
-use Rattle.voters_index.proofs.Chain.{past-trans, Covered, Good, Chain, end, link, Differs, past-head, chain-from, nobody-before, at-head, passed-out}
+use Rattle.voters_index.proofs.Chain.{past-trans, Good, Chain, link, Differs, past-head, chain-from, nobody-before, at-head, passed-out}
 use Rattle.voters_index.proofs.Unique.{PlaceOrder, earlier, later, alike, place-order, at-end}
 use Rattle.index_pieces.proofs.Pieces.{at-later, at-beyond}
 use Rattle.index_prefix.specs.Prefix.{PastRun, Nexts, here, onward}

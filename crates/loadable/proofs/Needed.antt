@@ -3,22 +3,21 @@ use mathlib.Core.Path.{_≡_, refl, sym, ap, _∙_}
 use mathlib.Core.Bool.{Bool, true, false, _&&_}
 use mathlib.Core.List.{_∷_, _++_}
 use mathlib.Core.Option.{Option, none, some}
-use Prim.Native.Nat.{_+_, _≤_, _<_}
+use Prim.Native.Nat.{_≤_, _<_}
 use native.Mathlib.Omega.{arith}
-use lib.Dec.{ltb, leb, eqb}
+use lib.Dec.{leb}
 use lib.ListN.{length, getD, length-append}
-use borrow.Author.Tests.{ltb-true, eqb-true, eq-eqb, ne-eqb, le-leb, lt-leb}
+use borrow.Author.Tests.{eq-eqb, ne-eqb, le-leb, lt-leb}
 use Rattle.base.specs.Lists.{pick}
 use Rattle.base.specs.Le.{Bytes, leBytes}
 use Rattle.base.specs.Read.{Part}
-use Rattle.base.proofs.Tests.{and-left, and-right}
 use Rattle.base.proofs.Le.{length-leBytes}
-use Rattle.blocks.specs.Reference.{BlockReference, TransactionLocator}
+use Rattle.blocks.specs.Reference.{TransactionLocator}
 use Rattle.blocks.specs.Record.{referenceBytes, locatorBytes}
-use Rattle.blocks.specs.Claims.{fitsReference, fitsLocator}
+use Rattle.blocks.specs.Claims.{fitsLocator}
 use Rattle.types.specs.Step.{locatorAt}
-use Rattle.blocks.proofs.Records.{ReferenceFits, LocatorFits, locator-reads, length-reference}
-use Rattle.blocks.proofs.Claimed.{bytes-fit, reference-fits, locator-fits}
+use Rattle.blocks.proofs.Records.{LocatorFits, locator-reads, length-reference}
+use Rattle.blocks.proofs.Claimed.{locator-fits}
 use Rattle.types.proofs.Fixed.{fixed-locator, locator-value}
 use Rattle.loadable.specs.Needs.{neededBy}
 

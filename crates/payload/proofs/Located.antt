@@ -17,7 +17,7 @@ use Rattle.base.proofs.Checks.{passes-none}
 use Rattle.base.proofs.Le.{AllBytes}
 use Rattle.committee.specs.Committee.{Committee, broken}
 use Rattle.blocks.specs.Reference.{TransactionLocator}
-use Rattle.blocks.specs.Block.{Statement, share, accept, reject, voteRange, Block}
+use Rattle.blocks.specs.Block.{Statement, share, accept, reject, voteRange}
 use Rattle.blocks.specs.Record.{wellFormed, blockIn, noStatement, statementStart}
 use Rattle.statement_reader.specs.Values.{asStatement}
 use Rattle.statement_cursor.specs.Cursor.{cursorAt}
@@ -27,7 +27,7 @@ use Rattle.statement_cursor.specs.declared.NextStatement.{NextStatement}
 use Rattle.statement_reader.specs.declared.BaseStatement.{BaseStatement}
 use Rattle.statement_reader.specs.declared.BaseStatement.the-variants.{Share, Accept, Reject, RejectFor, VoteRange}
 use Rattle.statement_cursor.proofs.Statements.{start-inside}
-use Rattle.store_layout.specs.Layout.{blocks, Entry, entries, positionOf, lookup}
+use Rattle.store_layout.specs.Layout.{blocks, entries, positionOf, lookup}
 use Rattle.store_layout.specs.Shares.{isStoredShare}
 use Rattle.store_layout.specs.Store.{recordsOf, storeInOrder}
 use Rattle.store_layout.specs.Entry.{recordAt, blockAt, laidOut, isEntry}

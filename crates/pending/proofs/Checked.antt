@@ -1,9 +1,9 @@
 -- An item against the store: the entry that it is of, or none, and the walk after it. Assumes nothing.
-use mathlib.Core.Path.{_≡_, refl, sym, ap, _∙_}
+use mathlib.Core.Path.{_≡_, refl, sym, _∙_}
 use mathlib.Core.Logic.{_⊎_, inl, inr}
 use mathlib.Core.Bool.{Bool, true, false}
 use mathlib.Core.List.{List, [], _∷_}
-use mathlib.Core.Option.{Option, none, some}
+use mathlib.Core.Option.{none, some}
 use Prim.Native.Nat.{ℕ, _+_, _≤_, _<_}
 use native.Mathlib.Decide.{decLt}
 use native.Mathlib.Omega.{arith}
@@ -27,7 +27,7 @@ use Rattle.store_layout.proofs.Visit.{one-position}
 use Rattle.pending_items.specs.Items.{Item, noItem, itemBefore}
 use Rattle.pending_items.specs.Table.{itemsOf, itemSuits, itemStored, tableStored}
 use Rattle.pending_items.proofs.Items.{Ordered, before-facts}
-use Rattle.pending.specs.Step.{NotPast, OnEntry, Passed, EntryFrom, Ahead, WalkedTo}
+use Rattle.pending.specs.Step.{NotPast, OnEntry, EntryFrom, Ahead, WalkedTo}
 use Rattle.pending.specs.declared.Walk.{Walk}
 use Rattle.pending.proofs.Entries.{stands-next}
 use Rattle.pending.proofs.Offsets.{placed-first, placed-later}

@@ -1,17 +1,16 @@
 -- The checks of what is lent, and the answer of the pending question. Assumes nothing.
-use mathlib.Core.Path.{_≡_, refl, sym, ap, _∙_}
-use mathlib.Core.Bool.{Bool, true, false, _&&_}
-use mathlib.Core.List.{List, [], _∷_}
+use mathlib.Core.Path.{_≡_, sym, _∙_}
+use mathlib.Core.Bool.{Bool, true, false}
+use mathlib.Core.List.{List}
 use mathlib.Core.Option.{none, some}
 use Prim.Native.Nat.{ℕ, _<_}
 use native.Mathlib.Omega.{arith}
 use lib.ListN.{length, getD}
-use Rattle.base.specs.Lists.{pick}
 use Rattle.base.specs.Le.{Bytes}
-use Rattle.base.specs.Checks.{refusal, passes, Answer, refused, answered}
+use Rattle.base.specs.Checks.{refusal, passes, refused, answered}
 use Rattle.base.proofs.Le.{AllBytes}
-use Rattle.base.proofs.Tests.{and-left, and-right, and-both, not-both, fails}
-use Rattle.base.proofs.Lists.{Every, none-of, and}
+use Rattle.base.proofs.Tests.{and-left, and-right, and-both, fails}
+use Rattle.base.proofs.Lists.{none-of, and}
 use Rattle.base.proofs.Checks.{passes-first, passes-others}
 use Rattle.base.proofs.Refusals.{zero-passes, passes-zero}
 use Rattle.committee.specs.Committee.{Committee, broken}
@@ -31,7 +30,7 @@ use Rattle.table_words.proofs.Halves.{holds-ordered}
 use Rattle.table_words.proofs.Finds.{found-item}
 use Rattle.table_order.proofs.Forming.{order-parts}
 use Rattle.range_votes.proofs.Voting.{formed}
-use Rattle.feeds.specs.Pending.{Standing, pendingChecks, standingOf, standingAt, pending}
+use Rattle.feeds.specs.Pending.{pendingChecks, standingOf, standingAt, pending}
 use borrow.Author.Tests.{not-false}
 
 -- a store in order can be read, and its chain is right

@@ -1,12 +1,12 @@
 -- Shares at offsets, one after the other. Assumes nothing.
 use mathlib.Core.Path.{_≡_, refl, sym}
-use mathlib.Core.Bool.{Bool, true, false}
+use mathlib.Core.Bool.{true, false}
 use mathlib.Core.List.{List, [], _∷_}
 use Prim.Native.Nat.{ℕ, zero, suc, _+_, _-_, _≤_, _<_}
 use native.Mathlib.Decide.{decLt}
 use native.Mathlib.Omega.{arith}
 use lib.ListN.{length, getD, getElem?}
-use Rattle.base.specs.Lists.{allOf, holds, countFrom}
+use Rattle.base.specs.Lists.{holds, countFrom}
 use Rattle.base.proofs.Tests.{fails, not-both}
 use Rattle.base.proofs.Lists.{every-all, all-every, every-countFrom, countFrom-every}
 use Rattle.blocks.specs.Block.{Statement, Block, isShare, isShareAt}

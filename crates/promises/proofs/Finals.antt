@@ -9,14 +9,13 @@ use Prim.Native.Nat.{ℕ, _≤_, _<_}
 use native.Mathlib.Omega.{arith}
 use lib.ListN.{length, length-map}
 use borrow.Author.Tests.{le-ltb, lt-ltb}
-use Rattle.base.specs.Lists.{allOf, pairwise, _∈_}
+use Rattle.base.specs.Lists.{allOf, _∈_}
 use Rattle.base.specs.Le.{Bytes}
 use Rattle.base.specs.Checks.{refusal, passes, refused, checked}
-use Rattle.base.proofs.Tests.{and-both}
-use Rattle.base.proofs.Members.{in-all, in-map, map-in}
+use Rattle.base.proofs.Members.{in-map, map-in}
 use Rattle.base.proofs.Lists.{every-in}
 use Rattle.committee.specs.Committee.{Committee, broken}
-use Rattle.blocks.specs.Reference.{TransactionLocator, locatorBefore}
+use Rattle.blocks.specs.Reference.{TransactionLocator}
 use Rattle.blocks.specs.Block.{Block}
 use Rattle.blocks.specs.Record.{blockOf}
 use Rattle.store_layout.specs.Layout.{Record}
@@ -29,7 +28,7 @@ use Rattle.finality.specs.Finality.{blocksOf, certifyingPositions, finalityChec
 use Rattle.finality.specs.Claims.{FinalMeant}
 use Rattle.finality.specs.NextFinal.{nextFinal, FinalList, finalList}
 use Rattle.finality.proofs.Claimed.{final-meant}
-use Rattle.finality.proofs.FinalList.{Ascending, none-left, and-then, final-list-ascending, final-list-in, final-list-order}
+use Rattle.finality.proofs.FinalList.{final-list-ascending, final-list-in, final-list-order}
 use Rattle.finality.proofs.Asked.{in-order-stored, asked-on, asked-once}
 use Rattle.stored_finals.specs.FinalShares.{nextFinalShare, FinalShareList, finalShares}
 use Rattle.stored_finals.proofs.Asked.{shares-asked}

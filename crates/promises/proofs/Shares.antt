@@ -1,6 +1,6 @@
 -- The part of the third statement about stored shares: each stands as its counted votes say. Assumes nothing.
 use mathlib.Core.Path.{_≡_, refl, sym, ap, _∙_, subst}
-use mathlib.Core.Logic.{_⊎_, inl, inr, _↔_}
+use mathlib.Core.Logic.{_⊎_, inl, inr}
 use mathlib.Core.Bool.{Bool, true, false, _&&_, _||_}
 use mathlib.Core.List.{List, [], _∷_, _++_, map, append-nil}
 use mathlib.Core.Option.{some}
@@ -9,7 +9,7 @@ use native.Mathlib.Omega.{arith}
 use lib.ListN.{length}
 use Rattle.base.specs.Lists.{pick, anyOf, find}
 use Rattle.base.specs.Le.{Bytes}
-use Rattle.base.specs.Checks.{passes, answered}
+use Rattle.base.specs.Checks.{passes}
 use Rattle.base.proofs.Tests.{not-both, fails, and-left, and-right, or-cases, holds-or-not}
 use Rattle.base.proofs.Lists.{Every}
 use Rattle.base.proofs.Members.{in-any, in-map, map-in}
@@ -34,12 +34,12 @@ use Rattle.pending_items.proofs.Order.{Pending, in-order}
 use Rattle.pending_items.proofs.Table.{itemsOf-tableOf}
 use Rattle.feeds.specs.ProcessBlock.{Processing, registering, processBlock}
 use Rattle.feeds.specs.Feed.{Lent, processed, feedChecks, refusedFeed, acceptedFeed, feedRecord, feed}
-use Rattle.feeds.specs.Pending.{Standing, standingOf, pending}
+use Rattle.feeds.specs.Pending.{standingOf, pending}
 use Rattle.feeds.proofs.Keeping.{State, Kept, Passed, passed, feed-keeps, sound-registering, lent-state}
 use Rattle.feeds.proofs.ProcessBlock.{lookup-new}
 use Rattle.feeds.proofs.View.{positionIn, held-own, held-other, found-still, standing-held, standing-none, pending-passes}
 use Rattle.promises.specs.Feeds.{Feed, Engine, fresh, outcome, left, run, Accepted, acceptedIn, accepted, storedBlocks}
-use Rattle.promises.specs.Shares.{votesFrom, countedVotes, countedVoters, NoneLeft, announcedBy, announcements}
+use Rattle.promises.specs.Shares.{votesFrom, countedVotes, countedVoters, announcedBy, announcements}
 use Rattle.promises.specs.ThirdStatement.{ShareStands, stays, gone, Start, engineOf, acceptedOf}
 use Rattle.promises.proofs.Feeds.{taken, feed-cases}
 use Rattle.promises.proofs.Storing.{asRecord, StoreOf, fresh-holds, run-holds}

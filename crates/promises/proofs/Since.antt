@@ -18,7 +18,7 @@ use Rattle.blocks.specs.Block.{Statement, Block, author, isShareAt, votedRange}
 use Rattle.store_layout.specs.Shares.{isStoredShare, StoredShare}
 use Rattle.store_layout.proofs.Stored.{WellStored, one-reference}
 use Rattle.store_layout.proofs.Shares.{stored-share, share-stored}
-use Rattle.finality.specs.Ancestry.{Ancestor, itself, included, VoteIn, byAccept, byRange, VotesFor, byShare, byVote, Voter, Certificate, Final}
+use Rattle.finality.specs.Ancestry.{VoteIn, byAccept, byRange, VotesFor, byShare, byVote, Voter, Certificate, Final}
 use Rattle.finality.proofs.Asked.{in-order-stored}
 use Rattle.finality.proofs.Votes.{covered, is-covered, statement-vote}
 use Rattle.finality.proofs.Ancestors.{ancestor-stored}

@@ -1,11 +1,10 @@
 -- The claims about the lists in both readings. Assumes nothing.
 use mathlib.Core.Path.{_≡_, refl, sym, ap, ap₂, _∙_}
-use mathlib.Core.Logic.{_↔_}
 use mathlib.Core.Bool.{Bool, true, false, _&&_}
-use mathlib.Core.List.{List, [], _∷_, _++_, map, flatten}
+use mathlib.Core.List.{List, [], _∷_, map, flatten}
 use mathlib.Core.Option.{Option}
 use Prim.Native.Nat.{ℕ, _+_}
-use Rattle.base.specs.Lists.{pick, keep, _∈_, here, there}
+use Rattle.base.specs.Lists.{pick, _∈_, here, there}
 use Rattle.base.proofs.Lists.{append-nil}
 use Rattle.committee.specs.Committee.{Committee}
 use Rattle.blocks.specs.Reference.{BlockReference, TransactionLocator, sameReference}
@@ -26,7 +25,7 @@ use Rattle.readings.proofs.Rejecting.{in-rejections}
 use Rattle.readings.proofs.FinalsIn.{certifies-in-same, final-in-same, certifies-in-kept, final-in-order}
 use Rattle.stored_finals.proofs.Lists.{same-stored}
 use Rattle.reading_lists.specs.Lists.{isListed, leastListed, listEdges, listing, allListed}
-use Rattle.reading_lists.specs.Claims.{ListsLawful, ListsGive, ListsAsked, ListsExactly, SameLists, SameWithoutRejects, SameInAnyOrder, InAnyOrder, Claims}
+use Rattle.reading_lists.specs.Claims.{ListsLawful, ListsGive, ListsAsked, ListsExactly, SameWithoutRejects, InAnyOrder, Claims}
 use Rattle.reading_lists.proofs.Old.{old-wide, old-ordinary}
 use Rattle.reading_lists.proofs.Least.{least-listed, lists-lawful}
 use Rattle.reading_lists.proofs.Whole.{all-ascending, all-in, asked-whole, gives-whole, whole-exactly}

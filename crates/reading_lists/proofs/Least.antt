@@ -7,11 +7,11 @@ use Rattle.base.specs.Lists.{keep, _∈_}
 use Rattle.base.proofs.Tests.{and-both, and-left, and-right, fails, not-both}
 use Rattle.base.proofs.Members.{in-keep, keep-in}
 use Rattle.committee.specs.Committee.{Committee}
-use Rattle.blocks.specs.Reference.{BlockReference, TransactionLocator, locator}
+use Rattle.blocks.specs.Reference.{TransactionLocator, locator}
 use Rattle.blocks.specs.Block.{Block}
 use Rattle.store_layout.specs.Shares.{isStoredShare}
 use Rattle.store_layout.proofs.Shares.{stored-share, share-stored}
-use Rattle.finality.specs.NextFinal.{isAfter, LeastOf, least, nothing, leastLocator}
+use Rattle.finality.specs.NextFinal.{isAfter, LeastOf, least, nothing}
 use Rattle.finality.proofs.Least.{Least, one-of, no-one, least-locator}
 use Rattle.stretches.specs.Claims.{Lawful}
 use Rattle.stretches.proofs.Wide.{wide-lawful}

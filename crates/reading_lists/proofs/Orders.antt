@@ -1,9 +1,9 @@
 -- The same blocks in another order give the same lists, in stretches too. Assumes nothing.
-use mathlib.Core.Path.{_≡_, refl, sym, ap, ap₂, subst, _∙_}
+use mathlib.Core.Path.{_≡_, refl, sym, ap, ap₂, _∙_}
 use mathlib.Core.Logic.{_↔_}
-use mathlib.Core.Bool.{Bool, true, false, _&&_}
+use mathlib.Core.Bool.{Bool, true, _&&_}
 use mathlib.Core.List.{List, [], _∷_, map}
-use mathlib.Core.Option.{Option, none, some}
+use mathlib.Core.Option.{Option, some}
 use Prim.Native.Nat.{ℕ, zero, suc, _≤_}
 use native.Mathlib.Omega.{arith}
 use native.Mathlib.Decide.{decLe}
@@ -21,7 +21,7 @@ use Rattle.authority_set.proofs.Quorums.{stake-same}
 use Rattle.blocks.specs.Reference.{TransactionLocator, locator}
 use Rattle.blocks.specs.Block.{Block, author}
 use Rattle.store_layout.proofs.Stored.{WellStored, fresh, stored}
-use Rattle.stretches.specs.Stretches.{Listing, FinalStretch, lastLocator, agree, certifiedAlike, goesOn, EndsAt, stretchEnd, stretchAt, fromFound, stretches}
+use Rattle.stretches.specs.Stretches.{Listing, FinalStretch, lastLocator, agree, certifiedAlike, goesOn, stretchEnd, stretchAt, fromFound, stretches}
 use Rattle.finality.specs.NextFinal.{LeastOf, least, nothing}
 use Rattle.finality.proofs.LeastOf.{least-once}
 use Rattle.stretches.specs.Claims.{Lawful}

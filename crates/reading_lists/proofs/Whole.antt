@@ -4,7 +4,7 @@ use mathlib.Core.Logic.{_↔_}
 use mathlib.Core.Bool.{Bool, true, false}
 use mathlib.Core.List.{List}
 use mathlib.Core.Option.{Option, none}
-use Rattle.base.specs.Lists.{allOf, keep, _∈_}
+use Rattle.base.specs.Lists.{allOf, _∈_}
 use Rattle.base.specs.Le.{Bytes}
 use Rattle.base.specs.Checks.{refusal, passes, answered, checked}
 use Rattle.base.proofs.Tests.{and-both, and-left, and-right, not-both}

@@ -1,14 +1,14 @@
 -- The statements as they are written, one by one: measured, and as bytes. Assumes nothing.
-use mathlib.Core.Path.{_≡_, refl, ap}
+use mathlib.Core.Path.{_≡_, refl}
 use mathlib.Core.List.{List, [], _∷_, _++_, map, flatten}
 use mathlib.Core.Option.{Option, none, some}
-use mathlib.Core.Bool.{Bool, true, false, not, _||_}
-use Prim.Native.Nat.{ℕ, _+_, _≤_, _<_}
+use mathlib.Core.Bool.{true, false}
+use Prim.Native.Nat.{ℕ, _+_, _≤_}
 use native.Mathlib.Omega.{arith}
 use lib.Dec.{ltb}
 use lib.ListN.{length, length-append}
 use borrow.Author.Tests.{lt-ltb, le-ltb, not-true}
-use Rattle.base.specs.Lists.{pick, anyOf}
+use Rattle.base.specs.Lists.{anyOf}
 use Rattle.base.proofs.Tests.{not-both, or-right, neither-left, neither-right}
 use Rattle.blocks.specs.Block.{Statement}
 use Rattle.blocks.specs.Record.{statementBytes}
@@ -17,7 +17,6 @@ use Rattle.drafts.specs.Writing.{isLong}
 use Rattle.joined_statements.specs.Step.{joinedFrom, followed}
 use Rattle.joined_statements.proofs.Given.{all-given}
 use Rattle.record_size.specs.Step.{measuredOn, bytesIn, writable}
-use Rattle.record_size.specs.declared.Measured.{Measured}
 use Rattle.record_size.specs.declared.Measured.the-variants.{Fits, Malformed}
 
 -- nothing is left

@@ -1,11 +1,11 @@
 -- The claims about whom to ring. Assumes nothing.
 use mathlib.Core.Path.{_≡_, refl, ap, _∙_}
 use mathlib.Core.Bool.{Bool, true, false}
-use Prim.Native.Nat.{ℕ, _≤_}
+use Prim.Native.Nat.{_≤_}
 use native.Mathlib.Omega.{arith}
 use lib.ListN.{length, take}
 use Rattle.base.specs.Lists.{allOf}
-use Rattle.base.specs.Checks.{passes, refusal, checked, refused, answered, Answer}
+use Rattle.base.specs.Checks.{passes, refusal, checked, refused, answered}
 use Rattle.base.proofs.Tests.{fails, not-both}
 use Rattle.committee.specs.Committee.{Committee, broken, isQuorum, getStake}
 use Rattle.authority_set.specs.AuthoritySet.{AuthoritySet, nobody, united, setOf, stakeOf}

@@ -3,20 +3,19 @@ use mathlib.Core.Path.{_≡_, refl, sym, ap, _∙_, subst}
 use mathlib.Core.Logic.{_⊎_, inl, inr}
 use mathlib.Core.Bool.{Bool, true, false, true≢false, _&&_, _||_}
 use mathlib.Core.List.{List, [], _∷_}
-use Prim.Native.Nat.{ℕ, zero, suc, _+_, _*_, _≤_, _<_}
+use Prim.Native.Nat.{ℕ, zero, suc, _+_, _≤_, _<_}
 use native.Mathlib.Omega.{arith}
 use lib.Dec.{eqb}
 use lib.ListN.{length, take}
-use borrow.Author.Tests.{lt-ltb, ltb-true, eqb-true, eq-eqb}
+use borrow.Author.Tests.{eqb-true, eq-eqb}
 use Rattle.base.specs.Lists.{pick, keep, countFrom, _∈_, here, there, Once, also}
 use Rattle.base.proofs.Tests.{fails, not-both}
 use Rattle.base.proofs.Members.{in-empty, in-cases, any-in, in-any}
-use Rattle.committee.specs.Committee.{AuthorityIndex, Stake, Committee, totalStake, isQuorum, getStake}
+use Rattle.committee.specs.Committee.{AuthorityIndex, Stake, Committee, isQuorum, getStake}
 use Rattle.authority_set.specs.AuthoritySet.{member, setOf}
 use Rattle.authority_set.proofs.Stakes.{weigh}
 use Rattle.authority_set.proofs.Votes.{member-setOf}
 use Rattle.authority_set.proofs.Words.{Small, small-nobody, small-inserted}
-use Rattle.committee.proofs.Bounds.{more-quorum}
 use Rattle.rung_owners.specs.Ranked.{untilQuorum}
 use Rattle.rung_owners.proofs.Totals.{total}
 use Rattle.rung_owners.proofs.Weights.{Ascends, none-left, next-up}

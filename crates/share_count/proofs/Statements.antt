@@ -1,11 +1,9 @@
 -- The statements of a record, by their index. Assumes nothing.
-use mathlib.Core.Path.{_≡_, refl}
+use mathlib.Core.Path.{_≡_}
 use mathlib.Core.Bool.{true}
-use mathlib.Core.List.{List, [], _∷_}
-use mathlib.Core.Option.{some}
-use Prim.Native.Nat.{ℕ, zero, suc, _<_, _≤_}
-use native.Mathlib.Omega.{arith}
-use lib.ListN.{length, getD, getElem?}
+use mathlib.Core.List.{List}
+use Prim.Native.Nat.{ℕ, _<_, _≤_}
+use lib.ListN.{length, getD}
 use Rattle.base.specs.Lists.{holds}
 use Rattle.base.proofs.Le.{AllBytes}
 use Rattle.blocks.specs.Block.{Statement, Block, isShare, isShareAt}

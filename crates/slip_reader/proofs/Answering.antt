@@ -28,7 +28,6 @@ use Rattle.slip_certifier.specs.Step.{Known}
 use Rattle.slip_body.specs.declared.TakenSlip.{TakenSlip}
 use Rattle.slip_body.specs.declared.TakenSlip.the-variants.{Shows, Malformed}
 use Rattle.slip_body.specs.Step.{headRight, readingAt, TookSlip}
-use Rattle.base.proofs.Lists.{zeros-at}
 use Rattle.slip_reader.specs.Step.{Showed}
 
 module _ (c : Committee) (s q : Bytes) where

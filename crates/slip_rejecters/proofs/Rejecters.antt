@@ -14,7 +14,7 @@ use Rattle.base.specs.Lists.{anyOf, holds}
 use Rattle.base.specs.Le.{Bytes}
 use Rattle.base.proofs.Tests.{and-both, and-left, and-right, same-test}
 use Rattle.base.proofs.Places.{in-place}
-use Rattle.authority_set.specs.AuthoritySet.{AuthoritySet, nobody, member, united}
+use Rattle.authority_set.specs.AuthoritySet.{AuthoritySet, member, united}
 use Rattle.authority_set.proofs.Votes.{member-nobody, member-united}
 use Rattle.blocks.specs.Reference.{BlockReference, TransactionLocator}
 use Rattle.blocks.specs.Block.{Block, author}

@@ -9,7 +9,6 @@ use lib.Dec.{ltb}
 use lib.ListN.{length, length-map, getElem?}
 use borrow.Author.Tests.{lt-ltb}
 use Rattle.base.specs.Lists.{pick, countFrom, _∈_}
-use Rattle.base.specs.Le.{Bytes}
 use Rattle.base.proofs.Lists.{every-in, every-countFrom, length-keep, length-countFrom, holds-some, Pairs, no-pairs, with-later, pairs-keep, pairs-map, pairs-pairwise}
 use Rattle.base.proofs.Le.{AllBytes}
 use Rattle.base.proofs.Members.{map-in}
@@ -18,17 +17,13 @@ use Rattle.authority_set.specs.AuthoritySet.{AuthoritySet, member, members}
 use Rattle.blocks.specs.Reference.{BlockReference, TransactionLocator, sameReference}
 use Rattle.blocks.specs.Block.{Block, isShare, isShareAt, accept, voteRange}
 use Rattle.blocks.proofs.References.{other-reference}
-use Rattle.blocks.proofs.Records.{ReferenceFits, LocatorFits, BlockFits, blockOf-fits}
-use Rattle.store_layout.specs.Store.{recordsOf}
-use Rattle.store_layout.proofs.Store.{right-block, recordsOf-right, recordsOf-bytes}
+use Rattle.blocks.proofs.Records.{ReferenceFits, LocatorFits, BlockFits}
 use Rattle.store_layout.proofs.Stored.{WellStored, fresh, stored}
 use Rattle.store_layout.proofs.Check.{in-every}
-use Rattle.finality.specs.Finality.{blocksOf}
 use Rattle.finality.specs.Ancestry.{byAccept, byRange, VotesFor, byShare, byVote}
 use Rattle.finality.specs.Claims.{Stored}
 use Rattle.finality.proofs.Claimed.{well-stored}
 use Rattle.readings.specs.Readings.{Reading, votersIn, certifiesIn, certifiersIn}
-use Rattle.finality.proofs.Fits.{block-fits}
 use Rattle.slips.specs.Slip.{votersAscend, certifiersAscend}
 use Rattle.slips.specs.Paths.{toBlock, leads, leastDistance, distance, stepsFrom, pathTo}
 use Rattle.slips.specs.Reading.{votesAs}

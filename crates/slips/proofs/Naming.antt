@@ -9,7 +9,7 @@ use lib.ListN.{getElem?}
 use borrow.Author.Tests.{eq-eqb}
 use Rattle.base.specs.Lists.{countFrom, _∈_, here, there}
 use Rattle.base.proofs.Tests.{and-both}
-use Rattle.base.proofs.Members.{in-map, map-in, in-keep, keep-in, in-countFrom, countFrom-in}
+use Rattle.base.proofs.Members.{in-map, map-in, in-keep, keep-in, countFrom-in}
 use Rattle.committee.specs.Committee.{AuthorityIndex, Committee}
 use Rattle.authority_set.specs.AuthoritySet.{AuthoritySet, member, members}
 use Rattle.blocks.specs.Reference.{TransactionLocator}

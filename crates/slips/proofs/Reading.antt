@@ -5,13 +5,12 @@ use mathlib.Core.Bool.{Bool, true, false, not, _||_}
 use mathlib.Core.List.{List, map}
 use mathlib.Core.Option.{Option, none, some}
 use Prim.Native.Nat.{ℕ}
-use native.Mathlib.Omega.{arith}
 use lib.Dec.{eqb}
 use lib.ListN.{length}
 use borrow.Author.Tests.{eqb-true, eq-eqb, not-true, not-false}
-use Rattle.base.specs.Lists.{pick, anyOf, allOf, isNone, holds, _∈_, here, there}
+use Rattle.base.specs.Lists.{anyOf, allOf, isNone, holds, _∈_, here, there}
 use Rattle.base.specs.Le.{Bytes}
-use Rattle.base.specs.Checks.{Check, _⇒_, refusal, passes, Answer, refused, answered, checked}
+use Rattle.base.specs.Checks.{_⇒_, passes, Answer, answered, checked}
 use Rattle.base.proofs.Tests.{and-both, and-left, and-right, neither-right, fails, not-both}
 use Rattle.base.proofs.Members.{any-in, in-any, all-in, in-all, map-in, in-map}
 use Rattle.base.proofs.Lists.{holds-some}

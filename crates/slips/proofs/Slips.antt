@@ -16,7 +16,6 @@ use Rattle.base.proofs.Lists.{append-nil, Every, every, all-every}
 use Rattle.base.proofs.Le.{AllBytes, leAt-byte}
 use Rattle.base.proofs.Fixed.{number-at}
 use Rattle.base.proofs.Read.{part, items-reads, number-reads, ReadsBack, repeated-reads, complete-reads, Back, give-back, given-back, bind-back, map-back, Items, items-back, Number, number-back, One, Many, repeated-back, complete-back}
-use Rattle.blocks.specs.Reference.{BlockReference, TransactionLocator}
 use Rattle.blocks.specs.Record.{referenceBytes, locatorBytes}
 use Rattle.blocks.specs.Claims.{fitsReference, fitsLocator}
 use Rattle.blocks.proofs.Records.{ReferenceFits, LocatorFits, reference-reads, locator-reads, reference-back, locator-back, byte-reads}

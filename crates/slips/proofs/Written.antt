@@ -1,9 +1,9 @@
 -- The written slip is accepted with the store's records. Assumes nothing.
 use mathlib.Core.Path.{_≡_, refl, sym, _∙_, subst}
 use mathlib.Core.Bool.{true, false, not, _&&_}
-use mathlib.Core.List.{List, [], _∷_, _++_, map, append-assoc, flatten}
+use mathlib.Core.List.{List, [], _∷_, _++_, append-assoc}
 use mathlib.Core.Option.{some}
-use Prim.Native.Nat.{ℕ, zero, suc, _^_, _≤_, _<_}
+use Prim.Native.Nat.{ℕ, _^_, _≤_, _<_}
 use native.Mathlib.Omega.{arith}
 use lib.ListN.{length, length-map, take, drop}
 use lib.Seq.{take-at}
@@ -11,7 +11,7 @@ use borrow.Author.Tests.{not-true, not-false}
 use Rattle.base.specs.Lists.{isEmpty, _∈_, here, there}
 use Rattle.base.specs.Le.{Bytes, leBytes}
 use Rattle.base.specs.Checks.{_⇒_, passes, answered}
-use Rattle.base.specs.Read.{Read, give, onward, _>>=_, andOthers, upTo}
+use Rattle.base.specs.Read.{give, onward, _>>=_}
 use Rattle.base.proofs.Tests.{and-both, and-left, and-right}
 use Rattle.base.proofs.Members.{in-all, in-map, map-in}
 use Rattle.base.proofs.Lists.{Every, none-of, and, every, pairs-pairwise, Pairs, no-pairs, with-later}

@@ -2,7 +2,7 @@
 use mathlib.Core.Path.{_≡_, refl, sym, ap, subst, _∙_}
 use mathlib.Core.Bool.{true, false}
 use mathlib.Core.List.{List, [], _∷_, _++_, map, flatten, append-nil, append-assoc, map-append}
-use Prim.Native.Nat.{ℕ, _+_, _-_, _*_, _≤_, _<_}
+use Prim.Native.Nat.{ℕ, _+_, _*_, _≤_, _<_}
 use native.Mathlib.Omega.{arith}
 use native.Mathlib.Nat.{add-zero}
 use lib.ListN.{length, getD, take, drop, length-append, length-drop}
@@ -11,15 +11,15 @@ use Rattle.base.specs.Lists.{_∈_, here, there}
 use Rattle.base.specs.Le.{Bytes, leAt}
 use Rattle.base.proofs.Le.{AllBytes}
 use Rattle.base.proofs.Lists.{every-in}
-use Rattle.base.proofs.Members.{map-in, in-right}
+use Rattle.base.proofs.Members.{in-right}
 use Rattle.committee.specs.Committee.{Committee, broken}
 use Rattle.blocks.specs.Reference.{BlockReference, TransactionLocator, locator}
 use Rattle.blocks.specs.Block.{Block, author}
-use Rattle.blocks.proofs.Records.{ReferenceFits, BlockFits, blockOf-fits}
+use Rattle.blocks.proofs.Records.{ReferenceFits, BlockFits}
 use Rattle.store_layout.specs.Layout.{Record, blocks, usedBy, Entry, entries}
 use Rattle.store_layout.specs.Store.{blockCount, recordsOf, storeInOrder}
 use Rattle.store_layout.specs.Entry.{isEntry, blockAt}
-use Rattle.store_layout.proofs.Store.{right-block, recordsOf-right, recordsOf-bytes, in-order}
+use Rattle.store_layout.proofs.Store.{in-order}
 use Rattle.store_layout.proofs.Walk.{Stands, Walked, then}
 use Rattle.store_layout.proofs.Check.{Readable, is-readable, order-laid}
 use Rattle.store_layout.proofs.Loops.{is-entry, block-at}

@@ -2,18 +2,18 @@
 use mathlib.Core.Path.{_≡_, refl, sym, ap, _∙_}
 use mathlib.Core.Bool.{Bool, true, false, not}
 use mathlib.Core.List.{List, [], _∷_, _++_, map, flatten}
-use Prim.Native.Nat.{ℕ, _+_, _*_}
+use Prim.Native.Nat.{ℕ, _*_}
 use native.Mathlib.Omega.{arith}
 use lib.ListN.{length, drop}
 use borrow.Author.Tests.{le-ltb}
-use Rattle.base.specs.Lists.{pick, keep, _∈_, here, there}
+use Rattle.base.specs.Lists.{pick, keep, _∈_}
 use Rattle.base.specs.Le.{Bytes}
 use Rattle.base.specs.Checks.{_⇒_, passes}
 use Rattle.base.proofs.Tests.{not-both}
 use Rattle.base.proofs.Checks.{passes-first, passes-others}
-use Rattle.committee.specs.Committee.{AuthorityIndex, Committee, broken, totalStake, isQuorum}
-use Rattle.authority_set.specs.AuthoritySet.{nobody, inserted, setOf, stakeFrom, stakeOf}
-use Rattle.authority_set.proofs.Votes.{member-nobody, stake-nobody}
+use Rattle.committee.specs.Committee.{Committee, broken, totalStake, isQuorum}
+use Rattle.authority_set.specs.AuthoritySet.{inserted, setOf, stakeOf}
+use Rattle.authority_set.proofs.Votes.{stake-nobody}
 use Rattle.blocks.specs.Reference.{TransactionLocator}
 use Rattle.blocks.specs.Block.{Block, author}
 use Rattle.store_layout.specs.Store.{storeInOrder}

@@ -1,20 +1,18 @@
 -- Whom a part names at the locators of a sorted list, by one cursor over the runs and one over the list. Assumes nothing.
 use mathlib.Core.Path.{_≡_, refl, ap, subst, _∙_}
-use mathlib.Core.Bool.{true}
-use mathlib.Core.List.{List, [], _∷_}
-use Prim.Native.Nat.{ℕ, zero, suc, _+_, _*_, _≤_, _<_}
+use mathlib.Core.List.{List, _∷_}
+use Prim.Native.Nat.{ℕ, _+_, _*_, _≤_, _<_}
 use native.Mathlib.Omega.{arith}
 use native.Mathlib.Decide.{ℕ-discrete}
 use lib.ListN.{length, drop, drop-of-length-le}
 use Rattle.base.specs.Le.{Bytes}
 use Rattle.authority_set.specs.AuthoritySet.{AuthoritySet, nobody}
-use Rattle.blocks.specs.Reference.{BlockReference, TransactionLocator, locator, referenceBefore}
-use Rattle.blocks.proofs.References.{reference-irrefl}
+use Rattle.blocks.specs.Reference.{TransactionLocator, locator}
 use Rattle.types.specs.Step.{locatorAt}
 use Rattle.voters_index.specs.Runs.{Run, votersIn}
 use Rattle.voters_index.specs.Part.{RunsOf}
-use Rattle.voters_index.specs.Walk.{Past, byBlock, byOffset, Place, beyond}
-use Rattle.voters_index.proofs.Chain.{Covered, covered, Chain, end, link, Differs, past-head, nobody-before, at-head, chain-drop, passed-out}
+use Rattle.voters_index.specs.Walk.{Past, Place, beyond}
+use Rattle.voters_index.proofs.Chain.{covered, Chain, link, Differs, past-head, nobody-before, at-head, chain-drop, passed-out}
 use Rattle.voters_index.proofs.Relation.{runs-chain}
 use Rattle.voters_index.proofs.Fitting.{past-sorted}
 use Rattle.sorted_step.specs.Step.{Beside, Listed}

@@ -21,7 +21,7 @@ use Rattle.blocks.specs.Reference.{TransactionLocator}
 use Rattle.blocks.specs.Block.{Block, author}
 use Rattle.voters_index.specs.Runs.{Run, votersIn}
 use Rattle.voters_index.specs.Certified.{partCertifies}
-use Rattle.sorted_replies.specs.Sorted.{Reply, replyWords, replyOf, stepReply, step}
+use Rattle.sorted_replies.specs.Sorted.{Reply, replyWords, replyOf, stepReply}
 use Rattle.sorted_step.specs.Step.{replyFrom, repliesFrom, repliesWords, SettledReply, Settled}
 
 -- ---- replies read back

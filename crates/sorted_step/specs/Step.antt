@@ -6,8 +6,8 @@ use mathlib.Core.List.{List, [], _∷_, map, flatten}
 use lib.Dec.{eqb}
 use lib.ListN.{length, getD, take, drop}
 use Rattle.base.specs.Le.{Bytes}
-use Rattle.committee.specs.Committee.{Committee, isQuorum}
-use Rattle.authority_set.specs.AuthoritySet.{AuthoritySet, stakeOf}
+use Rattle.committee.specs.Committee.{Committee}
+use Rattle.authority_set.specs.AuthoritySet.{AuthoritySet}
 use Rattle.blocks.specs.Reference.{TransactionLocator, locatorBefore}
 use Rattle.blocks.specs.Block.{Block}
 use Rattle.types.specs.Step.{locatorAt}

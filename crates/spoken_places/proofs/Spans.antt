@@ -1,15 +1,15 @@
 -- The votes of a table and of the blocks after it are those of all blocks. Assumes nothing.
-use mathlib.Core.Path.{_≡_, refl, sym, ap, subst, _∙_}
+use mathlib.Core.Path.{_≡_, sym, ap, subst, _∙_}
 use mathlib.Core.Logic.{_⊎_, inl, inr}
 use mathlib.Core.Bool.{Bool, true, false}
 use mathlib.Core.Option.{Option}
 use mathlib.Core.List.{List, [], _∷_, _++_, map, flatten}
-use Prim.Native.Nat.{ℕ, zero, suc, _+_, _≤_, _<_, _-_, _*_}
+use Prim.Native.Nat.{ℕ, zero, suc, _≤_, _<_, _-_, _*_}
 use native.Mathlib.Omega.{arith}
 use native.Mathlib.Decide.{decLt}
 use lib.ListN.{length, getD, drop, take, length-drop}
 use lib.Seq.{take-all}
-use Rattle.base.specs.Lists.{keep, countFrom, _∈_, here, there}
+use Rattle.base.specs.Lists.{keep, countFrom, _∈_, there}
 use Rattle.base.specs.Le.{Bytes}
 use Rattle.base.proofs.Lists.{keep-append}
 use Rattle.base.proofs.Places.{in-place}

@@ -5,11 +5,11 @@ use mathlib.Core.Bool.{Bool, true, false, not, _&&_, true≢false}
 use mathlib.Core.List.{List, [], _∷_, _++_, append-assoc, append-nil}
 use Prim.Native.Nat.{ℕ, _+_, _*_, _≤_}
 use native.Mathlib.Omega.{arith}
-use borrow.Author.Tests.{lt-ltb, ltb-true, le-ltb}
+use borrow.Author.Tests.{le-ltb}
 use Rattle.base.specs.Lists.{pick}
 use Rattle.base.specs.Checks.{passes, refusal, checked, refused, answered}
 use Rattle.base.proofs.Tests.{and-right, not-both}
-use Rattle.committee.specs.Committee.{AuthorityIndex, Committee, Stake, totalStake, isQuorum, getStake}
+use Rattle.committee.specs.Committee.{AuthorityIndex, Committee, totalStake, isQuorum, getStake}
 use Rattle.authority_set.specs.AuthoritySet.{member, inserted}
 use Rattle.committee.proofs.Bounds.{more-quorum}
 use Rattle.stake_aggregator.specs.StakeAggregator.{StakeAggregator, noVotes, counted, hasQuorum, addChecks, Told, toldOf, told, add}

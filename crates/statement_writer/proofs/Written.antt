@@ -7,14 +7,14 @@ use Prim.Native.Nat.{ℕ, _+_, _≤_, _<_}
 use native.Mathlib.Numerals.{add-one}
 use native.Mathlib.Omega.{arith}
 use lib.Dec.{ltb}
-use lib.ListN.{length, take, drop, set, length-append, length-take, length-drop}
+use lib.ListN.{length, take, drop, set, length-append, length-drop}
 use lib.Seq.{sets, length-take-le}
-use borrow.Author.Tests.{leb-true, ltb-true, ltb-false}
+use borrow.Author.Tests.{leb-true, ltb-false}
 use Rattle.base.specs.Lists.{pick}
 use Rattle.base.specs.Le.{leBytes}
 use Rattle.base.proofs.Le.{length-leBytes, sets-append}
 use Rattle.blocks.specs.Reference.{newRange}
-use Rattle.blocks.specs.Block.{share, accept, reject, voteRange}
+use Rattle.blocks.specs.Block.{share, reject, voteRange}
 use Rattle.blocks.specs.Record.{referenceBytes, locatorBytes, otherBytes, statementBytes}
 use Rattle.types.specs.Values.{asReference, asLocator, asRange}
 use Rattle.types.specs.declared.TransactionLocator.{TransactionLocator}
@@ -26,7 +26,6 @@ use Rattle.statement_reader.specs.declared.BaseStatement.the-variants.{Share, A
 use Rattle.drafts.specs.Writing.{isLong}
 use Rattle.accept_runs.specs.Step.{payloadInside}
 use Rattle.statement_writer.specs.Step.{sizeOf}
-use Rattle.statement_writer.specs.declared.Size.{Size}
 use Rattle.statement_writer.specs.declared.Size.the-variants.{Bytes, Long}
 
 -- ---- written

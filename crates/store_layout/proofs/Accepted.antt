@@ -1,7 +1,7 @@
 -- Accepted records are well stored. Assumes nothing.
 use mathlib.Core.Path.{_≡_, ap, _∙_}
 use mathlib.Core.Bool.{true, false, not}
-use mathlib.Core.List.{List, [], _∷_, map}
+use mathlib.Core.List.{List, [], _∷_}
 use borrow.Author.Tests.{not-false}
 use Rattle.base.specs.Lists.{anyOf, _∈_, here, there}
 use Rattle.base.specs.Checks.{_⇒_, passes}

@@ -1,5 +1,5 @@
 -- The votes of an accepted block end at the last offset or before it, since 28 refuses accepts of it. Assumes nothing.
-use mathlib.Core.Path.{_≡_, refl}
+use mathlib.Core.Path.{_≡_}
 use mathlib.Core.Bool.{true}
 use mathlib.Core.List.{List, [], _∷_, map, flatten}
 use mathlib.Core.Option.{some, Option·some-injective, Option·none-ne-some}

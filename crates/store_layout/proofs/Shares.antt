@@ -1,11 +1,11 @@
 -- Stored shares: the test and what it means, and the same by the entry that is found and by the payload. Assumes nothing.
 use mathlib.Core.Path.{_≡_, refl, ap, _∙_}
-use mathlib.Core.Bool.{Bool, true, false, not, _&&_}
-use mathlib.Core.List.{List, [], _∷_, map}
+use mathlib.Core.Bool.{true, not}
+use mathlib.Core.List.{List, [], _∷_}
 use mathlib.Core.Option.{Option, none, some}
 use Prim.Native.Nat.{ℕ}
 use lib.ListN.{getElem?}
-use Rattle.base.specs.Lists.{holds, isNone, _∈_}
+use Rattle.base.specs.Lists.{holds, isNone}
 use Rattle.base.specs.Le.{Bytes}
 use Rattle.base.proofs.Tests.{and-both, and-left, and-right, same-test}
 use Rattle.base.proofs.Lists.{holds-some}

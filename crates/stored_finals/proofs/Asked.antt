@@ -10,7 +10,7 @@ use Rattle.committee.specs.Committee.{Committee, broken}
 use Rattle.blocks.specs.Reference.{TransactionLocator}
 use Rattle.store_layout.specs.Store.{storeInOrder}
 use Rattle.finality.specs.Finality.{blocksOf}
-use Rattle.finality.specs.NextFinal.{LeastOf, LeastFinal, leastFinal, nextFinalChecks, nextFinal, AskedOf, done, onward, AskedOn, finalList}
+use Rattle.finality.specs.NextFinal.{LeastFinal, leastFinal, nextFinalChecks, nextFinal, done, onward, AskedOn, finalList}
 use Rattle.finality.proofs.Candidates.{least-final}
 use Rattle.finality.proofs.LeastOf.{one-least}
 use Rattle.finality.proofs.Asked.{next-answers, asked-on}

@@ -1,11 +1,9 @@
 -- The least final stored share after a locator. Assumes nothing.
-use mathlib.Core.Path.{_≡_, refl, ap, subst}
+use mathlib.Core.Path.{_≡_}
 use mathlib.Core.Logic.{_⊎_, inl, inr}
 use mathlib.Core.Bool.{Bool, true, false, _&&_}
 use mathlib.Core.List.{List, map, flatten}
 use mathlib.Core.Option.{Option, none, some}
-use Prim.Native.Nat.{_+_}
-use native.Mathlib.Omega.{arith}
 use Rattle.base.specs.Lists.{keep, _∈_}
 use Rattle.base.proofs.Tests.{and-both, and-left, and-right, fails, not-both, holds-or-not}
 use Rattle.base.proofs.Members.{in-keep, keep-in}
@@ -14,7 +12,7 @@ use Rattle.blocks.specs.Reference.{TransactionLocator, locatorBefore}
 use Rattle.blocks.specs.Block.{Block}
 use Rattle.blocks.proofs.References.{locator-total}
 use Rattle.finality.specs.Voters.{isFinal}
-use Rattle.finality.specs.NextFinal.{isAfter, LeastOf, least, nothing, LeastFinal, leastLocator}
+use Rattle.finality.specs.NextFinal.{isAfter, least, nothing, LeastFinal}
 use Rattle.finality.proofs.Least.{Least, one-of, no-one, least-locator}
 use Rattle.finality.proofs.Asked.{later-after}
 use Rattle.store_layout.specs.Shares.{isStoredShare}

@@ -1,8 +1,7 @@
 -- The ordinary list: exactly the final stored shares, ascending, the same for every order of arrival. Assumes nothing.
-use mathlib.Core.Path.{_≡_, sym, ap₂, _∙_}
+use mathlib.Core.Path.{_≡_, ap₂}
 use mathlib.Core.Bool.{Bool, true}
 use mathlib.Core.List.{List}
-use mathlib.Core.Option.{Option}
 use Rattle.base.specs.Lists.{keep, _∈_}
 use Rattle.base.proofs.Tests.{same-test}
 use Rattle.base.proofs.Members.{in-keep, keep-in}

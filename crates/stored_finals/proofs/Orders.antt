@@ -1,14 +1,14 @@
 -- Lists of locators in ascending order. Assumes nothing.
 use mathlib.Core.Path.{_≡_, refl}
 use mathlib.Core.Logic.{_⊎_, inl, inr}
-use mathlib.Core.Bool.{Bool, true, false}
+use mathlib.Core.Bool.{true}
 use mathlib.Core.List.{List, [], _∷_, _++_}
-use Rattle.base.specs.Lists.{pick, pairwise, _∈_, here, there, Once, empty, also}
+use Rattle.base.specs.Lists.{pairwise, _∈_, here, there, Once, empty, also}
 use Rattle.base.proofs.Tests.{and-both}
 use Rattle.base.proofs.Members.{in-cases, in-first, in-append, in-all}
-use Rattle.blocks.specs.Reference.{TransactionLocator, sameLocator, locatorBefore}
+use Rattle.blocks.specs.Reference.{TransactionLocator, locatorBefore}
 use Rattle.blocks.proofs.References.{locator-irrefl, locator-trans}
-use Rattle.finality.specs.NextFinal.{placedLocator, ascendingLocators}
+use Rattle.finality.specs.NextFinal.{ascendingLocators}
 use Rattle.finality.proofs.FinalList.{Ascending, none-left, and-then, placed-in}
 
 pub ascending-pairwise : {ls : List TransactionLocator} → Ascending ls → pairwise locatorBefore ls ≡ true

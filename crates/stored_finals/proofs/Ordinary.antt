@@ -1,31 +1,29 @@
 -- The ordinary list: nothing changes between the edges of votes, and its stretches are the wide ones cut to runs of shares. Assumes nothing.
-use mathlib.Core.Path.{_≡_, refl, sym, ap, ap₂, subst, _∙_}
-use mathlib.Core.Logic.{_⊎_, inl, inr, _↔_}
-use mathlib.Core.Bool.{Bool, true, false, _&&_}
-use mathlib.Core.List.{List, [], _∷_}
+use mathlib.Core.Path.{_≡_, refl, ap₂, subst, _∙_}
+use mathlib.Core.Bool.{Bool, true, _&&_}
+use mathlib.Core.List.{List}
 use Prim.Native.Nat.{ℕ, _+_, _≤_, _<_}
 use native.Mathlib.Omega.{arith}
 use native.Mathlib.Decide.{decLt, decLe}
-use Rattle.base.specs.Lists.{sumOf, _∈_}
-use Rattle.base.proofs.Tests.{not-both, fails, holds-or-not, same-test, and-both, and-left, and-right}
-use Rattle.committee.specs.Committee.{Committee, broken}
+use Rattle.base.specs.Lists.{_∈_}
+use Rattle.base.proofs.Tests.{not-both, fails, same-test, and-both, and-left, and-right}
+use Rattle.committee.specs.Committee.{Committee}
 use Rattle.blocks.specs.Reference.{BlockReference, TransactionLocator, TransactionLocatorRange, locator, newRange, oneRange}
 use Rattle.blocks.specs.Block.{Block, isShareAt, spans}
 use Rattle.blocks.proofs.Spans.{share-span}
-use Rattle.store_layout.specs.Store.{storeInOrder}
-use Rattle.store_layout.specs.Shares.{isStoredShare, StoredShare}
+use Rattle.store_layout.specs.Shares.{isStoredShare}
 use Rattle.store_layout.proofs.Shares.{stored-share, share-stored}
 use Rattle.finality.specs.Voters.{isFinal}
 use Rattle.finality.specs.Finality.{blocksOf}
-use Rattle.stretches.specs.Stretches.{Listing, edgesBy, wide, certifiedAlike, goesOn, EndsAt, stretchEnd}
-use Rattle.stretches.specs.Claims.{Edges, Lawful, EndMeant}
+use Rattle.stretches.specs.Stretches.{edgesBy, wide, certifiedAlike, goesOn, EndsAt, stretchEnd}
+use Rattle.stretches.specs.Claims.{Edges, Lawful}
 use Rattle.stretches.proofs.Nearest.{edge-start, edge-end}
 use Rattle.stretches.proofs.Ends.{end-meant}
 use Rattle.stretches.proofs.Wide.{Telling, wide-edges, by-spans, wide-lawful, gives-asked}
 use Rattle.stored_finals.specs.FinalShares.{isFinalShare, nextFinalShare}
 use Rattle.stored_finals.specs.Ordinary.{ordinary}
 use Rattle.stored_finals.specs.Claims.{CutShort, WideCut, OrdinaryGives}
-use Rattle.stored_finals.proofs.Least.{share-of, final-of, final-share, least-final-share}
+use Rattle.stored_finals.proofs.Least.{final-of, least-final-share}
 use Rattle.stored_finals.proofs.Asked.{next-share-answers}
 
 -- ---- ranges that tell the shares of blocks too

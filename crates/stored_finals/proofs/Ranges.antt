@@ -7,12 +7,12 @@ use native.Mathlib.Omega.{arith}
 use lib.Dec.{eqb}
 use Rattle.base.specs.Lists.{pick, countFrom, _∈_}
 use Rattle.base.proofs.Lists.{Every, none-of, and, Pairs, no-pairs, with-later, every-in}
-use Rattle.base.proofs.Members.{in-map, map-in, flatten-in, in-countFrom, countFrom-in}
+use Rattle.base.proofs.Members.{map-in, flatten-in, countFrom-in}
 use Rattle.blocks.specs.Reference.{BlockReference, TransactionLocator, TransactionLocatorRange, locator, newRange, offsets, locators, locatorBefore}
 use Rattle.blocks.specs.Block.{Statement, Block, isShare, joined, runsFrom, sharedRanges}
 use Rattle.blocks.proofs.References.{byOffset, is-before}
 use Rattle.finality.proofs.Votes.{Covered}
-use Rattle.finality.proofs.FinalList.{Ascending, none-left, and-then, covered-in}
+use Rattle.finality.proofs.FinalList.{Ascending, none-left, and-then}
 use Rattle.stored_finals.proofs.Orders.{ascending-append}
 
 -- ---- the locators of a range

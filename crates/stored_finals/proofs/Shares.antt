@@ -1,15 +1,14 @@
 -- The list of all stored shares. Assumes nothing.
-use mathlib.Core.Path.{_≡_, refl, sym, ap, subst}
+use mathlib.Core.Path.{_≡_, sym, ap, subst}
 use mathlib.Core.Bool.{true}
-use mathlib.Core.List.{List, [], _∷_, map, flatten}
-use Prim.Native.Nat.{ℕ, zero, suc, _<_}
+use mathlib.Core.List.{List, map, flatten}
+use Prim.Native.Nat.{_<_}
 use native.Mathlib.Omega.{arith}
-use lib.ListN.{length, getElem?}
-use Rattle.base.specs.Lists.{keep, holds, countFrom, _∈_}
-use Rattle.base.proofs.Tests.{not-both}
+use lib.ListN.{length}
+use Rattle.base.specs.Lists.{keep, countFrom, _∈_}
 use Rattle.base.proofs.Members.{in-map, map-in, in-keep, keep-in, in-flatten, flatten-in, in-countFrom}
 use Rattle.blocks.specs.Reference.{TransactionLocator, locator}
-use Rattle.blocks.specs.Block.{Statement, Block, isShare, isShareAt}
+use Rattle.blocks.specs.Block.{Block, isShareAt}
 use Rattle.store_layout.specs.Shares.{StoredShare}
 use Rattle.finality.proofs.FinalList.{Ascending, ascending-locators, in-ascending}
 use Rattle.blocks.proofs.Spans.{share-index}

@@ -5,7 +5,7 @@ use mathlib.Core.List.{List, [], _∷_, map, flatten}
 use Prim.Native.Nat.{ℕ}
 use native.Mathlib.Omega.{arith}
 use lib.ListN.{length, length-append}
-use Rattle.base.specs.Lists.{pick, keep, sumOf, countFrom, _∈_, here, there}
+use Rattle.base.specs.Lists.{pick, keep, sumOf, countFrom, _∈_}
 use Rattle.base.specs.Le.{Bytes}
 use Rattle.base.proofs.Lists.{Every, none-of, and, Pairs, no-pairs, with-later, every-in}
 use Rattle.base.proofs.Members.{any-in, in-map, map-in, in-flatten, flatten-in}
@@ -15,7 +15,7 @@ use Rattle.blocks.specs.Block.{Block, isShareAt, sharedRanges}
 use Rattle.blocks.proofs.References.{byBlock, is-before}
 use Rattle.blocks.proofs.Ranges.{within-true}
 use Rattle.blocks.proofs.Runs.{Below, shared-runs, shared-below, shared-cover}
-use Rattle.store_layout.specs.Layout.{Record, Entry, referenceOf, usedBy, entries, ascending}
+use Rattle.store_layout.specs.Layout.{Entry, referenceOf, entries, ascending}
 use Rattle.store_layout.specs.Store.{recordsOf, storeInOrder}
 use Rattle.store_layout.proofs.Store.{in-order}
 use Rattle.store_layout.proofs.Chain as chain

@@ -1,17 +1,13 @@
 -- As many certifying positions as certifying blocks, in either reading. Assumes nothing.
-use mathlib.Core.Path.{_≡_, refl, ap, _∙_}
-use mathlib.Core.Bool.{Bool, true, false}
-use mathlib.Core.List.{List, [], _∷_}
-use Prim.Native.Nat.{suc}
+use mathlib.Core.Path.{_≡_, _∙_}
+use mathlib.Core.Bool.{Bool}
 use lib.ListN.{length, length-map}
-use Rattle.base.specs.Lists.{pick, keep}
+use Rattle.base.specs.Lists.{keep}
 use Rattle.base.specs.Le.{Bytes}
 use Rattle.committee.specs.Committee.{Committee}
-use Rattle.blocks.specs.Reference.{TransactionLocator, referenceBefore}
-use Rattle.blocks.specs.Block.{Block}
-use Rattle.store_layout.specs.Layout.{Record, Entry, referenceOf, usedBy, entries, placed, ascending}
+use Rattle.blocks.specs.Reference.{TransactionLocator}
+use Rattle.store_layout.specs.Layout.{Entry, entries, ascending}
 use Rattle.store_layout.specs.Store.{recordsOf}
-use Rattle.store_layout.proofs.Accepted.{blocks}
 use Rattle.finality.specs.Finality.{blocksOf}
 use Rattle.readings.specs.Readings.{Reading, certifiesIn, certifiersIn}
 use Rattle.readings.specs.Finality.{certifyingPositionsIn}

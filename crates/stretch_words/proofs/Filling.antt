@@ -1,12 +1,12 @@
 -- The slice as it fills, stretch by stretch. Assumes nothing.
-use mathlib.Core.Path.{_≡_, refl, sym, ap, subst, _∙_}
-use mathlib.Core.Bool.{true, false, not}
+use mathlib.Core.Path.{_≡_, refl, sym, ap, _∙_}
+use mathlib.Core.Bool.{true, false}
 use mathlib.Core.List.{List, [], _∷_, _++_, map, flatten, append-assoc, map-append}
 use mathlib.Core.Option.{Option, none, some}
 use Prim.Native.Nat.{ℕ, zero, suc, _+_, _-_, _*_, _≤_, _<_}
 use native.Mathlib.Omega.{arith}
 use native.Mathlib.Numerals.{add-one, sub-one}
-use lib.ListN.{length, set, drop, length-append}
+use lib.ListN.{length, drop, length-append}
 use lib.Seq.{sets, length-sets}
 use Rattle.base.specs.Lists.{keep, isNone}
 use Rattle.base.proofs.Lists.{append-nil}
@@ -16,7 +16,7 @@ use Rattle.blocks.specs.Reference.{TransactionLocator}
 use Rattle.blocks.specs.Block.{Block, author}
 use Rattle.certifying_blocks.proofs.Finding.{written-more}
 use Rattle.stretches.specs.Stretches.{Listing, FinalStretch, lastLocator, stretchEnd, stretchAt, fromFound, stretches, reached, moreFollow}
-use Rattle.stretches.specs.Bulk.{digestWords, referenceWords, stretchWords, Given, givenAfter, wordsAfter}
+use Rattle.stretches.specs.Bulk.{digestWords, referenceWords, stretchWords, givenAfter, wordsAfter}
 use Rattle.stretch_words.specs.Step.{stretchOf, Filled}
 
 -- ---- one stretch more, or none

@@ -3,7 +3,7 @@ use committee::Stake;
 use types::BlockReference;
 use types::TransactionLocator;
 ghost use mathlib.Core.Path.{_≡_};
-ghost use Prim.Native.Nat.{_+_, _*_, _≤_, _<_};
+ghost use Prim.Native.Nat.{_+_, _*_, _≤_};
 ghost use lib.ListN.{length};
 ghost use lib.Seq.{sets};
 ghost use Rattle.types.specs.Values.{asReference, asLocator};

@@ -1,5 +1,5 @@
 -- Where a stretch ends, whatever the edges between which nothing changes. Assumes nothing.
-use mathlib.Core.Path.{_≡_, refl, sym, ap, ap₂, subst, _∙_}
+use mathlib.Core.Path.{_≡_, refl, sym, ap, ap₂, _∙_}
 use mathlib.Core.Logic.{_⊎_, inl, inr}
 use mathlib.Core.Bool.{Bool, true, false, not, _&&_}
 use mathlib.Core.List.{List, [], _∷_}
@@ -9,12 +9,12 @@ use native.Mathlib.Decide.{decLt, decLe}
 use lib.Dec.{eqb}
 use borrow.Author.Tests.{eqb-true, eq-eqb}
 use Rattle.base.specs.Lists.{allOf, anyOf, keep, _∈_, here, there}
-use Rattle.base.proofs.Tests.{not-both, fails, holds-or-not, and-both, and-right}
-use Rattle.base.proofs.Members.{in-empty, in-keep, keep-in, any-in, in-any}
+use Rattle.base.proofs.Tests.{not-both, holds-or-not, and-both, and-right}
+use Rattle.base.proofs.Members.{in-keep, keep-in, any-in, in-any}
 use Rattle.blocks.specs.Reference.{TransactionLocator, locator}
 use Rattle.blocks.specs.Block.{Block}
 use Rattle.stretches.specs.Stretches.{Listing, agree, certifiedAlike, goesOn, EndsAt, nearest, endAmong, stretchEnd}
-use Rattle.stretches.specs.Claims.{SameBefore, Edges, Lawful, EndMeant, StretchEndMeant}
+use Rattle.stretches.specs.Claims.{Edges, Lawful, EndMeant, StretchEndMeant}
 use Rattle.stretches.proofs.Nearest.{Nearest, nearest-is}
 
 not-true : (t : Bool) → not t ≡ true → t ≡ false

@@ -11,7 +11,7 @@ use Rattle.base.proofs.Members.{in-left, in-right, in-flatten, in-map}
 use Rattle.committee.specs.Committee.{Committee}
 use Rattle.blocks.specs.Reference.{TransactionLocator, TransactionLocatorRange, locator}
 use Rattle.blocks.specs.Block.{Block}
-use Rattle.finality.specs.Voters.{votesFor, isFinal}
+use Rattle.finality.specs.Voters.{votesFor}
 use Rattle.finality.specs.NextFinal.{isAfter, LeastOf, justAfter, leastLocator}
 use Rattle.finality.proofs.Growing.{final-mono, final-votes}
 use Rattle.finality.proofs.LeastOf.{after-below, least-among, one-least}

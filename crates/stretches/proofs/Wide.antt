@@ -1,29 +1,28 @@
 -- The final list: nothing changes between the edges of votes, and its stretches are alike throughout. Assumes nothing.
-use mathlib.Core.Path.{_≡_, refl, sym, ap, subst, _∙_}
-use mathlib.Core.Logic.{_⊎_, inl, inr, _↔_}
-use mathlib.Core.Bool.{Bool, true, false, _&&_, true≢false}
-use mathlib.Core.List.{List, [], _∷_, map}
-use mathlib.Core.Option.{Option, none, some}
-use Prim.Native.Nat.{ℕ, zero, suc, _+_, _-_, _≤_, _<_}
+use mathlib.Core.Path.{_≡_, sym, ap, subst, _∙_}
+use mathlib.Core.Logic.{_↔_}
+use mathlib.Core.Bool.{Bool, true, false}
+use mathlib.Core.List.{List, _∷_, map}
+use mathlib.Core.Option.{Option}
+use Prim.Native.Nat.{ℕ, _+_, _-_, _≤_, _<_}
 use native.Mathlib.Omega.{arith}
-use native.Mathlib.Decide.{decLe, ℕ-discrete}
+use native.Mathlib.Decide.{ℕ-discrete}
 use lib.ListN.{length, length-map}
-use Rattle.base.specs.Lists.{pick, keep, countFrom, sumOf, _∈_, here, there}
+use Rattle.base.specs.Lists.{keep, countFrom, sumOf, _∈_, here, there}
 use Rattle.base.specs.Le.{Bytes}
 use Rattle.base.specs.Checks.{Answer, answered}
 use Rattle.base.proofs.Tests.{fails, same-test, and-left, and-right}
-use Rattle.base.proofs.Members.{in-cases, in-first, map-in, countFrom-in}
-use Rattle.committee.specs.Committee.{Committee, broken, isQuorum}
+use Rattle.base.proofs.Members.{map-in, countFrom-in}
+use Rattle.committee.specs.Committee.{Committee, isQuorum}
 use Rattle.authority_set.specs.AuthoritySet.{setOf, stakeOf}
 use Rattle.blocks.specs.Reference.{BlockReference, TransactionLocator, TransactionLocatorRange, locator, newRange, offsets, locators}
 use Rattle.blocks.specs.Block.{Block, author, spans}
-use Rattle.store_layout.specs.Layout.{Entry, Record, usedBy, entries, ascending}
+use Rattle.store_layout.specs.Layout.{Entry, entries, ascending}
 use Rattle.store_layout.specs.Store.{recordsOf, storeInOrder}
 use Rattle.finality.specs.Voters.{votesFor, certifies, certifiers, isFinal}
 use Rattle.finality.specs.Finality.{blocksOf, certifyingPositions}
 use Rattle.finality.specs.NextFinal.{nextFinal, AskedOf}
 use Rattle.finality.specs.NextFinal as asking
-use Rattle.finality.specs.Claims.{CertifyingMeant}
 use Rattle.finality.proofs.Asked.{next-answers}
 use Rattle.finality.proofs.Candidates.{least-final}
 use Rattle.finality.proofs.Certifying.{ascending-in, certifying-meant}
@@ -31,11 +30,11 @@ use Rattle.finality.proofs.Growing.{certifies-mono, final-votes}
 use Rattle.finality.proofs.Votes.{Covered, spanned, is-spanned}
 use Rattle.base.proofs.Lists.{keep-same}
 use Rattle.store_layout.proofs.Lookups.{entry-block}
-use Rattle.stretches.specs.Stretches.{Listing, edgesBy, wide, FinalStretch, stretchLocators, agree, certifiedAlike, goesOn, stretchEnd, stretchAt, stretches}
+use Rattle.stretches.specs.Stretches.{Listing, edgesBy, wide, FinalStretch, stretchLocators, agree, certifiedAlike, goesOn, stretchAt}
 use Rattle.stretches.specs.Claims.{SameBefore, Edges, Lawful, Gives, done, onward, WideGives, Alike, StretchesAlike}
 use Rattle.stretches.proofs.Nearest.{edge-start, edge-end}
 use Rattle.stretches.proofs.Ends.{agrees, all-in}
-use Rattle.stretches.proofs.Spreading.{Begun, begun, shown-ends}
+use Rattle.stretches.proofs.Spreading.{begun, shown-ends}
 
 -- ---- ranges that tell the votes of blocks, as `spans` does
 

@@ -2,7 +2,7 @@
 use mathlib.Core.Path.{_≡_, refl, sym, ap, subst, _∙_}
 use mathlib.Core.Logic.{_⊎_, inl, inr}
 use mathlib.Core.Bool.{Bool, true, false, _&&_}
-use mathlib.Core.List.{List, [], _∷_, _++_, map, flatten}
+use mathlib.Core.List.{List, [], _∷_, map, flatten}
 use mathlib.Core.Option.{Option, none, some, Option·some-injective, Option·none-ne-some}
 use Prim.Native.Nat.{ℕ, suc, _+_, _≤_, _<_}
 use native.Mathlib.Omega.{arith}
@@ -13,16 +13,11 @@ use Rattle.base.specs.Lists.{pick, keep, _∈_, here, there}
 use Rattle.base.specs.Le.{Bytes}
 use Rattle.base.proofs.Lists.{keep-append}
 use Rattle.base.proofs.Tests.{and-both, and-left, and-right, fails, not-both, holds-or-not}
-use Rattle.base.proofs.Members.{in-empty, in-keep, keep-in, in-map, map-in, in-flatten, flatten-in}
-use Rattle.committee.specs.Committee.{Committee}
-use Rattle.blocks.specs.Reference.{TransactionLocator, TransactionLocatorRange, locator, locatorBefore}
-use Rattle.blocks.specs.Block.{Block, spans}
-use Rattle.blocks.proofs.References.{locator-irrefl, locator-trans, locator-total}
+use Rattle.base.proofs.Members.{in-empty, in-keep, keep-in}
+use Rattle.blocks.specs.Reference.{TransactionLocator, locatorBefore}
+use Rattle.blocks.proofs.References.{locator-irrefl, locator-total}
 use Rattle.store_layout.specs.Entry.{blockAt}
-use Rattle.finality.specs.Voters.{isFinal}
-use Rattle.finality.specs.Finality.{blocksOf}
-use Rattle.finality.specs.NextFinal.{isAfter, justAfter, candidates, leastLocator}
-use Rattle.block_votes.specs.Walk.{Sorted}
+use Rattle.finality.specs.NextFinal.{isAfter, leastLocator}
 use Rattle.block_spans.specs.Ranges.{rangesOf}
 use Rattle.vote_starts.specs.Walk.{startOf, lesserOf, startsAt}
 use Rattle.finality.proofs.Least.{Least, one-of, no-one, least-locator}

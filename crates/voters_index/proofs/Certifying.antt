@@ -3,16 +3,16 @@ use mathlib.Core.Path.{_≡_, refl, sym, ap, _∙_}
 use mathlib.Core.Logic.{_⊎_, inl, inr}
 use mathlib.Core.Bool.{Bool, true, false, not, _&&_, _||_}
 use mathlib.Core.List.{List, [], _∷_, map, flatten}
-use Prim.Native.Nat.{_+_, _-_, _*_, _^_, _<_}
+use Prim.Native.Nat.{_-_, _*_, _^_, _<_}
 use native.Mathlib.Omega.{arith}
 use native.Mathlib.Decide.{decLt}
 use lib.Bits.{bitOr, or-zero-l, or-comm}
 use borrow.Author.Tests.{lt-ltb, le-ltb}
-use Rattle.base.specs.Lists.{pick, anyOf, keep, _∈_, here, there}
+use Rattle.base.specs.Lists.{pick, anyOf, keep, _∈_}
 use Rattle.base.proofs.Tests.{holds-or-not, and-both, and-left, and-right, same-test, not-both}
 use Rattle.base.proofs.Members.{any-in, in-any}
 use Rattle.committee.specs.Committee.{AuthorityIndex, Committee, totalStake, isQuorum}
-use Rattle.authority_set.specs.AuthoritySet.{AuthoritySet, nobody, inserted, united, setOf, stakeFrom, stakeOf}
+use Rattle.authority_set.specs.AuthoritySet.{AuthoritySet, nobody, inserted, united, setOf, stakeOf}
 use Rattle.authority_set.proofs.Words.{united-nobody, nobody-united}
 use Rattle.authority_set.proofs.Votes.{stake-nobody}
 use Rattle.blocks.specs.Reference.{TransactionLocator}

@@ -11,7 +11,7 @@ use borrow.Author.Tests.{lt-ltb, le-ltb, eq-eqb, eqb-true}
 use Rattle.base.proofs.Tests.{and-both, and-left, and-right}
 use Rattle.committee.specs.Committee.{AuthorityIndex}
 use Rattle.authority_set.specs.AuthoritySet.{AuthoritySet, nobody, inserted, united}
-use Rattle.authority_set.proofs.Words.{united-assoc, nobody-united}
+use Rattle.authority_set.proofs.Words.{united-assoc}
 use Rattle.voters_index.specs.Runs.{sameVoters}
 
 pub united-comm : (v w : AuthoritySet) → united v w ≡ united w v

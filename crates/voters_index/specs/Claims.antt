@@ -1,11 +1,11 @@
 -- What the index means, as claims. Assumes nothing: these are definitions.
-use Prim.Native.Nat.{ℕ, _+_, _*_, _≤_, _<_}
+use Prim.Native.Nat.{ℕ, _+_, _≤_, _<_}
 use mathlib.Core.Path.{_≡_}
 use mathlib.Core.Logic.{_↔_}
 use mathlib.Core.Bool.{true, false}
-use mathlib.Core.List.{List, [], _∷_, _++_, map, flatten}
+use mathlib.Core.List.{List, [], _∷_, _++_, map}
 use mathlib.Core.Option.{some}
-use lib.ListN.{length, drop}
+use lib.ListN.{length}
 use Rattle.base.specs.Lists.{_∈_}
 use Rattle.base.specs.Le.{Bytes}
 use Rattle.base.specs.Checks.{passes}

@@ -1,5 +1,5 @@
 -- Whom to ring, by what the pending question finds. Assumes nothing.
-use mathlib.Core.Path.{_≡_, _∙_}
+use mathlib.Core.Path.{_≡_}
 use mathlib.Core.Bool.{Bool, true, false}
 use mathlib.Core.List.{List}
 use mathlib.Core.Option.{Option, none, some}
@@ -8,12 +8,12 @@ use native.Mathlib.Omega.{arith}
 use lib.ListN.{getD}
 use Rattle.base.specs.Lists.{pick}
 use Rattle.base.specs.Le.{Bytes}
-use Rattle.base.specs.Checks.{refusal, passes, Answer, refused, answered}
+use Rattle.base.specs.Checks.{refusal, passes, refused}
 use Rattle.base.proofs.Tests.{fails}
 use Rattle.base.proofs.Refusals.{passes-zero}
 use Rattle.committee.specs.Committee.{Committee}
 use Rattle.authority_set.specs.AuthoritySet.{AuthoritySet}
-use Rattle.rung_owners.specs.Ranked.{Ring, ring}
+use Rattle.rung_owners.specs.Ranked.{ring}
 use Rattle.blocks.specs.Reference.{TransactionLocator}
 use Rattle.store_layout.specs.Layout.{entries, positionOf, lookup}
 use Rattle.store_layout.specs.Store.{recordsOf}
@@ -23,7 +23,7 @@ use Rattle.table_words.specs.Answers.{FoundBy}
 use Rattle.table_words.specs.declared.Found.{Found}
 use Rattle.table_words.specs.declared.Found.the-variants.{At, Nothing}
 use Rattle.table_words.proofs.Halves.{holds-ordered}
-use Rattle.feeds.specs.Pending.{Standing, pendingChecks, standingOf, standingAt, pending}
+use Rattle.feeds.specs.Pending.{pendingChecks, standingOf, standingAt, pending}
 use Rattle.pending.proofs.Lending.{lying, at-none, at-some}
 use Rattle.whom_to_ring.specs.WhomToRing.{ringFor, ringAt, whomToRing, Claims}
 

@@ -1,14 +1,12 @@
 -- A list stored into another. Assumes nothing.
-use mathlib.Core.Path.{_≡_, sym, _∙_}
-use mathlib.Core.List.{List, [], _∷_}
-use Prim.Native.Nat.{ℕ, _+_, _<_}
+use mathlib.Core.Path.{_≡_, _∙_}
+use mathlib.Core.List.{List}
+use Prim.Native.Nat.{ℕ}
 use native.Mathlib.Nat.{zero-add}
-use native.Mathlib.Numerals.{add-one}
 use native.Mathlib.Omega.{arith}
-use lib.ListN.{length, getD, take, set, drop-of-length-le}
-use lib.Seq.{sets, sets-eq, take-suc, length-take-le}
+use lib.ListN.{length, drop-of-length-le}
+use lib.Seq.{sets, sets-eq}
 use Rattle.base.proofs.Lists.{append-nil}
-use Rattle.base.proofs.Le.{sets-append}
 
 -- over the whole list
 pub sets-complete : (l vs : List ℕ) → length vs ≡ length l → sets l 0 vs ≡ vs

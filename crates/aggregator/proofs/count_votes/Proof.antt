@@ -6,7 +6,6 @@ use lib.ListN.{length}
 use Rattle.blocks.specs.Block.{Statement, votedRange, countedOffsets, eventRoom}
 use Rattle.blocks.specs.Record.{blockIn}
 use Rattle.statement_cursor.specs.Cursor.{cursorAt}
-use Rattle.statement_reader.specs.Values.{asStatement}
 use Rattle.shared_ranges.proofs.Walk.{placed-index, placed, checks-any, passes-at, offsetsCounted, counted-on}
 use Rattle.missed_events.specs.Kinds.{withNew}
 use Rattle.aggregator.proofs.Counting.{Counting, counting-start, counting-long, counting-order, counting-on, counting-stop, counting-end}

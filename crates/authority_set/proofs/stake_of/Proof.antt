@@ -6,7 +6,7 @@ use Rattle.authority_set.specs.AuthoritySet.{stakeFrom, stakeOf}
 use lib.ListN.{length, drop}
 use native.Mathlib.Omega.{arith}
 use Prim.Native.Nat.{_+_, _≤_, _-_}
-use mathlib.Core.Path.{_≡_, refl, sym, _∙_}
+use mathlib.Core.Path.{_≡_, sym, _∙_}
 use Rattle.authority_set.proofs.stake_of.Statement.{statement}
 use Rattle.authority_set.proofs.stake_of.Tie as tie
 

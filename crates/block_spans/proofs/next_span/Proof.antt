@@ -1,7 +1,6 @@
-use mathlib.Core.Path.{_≡_, refl, sym, ap, _∙_}
+use mathlib.Core.Path.{_≡_, sym, ap, _∙_}
 use mathlib.Core.Bool.{true, false}
 use mathlib.Core.List.{[], Option·toList}
-use native.Mathlib.Omega.{arith}
 use lib.ListN.{getD}
 use Rattle.blocks.specs.Reference.{newRange}
 use Rattle.blocks.specs.Block.{Statement, isShare, votedRange}

@@ -1,5 +1,5 @@
-use mathlib.Core.Path.{_≡_, sym, ap, _∙_}
-use mathlib.Core.List.{List, flatten, map}
+use mathlib.Core.Path.{sym, _∙_}
+use mathlib.Core.List.{flatten}
 use Rattle.base.proofs.Lists.{append-nil}
 use Rattle.types.specs.Values.{asLocator}
 use Rattle.statement_reader.specs.Values.{asStatement}

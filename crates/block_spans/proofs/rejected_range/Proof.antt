@@ -1,4 +1,3 @@
-use mathlib.Core.Path.{_≡_}
 use borrow.Author.Tests.{eq-eqb, ne-eqb}
 use Rattle.types.specs.Values.{asLocator}
 use Rattle.blocks.specs.Reference.{locator}

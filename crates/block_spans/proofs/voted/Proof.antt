@@ -1,4 +1,4 @@
-use mathlib.Core.Path.{_≡_, refl}
+use mathlib.Core.Path.{refl}
 use mathlib.Core.List.{Option·toList}
 use native.Mathlib.Omega.{arith}
 use Rattle.blocks.specs.Reference.{locator, newRange, oneRange}
@@ -10,9 +10,6 @@ use Rattle.block_spans.specs.Answers.{votedBy}
 use borrow.Author.Needs.{needs}
 use Rattle.block_spans.proofs.voted.Statement.{statement}
 use Rattle.block_spans.proofs.voted.Tie as tie
-use Rattle.block_spans.proofs.voted.Reads as reads
-use Rattle.block_spans.proofs.voted.Lts as lts
-use Rattle.types.proofs.TransactionLocatorRange.one.Reads as one-reads
 
 -- src/lib.rt:38:39
 enum-told : tie.Need-enum-told

@@ -3,7 +3,7 @@ use borrow.Author.Tests.{not-true, not-false}
 use native.Mathlib.Omega.{arith}
 use Rattle.block_votes.proofs.Reading.{covers-other, covers-early, covers-from}
 use mathlib.Core.Path.{sym, _∙_}
-use Rattle.types.specs.Values.{asReference, asLocator, asRange}
+use Rattle.types.specs.Values.{asLocator, asRange}
 use Rattle.blocks.specs.Reference.{newRange, locator}
 use borrow.Author.Needs.{needs}
 use Rattle.block_votes.proofs.covers.Statement.{statement}

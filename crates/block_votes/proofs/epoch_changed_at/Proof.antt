@@ -1,6 +1,5 @@
 use mathlib.Core.Path.{ap, _∙_}
 use native.Mathlib.Omega.{arith}
-use lib.ListN.{length}
 use Rattle.base.specs.Le.{Bytes}
 use Rattle.blocks.specs.Record.{blockIn}
 use Rattle.store_layout.specs.Entry.{blockAt}

@@ -1,6 +1,6 @@
 use mathlib.Core.Path.{ap, _∙_}
 use native.Mathlib.Omega.{arith}
-use lib.ListN.{length, getD}
+use lib.ListN.{getD}
 use Rattle.base.specs.Le.{Bytes}
 use Rattle.blocks.specs.Record.{blockIn, noReference}
 use Rattle.store_layout.specs.Entry.{blockAt}

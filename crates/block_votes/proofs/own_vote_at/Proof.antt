@@ -1,13 +1,9 @@
 use mathlib.Core.Path.{_≡_, sym, ap, _∙_}
-use mathlib.Core.Bool.{true, false}
-use native.Mathlib.Omega.{arith}
+use mathlib.Core.Bool.{true}
 use borrow.Author.Tests.{not-true, not-false}
-use Rattle.base.specs.Le.{Bytes}
 use Rattle.authority_set.specs.AuthoritySet.{inserted, nobody}
-use Rattle.blocks.specs.Record.{blockIn}
 use Rattle.types.specs.Values.{asReference, asLocator}
 use Rattle.store_layout.specs.Entry.{blockAt}
-use Rattle.store_layout.proofs.Loops.{entry-room, record-part}
 use Rattle.finality.specs.Voters.{votesFor}
 use Rattle.block_votes.proofs.Sorting.{own-yes, own-no}
 use borrow.Author.Needs.{needs}

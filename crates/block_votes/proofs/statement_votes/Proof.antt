@@ -1,10 +1,7 @@
 use lib.ListN.{take, drop}
-use Rattle.blocks.specs.Reference.{locator, oneRange}
-use Rattle.blocks.specs.Block.{Statement, share, accept, reject, voteRange}
-use mathlib.Core.Path.{_≡_, sym, ap, _∙_}
+use mathlib.Core.Path.{sym, _∙_}
 use Rattle.types.specs.Values.{asReference, asLocator, asRange}
 use Rattle.statement_reader.specs.Values.{asStatement}
-use Rattle.block_votes.specs.Walk.{statementVotes}
 use Rattle.block_votes.proofs.Reading.{votes-share, votes-accept, votes-reject, votes-range}
 use borrow.Author.Needs.{needs}
 use Rattle.block_votes.proofs.statement_votes.Statement.{statement}

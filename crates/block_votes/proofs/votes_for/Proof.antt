@@ -2,7 +2,6 @@ use Prim.Native.Nat.{_<_, _-_, _≤_}
 use mathlib.Core.Bool.{true, false}
 use lib.ListN.{getD, length}
 use Rattle.blocks.specs.Record.{noStatement, blockIn}
-use Rattle.statement_reader.specs.Values.{asStatement}
 use Rattle.block_votes.specs.Walk.{statementVotes}
 use borrow.Author.Needs.{needs}
 use mathlib.Core.Path.{_≡_, refl, sym, _∙_}

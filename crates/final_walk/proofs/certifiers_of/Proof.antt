@@ -1,5 +1,5 @@
-use mathlib.Core.Path.{_≡_, refl, sym}
-use mathlib.Core.Bool.{false, true≢false}
+use mathlib.Core.Path.{sym}
+use mathlib.Core.Bool.{true≢false}
 use native.Mathlib.Omega.{arith}
 use borrow.Author.Tests.{not-true, not-false}
 use Rattle.base.proofs.Le.{bytes-of}

@@ -1,4 +1,4 @@
-use mathlib.Core.Path.{_≡_, refl, sym, _∙_}
+use mathlib.Core.Path.{sym, _∙_}
 use borrow.Author.Needs.{needs}
 use Rattle.final_walk.proofs.certifies_at.Statement.{statement}
 use Rattle.final_walk.proofs.certifies_at.Tie as tie

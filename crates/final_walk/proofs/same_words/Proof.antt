@@ -3,7 +3,7 @@ use Rattle.final_walk.specs.Walk.{SameWords}
 use lib.ListN.{getD}
 use native.Mathlib.Omega.{arith}
 use mathlib.Core.Path.{_≡_}
-use Prim.Native.Nat.{ℕ, _-_, _≤_, _<_, _+_}
+use Prim.Native.Nat.{ℕ, _-_, _≤_, _<_}
 use borrow.Author.Needs.{needs}
 use Rattle.final_walk.proofs.same_words.Statement.{statement}
 use Rattle.final_walk.proofs.same_words.Tie as tie

@@ -3,8 +3,7 @@ use Rattle.include_places.specs.Places.{IsPlace, GatheredAt}
 use Rattle.block_votes.proofs.Sorting.{place-entry, include-lower}
 use Rattle.block_votes.specs.Walk.{blockAtPlace}
 use native.Mathlib.Omega.{arith}
-use mathlib.Core.Path.{_≡_, _∙_}
-use Prim.Native.Nat.{_≤_, _<_, _+_, _*_}
+use mathlib.Core.Path.{_∙_}
 use borrow.Author.Needs.{needs}
 use Rattle.include_places.proofs.gather_at.Statement.{statement}
 use Rattle.include_places.proofs.gather_at.Tie as tie

@@ -5,8 +5,8 @@ use Rattle.block_votes.specs.Walk.{blockAtPlace}
 use Rattle.blocks.specs.Reference.{TransactionLocator}
 use Rattle.finality.specs.Voters.{Speech}
 use native.Mathlib.Omega.{arith}
-use mathlib.Core.Path.{_≡_, ap, _∙_}
-use Prim.Native.Nat.{ℕ, _-_, _≤_, _<_, _+_, _*_}
+use mathlib.Core.Path.{_≡_, _∙_}
+use Prim.Native.Nat.{ℕ, _-_, _≤_}
 use borrow.Author.Needs.{needs}
 use Rattle.include_places.proofs.gather_read.Statement.{statement}
 use Rattle.include_places.proofs.gather_read.Tie as tie

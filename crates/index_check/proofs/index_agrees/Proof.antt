@@ -1,5 +1,5 @@
 use mathlib.Core.Path.{_≡_, refl, sym, ap, subst, _∙_}
-use mathlib.Core.List.{List, map}
+use mathlib.Core.List.{map}
 use mathlib.Core.Bool.{true}
 use Prim.Native.Nat.{ℕ, _-_, _≤_, _<_}
 use lib.ListN.{length}
@@ -20,7 +20,7 @@ use Rattle.block_votes.proofs.Along.{sorted-count}
 use Rattle.voters_index.specs.Part.{partFrom, partIn}
 use Rattle.index_merge.specs.Sources.{Voting}
 use Rattle.index_parts.specs.Parts.{Compared}
-use Rattle.index_check.specs.Known.{Known, Rooted}
+use Rattle.index_check.specs.Known.{Rooted}
 use Rattle.index_check.proofs.Arriving.{olderAt, arrival, arrived-entry, arrived-block, arrived-voting, arrived-rooted, arrived-stored}
 use Rattle.index_check.proofs.Agreeing.{Agreeing, agreeing-start, agreeing-differs, agreeing-on, agreeing-end, agreeing-known, no-index}
 use borrow.Author.Needs.{needs}

@@ -1,7 +1,7 @@
-use mathlib.Core.Path.{_≡_, refl, sym, ap, subst, _∙_}
+use mathlib.Core.Path.{_≡_, refl, sym, subst, _∙_}
 use mathlib.Core.List.{List}
 use mathlib.Core.Bool.{true}
-use Prim.Native.Nat.{ℕ, _+_, _-_, _*_, _≤_, _<_}
+use Prim.Native.Nat.{_+_, _-_, _*_, _≤_, _<_}
 use lib.ListN.{length, getD, set, length-set}
 use Rattle.base.proofs.Le.{bytes-of}
 use Rattle.base.proofs.Places.{in-place}
@@ -11,7 +11,7 @@ use Rattle.blocks.specs.Record.{blockIn, noReference}
 use Rattle.blocks.proofs.Records.{blockOf-fits, block-of}
 use Rattle.store_layout.specs.Store.{recordsOf}
 use Rattle.store_layout.specs.Accept.{isStored}
-use Rattle.index_check.specs.Known.{Stands, Known, Rooted}
+use Rattle.index_check.specs.Known.{Known, Rooted}
 use Rattle.index_check.proofs.Opening.{Opening, opening-start, include-stands, opening-on, opening-end}
 use borrow.Author.Needs.{needs}
 use native.Mathlib.Omega.{arith}

@@ -1,4 +1,4 @@
-use mathlib.Core.Path.{_≡_, refl, sym, ap, subst, _∙_}
+use mathlib.Core.Path.{sym, ap, subst, _∙_}
 use Rattle.blocks.specs.Record.{blockIn}
 use Rattle.finality.specs.Voters.{ownVote}
 use Rattle.index_runs.specs.Values.{asRun, asMaybe, asPlace}

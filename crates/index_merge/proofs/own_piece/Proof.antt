@@ -1,7 +1,6 @@
 use Rattle.index_pieces.specs.Pieces.{both}
 use mathlib.Core.Path.{_≡_, refl, sym, ap, subst, _∙_}
-use mathlib.Core.List.{List, [], _∷_, map, Option·toList}
-use mathlib.Core.Option.{none}
+use mathlib.Core.List.{List, map, Option·toList}
 use Prim.Native.Nat.{_+_, _-_, _≤_, _<_}
 use lib.ListN.{length, getD}
 use Rattle.base.specs.Lists.{_∈_}
@@ -10,7 +9,6 @@ use Rattle.blocks.specs.Reference.{BlockReference, TransactionLocatorRange}
 use Rattle.blocks.specs.Block.{author}
 use Rattle.blocks.specs.Record.{blockIn, noStatement}
 use Rattle.types.specs.Values.{asReference}
-use Rattle.statement_reader.specs.Values.{asStatement}
 use Rattle.statement_cursor.specs.Cursor.{cursorAt}
 use Rattle.block_votes.specs.Walk.{spanOf}
 use Rattle.voters_index.specs.Runs.{run}

@@ -1,5 +1,5 @@
 use Prim.Native.Nat.{_-_}
-use mathlib.Core.Path.{_≡_, refl, sym, ap, subst, _∙_}
+use mathlib.Core.Path.{sym, ap, subst, _∙_}
 use Rattle.blocks.specs.Record.{blockIn}
 use Rattle.index_runs.specs.Values.{asRun, asMaybe, asPlace}
 use Rattle.index_merge.proofs.Merged.{Growing, growing-start, grown-none, grown-other, grown-past, grown-on}

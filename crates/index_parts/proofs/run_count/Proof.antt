@@ -1,16 +1,12 @@
-use mathlib.Core.Path.{_≡_, refl, sym, ap, subst, _∙_}
-use mathlib.Core.List.{List}
-use Prim.Native.Nat.{ℕ, _+_, _-_, _*_, _≤_, _<_}
-use lib.ListN.{length, getD, drop}
+use mathlib.Core.Path.{ap, _∙_}
+use Prim.Native.Nat.{_-_, _≤_}
 use Rattle.blocks.specs.Record.{blockIn}
-use Rattle.voters_index.specs.Runs.{Run, run}
-use Rattle.voters_index.specs.Part.{RunsOf}
+use Rattle.voters_index.specs.Runs.{run}
 use Rattle.finality.specs.Voters.{ownVote}
 use Rattle.voters_index.specs.Walk.{anywhere}
 use Rattle.index_runs.specs.Values.{asRun, asMaybe, asPlace}
-use Rattle.index_pieces.specs.Pieces.{AheadOr, PieceOr}
-use Rattle.index_parts.specs.Parts.{merged, Compared, Counted}
-use Rattle.index_parts.proofs.Stepping.{Stepping, runs-moved, stepping-start, stepping-none, stepping-ahead, stepping-more, stepping-next, stepping-on}
+use Rattle.index_parts.specs.Parts.{Counted}
+use Rattle.index_parts.proofs.Stepping.{Stepping, runs-moved, stepping-start, stepping-none, stepping-ahead, stepping-more, stepping-on}
 use Rattle.index_merge.proofs.Merged.{piece-ahead}
 use borrow.Author.Needs.{needs}
 use native.Mathlib.Omega.{arith}

@@ -1,5 +1,4 @@
-use mathlib.Core.Path.{_≡_, refl, sym, _∙_}
-use Rattle.index_runs.specs.Values.{asRun, asMaybe}
+use Rattle.index_runs.specs.Values.{asMaybe}
 use Rattle.index_pieces.specs.Pieces.{both}
 use borrow.Author.Needs.{needs}
 use Rattle.index_pieces.proofs.both.Statement.{statement}

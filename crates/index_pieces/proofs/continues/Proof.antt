@@ -1,6 +1,5 @@
-use mathlib.Core.Path.{_≡_, refl, sym, _∙_}
-use mathlib.Core.Bool.{Bool, true, false, _&&_, and-false}
-use lib.Dec.{eqb}
+use mathlib.Core.Path.{sym, _∙_}
+use mathlib.Core.Bool.{and-false}
 use borrow.Author.Tests.{eq-eqb, ne-eqb}
 use Rattle.types.specs.Values.{asReference}
 use Rattle.types.proofs.Words.{compared-equal, compared-less, compared-greater}

@@ -1,4 +1,3 @@
-use mathlib.Core.Path.{_≡_, refl, sym, _∙_}
 use borrow.Author.Tests.{le-leb, lt-leb}
 use Rattle.voters_index.specs.Runs.{run}
 use Rattle.index_runs.specs.Values.{asRun, asMaybe, asPlace}

@@ -6,7 +6,7 @@ use Rattle.pending_items.specs.Table.{itemsOf}
 use Rattle.table_words.specs.Answers.{asItem}
 use Rattle.table_words.proofs.Halves.{holds-full}
 use Rattle.base.proofs.Places.{every-place}
-use mathlib.Core.Path.{_≡_, refl, sym, ap, _∙_}
+use mathlib.Core.Path.{ap}
 use lib.ListN.{length}
 use Rattle.listing_counts.specs.Pending.{itemOffsets}
 use Rattle.listing_counts.proofs.Pending.{Summed, summed-start, summed-on, summed-end}

@@ -1,7 +1,7 @@
 use borrow.Author.Needs.{needs}
 use Rattle.listing_feeds.specs.Feeds.{engine, FedFrom}
 use Rattle.listing_feeds.proofs.Feeds.{fed-none, fed-on}
-use mathlib.Core.Path.{_≡_, refl, sym, _∙_}
+use mathlib.Core.Path.{_≡_, refl}
 use Prim.Native.Nat.{_≤_, _-_}
 use lib.ListN.{length}
 use native.Mathlib.Omega.{arith}

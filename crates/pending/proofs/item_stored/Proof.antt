@@ -1,7 +1,7 @@
 use Rattle.pending.proofs.Checked.{part-place, part-stored, part-walked, not-there, not-past}
 use Rattle.store_layout.specs.Store.{usedLength}
 use Rattle.pending.proofs.Entries.{stands-on}
-use mathlib.Core.Path.{_≡_, sym, ap, _∙_}
+use mathlib.Core.Path.{sym, _∙_}
 use native.Mathlib.Omega.{arith}
 use Rattle.store_layout.proofs.Check.{is-readable}
 use Rattle.store_layout.proofs.Loops.{entry-room, record-part, refuses}

@@ -1,4 +1,3 @@
-use mathlib.Core.Path.{_≡_}
 use borrow.Author.Needs.{needs}
 use Rattle.pending.proofs.place_in.Statement.{statement}
 use Rattle.pending.proofs.place_in.Tie as tie

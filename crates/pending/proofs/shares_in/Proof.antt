@@ -2,7 +2,6 @@ use mathlib.Core.Path.{sym, _∙_}
 use Prim.Native.Nat.{_-_}
 use borrow.Author.Needs.{needs}
 use borrow.Author.Tests.{not-true, not-false}
-use Rattle.blocks.specs.Record.{blockIn}
 use Rattle.store_layout.proofs.Loops.{refuses}
 use Rattle.pending.proofs.Offsets.{Sharing, sharing-start, sharing-on, sharing-no, sharing-all}
 use Rattle.pending.proofs.shares_in.Statement.{statement}

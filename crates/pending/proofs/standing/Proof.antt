@@ -1,4 +1,4 @@
-use mathlib.Core.Path.{_≡_, sym, ap, _∙_}
+use mathlib.Core.Path.{sym}
 use Rattle.blocks.specs.Reference.{locator}
 use Rattle.types.specs.Values.{asLocator}
 use Rattle.table_words.specs.Answers.{asItem}

@@ -4,10 +4,6 @@ use Rattle.record_parts.proofs.PartsWritten.{front-written}
 use borrow.Author.Needs.{needs}
 use Rattle.record_parts.proofs.write_front.Statement.{statement}
 use Rattle.record_parts.proofs.write_front.Tie as tie
-use Rattle.record_parts.proofs.write_front.Reads as reads
-use Rattle.record_parts.proofs.write_front.Lts as lts
-use Rattle.base.proofs.copy_to.Reads as copy-to-reads
-use Rattle.base.proofs.write_u64.Reads as write-u64-reads
 
 -- src/lib.rt:84:5
 write-u64-requires : tie.Need-write-u64-requires

@@ -16,11 +16,6 @@ use Rattle.record_size.specs.Step.{bytesIn, writable}
 use Rattle.record_size.proofs.Measuring.{joined-done, writes-short, writes-others, writes-first, writes-none, writes-done}
 use Rattle.record_parts.proofs.write_statements.Statement.{statement}
 use Rattle.record_parts.proofs.write_statements.Tie as tie
-use Rattle.record_parts.proofs.write_statements.Reads as reads
-use Rattle.record_parts.proofs.write_statements.Lts as lts
-use Rattle.joined_statements.proofs.next_joined.Reads as next-joined-reads
-use Rattle.statement_writer.proofs.statement_size.Reads as statement-size-reads
-use Rattle.statement_writer.proofs.write_statement.Reads as write-statement-reads
 
 abbrev Inv-loop : tie.InvT-loop
 Inv-loop out₀ from s at₀ to₀ out at to =

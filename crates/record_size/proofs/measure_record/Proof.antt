@@ -1,4 +1,4 @@
-use mathlib.Core.Path.{_≡_, sym, _∙_}
+use mathlib.Core.Path.{sym, _∙_}
 use native.Mathlib.Omega.{arith}
 use borrow.Author.Tests.{leb-true}
 use Rattle.base.proofs.Le.{bytes-of}
@@ -8,9 +8,6 @@ use Rattle.record_size.proofs.Sizing.{sized-digest, sized-mark, sized-c
 use borrow.Author.Needs.{needs}
 use Rattle.record_size.proofs.measure_record.Statement.{statement}
 use Rattle.record_size.proofs.measure_record.Tie as tie
-use Rattle.record_size.proofs.measure_record.Reads as reads
-use Rattle.record_size.proofs.measure_record.Lts as lts
-use Rattle.record_size.proofs.measure.Reads as measure-reads
 
 -- src/lib.rt:61:9
 returns : tie.Need-returns

@@ -2,7 +2,6 @@ use mathlib.Core.Path.{refl}
 use native.Mathlib.Omega.{arith}
 use Rattle.base.proofs.Lists.{zeros-at}
 use Rattle.slip_reader.proofs.Answering.{known-all, shown-slip}
-use Rattle.slips.proofs.Fresh.{no-words}
 use Rattle.slip_body.proofs.Certifying.{head-long}
 use borrow.Author.Needs.{needs}
 use Rattle.slip_reader.proofs.show_slip.Statement.{statement}

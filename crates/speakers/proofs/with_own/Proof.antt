@@ -1,4 +1,4 @@
-use mathlib.Core.Path.{_≡_, refl, ap, _∙_}
+use mathlib.Core.Path.{ap, _∙_}
 use borrow.Author.Tests.{eq-eqb, ne-eqb}
 use Rattle.authority_set.specs.AuthoritySet.{AuthoritySet, united}
 use borrow.Author.Needs.{needs}

@@ -5,7 +5,6 @@ use Rattle.types.specs.Values.{asReference}
 use lib.ListN.{drop}
 use mathlib.Core.Path.{ap, _∙_}
 use Prim.Native.Nat.{ℕ}
-use borrow.Author.Needs.{needs}
 use Rattle.spoken_places.proofs.spoken_edge.Statement.{statement}
 use Rattle.spoken_places.proofs.spoken_edge.Tie as tie
 

@@ -7,7 +7,6 @@ use Rattle.base.specs.Lists.{keep}
 use lib.ListN.{drop}
 use mathlib.Core.Option.{Option}
 use mathlib.Core.Path.{ap, _∙_}
-use borrow.Author.Needs.{needs}
 use Rattle.spoken_places.proofs.spoken_start.Statement.{statement}
 use Rattle.spoken_places.proofs.spoken_start.Tie as tie
 

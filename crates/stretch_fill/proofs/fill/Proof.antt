@@ -20,7 +20,7 @@ use lib.ListN.{length}
 use native.Mathlib.Omega.{arith}
 use mathlib.Core.Option.{none, some}
 use mathlib.Core.Path.{_≡_, refl, sym, ap, _∙_}
-use Prim.Native.Nat.{_-_, _*_, _/_, _<_, _≤_, _+_}
+use Prim.Native.Nat.{_-_, _/_}
 use borrow.Author.Needs.{needs}
 use Rattle.stretch_fill.proofs.fill.Statement.{statement}
 use Rattle.stretch_fill.proofs.fill.Tie as tie

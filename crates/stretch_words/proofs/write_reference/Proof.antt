@@ -7,8 +7,6 @@ use lib.ListN.{length-set}
 use borrow.Author.Needs.{needs}
 use Rattle.stretch_words.proofs.write_reference.Statement.{statement}
 use Rattle.stretch_words.proofs.write_reference.Tie as tie
-use Rattle.stretch_words.proofs.write_reference.Reads as reads
-use Rattle.stretch_words.proofs.write_reference.Lts as lts
 
 mul-out : tie.Need-mul-out
 mul-out c = search needs

@@ -14,7 +14,7 @@ use Rattle.base.specs.Le.{Bytes}
 use lib.ListN.{length, getD, drop}
 use native.Mathlib.Omega.{arith}
 use mathlib.Core.Path.{_≡_, refl, sym, ap, _∙_}
-use Prim.Native.Nat.{_-_, _≤_, _<_, _+_}
+use Prim.Native.Nat.{_-_, _≤_}
 use borrow.Author.Needs.{needs}
 use Rattle.vote_edges.proofs.least_edge.Statement.{statement}
 use Rattle.vote_edges.proofs.least_edge.Tie as tie

@@ -1,7 +1,6 @@
 use Prim.Native.Nat.{ℕ}
 use Rattle.stretches.specs.Stretches.{nearer}
-use mathlib.Core.Path.{_≡_, sym, ap, _∙_}
-use native.Mathlib.Omega.{arith}
+use mathlib.Core.Path.{sym, ap, _∙_}
 use borrow.Author.Tests.{not-true, not-false}
 use Rattle.blocks.specs.Reference.{newRange}
 use Rattle.types.specs.Values.{asReference, asRange}

@@ -1,6 +1,6 @@
-use mathlib.Core.Path.{_≡_, sym, ap, subst, _∙_}
+use mathlib.Core.Path.{sym, ap, _∙_}
 use native.Mathlib.Omega.{arith}
-use Rattle.blocks.specs.Reference.{BlockReference, TransactionLocator, locator, locatorBefore}
+use Rattle.blocks.specs.Reference.{BlockReference, locator, locatorBefore}
 use Rattle.types.specs.Values.{asReference, asLocator}
 use Rattle.types.specs.Step.{referenceAt}
 use Rattle.vote_rows.proofs.Rows.{lower-round, higher-round}

@@ -1,4 +1,4 @@
-use mathlib.Core.Path.{_≡_, sym, ap, _∙_}
+use mathlib.Core.Path.{sym, ap, _∙_}
 use Rattle.blocks.specs.Reference.{BlockReference, sameReference}
 use Rattle.types.specs.Values.{asReference}
 use Rattle.types.specs.Step.{referenceAt}

@@ -1,10 +1,7 @@
-use mathlib.Core.Path.{_≡_, refl, sym, _∙_}
-use mathlib.Core.Bool.{true, false}
-use mathlib.Core.Option.{none, some}
+use mathlib.Core.Path.{sym}
 use borrow.Author.Tests.{not-true, not-false}
 use Rattle.base.specs.Lists.{keep}
-use Rattle.types.specs.Values.{asLocator}
-use Rattle.finality.specs.NextFinal.{isAfter, lesserLocator, leastLocator}
+use Rattle.finality.specs.NextFinal.{lesserLocator, leastLocator}
 use Rattle.vote_starts.specs.Answers.{asMaybe}
 use Rattle.vote_starts.specs.Walk.{lesserOf}
 use Rattle.vote_starts.proofs.Minimum.{lesser-none}

@@ -1,4 +1,3 @@
-use mathlib.Core.Path.{refl}
 use Rattle.blocks.specs.Reference.{locator, newRange}
 use Rattle.types.specs.Values.{asLocator, asRange}
 use Rattle.vote_starts.specs.Walk.{startOf}

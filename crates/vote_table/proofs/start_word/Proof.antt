@@ -1,4 +1,3 @@
-use Rattle.base.specs.Lists.{pick}
 use borrow.Author.Needs.{needs}
 use Rattle.vote_table.proofs.start_word.Statement.{statement}
 use Rattle.vote_table.proofs.start_word.Tie as tie

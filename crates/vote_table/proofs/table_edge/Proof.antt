@@ -1,4 +1,3 @@
-use borrow.Author.Needs.{needs}
 use Rattle.vote_table.proofs.Scanning.{rangesFrom, first-range, scan-on, scan-end}
 use Rattle.vote_table.specs.Table.{tableRanges, Standing}
 use Rattle.vote_rows.specs.Row.{positionAt, rangeAt}
@@ -8,8 +7,8 @@ use Rattle.types.specs.Values.{asReference}
 use Rattle.blocks.specs.Reference.{TransactionLocatorRange}
 use native.Mathlib.Omega.{arith}
 use mathlib.Core.List.{List}
-use mathlib.Core.Path.{_≡_, refl, sym, ap, _∙_}
-use Prim.Native.Nat.{ℕ, _-_, _≤_, _<_, _+_}
+use mathlib.Core.Path.{_≡_, sym, ap, _∙_}
+use Prim.Native.Nat.{_-_, _≤_}
 use Rattle.vote_table.proofs.table_edge.Statement.{statement}
 use Rattle.vote_table.proofs.table_edge.Tie as tie
 

@@ -1,4 +1,3 @@
-use borrow.Author.Needs.{needs}
 use Rattle.vote_table.proofs.Scanning.{startsFrom, first-range, starts-on, starts-end, start-early, start-past, start-taken}
 use Rattle.vote_table.specs.Table.{tableRanges, Standing}
 use Rattle.vote_rows.specs.Row.{positionAt, rangeAt, isPast}
@@ -14,8 +13,8 @@ use mathlib.Core.Bool.{true, false}
 use mathlib.Core.Option.{some}
 use mathlib.Core.List.{List, map}
 use borrow.Author.Tests.{not-true, not-false}
-use mathlib.Core.Path.{_≡_, refl, sym, ap, _∙_}
-use Prim.Native.Nat.{ℕ, _-_, _≤_, _<_, _+_}
+use mathlib.Core.Path.{_≡_, sym, ap, _∙_}
+use Prim.Native.Nat.{ℕ, _-_, _≤_}
 use Rattle.vote_table.proofs.table_start.Statement.{statement}
 use Rattle.vote_table.proofs.table_start.Tie as tie
 

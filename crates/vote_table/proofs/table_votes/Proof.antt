@@ -8,8 +8,8 @@ use Rattle.store_layout.specs.Entry.{blockAt}
 use Rattle.base.proofs.Le.{bytes-of}
 use lib.ListN.{length, getD}
 use native.Mathlib.Omega.{arith}
-use mathlib.Core.Path.{_≡_, refl, sym, ap, subst, _∙_}
-use Prim.Native.Nat.{ℕ, _-_, _≤_, _<_, _+_}
+use mathlib.Core.Path.{_≡_, refl, _∙_}
+use Prim.Native.Nat.{_-_, _≤_}
 use borrow.Author.Needs.{needs}
 use Rattle.vote_table.proofs.table_votes.Statement.{statement}
 use Rattle.vote_table.proofs.table_votes.Tie as tie
