@@ -7,7 +7,7 @@ use types::TransactionLocator;
 use types::TransactionLocatorRange;
 ghost use mathlib.Core.Path.{_≡_};
 ghost use mathlib.Core.Bool.{true};
-ghost use mathlib.Core.List.{_++_, Option·toList};
+ghost use mathlib.Core.List.{[], _++_, Option·toList};
 ghost use Prim.Native.Nat.{_<_};
 ghost use lib.ListN.{length};
 ghost use Rattle.base.specs.Le.{Bytes};

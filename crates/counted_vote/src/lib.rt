@@ -7,6 +7,7 @@ use types::TransactionLocatorRange;
 ghost use mathlib.Core.Path.{_≡_};
 ghost use mathlib.Core.Bool.{true, false};
 ghost use mathlib.Core.Option.{some};
+ghost use mathlib.Core.List.{[]};
 ghost use lib.ListN.{length};
 ghost use Rattle.base.specs.Le.{Bytes};
 ghost use Rattle.base.specs.Checks.{passes};

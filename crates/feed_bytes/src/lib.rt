@@ -2,7 +2,7 @@
 use feeding::FeedAnswer;
 ghost use mathlib.Core.Path.{_≡_};
 ghost use mathlib.Core.Bool.{true};
-ghost use mathlib.Core.List.{_∷_, _++_};
+ghost use mathlib.Core.List.{[], _∷_, _++_};
 ghost use lib.ListN.{length};
 ghost use Rattle.base.specs.Checks.{_⇒_, refusal};
 ghost use Rattle.words.specs.Words.{wordsOf, bytesOf};

@@ -1,5 +1,6 @@
 // Feeding a record: one call over the committee and all lent memory. Follows committee.rs (`TransactionAggregator`) and block_store.rs.
 ghost use mathlib.Core.Path.{_≡_};
+ghost use mathlib.Core.List.{[]};
 ghost use Rattle.store_layout.specs.Store.{recordIn};
 ghost use Rattle.feeds.specs.Feed.{feed, acceptedFeed, lentOf};
 ghost use Rattle.feeding.specs.Answers.{asFeedAnswer};

@@ -7,7 +7,7 @@ use stake_aggregator::AddAnswer;
 use stake_aggregator::StakeAggregator;
 ghost use mathlib.Core.Path.{_≡_};
 ghost use mathlib.Core.Bool.{true};
-ghost use mathlib.Core.List.{_∷_};
+ghost use mathlib.Core.List.{[], _∷_};
 ghost use lib.ListN.{length};
 ghost use Rattle.base.specs.Checks.{_⇒_, refusal};
 ghost use Rattle.committee.specs.Committee.{broken};

@@ -2,7 +2,7 @@
 use pending::PendingAnswer;
 ghost use mathlib.Core.Path.{_≡_};
 ghost use mathlib.Core.Bool.{true};
-ghost use mathlib.Core.List.{_∷_, _++_};
+ghost use mathlib.Core.List.{[], _∷_, _++_};
 ghost use Rattle.base.specs.Checks.{_⇒_, refusal};
 ghost use Rattle.pending.specs.Answers.{asPending};
 ghost use Rattle.feeds.specs.Pending.{pendingChecks};

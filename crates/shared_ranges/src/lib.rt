@@ -5,7 +5,7 @@ ghost use mathlib.Core.Path.{_≡_};
 ghost use Prim.Native.Nat.{_+_, _≤_};
 ghost use lib.ListN.{length, drop};
 ghost use mathlib.Core.Bool.{true};
-ghost use mathlib.Core.List.{map, flatten};
+ghost use mathlib.Core.List.{[], map, flatten};
 ghost use Rattle.base.specs.Le.{Bytes};
 ghost use Rattle.base.specs.Checks.{passes};
 ghost use Rattle.blocks.specs.Block.{isShare, votedRange, countedOffsets, eventRoom};
