@@ -63,7 +63,7 @@ fn list_stretches(out: &mut [u8], done: Listed, stretches: &[u64], end: usize, m
     requires { ⌜ (done .at ≤ length (now out)) × ((128 ≤ length (now out)) × (end ≤ length (now stretches))) ⌝ }
     ensures { λ r. ⌜ (r .at ≤ length (now (out .entry))) × (length (now (out .exit)) ≡ length (now (out .entry))) ⌝ }
 {
-    let printed = listing_io::print_stretches(out, done.at, &stretches[..end]);
+    let printed = listing_stretches::print_stretches(out, done.at, &stretches[..end]);
     let at = printed.at;
     let last = last_locator(stretches, end);
     Listed {

@@ -1,10 +1,9 @@
 // Input and output of `listing`: read piece by piece, written through a buffer.
+use listing_input::Size;
 ghost use mathlib.Core.Path.{_≡_};
 ghost use Prim.Native.Nat.{_+_, _≤_, _<_};
 ghost use lib.ListN.{length};
 ghost use Rattle.listing_io.specs.Sizes.{sizeAtMost};
-use libc::STDOUT_FILENO;
-use listing_input::Size;
 
 // How far the buffer is filled, and the number of what was counted in printing: events that are processed ones, or final locators.
 pub struct Printed {
@@ -45,31 +44,12 @@ pub fn read_record(fd: i32, rec: &mut [u8]) -> Size
     size
 }
 
-// Writes out what the buffer holds.
-fn flush(out: &[u8], at: usize)
-    requires { ⌜ at ≤ length (now out) ⌝ }
-{
-    io::write_all(STDOUT_FILENO, &out[..at]);
-}
-
-// Where the next line goes: at the front, after writing out what the buffer holds, where it has no room for a line any more.
-fn room(out: &[u8], at: usize) -> usize
-    requires { ⌜ (at ≤ length (now out)) × (128 ≤ length (now out)) ⌝ }
-    ensures { λ r. ⌜ r + 128 ≤ length (now (out .entry)) ⌝ }
-{
-    if out.len() - at < 128 {
-        flush(out, at);
-        return 0;
-    }
-    at
-}
-
 // Prints the refusal of record k; 0 is the committee.
 pub fn print_refused(out: &mut [u8], from: usize, k: u64, number: u64) -> usize
     requires { ⌜ (from ≤ length (now out)) × (128 ≤ length (now out)) ⌝ }
     ensures { λ r. ⌜ (r ≤ length (now (out .entry))) × (length (now (out .exit)) ≡ length (now (out .entry))) ⌝ }
 {
-    let at = room(out, from);
+    let at = listing_buffer::room(out, from);
     listing_lines::put_refused(out, at, k, number)
 }
 
@@ -78,7 +58,7 @@ fn print_event(out: &mut [u8], from: usize, k: u64, events: &[u64], i: usize) ->
     requires { ⌜ (from ≤ length (now out)) × ((128 ≤ length (now out)) × (i + 2 < length (now events))) ⌝ }
     ensures { λ r. ⌜ (r ≤ length (now (out .entry))) × (length (now (out .exit)) ≡ length (now (out .entry))) ⌝ }
 {
-    let at = room(out, from);
+    let at = listing_buffer::room(out, from);
     listing_lines::put_event(out, at, events[i], k, events[i + 1], events[i + 2])
 }
 
@@ -102,84 +82,6 @@ pub fn print_events(out: &mut [u8], from: usize, k: u64, events: &[u64]) -> Prin
     Printed { at, counted }
 }
 
-fn print_final(
-    out: &mut [u8],
-    from: usize,
-    round: u64,
-    author: u64,
-    digest: u64,
-    offset: u64,
-    blocks: u64,
-    stake: u64,
-) -> usize
-    requires { ⌜ (from ≤ length (now out)) × (128 ≤ length (now out)) ⌝ }
-    ensures { λ r. ⌜ (r ≤ length (now (out .entry))) × (length (now (out .exit)) ≡ length (now (out .entry))) ⌝ }
-{
-    let at = room(out, from);
-    listing_lines::put_final(out, at, round, author, digest, offset, blocks, stake)
-}
-
-// A line for each offset from `first` to `end`.
-fn print_offsets(
-    out: &mut [u8],
-    from: usize,
-    round: u64,
-    author: u64,
-    digest: u64,
-    first: u64,
-    end: u64,
-    blocks: u64,
-    stake: u64,
-) -> usize
-    requires { ⌜ (from ≤ length (now out)) × (128 ≤ length (now out)) ⌝ }
-    ensures { λ r. ⌜ (r ≤ length (now (out .entry))) × (length (now (out .exit)) ≡ length (now (out .entry))) ⌝ }
-{
-    let mut at = from;
-    let mut offset = first;
-    while offset < end {
-        at = print_final(out, at, round, author, digest, offset, blocks, stake);
-        offset += 1;
-    }
-    at
-}
-
-// Prints a stretch of final locators, ten words from i on: author, round, four words of the digest (the first byte highest), first
-// offset, end, certifying blocks, stake.
-fn print_stretch(out: &mut [u8], from: usize, stretches: &[u64], i: usize) -> usize
-    requires { ⌜ (from ≤ length (now out)) × ((128 ≤ length (now out)) × (i + 9 < length (now stretches))) ⌝ }
-    ensures { λ r. ⌜ (r ≤ length (now (out .entry))) × (length (now (out .exit)) ≡ length (now (out .entry))) ⌝ }
-{
-    let digest = stretches[i + 2] / 4294967296;
-    print_offsets(
-        out,
-        from,
-        stretches[i + 1],
-        stretches[i],
-        digest,
-        stretches[i + 6],
-        stretches[i + 7],
-        stretches[i + 8],
-        stretches[i + 9],
-    )
-}
-
-// Prints stretches of final locators, and counts these.
-pub fn print_stretches(out: &mut [u8], from: usize, stretches: &[u64]) -> Printed
-    requires { ⌜ (from ≤ length (now out)) × (128 ≤ length (now out)) ⌝ }
-    ensures { λ r. ⌜ (r .at ≤ length (now (out .entry))) × (length (now (out .exit)) ≡ length (now (out .entry))) ⌝ }
-{
-    let mut at = from;
-    let mut counted: u64 = 0;
-    let mut i = 0;
-    while i + 9 < stretches.len() {
-        at = print_stretch(out, at, stretches, i);
-        let offsets = std::num::wrapping_sub_u64(stretches[i + 7], stretches[i + 6]);
-        counted = std::num::wrapping_add_u64(counted, offsets);
-        i += 10;
-    }
-    Printed { at, counted }
-}
-
 // Prints the last line and writes out the rest.
 pub fn print_end(
     out: &mut [u8],
@@ -192,7 +94,7 @@ pub fn print_end(
 )
     requires { ⌜ (from ≤ length (now out)) × (128 ≤ length (now out)) ⌝ }
 {
-    let at = room(out, from);
+    let at = listing_buffer::room(out, from);
     let end = listing_lines::put_end(out, at, accepted, refused, processed, pending, finals);
-    flush(out, end);
+    listing_buffer::flush(out, end);
 }

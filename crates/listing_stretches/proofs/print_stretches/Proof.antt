@@ -3,8 +3,8 @@ use Prim.Native.Nat.{_≤_, _-_}
 use mathlib.Core.Path.{_≡_, refl, _∙_}
 use lib.ListN.{length}
 use native.Mathlib.Omega.{arith}
-use Rattle.listing_io.proofs.print_stretches.Statement.{statement}
-use Rattle.listing_io.proofs.print_stretches.Tie as tie
+use Rattle.listing_stretches.proofs.print_stretches.Statement.{statement}
+use Rattle.listing_stretches.proofs.print_stretches.Tie as tie
 
 abbrev Inv-loop : tie.InvT-loop
 Inv-loop out₀ from stretches at₀ counted₀ i₀ out at counted i = (at ≤ length out₀) × ((length out ≡ length out₀) × (i ≤ length stretches))

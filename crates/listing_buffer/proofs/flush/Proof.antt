@@ -2,8 +2,8 @@ use mathlib.Core.Path.{sym}
 use lib.Seq.{length-take-le}
 use native.Mathlib.Omega.{arith}
 use borrow.Author.Needs.{needs}
-use Rattle.listing_io.proofs.flush.Statement.{statement}
-use Rattle.listing_io.proofs.flush.Tie as tie
+use Rattle.listing_buffer.proofs.flush.Statement.{statement}
+use Rattle.listing_buffer.proofs.flush.Tie as tie
 
 slice-aggregate-write-all : tie.Need-slice-aggregate-write-all
 slice-aggregate-write-all c = sym (length-take-le (c .before .before .args .at) (c .before .before .args .out .now) (omega arith))

@@ -3,8 +3,8 @@ use mathlib.Core.Path.{_≡_, refl, _∙_}
 use lib.ListN.{length}
 use native.Mathlib.Omega.{arith}
 use borrow.Author.Needs.{needs}
-use Rattle.listing_io.proofs.print_offsets.Statement.{statement}
-use Rattle.listing_io.proofs.print_offsets.Tie as tie
+use Rattle.listing_stretches.proofs.print_offsets.Statement.{statement}
+use Rattle.listing_stretches.proofs.print_offsets.Tie as tie
 
 abbrev Inv-loop : tie.InvT-loop
 Inv-loop out₀ from round author digest first end blocks stake at₀ offset₀ out at offset = (at ≤ length out₀) × (length out ≡ length out₀)
