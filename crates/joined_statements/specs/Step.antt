@@ -10,7 +10,7 @@ use Rattle.blocks.specs.Reference.{TransactionLocator, TransactionLocatorRange,
 use Rattle.blocks.specs.Block.{Statement, accept}
 use Rattle.types.specs.Values.{asLocator}
 use Rattle.statement_reader.specs.Values.{asStatement}
-use Rattle.block_record.specs.declared.Taken as taken
+use Rattle.statement_reader.specs.declared.Taken as taken
 use Rattle.drafts.specs.Draft.{readGiven, statementsIn}
 use Rattle.drafts.specs.Joining.{run, fronted, pieces, runStatement, pieceStatement, joined, rightPiece}
 use Rattle.joined_statements.specs.declared.NextAccept.{NextAccept}
