@@ -11,6 +11,7 @@ use Rattle.store_layout.specs.Store.{recordsOf}
 use Rattle.block_store.specs.Step.{Between}
 use Rattle.store_layout.proofs.Lookups.{not-stored-none}
 use Rattle.store_layout.proofs.Search.{laid-out}
+use Rattle.block_store.proofs.Placed.{placed-between}
 use Rattle.block_store.proofs.Appended.{roomy, reach, appended-so}
 use Rattle.block_store.proofs.append.Statement.{statement}
 use Rattle.block_store.proofs.append.Tie as tie
@@ -25,9 +26,7 @@ reference-requires : tie.Need-reference-requires
 reference-requires c κs = search needs
 
 chain-place-requires : tie.Need-chain-place-requires
-chain-place-requires c κs =
-    let a = c .before .before .before .before .before .before .before .before .args in
-    (c .before .before .before .before .before .before .before .before .pre .0, rw (c .reference .ensures) (not-stored-none (recordsOf (a .store .now)) (blockIn (a .rec .now) .reference) (c .before .before .before .before .before .before .before .before .pre .1 .1 .0)))
+chain-place-requires c κs = c .before .before .before .before .before .before .before .before .pre .0
 
 add-end : tie.Need-add-end
 add-end c =
@@ -50,7 +49,7 @@ cast-write-entry c = search needs
 cast-write-entry-2 : tie.Need-cast-write-entry-2
 cast-write-entry-2 c =
     let m = roomy (c .before .before .before .before .before .before .before .before .before .before .before .args .store .now) (c .before .before .before .before .before .before .before .before .before .before .before .pre .0) (c .before .before .before .before .before .before .before .before .before .before .before .args .rec .now) (c .before .before .before .before .before .before .before .before .before .before .before .pre .1 .1 .1) in
-    let k = reach (c .before .before .before .before .before .before .before .before .before .before .before .args .store .now) (c .before .before .before .before .before .before .before .before .before .before .before .pre .0) (asReference (c .before .before .before .reference .result)) (c .before .before .chain-place .result .below) (c .before .before .chain-place .result .above) (c .before .before .chain-place .ensures) in
+    let k = reach (c .before .before .before .before .before .before .before .before .before .before .before .args .store .now) (c .before .before .before .before .before .before .before .before .before .before .before .pre .0) (asReference (c .before .before .before .reference .result)) (c .before .before .chain-place .result .below) (c .before .before .chain-place .result .above) (placed-between ((c .before .before .before .before .before .before .before .before .before .before .before .args) .store .now) (asReference ((c .before .before .before .reference) .result)) ((c .before .before .chain-place) .result) (rw ((c .before .before .before .reference) .ensures) (not-stored-none (recordsOf ((c .before .before .before .before .before .before .before .before .before .before .before .args) .store .now)) (blockIn ((c .before .before .before .before .before .before .before .before .before .before .before .args) .rec .now) .reference) ((c .before .before .before .before .before .before .before .before .before .before .before .pre) .1 .1 .0))) ((c .before .before .chain-place) .ensures)) in
     omega (arith, m .short, k .above-in)
 
 write-entry-requires : tie.Need-write-entry-requires
@@ -71,7 +70,7 @@ write-u16-requires c κs = omega (arith, laid-out (c .before .before .before .be
 
 write-u32-requires-2 : tie.Need-write-u32-requires-2
 write-u32-requires-2 c κs =
-    let k = reach (c .before .before .before .before .before .before .before .before .before .before .before .before .before .before .before .before .before .before .before .before .before .before .before .args .store .now) (c .before .before .before .before .before .before .before .before .before .before .before .before .before .before .before .before .before .before .before .before .before .before .before .pre .0) (asReference (c .before .before .before .before .before .before .before .before .before .before .before .before .before .before .before .reference .result)) (c .before .before .before .before .before .before .before .before .before .before .before .before .before .before .chain-place .result .below) (c .before .before .before .before .before .before .before .before .before .before .before .before .before .before .chain-place .result .above) (c .before .before .before .before .before .before .before .before .before .before .before .before .before .before .chain-place .ensures) in
+    let k = reach (c .before .before .before .before .before .before .before .before .before .before .before .before .before .before .before .before .before .before .before .before .before .before .before .args .store .now) (c .before .before .before .before .before .before .before .before .before .before .before .before .before .before .before .before .before .before .before .before .before .before .before .pre .0) (asReference (c .before .before .before .before .before .before .before .before .before .before .before .before .before .before .before .reference .result)) (c .before .before .before .before .before .before .before .before .before .before .before .before .before .before .chain-place .result .below) (c .before .before .before .before .before .before .before .before .before .before .before .before .before .before .chain-place .result .above) (placed-between ((c .before .before .before .before .before .before .before .before .before .before .before .before .before .before .before .before .before .before .before .before .before .before .before .args) .store .now) (asReference ((c .before .before .before .before .before .before .before .before .before .before .before .before .before .before .before .reference) .result)) ((c .before .before .before .before .before .before .before .before .before .before .before .before .before .before .chain-place) .result) (rw ((c .before .before .before .before .before .before .before .before .before .before .before .before .before .before .before .reference) .ensures) (not-stored-none (recordsOf ((c .before .before .before .before .before .before .before .before .before .before .before .before .before .before .before .before .before .before .before .before .before .before .before .args) .store .now)) (blockIn ((c .before .before .before .before .before .before .before .before .before .before .before .before .before .before .before .before .before .before .before .before .before .before .before .args) .rec .now) .reference) ((c .before .before .before .before .before .before .before .before .before .before .before .before .before .before .before .before .before .before .before .before .before .before .before .pre) .1 .1 .0))) ((c .before .before .before .before .before .before .before .before .before .before .before .before .before .before .chain-place) .ensures)) in
     omega (arith, k .below-in, c .before .before .before .before .before .before .before .before .before .before .before .write-entry .kept .0, c .before .before .before .before .before .before .before .write-u32 .kept .0, c .before .before .before .write-u16 .kept .0)
 
 same-length : tie.Need-same-length
@@ -84,7 +83,7 @@ returns c =
     let rec : Bytes = a .rec .now in
     let used : ℕ = c .before .before .before .before .before .before .before .before .before .before .before .before .before .before .before .before .before .before .before .before .before .before .read-u32 .result in
     let b : AllBytes s = bytes-of s (λ i h. omega (arith, c .before .before .before .before .before .before .before .before .before .before .before .before .before .before .before .before .before .before .before .before .before .before .before .before .before .slice-known .given i)) in
-    let p : Between s (blockIn rec .reference) (c .before .before .before .before .before .before .before .before .before .before .before .before .before .before .before .before .before .chain-place .result .below) (c .before .before .before .before .before .before .before .before .before .before .before .before .before .before .before .before .before .chain-place .result .above) = rw (c .before .before .before .before .before .before .before .before .before .before .before .before .before .before .before .before .before .before .reference .ensures) at (c .before .before .before .before .before .before .before .before .before .before .before .before .before .before .before .before .before .chain-place .ensures) in
+    let p : Between s (blockIn rec .reference) (c .before .before .before .before .before .before .before .before .before .before .before .before .before .before .before .before .before .chain-place .result .below) (c .before .before .before .before .before .before .before .before .before .before .before .before .before .before .before .before .before .chain-place .result .above) = rw (c .before .before .before .before .before .before .before .before .before .before .before .before .before .before .before .before .before .before .reference .ensures) at (placed-between ((c .before .before .before .before .before .before .before .before .before .before .before .before .before .before .before .before .before .before .before .before .before .before .before .before .before .before .args) .store .now) (asReference ((c .before .before .before .before .before .before .before .before .before .before .before .before .before .before .before .before .before .before .reference) .result)) ((c .before .before .before .before .before .before .before .before .before .before .before .before .before .before .before .before .before .chain-place) .result) (rw ((c .before .before .before .before .before .before .before .before .before .before .before .before .before .before .before .before .before .before .reference) .ensures) (not-stored-none (recordsOf ((c .before .before .before .before .before .before .before .before .before .before .before .before .before .before .before .before .before .before .before .before .before .before .before .before .before .before .args) .store .now)) (blockIn ((c .before .before .before .before .before .before .before .before .before .before .before .before .before .before .before .before .before .before .before .before .before .before .before .before .before .before .args) .rec .now) .reference) ((c .before .before .before .before .before .before .before .before .before .before .before .before .before .before .before .before .before .before .before .before .before .before .before .before .before .before .pre) .1 .1 .0))) ((c .before .before .before .before .before .before .before .before .before .before .before .before .before .before .before .before .before .chain-place) .ensures)) in
     c .before .before .write-u322 .ensures
     ∙ rw (c .before .before .before .before .before .before .write-u16 .ensures, c .before .before .before .before .before .before .before .before .before .before .write-u32 .ensures, c .before .before .before .before .before .before .before .before .before .before .before .before .before .before .write-entry .ensures)
     (appended-so s b (c .before .before .before .before .before .before .before .before .before .before .before .before .before .before .before .before .before .before .before .before .before .before .before .before .before .before .pre .0) rec (c .before .before .before .before .before .before .before .before .before .before .before .before .before .before .before .before .before .chain-place .result .below) (c .before .before .before .before .before .before .before .before .before .before .before .before .before .before .before .before .before .chain-place .result .above) used (used + 8 + length rec) (c .before .before .before .before .before .before .before .before .before .before .before .before .before .before .before .before .before .before .before .before .read-u16 .result + 1) p (c .before .before .before .before .before .before .before .before .before .before .before .before .before .before .before .before .before .before .before .before .before .before .before .before .before .before .pre .1 .1 .1)

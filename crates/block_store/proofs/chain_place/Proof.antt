@@ -1,15 +1,13 @@
 use borrow.Author.Needs.{needs}
-use mathlib.Core.Path.{sym, _∙_}
+use mathlib.Core.Path.{refl, sym, _∙_}
 use native.Mathlib.Omega.{arith}
 use Rattle.base.proofs.Tests.{not-both}
 use Rattle.types.specs.Values.{asReference}
-use Rattle.store_layout.specs.Layout.{entries, lookup}
-use Rattle.store_layout.specs.Store.{blockCount, recordsOf}
-use Rattle.block_store.specs.Step.{LastAt}
+use Rattle.store_layout.specs.Store.{blockCount}
+use Rattle.block_store.specs.Step.{LastAt, PlacedBy}
 use Rattle.store_layout.proofs.Loops.{entry-room}
-use Rattle.store_layout.proofs.Lookups.{none-is}
 use Rattle.store_layout.proofs.Search.{laid-out}
-use Rattle.block_store.proofs.Along.{Along, along-start, along-start-last, along-entry, met-found, met-on, met-last, between-met, between-end}
+use Rattle.block_store.proofs.Along.{Along, along-start, along-start-last, along-entry, along-end, met-found, met-hit, met-past, met-on, met-last, between-met, between-end}
 use Rattle.block_store.proofs.chain_place.Statement.{statement}
 use Rattle.block_store.proofs.chain_place.Tie as tie
 
@@ -20,23 +18,23 @@ abbrev μ-loop : tie.MeasureT-loop
 μ-loop store block below₀ at₀ left₀ below at left = left
 
 read-u32-requires : tie.Need-read-u32-requires Inv-loop μ-loop
-read-u32-requires c κs = omega (arith, laid-out (c .before .args .store .now) (c .before .pre .0) .reads .header .long)
+read-u32-requires c κs = omega (arith, laid-out ((c .before .args) .store .now) (c .before .pre) .reads .header .long)
 
 cast-at : tie.Need-cast-at Inv-loop μ-loop
 cast-at c = search needs
 
 read-u16-requires : tie.Need-read-u16-requires Inv-loop μ-loop
-read-u16-requires c κs = omega (arith, laid-out (c .before .before .args .store .now) (c .before .before .pre .0) .reads .header .long)
+read-u16-requires c κs = omega (arith, laid-out ((c .before .before .args) .store .now) (c .before .before .pre) .reads .header .long)
 
 cast-left : tie.Need-cast-left Inv-loop μ-loop
 cast-left c = search needs
 
 loop-holds : tie.Need-loop-holds Inv-loop μ-loop
 unfolding blockCount
-loop-holds c = (along-start (c .before .before .before .args .store .now) (c .before .before .before .pre .0) (asReference (c .before .before .before .args .block)) (c .before .read-u32 .result) (c .read-u16 .result) (c .before .read-u32 .ensures) (c .read-u16 .ensures), along-start-last (c .before .before .before .args .store .now) (c .before .before .before .pre .0) (asReference (c .before .before .before .args .block)) (c .before .read-u32 .result) (c .read-u16 .result) (c .before .read-u32 .ensures) (c .read-u16 .ensures))
+loop-holds c = (along-start ((c .before .before .before .args) .store .now) (c .before .before .before .pre) (asReference ((c .before .before .before .args) .block)) ((c .before .read-u32) .result) ((c .read-u16) .result) ((c .before .read-u32) .ensures) ((c .read-u16) .ensures), along-start-last ((c .before .before .before .args) .store .now) (c .before .before .before .pre) (asReference ((c .before .before .before .args) .block)) ((c .before .read-u32) .result) ((c .read-u16) .result) ((c .before .read-u32) .ensures) ((c .read-u16) .ensures))
 
 reference-at-requires : tie.Need-reference-at-requires Inv-loop μ-loop
-reference-at-requires c κs = along-entry (c .before .before .before .before .before .args .store .now) (c .before .before .before .before .before .pre .0) (asReference (c .before .before .before .before .before .args .block)) (c .before .loop .at) (c .before .loop .left) (c .before .loop .inv .0) (c .loop-test .taken)
+reference-at-requires c κs = along-entry ((c .before .before .before .before .before .args) .store .now) (c .before .before .before .before .before .pre) (asReference ((c .before .before .before .before .before .args) .block)) ((c .before .loop) .at) ((c .before .loop) .left) ((c .before .loop) .inv .0) ((c .loop-test) .taken)
 
 compare-requires : tie.Need-compare-requires Inv-loop μ-loop
 compare-requires c κs = search needs
@@ -45,7 +43,7 @@ enum-told : tie.Need-enum-told Inv-loop μ-loop
 enum-told c = search needs
 
 read-u32-requires-2 : tie.Need-read-u32-requires-2 Inv-loop μ-loop
-read-u32-requires-2 c κs = omega (arith, entry-room (c .before .before .before .before .before .before .before .before .before .args .store .now) (c .before .before .before .before .before .loop .at) (along-entry (c .before .before .before .before .before .before .before .before .before .args .store .now) (c .before .before .before .before .before .before .before .before .before .pre .0) (asReference (c .before .before .before .before .before .before .before .before .before .args .block)) (c .before .before .before .before .before .loop .at) (c .before .before .before .before .before .loop .left) (c .before .before .before .before .before .loop .inv .0) (c .before .before .before .before .loop-test .taken)) .inside)
+read-u32-requires-2 c κs = omega (arith, entry-room ((c .before .before .before .before .before .before .before .before .before .args) .store .now) ((c .before .before .before .before .before .loop) .at) (along-entry ((c .before .before .before .before .before .before .before .before .before .args) .store .now) (c .before .before .before .before .before .before .before .before .before .pre) (asReference ((c .before .before .before .before .before .before .before .before .before .args) .block)) ((c .before .before .before .before .before .loop) .at) ((c .before .before .before .before .before .loop) .left) ((c .before .before .before .before .before .loop) .inv .0) ((c .before .before .before .before .loop-test) .taken)) .inside)
 
 cast-at-2 : tie.Need-cast-at-2 Inv-loop μ-loop
 cast-at-2 c = search needs
@@ -58,24 +56,29 @@ loop-less c = search needs
 
 loop-again : tie.Need-loop-again Inv-loop μ-loop
 loop-again c = (
-  met-on (c .before .before .before .before .before .before .before .before .before .before .args .store .now) (c .before .before .before .before .before .before .before .before .before .before .pre .0) (asReference (c .before .before .before .before .before .before .before .before .before .before .args .block)) (c .before .before .before .before .before .before .loop .at) (c .before .before .before .before .before .before .loop .left) (c .before .before .before .before .before .before .loop .inv .0) (c .before .before .before .before .before .loop-test .taken) (asReference (c .before .before .before .before .reference-at .result)) (c .before .before .before .before .reference-at .ensures) (c .read-u322 .result) (sym (c .before .before .before .compare .ensures) ∙ c .before .enum-told .given .1) (c .read-u322 .ensures),
-  met-last (c .before .before .before .before .before .before .before .before .before .before .args .store .now) (c .before .before .before .before .before .before .before .before .before .before .pre .0) (asReference (c .before .before .before .before .before .before .before .before .before .before .args .block)) (c .before .before .before .before .before .before .loop .at) (c .before .before .before .before .before .before .loop .left) (c .before .before .before .before .before .before .loop .inv .0) (c .before .before .before .before .before .loop-test .taken) (asReference (c .before .before .before .before .reference-at .result)) (c .before .before .before .before .reference-at .ensures) (c .read-u322 .result) (c .before .before .before .before .before .before .loop .below) (sym (c .before .before .before .compare .ensures) ∙ c .before .enum-told .given .1) (c .read-u322 .ensures) (c .before .before .before .before .before .before .loop .inv .1),
+  met-on ((c .before .before .before .before .before .before .before .before .before .before .args) .store .now) (c .before .before .before .before .before .before .before .before .before .before .pre) (asReference ((c .before .before .before .before .before .before .before .before .before .before .args) .block)) ((c .before .before .before .before .before .before .loop) .at) ((c .before .before .before .before .before .before .loop) .left) ((c .before .before .before .before .before .before .loop) .inv .0) ((c .before .before .before .before .before .loop-test) .taken) (asReference ((c .before .before .before .before .reference-at) .result)) ((c .before .before .before .before .reference-at) .ensures) ((c .read-u322) .result) (sym ((c .before .before .before .compare) .ensures) ∙ (c .before .enum-told) .given .1) ((c .read-u322) .ensures),
+  met-last ((c .before .before .before .before .before .before .before .before .before .before .args) .store .now) (c .before .before .before .before .before .before .before .before .before .before .pre) (asReference ((c .before .before .before .before .before .before .before .before .before .before .args) .block)) ((c .before .before .before .before .before .before .loop) .at) ((c .before .before .before .before .before .before .loop) .left) ((c .before .before .before .before .before .before .loop) .inv .0) ((c .before .before .before .before .before .loop-test) .taken) (asReference ((c .before .before .before .before .reference-at) .result)) ((c .before .before .before .before .reference-at) .ensures) ((c .read-u322) .result) ((c .before .before .before .before .before .before .loop) .below) (sym ((c .before .before .before .compare) .ensures) ∙ (c .before .enum-told) .given .1) ((c .read-u322) .ensures) ((c .before .before .before .before .before .before .loop) .inv .1),
 )
 
 enum-told-2 : tie.Need-enum-told-2 Inv-loop μ-loop
 enum-told-2 c = search needs
 
 returns : tie.Need-returns Inv-loop μ-loop
-returns c = absurd (not-both (none-is (lookup (entries (recordsOf (c .before .before .before .before .before .before .before .before .before .args .store .now))) (asReference (c .before .before .before .before .before .before .before .before .before .args .block))) (c .before .before .before .before .before .before .before .before .before .pre .1)) (met-found (c .before .before .before .before .before .before .before .before .before .args .store .now) (c .before .before .before .before .before .before .before .before .before .pre .0) (asReference (c .before .before .before .before .before .before .before .before .before .args .block)) (c .before .before .before .before .before .loop .at) (c .before .before .before .before .before .loop .left) (c .before .before .before .before .before .loop .inv .0) (c .before .before .before .before .loop-test .taken) (asReference (c .before .before .before .reference-at .result)) (c .before .before .before .reference-at .ensures) (sym (c .before .before .compare .ensures) ∙ c .enum-told2 .given .1)))
+unfolding PlacedBy
+returns c = let e = sym ((c .before .before .compare) .ensures) ∙ (c .enum-told2) .given .1 in
+    (λ h. (met-found ((c .before .before .before .before .before .before .before .before .before .args) .store .now) (c .before .before .before .before .before .before .before .before .before .pre) (asReference ((c .before .before .before .before .before .before .before .before .before .args) .block)) ((c .before .before .before .before .before .loop) .at) ((c .before .before .before .before .before .loop) .left) ((c .before .before .before .before .before .loop) .inv .0) ((c .before .before .before .before .loop-test) .taken) (asReference ((c .before .before .before .reference-at) .result)) ((c .before .before .before .reference-at) .ensures) e, met-hit ((c .before .before .before .before .before .before .before .before .before .args) .store .now) (c .before .before .before .before .before .before .before .before .before .pre) (asReference ((c .before .before .before .before .before .before .before .before .before .args) .block)) ((c .before .before .before .before .before .loop) .at) ((c .before .before .before .before .before .loop) .left) ((c .before .before .before .before .before .loop) .inv .0) ((c .before .before .before .before .loop-test) .taken) (asReference ((c .before .before .before .reference-at) .result)) ((c .before .before .before .reference-at) .ensures) e), λ h. absurd (not-both refl h))
 
 enum-told-3 : tie.Need-enum-told-3 Inv-loop μ-loop
 enum-told-3 c = search needs
 
 returns-2 : tie.Need-returns-2 Inv-loop μ-loop
-returns-2 c = between-met (c .before .before .before .before .before .before .before .before .before .args .store .now) (c .before .before .before .before .before .before .before .before .before .pre .0) (asReference (c .before .before .before .before .before .before .before .before .before .args .block)) (c .before .before .before .before .before .loop .at) (c .before .before .before .before .before .loop .left) (c .before .before .before .before .before .loop .inv .0) (c .before .before .before .before .before .loop .below) (c .before .before .before .before .loop-test .taken) (asReference (c .before .before .before .reference-at .result)) (c .before .before .before .reference-at .ensures) (sym (c .before .before .compare .ensures) ∙ c .enum-told3 .given .1) (c .before .before .before .before .before .loop .inv .1)
+unfolding PlacedBy
+returns-2 c = let e = sym ((c .before .before .compare) .ensures) ∙ (c .enum-told3) .given .1 in
+    (λ h. absurd (not-both h refl), λ h. (met-past ((c .before .before .before .before .before .before .before .before .before .args) .store .now) (c .before .before .before .before .before .before .before .before .before .pre) (asReference ((c .before .before .before .before .before .before .before .before .before .args) .block)) ((c .before .before .before .before .before .loop) .at) ((c .before .before .before .before .before .loop) .left) ((c .before .before .before .before .before .loop) .inv .0) ((c .before .before .before .before .loop-test) .taken) (asReference ((c .before .before .before .reference-at) .result)) ((c .before .before .before .reference-at) .ensures) e, between-met ((c .before .before .before .before .before .before .before .before .before .args) .store .now) (c .before .before .before .before .before .before .before .before .before .pre) (asReference ((c .before .before .before .before .before .before .before .before .before .args) .block)) ((c .before .before .before .before .before .loop) .at) ((c .before .before .before .before .before .loop) .left) ((c .before .before .before .before .before .loop) .inv .0) ((c .before .before .before .before .before .loop) .below) ((c .before .before .before .before .loop-test) .taken) (asReference ((c .before .before .before .reference-at) .result)) ((c .before .before .before .reference-at) .ensures) e ((c .before .before .before .before .before .loop) .inv .1)))
 
 returns-3 : tie.Need-returns-3 Inv-loop μ-loop
-returns-3 c = between-end (c .before .before .before .before .before .args .store .now) (c .before .before .before .before .before .pre .0) (asReference (c .before .before .before .before .before .args .block)) (c .before .loop .at) (c .before .loop .left) (c .before .loop .inv .0) (c .before .loop .below) (omega arith) (c .before .loop .inv .1)
+unfolding PlacedBy
+returns-3 c = (λ h. absurd (not-both h refl), λ h. (along-end ((c .before .before .before .before .before .args) .store .now) (c .before .before .before .before .before .pre) (asReference ((c .before .before .before .before .before .args) .block)) ((c .before .loop) .at) ((c .before .loop) .left) ((c .before .loop) .inv .0) (omega arith), between-end ((c .before .before .before .before .before .args) .store .now) (c .before .before .before .before .before .pre) (asReference ((c .before .before .before .before .before .args) .block)) ((c .before .loop) .at) ((c .before .loop) .left) ((c .before .loop) .inv .0) ((c .before .loop) .below) (omega arith) ((c .before .loop) .inv .1)))
 
 pub chain-place-spec : {M : Type 1} → statement M
 chain-place-spec =

@@ -8,8 +8,8 @@ use Rattle.finality.specs.NextFinal.{leastFinal}
 use Rattle.readings.specs.NextFinal.{candidatesIn, leastFinalIn}
 use mathlib.Core.Path.{sym}
 use borrow.Author.Needs.{needs}
-use Rattle.host.proofs.lomkhvide_wide_stretches.Statement.{statement}
-use Rattle.host.proofs.lomkhvide_wide_stretches.Tie as tie
+use Rattle.host.proofs.finals.lomkhvide_wide_stretches.Statement.{statement}
+use Rattle.host.proofs.finals.lomkhvide_wide_stretches.Tie as tie
 
 slice-aggregate-stakes-of : tie.Need-slice-aggregate-stakes-of
 slice-aggregate-stakes-of c = search needs

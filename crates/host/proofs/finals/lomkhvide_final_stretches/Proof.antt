@@ -1,11 +1,14 @@
-use Rattle.host_index_finals.specs.Indexed.{wideStretchesIndexedCall}
+use Rattle.host_finals.specs.Stretches.{stretchesCall}
 use native.Mathlib.Omega.{arith}
 use lib.Seq.{length-take-le}
-use Rattle.reading_lists.proofs.Old.{old-wide}
+use Rattle.finality.specs.Voters.{certifies, certifiers, isFinal}
+use Rattle.readings.specs.Readings.{votersIn, certifiesIn, certifiersIn, isFinalIn}
+use Rattle.reading_lists.specs.Lists.{isListed, leastListed, listEdges, listing}
+use Rattle.stored_finals.specs.FinalShares.{isFinalShare, leastFinalShare}
 use mathlib.Core.Path.{sym}
 use borrow.Author.Needs.{needs}
-use Rattle.host.proofs.lomkhvide_wide_stretches_indexed.Statement.{statement}
-use Rattle.host.proofs.lomkhvide_wide_stretches_indexed.Tie as tie
+use Rattle.host.proofs.finals.lomkhvide_final_stretches.Statement.{statement}
+use Rattle.host.proofs.finals.lomkhvide_final_stretches.Tie as tie
 
 slice-aggregate-stakes-of : tie.Need-slice-aggregate-stakes-of
 slice-aggregate-stakes-of c = search needs
@@ -26,11 +29,11 @@ same-length : tie.Need-same-length
 same-length c = search needs
 
 returns : tie.Need-returns
-unfolding wideStretchesIndexedCall
-returns c = (rw (← c .before .before .before .before .before .before .stakes-of .ensures .1) (rw old-wide at (c .before .before .stretches-of .ensures .0)), rw (← c .before .before .before .before .before .before .stakes-of .ensures .1) (rw old-wide at (c .before .before .stretches-of .ensures .1)))
+unfolding stretchesCall listing isListed leastListed listEdges isFinalIn certifiersIn certifiesIn votersIn isFinal certifiers certifies isFinalShare leastFinalShare
+returns c = (rw (← c .before .before .before .before .before .before .stakes-of .ensures .1) (c .before .before .stretches-of .ensures .0), rw (← c .before .before .before .before .before .before .stakes-of .ensures .1) (c .before .before .stretches-of .ensures .1))
 
-pub lomkhvide-wide-stretches-indexed-spec : {M : Type 1} → statement M
-lomkhvide-wide-stretches-indexed-spec =
+pub lomkhvide-final-stretches-spec : {M : Type 1} → statement M
+lomkhvide-final-stretches-spec =
     tie.close
     (tie.spec
     slice-aggregate-stakes-of
