@@ -21,7 +21,7 @@ ghost use Rattle.stretch_words.specs.Answers.{asStretches};
 
 // ---- the question in bulk
 
-// The same with tables of 12,288 votes and rejects, and of 8,192 includes.
+// The same with tables of 10,240 votes and rejects, and of 8,192 includes.
 fn fill_large(
     stakes: &[u64],
     total: Stake,
@@ -36,7 +36,7 @@ fn fill_large(
     ensures { λ r. ⌜ asStretches r ≡ answered (givenAfter (listing ordinary (readingOf withdrawing) (now (stakes .entry)) (blocksOf (now (store .entry)))) (asMaybe after) (stretches (now (stakes .entry)) (blocksOf (now (store .entry))) (listing ordinary (readingOf withdrawing) (now (stakes .entry)) (blocksOf (now (store .entry)))) (length (now (out .entry)) / 10) (asMaybe after))) ⌝ }
     ensures { λ r. ⌜ now (out .exit) ≡ wordsAfter (stretches (now (stakes .entry)) (blocksOf (now (store .entry))) (listing ordinary (readingOf withdrawing) (now (stakes .entry)) (blocksOf (now (store .entry)))) (length (now (out .entry)) / 10) (asMaybe after)) (now (out .entry)) ⌝ }
 {
-    let mut table = [0u64; 49152];
+    let mut table = [0u64; 40960];
     let sizes = vote_table::table_both(store, order, &mut table, withdrawing);
     let mut places = [0u64; 8192];
     let noted = include_places::note_places(store, order, &mut places);
