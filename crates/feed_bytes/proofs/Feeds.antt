@@ -22,7 +22,7 @@ use Rattle.store_layout.specs.Accept.{blockChecks}
 use Rattle.store_layout.specs.Store.{recordsOf}
 use Rattle.words.specs.Words.{wordsIn, wordsOf}
 use Rattle.feeds.specs.Pending.{pendingChecks}
-use Rattle.feeds.specs.Feed.{Lent, lentOf, processed, lentChecks, ruleChecks, recordChecks, feedChecks, refusedFeed, acceptedFeed, feedRecord, feed}
+use Rattle.feeds.specs.Feed.{Lent, lentOf, processed, lentChecks, ruleChecks, acceptChecks, recordChecks, feedChecks, refusedFeed, acceptedFeed, feedRecord, feed}
 use Rattle.feed_refusals.specs.Refusals.{earlyChecks}
 use Rattle.host_locators.specs.Locators.{refusalBefore}
 use Rattle.feed_bytes.specs.Feed.{FeedCall, refusedCall, fedCall, fedWith, feedOf}
@@ -71,11 +71,18 @@ block-ordinary c rs b =
     (and (lit< tt, lit< tt) none-of)))
     (and (lit< tt, lit< tt) none-of))))
 
+pub rules-ordinary : (c : Committee) (s : Bytes) (o : Option Record) → Below 31 (ruleChecks c s o)
+unfolding ruleChecks
+rules-ordinary c s none = and (lit< tt, lit< tt) none-of
+rules-ordinary c s (some r) = block-ordinary c (recordsOf s) (r .block)
+
 pub record-ordinary : (c : Committee) (m : Lent) (o : Option Record) → Below 31 (recordChecks c m o)
-unfolding ruleChecks recordChecks
-record-ordinary c m none = and (lit< tt, lit< tt) none-of
+unfolding acceptChecks recordChecks
+record-ordinary c m none = rules-ordinary c (m .store) none
 record-ordinary c m (some r) =
-    every-append (blockChecks c (recordsOf (m .store)) (r .block)) _ (block-ordinary c (recordsOf (m .store)) (r .block)) (and (lit< tt, lit< tt) (and (lit< tt, lit< tt) (and (lit< tt, lit< tt) none-of)))
+    every-append (acceptChecks c (m .store) (length (m .events)) (some r)) _
+    (every-append _ _ (rules-ordinary c (m .store) (some r)) (and (lit< tt, lit< tt) (and (lit< tt, lit< tt) none-of)))
+    (and (lit< tt, lit< tt) none-of)
 
 checks-ordinary : (c : Committee) (m : Lent) (o : Option Record) → Ordinary (feedChecks c m o)
 unfolding feedChecks lentChecks pendingChecks
@@ -93,11 +100,6 @@ feed-most c m rec n e = by (readRecord rec) e
         go true e = let z : _≡_ {A = ℕ} 0 1 = cc in absurd (omega arith)
         go false e = let z : refusal (feedChecks c m (some r)) ≡ n = cc in omega (arith, most (feedChecks c m (some r)) (checks-ordinary c m (some r)))
 
-pub rules-ordinary : (c : Committee) (s : Bytes) (o : Option Record) → Below 31 (ruleChecks c s o)
-unfolding ruleChecks
-rules-ordinary c s none = and (lit< tt, lit< tt) none-of
-rules-ordinary c s (some r) = block-ordinary c (recordsOf s) (r .block)
-
 early-ordinary : (c : Committee) (s : Bytes) (t : List ℕ) (rec : Bytes) → Ordinary (earlyChecks c s t rec)
 unfolding earlyChecks pendingChecks
 early-ordinary c s t rec = and (lit< tt, lit< tt) (and (lit< tt, lit< tt) (and (lit< tt, lit< tt) (rules-ordinary c s (readRecord rec))))
@@ -105,7 +107,7 @@ early-ordinary c s t rec = and (lit< tt, lit< tt) (and (lit< tt, lit< tt) (and (
 -- ---- the work slice: no answer reads it
 
 pub work-free : (c : Committee) (s : Bytes) (t w u v : List ℕ) (rec : Bytes) → length w ≡ length u → feed c (lentOf s t w v) rec ≡ feed c (lentOf s t u v) rec
-unfolding feed feedRecord feedChecks lentChecks pendingChecks ruleChecks recordChecks processed refusedFeed acceptedFeed
+unfolding feed feedRecord feedChecks lentChecks pendingChecks recordChecks processed refusedFeed acceptedFeed
 work-free c s t w u v rec e = by (readRecord rec)
   where
     by : (o : Option Record) → feedRecord c (lentOf s t w v) o ≡ feedRecord c (lentOf s t u v) o

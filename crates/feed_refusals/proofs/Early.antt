@@ -13,8 +13,8 @@ use Rattle.store_layout.specs.Accept.{blockChecks}
 use Rattle.store_layout.specs.Store.{recordsOf, recordIn}
 use Rattle.feeds.specs.Pending.{pendingChecks}
 use Rattle.feeds.specs.Feed.{ruleChecks}
+use Rattle.feeds.proofs.Checks.{read-none, read-some, pending-numbered}
 use Rattle.feed_refusals.specs.Refusals.{earlyChecks}
-use Rattle.feed_refusals.proofs.Order.{lent-only, read-none, read-some}
 
 module _ (c : Committee) (s : Bytes) (t : List ℕ) (rec : Bytes) where
   pub early-lent : (refusal (pendingChecks c s t) ≡ 0 → ⊥) → refusal (earlyChecks c s t rec) ≡ refusal (pendingChecks c s t)
@@ -24,7 +24,7 @@ module _ (c : Committee) (s : Bytes) (t : List ℕ) (rec : Bytes) where
   module _ (h : refusal (pendingChecks c s t) ≡ 0) where
     after-lent : refusal (earlyChecks c s t rec) ≡ refusal (ruleChecks c s (readRecord rec))
     unfolding earlyChecks
-    after-lent = refusal-then (pendingChecks c s t) _ (lent-only c s t) h
+    after-lent = refusal-then (pendingChecks c s t) _ (pending-numbered c s t) h
 
     pub early-malformed : wellFormed rec ≡ false → refusal (earlyChecks c s t rec) ≡ 20
     unfolding ruleChecks refusal

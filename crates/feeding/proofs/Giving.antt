@@ -21,10 +21,11 @@ use Rattle.feeds.specs.Feed.{Lent, lentOf, processed, feedChecks, refusedFeed, 
 use Rattle.feeds.specs.ProcessBlock.{wordsOf}
 use Rattle.counted_vote.specs.Vote.{VotesCounted}
 use Rattle.counted_vote.specs.declared.Processed.{Processed}
+use Rattle.feeds.proofs.Checks.{read-some}
 use Rattle.feeds.proofs.ProcessBlock.{events-processBlock, length-words}
 use Rattle.feed_refusals.specs.Step.{Accepting}
 use Rattle.feeding.specs.Accepted.{AcceptedAs}
-use Rattle.feed_refusals.proofs.Order.{read-some, checks-pass}
+use Rattle.feed_refusals.proofs.Order.{checks-pass}
 
 module _ (c : Committee) (m : Lent) (bytes : Bytes) where
   feed-refuses : (n : ℕ) → n ≡ refusal (feedChecks c m (readRecord bytes)) → (n ≡ 0 → ⊥) → feed c m bytes ≡ refusedFeed m n

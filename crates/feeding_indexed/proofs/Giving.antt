@@ -14,9 +14,10 @@ use Rattle.blocks.specs.Record.{wellFormed, blockIn}
 use Rattle.store_layout.specs.Layout.{Record, readRecord}
 use Rattle.store_layout.specs.Store.{recordIn}
 use Rattle.feeds.specs.Feed.{Lent, lentOf, processed, feedChecks, refusedFeed, acceptedFeed}
+use Rattle.feeds.proofs.Checks.{read-some}
 use Rattle.finality.specs.Finality.{blocksOf}
 use Rattle.feeding.specs.Accepted.{AcceptedAs}
-use Rattle.feed_refusals.proofs.Order.{read-some, checks-pass}
+use Rattle.feed_refusals.proofs.Order.{checks-pass}
 use Rattle.voters_index.specs.Index.{indexAgrees, indexShort, appended}
 use Rattle.index_growth.specs.Growing.{newPart}
 use Rattle.indexed_feeds.specs.IndexedFeed.{indexedChecks, refusedIndexed, acceptedIndexed, feedIndexedRecord, feedIndexed}

@@ -24,10 +24,26 @@ use Rattle.pending_items.proofs.Table.{length-tableOf}
 use Rattle.pending_items.proofs.Order.{InOrder, in-order, order-tableOf, room-fits}
 use Rattle.feeds.specs.ProcessBlock.{wordsOf, registering}
 use Rattle.feeds.specs.Pending.{pendingChecks}
-use Rattle.feeds.specs.Feed.{Lent, Fed, processed, lentChecks, ruleChecks, recordChecks, feedChecks, refusedFeed, acceptedFeed, feedRecord, feed}
+use Rattle.feeds.specs.Feed.{Lent, Fed, processed, lentChecks, ruleChecks, acceptChecks, recordChecks, feedChecks, refusedFeed, acceptedFeed, feedRecord, feed}
 use Rattle.feeds.proofs.ProcessBlock.{Sound, sound-registered, sound-processBlock, events-processBlock, length-words}
 
--- what passing all the checks of a record says
+-- what passing the checks of a record before 14 says, where n words are lent for events
+pub record Acceptable (c : Committee) (s : Bytes) (n : ℕ) (r : Record) : Type 0 where
+  pub block : passes (blockChecks c (recordsOf s) (r .block)) ≡ true
+  pub events : eventRoom (r .block) ≤ n
+  pub stored : storeFull s r ≡ false
+
+pub acceptable : (c : Committee) (s : Bytes) (n : ℕ) (r : Record) → passes (acceptChecks c s n (some r)) ≡ true → Acceptable c s n r
+unfolding acceptChecks ruleChecks
+acceptable c s n r h =
+    let h₁ = passes-right (blockChecks c (recordsOf s) (r .block)) _ h in
+    record {
+      block = passes-left (blockChecks c (recordsOf s) (r .block)) _ h;
+      events = ltb-false _ _ (passes-first _ _ h₁);
+      stored = passes-first _ _ (passes-others _ _ h₁);
+    }
+
+-- what passing all of them says
 pub record Passed (c : Committee) (m : Lent) (r : Record) : Type 0 where
   pub block : passes (blockChecks c (recordsOf (m .store)) (r .block)) ≡ true
   pub events : eventRoom (r .block) ≤ length (m .events)
@@ -35,16 +51,12 @@ pub record Passed (c : Committee) (m : Lent) (r : Record) : Type 0 where
   pub items : processed c m r .most ≤ room (m .table)
 
 pub passed : (c : Committee) (m : Lent) (r : Record) → passes (feedChecks c m (some r)) ≡ true → Passed c m r
-unfolding feedChecks recordChecks ruleChecks
+unfolding feedChecks recordChecks
 passed c m r h =
+    let ks = acceptChecks c (m .store) (length (m .events)) (some r) in
     let h₁ = passes-right (lentChecks c m) (recordChecks c m (some r)) h in
-    let h₂ = passes-right (blockChecks c (recordsOf (m .store)) (r .block)) _ h₁ in
-    record {
-      block = passes-left (blockChecks c (recordsOf (m .store)) (r .block)) _ h₁;
-      events = ltb-false _ _ (passes-first _ _ h₂);
-      stored = passes-first _ _ (passes-others _ _ h₂);
-      items = ltb-false _ _ (passes-first _ _ (passes-others _ _ (passes-others _ _ h₂)));
-    }
+    let a = acceptable c (m .store) (length (m .events)) r (passes-left ks _ h₁) in
+    record { block = a .block; events = a .events; stored = a .stored; items = ltb-false _ _ (passes-first _ _ (passes-right ks _ h₁)) }
 
 -- a store and a table in order
 pub record State (c : Committee) (s : Bytes) (t : List ℕ) : Type 0 where

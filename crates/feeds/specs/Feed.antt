@@ -47,15 +47,16 @@ unfoldable pub ruleChecks : Committee → Bytes → Option Record → List Check
 ruleChecks c s none = (true ⇒ 20) ∷ []
 ruleChecks c s (some r) = blockChecks c (recordsOf s) (r .block)
 
+-- 01: "20 to 30 ascending, 15, 13", where n words are lent for events
+unfoldable pub acceptChecks : Committee → Bytes → ℕ → Option Record → List Check
+acceptChecks c s n none = ruleChecks c s none
+acceptChecks c s n (some r) = ruleChecks c s (some r) ++ ((ltb n (eventRoom (r .block)) ⇒ 15) ∷ (storeFull s r ⇒ 13) ∷ [])
+
 -- 01: ".. 20 to 30 ascending, 15, 13, 14"
 unfoldable pub recordChecks : Committee → Lent → Option Record → List Check
-recordChecks c m none = ruleChecks c (m .store) none
+recordChecks c m none = acceptChecks c (m .store) (length (m .events)) none
 recordChecks c m (some r) =
-    ruleChecks c (m .store) (some r)
-    ++ ((ltb (length (m .events)) (eventRoom (r .block)) ⇒ 15)
-    ∷ (storeFull (m .store) r ⇒ 13)
-    ∷ (ltb (room (m .table)) (processed c m r .most) ⇒ 14)
-    ∷ [])
+    acceptChecks c (m .store) (length (m .events)) (some r) ++ ((ltb (room (m .table)) (processed c m r .most) ⇒ 14) ∷ [])
 
 unfoldable pub feedChecks : Committee → Lent → Option Record → List Check
 feedChecks c m r = lentChecks c m ++ recordChecks c m r

@@ -18,7 +18,7 @@ use Rattle.committee.specs.Committee.{Committee}
 use Rattle.store_layout.specs.Layout.{Record, readRecord}
 use Rattle.words.specs.Words.{wordsIn, wordsOf}
 use Rattle.feeds.specs.Pending.{pendingChecks}
-use Rattle.feeds.specs.Feed.{Lent, lentOf, processed, ruleChecks, recordChecks, refusedFeed, acceptedFeed}
+use Rattle.feeds.specs.Feed.{Lent, lentOf, processed, recordChecks, refusedFeed, acceptedFeed}
 use Rattle.indexed_feeds.specs.IndexedFeed.{indexedLentChecks, roomChecks, indexedChecks, refusedIndexed, acceptedIndexed, feedIndexedRecord, feedIndexed}
 use Rattle.indexed_refusals.specs.Refusals.{earlyIndexedChecks}
 use Rattle.host_locators.specs.Locators.{refusalBefore}
@@ -61,7 +61,7 @@ feed-below c m ix rec n e = by (readRecord rec) e
 -- ---- the work slice: no answer reads it
 
 work-free : (c : Committee) (s : Bytes) (t w u v ix : List ℕ) (rec : Bytes) → length w ≡ length u → feedIndexed c (lentOf s t w v) ix rec ≡ feedIndexed c (lentOf s t u v) ix rec
-unfolding feedIndexed feedIndexedRecord indexedChecks roomChecks ruleChecks recordChecks processed refusedIndexed acceptedIndexed refusedFeed acceptedFeed
+unfolding feedIndexed feedIndexedRecord indexedChecks roomChecks recordChecks processed refusedIndexed acceptedIndexed refusedFeed acceptedFeed
 work-free c s t w u v ix rec e = by (readRecord rec)
   where
     by : (o : Option Record) → feedIndexedRecord c (lentOf s t w v) ix o ≡ feedIndexedRecord c (lentOf s t u v) ix o

@@ -12,7 +12,7 @@ use Rattle.store_layout.specs.Layout.{readRecord}
 use Rattle.store_layout.specs.Store.{recordsOf, recordIn}
 use Rattle.store_layout.specs.Accept.{blockChecks}
 use Rattle.feeds.specs.Feed.{ruleChecks}
-use Rattle.feed_refusals.proofs.Order.{read-none, read-some}
+use Rattle.feeds.proofs.Checks.{read-none, read-some}
 use Rattle.indexed_feeds.specs.IndexedFeed.{indexedLentChecks}
 use Rattle.indexed_feeds.proofs.Order.{lent-numbered}
 use Rattle.indexed_refusals.specs.Refusals.{earlyIndexedChecks}

@@ -4,7 +4,6 @@ use mathlib.Core.Bool.{Bool, true, false, not, _&&_}
 use mathlib.Core.List.{List, [], _∷_, _++_}
 use mathlib.Core.Option.{Option, none, some}
 use Prim.Native.Nat.{_≤_}
-use lib.Dec.{ltb}
 use lib.ListN.{length, drop}
 use lib.Seq.{drop-at}
 use borrow.Author.Tests.{le-ltb, ltb-false}
@@ -18,12 +17,12 @@ use Rattle.committee.specs.Committee.{Committee, broken}
 use Rattle.blocks.specs.Block.{eventRoom}
 use Rattle.store_layout.specs.Layout.{Record, readRecord, layout}
 use Rattle.store_layout.specs.Accept.{blockChecks}
-use Rattle.store_layout.specs.Store.{recordsOf, storeFull, storeHolding}
+use Rattle.store_layout.specs.Store.{recordsOf, storeHolding}
 use Rattle.store_layout.proofs.Store.{length-layout, readRecord-some, Holding, accepting}
 use Rattle.pending_items.specs.Table.{room}
 use Rattle.pending_items.proofs.Table.{itemsOf-tableOf}
 use Rattle.feeds.specs.Pending.{pendingChecks}
-use Rattle.feeds.specs.Feed.{Lent, processed, lentChecks, ruleChecks, recordChecks, feedChecks, refusedFeed, acceptedFeed, feedRecord, feed}
+use Rattle.feeds.specs.Feed.{Lent, processed, lentChecks, ruleChecks, acceptChecks, recordChecks, feedChecks, refusedFeed, acceptedFeed, feedRecord, feed}
 use Rattle.feeds.specs.ProcessBlock.{wordsOf}
 use Rattle.feeds.proofs.Keeping.{Passed, passed, State, lent-state, Kept, feed-keeps}
 use Rattle.feeds.proofs.ProcessBlock.{length-words}
@@ -51,15 +50,19 @@ lent-passes : (c : Committee) (m : Lent) (r : Record) → EnoughMemory c m r →
 unfolding lentChecks pendingChecks passes allOf
 lent-passes c m r e = rw (e .committee, e .store, e .table, le-ltb (length (m .work)) (length (m .table)) (e .work))
 
-room-passes : (c : Committee) (m : Lent) (r : Record) → EnoughMemory c m r
-    → passes ((ltb (length (m .events)) (eventRoom (r .block)) ⇒ 15) ∷ (storeFull (m .store) r ⇒ 13) ∷ (ltb (room (m .table)) (processed c m r .most) ⇒ 14) ∷ []) ≡ true
-unfolding passes allOf
-room-passes c m r e = rw (le-ltb (length (m .events)) (eventRoom (r .block)) (e .events), e .bytes, le-ltb (room (m .table)) (processed c m r .most) (e .items))
+accept-passes : (c : Committee) (m : Lent) (r : Record) → passes (blockChecks c (recordsOf (m .store)) (r .block)) ≡ true → EnoughMemory c m r
+    → passes (acceptChecks c (m .store) (length (m .events)) (some r)) ≡ true
+unfolding acceptChecks ruleChecks passes allOf
+accept-passes c m r b e =
+    passes-append (blockChecks c (recordsOf (m .store)) (r .block)) _
+    ∙ rw (b, le-ltb (length (m .events)) (eventRoom (r .block)) (e .events), e .bytes)
 
 all-pass : (c : Committee) (m : Lent) (r : Record) → passes (blockChecks c (recordsOf (m .store)) (r .block)) ≡ true → EnoughMemory c m r → passes (feedChecks c m (some r)) ≡ true
-unfolding feedChecks recordChecks ruleChecks
+unfolding feedChecks recordChecks passes allOf
 all-pass c m r b e =
-    passes-append (lentChecks c m) _ ∙ rw (lent-passes c m r e) (passes-append (blockChecks c (recordsOf (m .store)) (r .block)) _ ∙ rw b (room-passes c m r e))
+    let ks = acceptChecks c (m .store) (length (m .events)) (some r) in
+    passes-append (lentChecks c m) _
+    ∙ rw (lent-passes c m r e) (passes-append ks _ ∙ rw (accept-passes c m r b e, le-ltb (room (m .table)) (processed c m r .most) (e .items)))
 
 -- "is stored and counted"
 counted : (c : Committee) (m : Lent) (bytes : Bytes) (k : KeepsRules c m bytes) → Counted c m (k .rec) (feed c m bytes)
@@ -105,7 +108,9 @@ others c m bytes n = unfold feed in go (readRecord bytes) refl
         record { number = refusal (feedChecks c m (readRecord bytes)); answer = refl; first = first-applies (feedChecks c m (readRecord bytes)) f; store = refl; table = refl; events = refl }
 
     never : passes (feedChecks c m none) ≡ false
-    never = unfold feedChecks recordChecks ruleChecks in fails _ (λ p. not-both refl (passes-first (true ⇒ 20) [] (passes-right (lentChecks c m) _ p)))
+    never =
+        unfold feedChecks recordChecks acceptChecks ruleChecks in
+        fails _ (λ p. not-both refl (passes-first (true ⇒ 20) [] (passes-right (lentChecks c m) _ p)))
 
     keeps : (r : Record) → readRecord bytes ≡ some r → passes (feedChecks c m (some r)) ≡ true → KeepsRules c m bytes
     keeps r e p =

@@ -1,6 +1,6 @@
 -- The checks of a record, one group after the other. Assumes nothing.
 use mathlib.Core.Path.{_≡_, refl, sym, _∙_}
-use mathlib.Core.Bool.{Bool, true, false, not}
+use mathlib.Core.Bool.{true, false, not}
 use mathlib.Core.List.{List, [], _∷_, _++_, map, flatten}
 use mathlib.Core.Option.{Option, none, some}
 use Prim.Native.Nat.{ℕ, _≤_, _<_}
@@ -20,12 +20,13 @@ use Rattle.blocks.specs.Record.{wellFormed, blockIn}
 use Rattle.blocks.specs.Verify.{headChecks, includeChecks, statementChecks, bodyChecks}
 use Rattle.include_checks.proofs.Includes.{includes-numbered}
 use Rattle.statement_checks.proofs.Statements.{statements-numbered}
-use Rattle.store_layout.specs.Layout.{Record, Entry, entries, positionOf, lookup}
+use Rattle.store_layout.specs.Layout.{Record, readRecord, Entry, entries, positionOf, lookup}
 use Rattle.store_layout.specs.Accept.{isStored, firstMissing, blockChecks}
 use Rattle.store_layout.specs.Store.{recordsOf, recordIn, storeFull}
 use Rattle.store_layout.proofs.Lookups.{lookup-stored, lookup-in, missing-test}
 use Rattle.store_layout.proofs.Store.{entries-within}
-use Rattle.record_checks.specs.Step.{acceptChecks}
+use Rattle.feeds.specs.Feed.{ruleChecks, acceptChecks}
+use Rattle.feeds.proofs.Checks.{read-none, read-some}
 
 -- ---- 21 to 30
 
@@ -92,37 +93,37 @@ block-passes c rs b z = zero-passes (blockChecks c rs b) (block-numbered c rs b)
 -- ---- 20, 15, 13
 
 module _ (c : Committee) (s : Bytes) (n : ℕ) (rec : Bytes) where
-  pub record-malformed : wellFormed rec ≡ false → refusal (acceptChecks c s n rec) ≡ 20
-  unfolding acceptChecks refusal
-  record-malformed w = rw w
+  pub record-malformed : wellFormed rec ≡ false → refusal (acceptChecks c s n (readRecord rec)) ≡ 20
+  unfolding acceptChecks ruleChecks refusal
+  record-malformed w = rw (read-none rec w)
 
   module _ (w : wellFormed rec ≡ true) where
-    pub record-block : (refusal (blockChecks c (recordsOf s) (blockIn rec)) ≡ 0 → ⊥) → refusal (acceptChecks c s n rec) ≡ refusal (blockChecks c (recordsOf s) (blockIn rec))
-    unfolding acceptChecks
-    record-block h = rw w (refusal-first (blockChecks c (recordsOf s) (blockIn rec)) _ h)
+    pub record-block : (refusal (blockChecks c (recordsOf s) (blockIn rec)) ≡ 0 → ⊥)
+        → refusal (acceptChecks c s n (readRecord rec)) ≡ refusal (blockChecks c (recordsOf s) (blockIn rec))
+    unfolding acceptChecks ruleChecks recordIn
+    record-block h = rw (read-some rec w) (refusal-first (blockChecks c (recordsOf s) (blockIn rec)) _ h)
 
     module _ (z : refusal (blockChecks c (recordsOf s) (blockIn rec)) ≡ 0) where
-      after-block : refusal (acceptChecks c s n rec) ≡ refusal ((ltb n (eventRoom (blockIn rec)) ⇒ 15) ∷ (storeFull s (recordIn rec) ⇒ 13) ∷ [])
-      unfolding acceptChecks
-      after-block = rw w (refusal-then (blockChecks c (recordsOf s) (blockIn rec)) _ (block-numbered c (recordsOf s) (blockIn rec)) z)
+      after-block : refusal (acceptChecks c s n (readRecord rec))
+          ≡ refusal ((ltb n (eventRoom (blockIn rec)) ⇒ 15) ∷ (storeFull s (recordIn rec) ⇒ 13) ∷ [])
+      unfolding acceptChecks ruleChecks recordIn
+      after-block = rw (read-some rec w) (refusal-then (blockChecks c (recordsOf s) (blockIn rec)) _ (block-numbered c (recordsOf s) (blockIn rec)) z)
 
-      pub record-events : n < eventRoom (blockIn rec) → refusal (acceptChecks c s n rec) ≡ 15
+      pub record-events : n < eventRoom (blockIn rec) → refusal (acceptChecks c s n (readRecord rec)) ≡ 15
       unfolding refusal
       record-events l = after-block ∙ rw (lt-ltb n (eventRoom (blockIn rec)) l)
 
       module _ (l : eventRoom (blockIn rec) ≤ n) where
-        pub record-full : storeFull s (recordIn rec) ≡ true → refusal (acceptChecks c s n rec) ≡ 13
+        pub record-full : storeFull s (recordIn rec) ≡ true → refusal (acceptChecks c s n (readRecord rec)) ≡ 13
         unfolding refusal
         record-full f = after-block ∙ rw (le-ltb n (eventRoom (blockIn rec)) l, f)
 
-        pub record-none : storeFull s (recordIn rec) ≡ false → refusal (acceptChecks c s n rec) ≡ 0
+        pub record-none : storeFull s (recordIn rec) ≡ false → refusal (acceptChecks c s n (readRecord rec)) ≡ 0
         unfolding refusal
         record-none f = after-block ∙ rw (le-ltb n (eventRoom (blockIn rec)) l, f)
 
-pub accept-numbered : (c : Committee) (s : Bytes) (n : ℕ) (rec : Bytes) → Numbered (acceptChecks c s n rec)
-unfolding acceptChecks
-accept-numbered c s n rec = go (wellFormed rec)
-  where
-    go : (t : Bool) → Numbered (pick t (blockChecks c (recordsOf s) (blockIn rec) ++ ((ltb n (eventRoom (blockIn rec)) ⇒ 15) ∷ (storeFull s (recordIn rec) ⇒ 13) ∷ [])) ((true ⇒ 20) ∷ []))
-    go true = every-append (blockChecks c (recordsOf s) (blockIn rec)) _ (block-numbered c (recordsOf s) (blockIn rec)) (and (lit< tt) (and (lit< tt) none-of))
-    go false = and (lit< tt) none-of
+pub accept-numbered : (c : Committee) (s : Bytes) (n : ℕ) (o : Option Record) → Numbered (acceptChecks c s n o)
+unfolding acceptChecks ruleChecks
+accept-numbered c s n none = and (lit< tt) none-of
+accept-numbered c s n (some r) =
+    every-append (blockChecks c (recordsOf s) (r .block)) _ (block-numbered c (recordsOf s) (r .block)) (and (lit< tt) (and (lit< tt) none-of))

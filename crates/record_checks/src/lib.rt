@@ -6,10 +6,11 @@ ghost use Rattle.base.specs.Checks.{refusal};
 ghost use Rattle.committee.specs.Committee.{broken};
 ghost use Rattle.blocks.specs.Record.{wellFormed, blockIn};
 ghost use Rattle.blocks.specs.Verify.{bodyChecks};
+ghost use Rattle.store_layout.specs.Layout.{readRecord};
 ghost use Rattle.store_layout.specs.Accept.{blockChecks};
 ghost use Rattle.store_layout.specs.Store.{recordsOf};
 ghost use Rattle.store_layout.specs.Entry.{laidOut};
-ghost use Rattle.record_checks.specs.Step.{acceptChecks};
+ghost use Rattle.feeds.specs.Feed.{acceptChecks};
 
 // 24 to 29 of a well-formed record, or 0.
 pub fn body_refusal(stakes: &[u64], rec: &[u8]) -> u64
@@ -48,7 +49,7 @@ pub fn block_refusal(stakes: &[u64], store: &[u8], rec: &[u8]) -> u64
 // 20 to 30, 15 and 13: what is checked of a record, for which there are so many words for events; 0 where none applies.
 pub fn record_refusal(stakes: &[u64], store: &[u8], rec: &[u8], words: usize) -> u64
     requires { ⌜ (broken (now stakes) ≡ false) × (laidOut (now store) ≡ true) ⌝ }
-    ensures { λ r. ⌜ r ≡ refusal (acceptChecks (now (stakes .entry)) (now (store .entry)) words (now (rec .entry))) ⌝ }
+    ensures { λ r. ⌜ r ≡ refusal (acceptChecks (now (stakes .entry)) (now (store .entry)) words (readRecord (now (rec .entry)))) ⌝ }
 {
     if !block_record::well_formed(rec) {
         return 20;

@@ -7,39 +7,50 @@ use Rattle.store_layout.specs.Layout.{readRecord}
 use Rattle.store_layout.specs.Store.{recordIn}
 use Rattle.feeds.specs.Feed.{Lent, lentOf, processed}
 use Rattle.pending.proofs.Lending.{lying}
-use Rattle.feed_refusals.proofs.Order.{feeds-work, feeds-record, feeds-asked, acceptable, feeding, feeds-crowded, feeds-none}
+use Rattle.feed_refusals.proofs.Order.{feeds-work, feeds-record, feeds-asked, accepted, feeding, feeds-crowded, feeds-none}
 use borrow.Author.Needs.{needs}
 use Rattle.feed_refusals.proofs.record_refusal.Statement.{statement}
 use Rattle.feed_refusals.proofs.record_refusal.Tie as tie
 
 returns : tie.Need-returns
 returns c =
-    let a = c .before .before .before .before .before .before .before .args in
+    let o = c .before .before .before .before .before .before .before in
+    let a = o .args in
     let k = a .stakes .now in
     let r = a .rec .now in
     let m : Lent = lentOf (a .store .now) (a .table .now) (a .work .now) (a .events .now) in
-    (sym (feeds-work k m r (c .before .before .before .before .before .before .before .pre .0) (readRecord r) (c .if1 .taken)), (λ (z : _≡_ {A = ℕ} 12 0). absurd (omega arith), refl))
+    (sym (feeds-work k m (readRecord r) (o .pre .0) (c .if1 .taken)), (λ (z : _≡_ {A = ℕ} 12 0). absurd (omega arith), refl))
 
 record-refusal-requires : tie.Need-record-refusal-requires
 record-refusal-requires c κs =
-    let a = c .before .before .before .before .before .before .before .args in
-    (lying (a .stakes .now) (a .store .now) (a .table .now) (c .before .before .before .before .before .before .before .pre .0) .committee, c .before .before .before .before .before .before .before .pre .1)
+    let o = c .before .before .before .before .before .before .before in
+    let a = o .args in
+    (lying (a .stakes .now) (a .store .now) (a .table .now) (o .pre .0) .committee, o .pre .1)
 
 returns-2 : tie.Need-returns-2
 returns-2 c =
-    let a = c .before .before .before .before .before .before .before .before .before .args in
+    let w = c .before .before in
+    let o = w .before .before .before .before .before .before .before in
+    let a = o .args in
     let k = a .stakes .now in
     let r = a .rec .now in
     let m : Lent = lentOf (a .store .now) (a .table .now) (a .work .now) (a .events .now) in
     let e = c .before .record-refusal .ensures in
-    (e ∙ sym (feeds-record k m r (c .before .before .before .before .before .before .before .before .before .pre .0) (readRecord r) (omega (arith, c .before .before .if1 .left)) ∙ feeds-asked k m r (λ z. c .if2 .taken (e ∙ z))), (λ z. absurd (c .if2 .taken z), refl))
+    let first = feeds-record k m (readRecord r) (o .pre .0) (omega (arith, w .if1 .left)) in (
+      e ∙ sym (first ∙ feeds-asked k m (readRecord r) (λ z. c .if2 .taken (e ∙ z))),
+      (λ z. absurd (c .if2 .taken z), refl),
+    )
 
 items-fit-requires : tie.Need-items-fit-requires
 items-fit-requires c κs =
-    let a = c .before .before .before .before .before .before .before .before .before .before .before .args in
+    let q = c .before .before in
+    let w = q .before .before in
+    let o = w .before .before .before .before .before .before .before in
+    let a = o .args in
     let k = a .stakes .now in
     let r = a .rec .now in
-    (feeding k (a .store .now) (a .table .now) (length (a .events .now)) r (c .before .before .before .before .before .before .before .before .before .before .before .pre .0) (c .before .before .before .before .before .before .before .before .before .before .before .pre .1) (acceptable k (a .store .now) (length (a .events .now)) r (sym (c .before .before .before .record-refusal .ensures) ∙ c .before .before .if2 .left)), (omega (arith, c .before .before .before .before .if1 .left)))
+    let asked = sym (q .before .record-refusal .ensures) ∙ q .if2 .left in
+    (feeding k (a .store .now) (a .table .now) (length (a .events .now)) r (o .pre .0) (o .pre .1) asked, (omega (arith, w .if1 .left)))
 
 same-length : tie.Need-same-length
 same-length c = search needs
@@ -50,12 +61,19 @@ same-length-2 c = search needs
 returns-3 : tie.Need-returns-3
 unfolding processed recordIn
 returns-3 c =
-    let a = c .before .before .before .before .before .before .before .before .before .before .before .before .before .before .before .before .before .args in
+    let f = c .before .before .before .before .before in
+    let q = f .before .before .before in
+    let w = q .before .before in
+    let o = w .before .before .before .before .before .before .before in
+    let a = o .args in
     let k = a .stakes .now in
     let r = a .rec .now in
     let m : Lent = lentOf (a .store .now) (a .table .now) (a .work .now) (a .events .now) in
-    let fit = c .before .before .before .before .before .items-fit .ensures in
-    (sym (feeds-crowded k m r (c .before .before .before .before .before .before .before .before .before .before .before .before .before .before .before .before .before .pre .0) (omega (arith, c .before .before .before .before .before .before .before .before .before .before .if1 .left)) (sym (c .before .before .before .before .before .before .before .before .before .record-refusal .ensures) ∙ c .before .before .before .before .before .before .before .before .if2 .left) (sym (fit .0) ∙ not-true _ (c .if3 .taken))), (λ (z : _≡_ {A = ℕ} 14 0). absurd (omega arith), fit .1))
+    let fit = f .items-fit .ensures in
+    let asked = sym (q .before .record-refusal .ensures) ∙ q .if2 .left in (
+      sym (feeds-crowded k m r (o .pre .0) (omega (arith, w .if1 .left)) asked (sym (fit .0) ∙ not-true _ (c .if3 .taken))),
+      (λ (z : _≡_ {A = ℕ} 14 0). absurd (omega arith), fit .1),
+    )
 
 same-length-3 : tie.Need-same-length-3
 same-length-3 c = search needs
@@ -66,15 +84,22 @@ same-length-4 c = search needs
 returns-4 : tie.Need-returns-4
 unfolding processed recordIn
 returns-4 c =
-    let a = c .before .before .before .before .before .before .before .before .before .before .before .before .before .before .before .before .before .args in
+    let f = c .before .before .before .before .before in
+    let q = f .before .before .before in
+    let w = q .before .before in
+    let o = w .before .before .before .before .before .before .before in
+    let a = o .args in
     let k = a .stakes .now in
     let r = a .rec .now in
     let m : Lent = lentOf (a .store .now) (a .table .now) (a .work .now) (a .events .now) in
-    let fit = c .before .before .before .before .before .items-fit .ensures in
+    let fit = f .items-fit .ensures in
     let fits = sym (fit .0) ∙ not-false _ (c .if3 .left) in
-    let asked = sym (c .before .before .before .before .before .before .before .before .before .record-refusal .ensures) ∙ c .before .before .before .before .before .before .before .before .if2 .left in
-    let ok = acceptable k (m .store) (length (m .events)) r asked in
-    (sym (feeds-none k m r (c .before .before .before .before .before .before .before .before .before .before .before .before .before .before .before .before .before .pre .0) (omega (arith, c .before .before .before .before .before .before .before .before .before .before .if1 .left)) asked fits), (λ z. record { checked = feeding k (m .store) (m .table) (length (m .events)) r (c .before .before .before .before .before .before .before .before .before .before .before .before .before .before .before .before .before .pre .0) (c .before .before .before .before .before .before .before .before .before .before .before .before .before .before .before .before .before .pre .1) ok; events = ok .events; store = ok .room; items = fits }, fit .1))
+    let asked = sym (q .before .record-refusal .ensures) ∙ q .if2 .left in
+    let ok = accepted k (m .store) (length (m .events)) r asked .1 in
+    let checked = feeding k (m .store) (m .table) (length (m .events)) r (o .pre .0) (o .pre .1) asked in (
+      sym (feeds-none k m r (o .pre .0) (omega (arith, w .if1 .left)) asked fits),
+      (λ z. record { checked = checked; events = ok .events; store = ok .stored; items = fits }, fit .1),
+    )
 
 pub record-refusal-spec : {M : Type 1} → statement M
 record-refusal-spec =

@@ -25,7 +25,7 @@ returns c =
     let r = a .rec .now in
     let m : Lent = lentOf (a .store .now) (a .table .now) (a .work .now) (a .events .now) in
     let e = c .before .lent-refusal .ensures .0 in
-    gives-refusal k m r _ (e ∙ sym (feeds-lent k m r (readRecord r) (λ z. c .if1 .taken (e ∙ z)))) (c .if1 .taken)
+    gives-refusal k m r _ (e ∙ sym (feeds-lent k m (readRecord r) (λ z. c .if1 .taken (e ∙ z)))) (c .if1 .taken)
 
 record-refusal-requires : tie.Need-record-refusal-requires
 record-refusal-requires c κs =
