@@ -6,14 +6,13 @@ use mathlib.Core.Option.{Option, none, some}
 use Prim.Native.Nat.{ℕ, _≤_}
 use native.Mathlib.Decide.{ℕ-discrete}
 use native.Mathlib.Omega.{arith}
-use lib.Dec.{lit<, eqb}
+use lib.Dec.{eqb}
 use lib.ListN.{length}
 use borrow.Author.Tests.{eq-eqb, ne-eqb, eqb-true}
 use Rattle.base.specs.Lists.{pick, allOf}
 use Rattle.base.specs.Le.{Bytes}
 use Rattle.base.specs.Checks.{_⇒_, refusal, passes, Answer, refused, answered}
-use Rattle.base.proofs.Lists.{none-of, and}
-use Rattle.base.proofs.Refusals.{Numbered, refusal-first, refusal-then}
+use Rattle.base.proofs.Refusals.{refusal-first, refusal-then}
 use Rattle.committee.specs.Committee.{Committee}
 use Rattle.authority_set.specs.AuthoritySet.{AuthoritySet}
 use Rattle.rung_owners.specs.Ranked.{Ring, ringChecks, ring}
@@ -24,6 +23,7 @@ use Rattle.store_layout.specs.Layout.{entries, positionOf, lookup}
 use Rattle.store_layout.specs.Store.{recordsOf}
 use Rattle.words.specs.Words.{wordsIn, wordsOf}
 use Rattle.feeds.specs.Pending.{pendingChecks}
+use Rattle.feeds.proofs.Checks.{pending-numbered}
 use Rattle.whom_to_ring.specs.WhomToRing.{ringFor, ringAt, whomToRing}
 use Rattle.whom_to_ring.proofs.Asked.{asked-refused, asked-at}
 use Rattle.host_calls.specs.Calls.{committeeOf}
@@ -42,18 +42,14 @@ module _ (c : Committee) (s t : List ℕ) (r : AuthoritySet) where
       go true = asked-refused c s t r l h
       go false = rw (refusal-first (pendingChecks c s t) ((true ⇒ 40) ∷ []) h)
 
-  numbered : Numbered (pendingChecks c s t)
-  unfolding pendingChecks
-  numbered = and (lit< tt) (and (lit< tt) (and (lit< tt) none-of))
-
   module _ (h : refusal (pendingChecks c s t) ≡ 0) (n : ℕ) where
     pub in-none : ringIn c s t r none n ≡ refused 20
     unfolding ringIn refusal
-    in-none = rw (refusal-then (pendingChecks c s t) ((true ⇒ 20) ∷ []) numbered h)
+    in-none = rw (refusal-then (pendingChecks c s t) ((true ⇒ 20) ∷ []) (pending-numbered c s t) h)
 
     pub in-small : (l : TransactionLocator) → (n ≡ 24 → ⊥) → ringIn c s t r (some l) n ≡ refused 40
     unfolding ringIn refusal
-    in-small l k = rw (ne-eqb n 24 k, refusal-then (pendingChecks c s t) ((true ⇒ 40) ∷ []) numbered h)
+    in-small l k = rw (ne-eqb n 24 k, refusal-then (pendingChecks c s t) ((true ⇒ 40) ∷ []) (pending-numbered c s t) h)
 
     pub in-asked : (l : TransactionLocator) → n ≡ 24 → ringIn c s t r (some l) n ≡ ringAt c s t r l
     unfolding ringIn

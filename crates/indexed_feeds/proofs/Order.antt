@@ -8,7 +8,7 @@ use lib.Dec.{lit<}
 use Rattle.base.specs.Lists.{pick, allOf}
 use Rattle.base.specs.Le.{Bytes}
 use Rattle.base.specs.Checks.{refusal, passes}
-use Rattle.base.proofs.Lists.{none-of, and}
+use Rattle.base.proofs.Lists.{none-of, and, every-append}
 use Rattle.base.proofs.Checks.{refusal-append}
 use Rattle.base.proofs.Passing.{passes-append}
 use Rattle.base.proofs.Refusals.{Numbered, refusal-first, refusal-then}
@@ -16,18 +16,15 @@ use Rattle.committee.specs.Committee.{Committee}
 use Rattle.store_layout.specs.Layout.{Record}
 use Rattle.feeds.specs.Pending.{pendingChecks}
 use Rattle.feeds.specs.Feed.{Lent, lentChecks, feedChecks}
+use Rattle.feeds.proofs.Checks.{pending-numbered}
 use Rattle.finality.specs.Finality.{blocksOf}
 use Rattle.voters_index.specs.Index.{indexAgrees, indexShort}
 use Rattle.indexed_feeds.specs.IndexedFeed.{indexedLentChecks, roomChecks, indexedChecks}
 
 module _ (c : Committee) (s : Bytes) (t ix : List ℕ) where
-  pending-numbered : Numbered (pendingChecks c s t)
-  unfolding pendingChecks
-  pending-numbered = and (lit< tt) (and (lit< tt) (and (lit< tt) none-of))
-
   pub lent-numbered : Numbered (indexedLentChecks c s t ix)
-  unfolding indexedLentChecks pendingChecks
-  lent-numbered = and (lit< tt) (and (lit< tt) (and (lit< tt) (and (lit< tt) none-of)))
+  unfolding indexedLentChecks
+  lent-numbered = every-append (pendingChecks c s t) _ (pending-numbered c s t) (and (lit< tt) none-of)
 
   -- 5, 10, 11
   pub lent-pending : (refusal (pendingChecks c s t) ≡ 0 → ⊥) → refusal (indexedLentChecks c s t ix) ≡ refusal (pendingChecks c s t)
@@ -37,7 +34,7 @@ module _ (c : Committee) (s : Bytes) (t ix : List ℕ) where
   -- 54
   pub lent-index : refusal (pendingChecks c s t) ≡ 0 → refusal (indexedLentChecks c s t ix) ≡ pick (indexAgrees (blocksOf s) ix) 0 54
   unfolding indexedLentChecks refusal
-  lent-index z = refusal-then (pendingChecks c s t) _ pending-numbered z ∙ turned (indexAgrees (blocksOf s) ix)
+  lent-index z = refusal-then (pendingChecks c s t) _ (pending-numbered c s t) z ∙ turned (indexAgrees (blocksOf s) ix)
     where
       turned : (b : Bool) → pick {A = ℕ} (not b) 54 0 ≡ pick b 0 54
       turned true = refl

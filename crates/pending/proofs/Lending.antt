@@ -10,7 +10,6 @@ use Rattle.base.specs.Le.{Bytes}
 use Rattle.base.specs.Checks.{refusal, passes, refused, answered}
 use Rattle.base.proofs.Le.{AllBytes}
 use Rattle.base.proofs.Tests.{and-left, and-right, and-both, fails}
-use Rattle.base.proofs.Lists.{none-of, and}
 use Rattle.base.proofs.Checks.{passes-first, passes-others}
 use Rattle.base.proofs.Refusals.{zero-passes, passes-zero}
 use Rattle.committee.specs.Committee.{Committee, broken}
@@ -31,6 +30,7 @@ use Rattle.table_words.proofs.Finds.{found-item}
 use Rattle.table_order.proofs.Forming.{order-parts}
 use Rattle.range_votes.proofs.Voting.{formed}
 use Rattle.feeds.specs.Pending.{pendingChecks, standingOf, standingAt, pending}
+use Rattle.feeds.proofs.Checks.{pending-numbered}
 use borrow.Author.Tests.{not-false}
 
 -- a store in order can be read, and its chain is right
@@ -74,7 +74,7 @@ module _ (c : Committee) (s : Bytes) (t : List ℕ) where
   pub lying : refusal (pendingChecks c s t) ≡ 0 → Lying
   unfolding pendingChecks
   lying h =
-      let p = zero-passes (pendingChecks c s t) (and (omega arith) (and (omega arith) (and (omega arith) none-of))) h in
+      let p = zero-passes (pendingChecks c s t) (pending-numbered c s t) h in
       let q = passes-others _ _ p in
       record {
         committee = passes-first _ _ p;

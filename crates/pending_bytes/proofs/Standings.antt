@@ -6,14 +6,13 @@ use mathlib.Core.Option.{Option, none, some}
 use Prim.Native.Nat.{ℕ, _≤_, _<_}
 use native.Mathlib.Decide.{ℕ-discrete}
 use native.Mathlib.Omega.{arith}
-use lib.Dec.{lit<}
 use lib.ListN.{length}
 use borrow.Author.Tests.{eq-eqb, ne-eqb, eqb-true}
 use Rattle.base.specs.Lists.{pick, find, allOf, _∈_}
 use Rattle.base.specs.Checks.{_⇒_, refusal, passes, refused, answered}
 use Rattle.base.proofs.Tests.{and-right}
-use Rattle.base.proofs.Lists.{none-of, and, every-in, find-in}
-use Rattle.base.proofs.Refusals.{Numbered, passes-zero, refusal-first, refusal-then}
+use Rattle.base.proofs.Lists.{every-in, find-in}
+use Rattle.base.proofs.Refusals.{passes-zero, refusal-first, refusal-then}
 use Rattle.committee.specs.Committee.{Committee, known}
 use Rattle.authority_set.specs.AuthoritySet.{members, stakeOf}
 use Rattle.stake_aggregator.specs.StakeAggregator.{aggregatorInOrder}
@@ -27,6 +26,7 @@ use Rattle.pending_items.specs.Items.{Item, itemHolds, itemAt}
 use Rattle.pending_items.specs.Table.{itemsOf}
 use Rattle.pending_items.proofs.Order.{in-order}
 use Rattle.feeds.specs.Pending.{Standing, pendingChecks, standingOf, standingAt, pending}
+use Rattle.feeds.proofs.Checks.{pending-numbered}
 use Rattle.pending.proofs.Lending.{lying}
 use Rattle.host_locators.specs.Locators.{refusalBefore}
 use Rattle.pending_bytes.specs.Pending.{pendingIn, askedPending}
@@ -38,13 +38,9 @@ module _ (c : Committee) (s t : List ℕ) where
   pub table-refused : (refusal (pendingChecks c s t) ≡ 0 → ⊥) → refusal (pendingChecks c s t ++ ((true ⇒ 20) ∷ [])) ≡ refusal (pendingChecks c s t)
   table-refused h = refusal-first (pendingChecks c s t) ((true ⇒ 20) ∷ []) h
 
-  numbered : Numbered (pendingChecks c s t)
-  unfolding pendingChecks
-  numbered = and (lit< tt) (and (lit< tt) (and (lit< tt) none-of))
-
   pub table-lent : refusal (pendingChecks c s t) ≡ 0 → refusal (pendingChecks c s t ++ ((true ⇒ 20) ∷ [])) ≡ 20
   unfolding refusal
-  table-lent h = refusal-then (pendingChecks c s t) ((true ⇒ 20) ∷ []) numbered h
+  table-lent h = refusal-then (pendingChecks c s t) ((true ⇒ 20) ∷ []) (pending-numbered c s t) h
 
 module _ (c : Committee) (s t : List ℕ) (o : Option TransactionLocator) where
   pub pending-sized : length t ≡ 49160 → askedPending c s t o ≡ pendingIn c s (wordsIn 6145 t) o
