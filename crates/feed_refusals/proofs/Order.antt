@@ -1,9 +1,9 @@
 -- The checks of feeding, one group after the other. Assumes nothing.
 use mathlib.Core.Path.{_≡_, refl, sym, _∙_}
 use mathlib.Core.Bool.{Bool, true, false}
-use mathlib.Core.List.{List, []}
+use mathlib.Core.List.{[]}
 use mathlib.Core.Option.{Option, none, some}
-use Prim.Native.Nat.{ℕ, _≤_, _<_}
+use Prim.Native.Nat.{_≤_, _<_}
 use native.Mathlib.Omega.{arith}
 use lib.Dec.{ltb, leb, lit<}
 use lib.ListN.{length}
@@ -24,7 +24,7 @@ use Rattle.pending_items.specs.Table.{room}
 use Rattle.feeds.specs.Pending.{pendingChecks}
 use Rattle.feeds.specs.Feed.{Lent, processed, lentChecks, ruleChecks, acceptChecks, recordChecks, feedChecks}
 use Rattle.feeds.proofs.Checks.{read-none, read-some, pending-numbered}
-use Rattle.feeds.proofs.Keeping.{Acceptable, acceptable}
+use Rattle.feeds.proofs.Keeping.{Passed, acceptable}
 use Rattle.aggregator.specs.Step.{Feeding}
 use Rattle.pending.proofs.Lending.{lying}
 use Rattle.record_checks.proofs.Feeds.{accept-numbered}
@@ -82,26 +82,25 @@ checks-pass c m bytes w z = zero-passes _ (all-numbered c m (recordIn bytes)) (r
 
 -- ---- what it says that none of them applies
 
--- a record that passes all checks but 14
-pub accepted : (c : Committee) (s : Bytes) (n : ℕ) (rec : Bytes) → refusal (acceptChecks c s n (readRecord rec)) ≡ 0
-    → (wellFormed rec ≡ true) × Acceptable c s n (recordIn rec)
-unfolding acceptChecks ruleChecks
-accepted c s n rec z = go (wellFormed rec) refl
-  where
-    p : passes (acceptChecks c s n (readRecord rec)) ≡ true
-    p = zero-passes _ (accept-numbered c s n (readRecord rec)) z
+module _ (c : Committee) (m : Lent) (bytes : Bytes) (z : refusal (acceptChecks c (m .store) (length (m .events)) (readRecord bytes)) ≡ 0) where
+  -- a record that passes all checks but 14
+  pub accepted : (wellFormed bytes ≡ true) × Passed c m (recordIn bytes)
+  unfolding acceptChecks ruleChecks
+  accepted = go (wellFormed bytes) refl
+    where
+      p : passes (acceptChecks c (m .store) (length (m .events)) (readRecord bytes)) ≡ true
+      p = zero-passes _ (accept-numbered c (m .store) (length (m .events)) (readRecord bytes)) z
 
-    go : (t : Bool) → wellFormed rec ≡ t → (wellFormed rec ≡ true) × Acceptable c s n (recordIn rec)
-    go true w = (w, acceptable c s n (recordIn rec) (rw (read-some rec w) at p))
-    go false w = absurd (not-both refl (passes-first (true ⇒ 20) [] (rw (read-none rec w) at p)))
+      go : (t : Bool) → wellFormed bytes ≡ t → (wellFormed bytes ≡ true) × Passed c m (recordIn bytes)
+      go true w = (w, acceptable c m (recordIn bytes) (rw (read-some bytes w) at p))
+      go false w = absurd (not-both refl (passes-first (true ⇒ 20) [] (rw (read-none bytes w) at p)))
 
--- what is known before the record is counted
-pub feeding : (c : Committee) (s : Bytes) (t : List ℕ) (n : ℕ) (rec : Bytes) → refusal (pendingChecks c s t) ≡ 0 → laidOut s ≡ true
-    → refusal (acceptChecks c s n (readRecord rec)) ≡ 0 → Feeding c s rec t
-unfolding recordIn
-feeding c s t n rec h l z =
-    let a = accepted c s n rec z in
-    record { committee = lying c s t h .committee; store = l; formed = a .0; checks = a .1 .block; table = lying c s t h .table }
+  -- what is known before the record is counted
+  pub feeding : refusal (pendingChecks c (m .store) (m .table)) ≡ 0 → laidOut (m .store) ≡ true → Feeding c (m .store) bytes (m .table)
+  unfolding recordIn
+  feeding h l =
+      let s = lying c (m .store) (m .table) h in
+      record { committee = s .committee; store = l; formed = accepted .0; checks = accepted .1 .block; table = s .table }
 
 -- ---- the last refusal
 
@@ -110,7 +109,7 @@ module _ (c : Committee) (m : Lent) (bytes : Bytes) where
       (z : refusal (acceptChecks c (m .store) (length (m .events)) (readRecord bytes)) ≡ 0) where
     at-items : refusal (feedChecks c m (readRecord bytes)) ≡ pick (ltb (room (m .table)) (processed c m (recordIn bytes) .most)) 14 0
     at-items =
-        let e = read-some bytes (accepted c (m .store) (length (m .events)) bytes z .0) in
+        let e = read-some bytes (accepted c m bytes z .0) in
         feeds-record c m (readRecord bytes) h l ∙ rw e (feeds-full c m (recordIn bytes) (rw e at z))
 
     pub feeds-crowded : leb (processed c m (recordIn bytes) .most) (room (m .table)) ≡ false → refusal (feedChecks c m (readRecord bytes)) ≡ 14

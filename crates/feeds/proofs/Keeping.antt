@@ -27,36 +27,32 @@ use Rattle.feeds.specs.Pending.{pendingChecks}
 use Rattle.feeds.specs.Feed.{Lent, Fed, processed, lentChecks, ruleChecks, acceptChecks, recordChecks, feedChecks, refusedFeed, acceptedFeed, feedRecord, feed}
 use Rattle.feeds.proofs.ProcessBlock.{Sound, sound-registered, sound-processBlock, events-processBlock, length-words}
 
--- what passing the checks of a record before 14 says, where n words are lent for events
-pub record Acceptable (c : Committee) (s : Bytes) (n : ℕ) (r : Record) : Type 0 where
-  pub block : passes (blockChecks c (recordsOf s) (r .block)) ≡ true
-  pub events : eventRoom (r .block) ≤ n
-  pub stored : storeFull s r ≡ false
-
-pub acceptable : (c : Committee) (s : Bytes) (n : ℕ) (r : Record) → passes (acceptChecks c s n (some r)) ≡ true → Acceptable c s n r
-unfolding acceptChecks ruleChecks
-acceptable c s n r h =
-    let h₁ = passes-right (blockChecks c (recordsOf s) (r .block)) _ h in
-    record {
-      block = passes-left (blockChecks c (recordsOf s) (r .block)) _ h;
-      events = ltb-false _ _ (passes-first _ _ h₁);
-      stored = passes-first _ _ (passes-others _ _ h₁);
-    }
-
--- what passing all of them says
+-- what passing the checks of a record but 14 says
 pub record Passed (c : Committee) (m : Lent) (r : Record) : Type 0 where
   pub block : passes (blockChecks c (recordsOf (m .store)) (r .block)) ≡ true
   pub events : eventRoom (r .block) ≤ length (m .events)
   pub stored : storeFull (m .store) r ≡ false
-  pub items : processed c m r .most ≤ room (m .table)
 
-pub passed : (c : Committee) (m : Lent) (r : Record) → passes (feedChecks c m (some r)) ≡ true → Passed c m r
-unfolding feedChecks recordChecks
-passed c m r h =
-    let ks = acceptChecks c (m .store) (length (m .events)) (some r) in
-    let h₁ = passes-right (lentChecks c m) (recordChecks c m (some r)) h in
-    let a = acceptable c (m .store) (length (m .events)) r (passes-left ks _ h₁) in
-    record { block = a .block; events = a .events; stored = a .stored; items = ltb-false _ _ (passes-first _ _ (passes-right ks _ h₁)) }
+pub acceptable : (c : Committee) (m : Lent) (r : Record) → passes (acceptChecks c (m .store) (length (m .events)) (some r)) ≡ true → Passed c m r
+unfolding acceptChecks ruleChecks
+acceptable c m r h =
+    let h₁ = passes-right (blockChecks c (recordsOf (m .store)) (r .block)) _ h in
+    record {
+      block = passes-left (blockChecks c (recordsOf (m .store)) (r .block)) _ h;
+      events = ltb-false _ _ (passes-first _ _ h₁);
+      stored = passes-first _ _ (passes-others _ _ h₁);
+    }
+
+module _ (c : Committee) (m : Lent) (r : Record) (h : passes (feedChecks c m (some r)) ≡ true) where
+  pub passed : Passed c m r
+  unfolding feedChecks recordChecks
+  passed = acceptable c m r (passes-left (acceptChecks c (m .store) (length (m .events)) (some r)) _ (passes-right (lentChecks c m) _ h))
+
+  -- and what passing 14 says
+  pub items-fit : processed c m r .most ≤ room (m .table)
+  unfolding feedChecks recordChecks
+  items-fit =
+      ltb-false _ _ (passes-first _ _ (passes-right (acceptChecks c (m .store) (length (m .events)) (some r)) _ (passes-right (lentChecks c m) _ h)))
 
 -- a store and a table in order
 pub record State (c : Committee) (s : Bytes) (t : List ℕ) : Type 0 where
@@ -101,9 +97,10 @@ lent-state c m r p =
       table = not-false (tableInOrder c (entries (recordsOf (m .store))) (m .table)) (passes-first _ _ (passes-others _ _ h₁));
     }
 
-kept-accepted : (c : Committee) (m : Lent) (r : Record) → State c (m .store) (m .table) → Right r → Passed c m r → Kept c m (acceptedFeed c m r)
+kept-accepted : (c : Committee) (m : Lent) (r : Record) → State c (m .store) (m .table) → Right r → passes (feedChecks c m (some r)) ≡ true
+    → Kept c m (acceptedFeed c m r)
 unfolding acceptedFeed
-kept-accepted c m r h q a =
+kept-accepted c m r h q p =
     record {
       state = record { store = held .order; table = rw (held .records) (order-tableOf c (entries (r ∷ rs)) (length (m .table)) (processed c m r .items) fits (z .ordered) (z .pending)) };
       store = held .size;
@@ -114,6 +111,9 @@ kept-accepted c m r h q a =
     rs : List Record
     rs = recordsOf (m .store)
 
+    a : Passed c m r
+    a = passed c m r p
+
     held : Holding c (r ∷ rs) (m .store)
     held = accepting c (m .store) r (h .store) q (a .block) (a .stored)
 
@@ -121,7 +121,9 @@ kept-accepted c m r h q a =
     z = sound-processed c m r h a
 
     fits : 1 + 6 * length (processed c m r .items) ≤ length (m .table)
-    fits = room-fits c (entries rs) (m .table) (length (processed c m r .items)) (in-order c (entries rs) (m .table) (h .table)) (omega (arith, z .few, a .items))
+    fits =
+        room-fits c (entries rs) (m .table) (length (processed c m r .items))
+        (in-order c (entries rs) (m .table) (h .table)) (omega (arith, z .few, items-fit c m r p))
 
     enough : length (wordsOf (processed c m r .events)) ≤ length (m .events)
     enough = unfold processed in omega (arith, length-words (processed c m r .events), events-processBlock c (entries (r ∷ rs)) (r .block) (itemsOf (m .table)), a .events)
@@ -139,7 +141,7 @@ feed-keeps c m bytes h = go (readRecord bytes) refl
     go (some r) e = by-checks (passes (feedChecks c m (some r))) refl
       where
         by-checks : (t : Bool) → passes (feedChecks c m (some r)) ≡ t → Kept c m (pick t (acceptedFeed c m r) (refusedFeed m (refusal (feedChecks c m (some r)))))
-        by-checks true p = kept-accepted c m r h (readRecord-some bytes r e) (passed c m r p)
+        by-checks true p = kept-accepted c m r h (readRecord-some bytes r e) p
         by-checks false p = refused-keeps _
 
 -- ---- from fresh

@@ -24,7 +24,7 @@ use Rattle.pending_items.proofs.Table.{itemsOf-tableOf}
 use Rattle.feeds.specs.Pending.{pendingChecks}
 use Rattle.feeds.specs.Feed.{Lent, processed, lentChecks, ruleChecks, acceptChecks, recordChecks, feedChecks, refusedFeed, acceptedFeed, feedRecord, feed}
 use Rattle.feeds.specs.ProcessBlock.{wordsOf}
-use Rattle.feeds.proofs.Keeping.{Passed, passed, State, lent-state, Kept, feed-keeps}
+use Rattle.feeds.proofs.Keeping.{Passed, passed, items-fit, State, lent-state, Kept, feed-keeps}
 use Rattle.feeds.proofs.ProcessBlock.{length-words}
 use Rattle.promises.specs.FirstStatement.{EnoughMemory, KeepsRules, Counted, FirstApplies, here, later, Refused, FirstStatement}
 
@@ -117,11 +117,12 @@ others c m bytes n = unfold feed in go (readRecord bytes) refl
         let a : Passed c m r = passed c m r p in
         let s : State c (m .store) (m .table) = lent-state c m r p in
         let l = lent-facts c m r p in
+        let fits = items-fit c m r p in
         record {
           rec = r;
           formed = e;
           rules = a .block;
-          memory = record { committee = l .0; store = s .store; table = s .table; work = l .1; events = a .events; bytes = a .stored; items = a .items };
+          memory = record { committee = l .0; store = s .store; table = s .table; work = l .1; events = a .events; bytes = a .stored; items = fits };
         }
 
     go : (o : Option Record) → readRecord bytes ≡ o → Refused c m bytes (feedRecord c m o)

@@ -1,7 +1,6 @@
 use mathlib.Core.Path.{_≡_, refl, sym, _∙_}
 use Prim.Native.Nat.{ℕ}
 use native.Mathlib.Omega.{arith}
-use lib.ListN.{length}
 use borrow.Author.Tests.{not-true, not-false}
 use Rattle.store_layout.specs.Layout.{readRecord}
 use Rattle.store_layout.specs.Store.{recordIn}
@@ -49,8 +48,9 @@ items-fit-requires c κs =
     let a = o .args in
     let k = a .stakes .now in
     let r = a .rec .now in
+    let m : Lent = lentOf (a .store .now) (a .table .now) (a .work .now) (a .events .now) in
     let asked = sym (q .before .record-refusal .ensures) ∙ q .if2 .left in
-    (feeding k (a .store .now) (a .table .now) (length (a .events .now)) r (o .pre .0) (o .pre .1) asked, (omega (arith, w .if1 .left)))
+    (feeding k m r asked (o .pre .0) (o .pre .1), (omega (arith, w .if1 .left)))
 
 same-length : tie.Need-same-length
 same-length c = search needs
@@ -95,8 +95,8 @@ returns-4 c =
     let fit = f .items-fit .ensures in
     let fits = sym (fit .0) ∙ not-false _ (c .if3 .left) in
     let asked = sym (q .before .record-refusal .ensures) ∙ q .if2 .left in
-    let ok = accepted k (m .store) (length (m .events)) r asked .1 in
-    let checked = feeding k (m .store) (m .table) (length (m .events)) r (o .pre .0) (o .pre .1) asked in (
+    let ok = accepted k m r asked .1 in
+    let checked = feeding k m r asked (o .pre .0) (o .pre .1) in (
       sym (feeds-none k m r (o .pre .0) (omega (arith, w .if1 .left)) asked fits),
       (λ z. record { checked = checked; events = ok .events; store = ok .stored; items = fits }, fit .1),
     )
