@@ -35,7 +35,7 @@ use Rattle.voters_index.specs.Walk.{Past, byBlock, byOffset, Place, beyond, At}
 use Rattle.index_search.specs.Search.{Alike, Ended}
 use Rattle.index_search.proofs.Counting.{final-alike}
 use Rattle.index_listed.specs.Shown.{ShownAt}
-use Rattle.stretch_words.specs.Step.{stretchOf}
+use Rattle.stretch_words.specs.Step.{finalStretch}
 use Rattle.stretch_words.proofs.Filling.{stretch-parts}
 use Rattle.index_list.specs.After.{nextOffset, placeAfter}
 
@@ -139,7 +139,7 @@ module _ (c : Committee) (s : Bytes) (bytes : AllBytes s) (in-order : storeInOrd
         pub end-right : end ≡ stretchEnd bs k l
         end-right = end-meant bs k l law (f .shown) .only end ends-there
 
-        pub stretch-right : (stake : Stake) → stake ≡ stakeOf c v → stretchOf l end n stake ≡ stretchAt c bs k l
+        pub stretch-right : (stake : Stake) → stake ≡ stakeOf c v → finalStretch l end n stake ≡ stretchAt c bs k l
         unfolding certifiers
         stretch-right stake g =
             stretch-parts c bs k l end n stake end-right
