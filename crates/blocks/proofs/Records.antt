@@ -20,7 +20,7 @@ use Rattle.base.proofs.Le.{AllBytes, length-leBytes}
 use Rattle.base.proofs.Read.{part, items-reads, number-reads, ReadsBack, repeated-reads, complete-reads, Back, give-back, fail-back, given-back, bind-back, map-back, Items, items-back, Number, number-back, One, Many, repeated-back, complete-back}
 use Rattle.blocks.specs.Reference.{BlockReference, TransactionLocator, TransactionLocatorRange, newRange}
 use Rattle.blocks.specs.Block.{Statement, share, accept, reject, voteRange, Block}
-use Rattle.blocks.specs.Record.{readReference, readLocator, readShare, readAccept, readOther, readReject, readRange, readKind, readStatement, Edition, old, timed, Timed, editionBytes, readTime, readIn, editionOf, timedOf, blockOf, timeOf, timeIn, wellFormed, noBlock, blockIn, referenceBytes, locatorBytes, otherBytes, statementBytes, timeBytes, bytesIn, editionFor, timedBytes, blockBytes}
+use Rattle.blocks.specs.Record.{readReference, readLocator, readShare, readAccept, readOther, readReject, readRange, readKind, readStatement, Edition, old, timed, Timed, editionBytes, readTime, readIn, editionOf, timedOf, blockOf, timeOf, timeIn, wellFormed, noBlock, blockIn, referenceBytes, locatorBytes, otherBytes, statementBytes, timeBytes, bytesIn, editionFor, timedBytes}
 
 -- ---- the limits: what fits a record
 
@@ -445,10 +445,6 @@ timed-block r b h = go (timedOf r) refl h
     go : (o : Option Timed) → timedOf r ≡ o → Option·map (λ t. t .block) o ≡ some b → (t : Timed) × ((timedOf r ≡ some t) × (t .block ≡ b))
     go none e k = absurd (Option·none-ne-some b k)
     go (some t) e k = (t, (e, Option·some-injective _ _ k))
-
-pub blockOf-blockBytes : (b : Block) → BlockFits b → blockOf (blockBytes b) ≡ some b
-unfolding blockOf blockBytes editionFor
-blockOf-blockBytes b h = rw (timedOf-timedBytes (record { block = b; time = none }) (record { block = h; time = tt }))
 
 pub blockOf-fits : (r : List ℕ) (b : Block) → AllBytes r → blockOf r ≡ some b → BlockFits b
 blockOf-fits r b h k =

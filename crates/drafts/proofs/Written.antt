@@ -137,11 +137,6 @@ block-fits q d f g w =
       statements = joins-every range-fits (joins (d .statements)) (short-fits (d .statements) (w .short) (g .statements .right));
     }
 
-pub written-fits : (q : Request) (d : Draft) → fitsRequest q ≡ true → draftIn q ≡ some d → passes (formChecks d) ≡ true → BlockFits (writtenBlock d)
-written-fits q d f e p =
-    let g : RequestFits q = request-fits q f in
-    block-fits q d g (drafted q d g e) (writable d p)
-
 -- ---- the slice afterwards
 
 module _ (o : Option ℕ) where

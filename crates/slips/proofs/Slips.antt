@@ -177,10 +177,6 @@ pub slipBytes-readSlip : (r : List ℕ) (s : Slip) → AllBytes r → readSlip r
 unfolding readSlip
 slipBytes-readSlip r s h k = sym (complete-back readFirst (One slipBytes SlipFits) first-back r s h k .are)
 
-pub readSlip-fits : (r : List ℕ) (s : Slip) → AllBytes r → readSlip r ≡ some s → SlipFits s
-unfolding readSlip
-readSlip-fits r s h k = complete-back readFirst (One slipBytes SlipFits) first-back r s h k .right
-
 -- ---- the tests of the claims say what the laws ask
 
 voter-fits : (v : SlipVoter) → fitsVoter v ≡ true → VoterFits v
