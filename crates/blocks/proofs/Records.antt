@@ -1,6 +1,6 @@
 -- Block records there and back, with the edition as a parameter: what is written is read, and what is read had been written so. Assumes nothing.
 use mathlib.Core.Path.{_≡_, refl, sym, ap, _∙_, subst}
-use mathlib.Core.List.{List, [], _∷_, _++_, map, append-assoc, flatten}
+use mathlib.Core.List.{List, [], _∷_, _++_, map, append-assoc, flatten, append-nil}
 use mathlib.Core.Option.{Option, none, some, Option·map, Option·getD, Option·some-injective, Option·none-ne-some}
 use mathlib.Core.Bool.{Bool, true, false, not, _&&_}
 use Prim.Native.Nat.{ℕ, zero, suc, _+_, _*_, _%_, _^_, _≤_, _<_}
@@ -13,8 +13,8 @@ use borrow.Author.Tests.{lt-ltb, ltb-true, le-leb, leb-true, eqb-true, eqb-false
 use Rattle.base.specs.Lists.{pick, same, isNone}
 use Rattle.base.specs.Le.{leBytes}
 use Rattle.base.specs.Read.{Read, give, fail, onward, _>>=_, number, given, complete}
-use Rattle.base.proofs.Tests.{and-left, and-right, not-both}
-use Rattle.base.proofs.Lists.{append-nil, Every, none-of, and, every}
+use Rattle.base.proofs.Tests.{and-left, and-right, not-both, flag-back}
+use Rattle.base.proofs.Lists.{Every, none-of, and, every}
 use Rattle.base.proofs.Orders.{same-refl, same-true}
 use Rattle.base.proofs.Le.{AllBytes, length-leBytes}
 use Rattle.base.proofs.Read.{part, items-reads, number-reads, ReadsBack, repeated-reads, complete-reads, Back, give-back, fail-back, given-back, bind-back, map-back, Items, items-back, Number, number-back, One, Many, repeated-back, complete-back}
@@ -140,10 +140,6 @@ mark-low : (m : Bool) → leb (pick m 1 0) 1 ≡ true
 mark-low true = refl
 mark-low false = refl
 
-pub mark-back : (m : Bool) → eqb (pick m 1 0) 1 ≡ m
-mark-back true = refl
-mark-back false = refl
-
 -- a time of 64 bits fits 16 bytes
 wide-enough : (x : ℕ) → x < 18446744073709551616 → x < 256 ^ 16
 wide-enough x h = lt-trans h (lit< tt)
@@ -179,7 +175,7 @@ in-reads e t h =
       le-leb (length (b .includes)) 256 (h .block .fewIncludes),
       le-leb (length (b .statements)) 1024 (h .block .fewStatements),
       same-refl (editionBytes e),
-      mark-back (b .marked),
+      flag-back (b .marked),
       time-reads e (t .time) (h .time) (is ++ (ss ++ [])),
       repeated-reads readReference referenceBytes (b .includes) (every reference-reads (b .includes) (h .block .includes)) (ss ++ []),
       repeated-reads readStatement statementBytes (b .statements) (every statement-reads (b .statements) (h .block .statements)) [],

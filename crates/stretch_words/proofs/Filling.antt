@@ -1,7 +1,7 @@
 -- The slice as it fills, stretch by stretch. Assumes nothing.
 use mathlib.Core.Path.{_≡_, refl, sym, ap, _∙_}
 use mathlib.Core.Bool.{true, false}
-use mathlib.Core.List.{List, [], _∷_, _++_, map, flatten, append-assoc, map-append}
+use mathlib.Core.List.{List, [], _∷_, _++_, map, flatten, append-assoc, map-append, append-nil}
 use mathlib.Core.Option.{Option, none, some}
 use Prim.Native.Nat.{ℕ, zero, suc, _+_, _-_, _*_, _≤_, _<_}
 use native.Mathlib.Omega.{arith}
@@ -9,7 +9,6 @@ use native.Mathlib.Numerals.{add-one, sub-one}
 use lib.ListN.{length, drop, length-append}
 use lib.Seq.{sets, length-sets}
 use Rattle.base.specs.Lists.{keep, isNone}
-use Rattle.base.proofs.Lists.{append-nil}
 use Rattle.committee.specs.Committee.{Committee, Stake}
 use Rattle.authority_set.specs.AuthoritySet.{setOf, stakeOf}
 use Rattle.blocks.specs.Reference.{TransactionLocator}
