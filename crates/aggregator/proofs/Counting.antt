@@ -1,7 +1,7 @@
 -- Votes counted statement by statement, and runs of shares registered one by one. Assumes nothing.
 use mathlib.Core.Path.{_≡_, refl, sym, ap, _∙_, subst}
 use mathlib.Core.Bool.{Bool, true, false}
-use mathlib.Core.List.{List, [], _∷_, _++_}
+use mathlib.Core.List.{List, [], _∷_, _++_, append-nil}
 use mathlib.Core.Option.{Option, none, some}
 use Prim.Native.Nat.{ℕ, _+_, _*_, _≤_, _<_}
 use native.Mathlib.Numerals.{add-one}
@@ -9,7 +9,7 @@ use native.Mathlib.Omega.{arith}
 use lib.ListN.{length, getD, drop, drop-of-length-le}
 use lib.Seq.{drop-cons}
 use borrow.Author.Tests.{leb-true, leb-false, le-leb, lt-leb}
-use Rattle.base.proofs.Lists.{append-nil, Every}
+use Rattle.base.proofs.Lists.{Every}
 use Rattle.base.proofs.Tests.{not-both}
 use Rattle.committee.specs.Committee.{AuthorityIndex, Committee, known}
 use Rattle.blocks.specs.Reference.{TransactionLocatorRange}

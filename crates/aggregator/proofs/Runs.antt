@@ -1,13 +1,13 @@
 -- Runs of shares registered one after the other. Assumes nothing.
 use mathlib.Core.Path.{_≡_, refl, sym, ap, _∙_}
 use mathlib.Core.Bool.{Bool, true, false}
-use mathlib.Core.List.{List, [], _∷_, _++_, map, append-assoc}
+use mathlib.Core.List.{List, [], _∷_, _++_, map, append-assoc, append-nil}
 use Prim.Native.Nat.{ℕ, _*_, _≤_, _<_}
 use native.Mathlib.Omega.{arith}
 use lib.ListN.{length, length-append}
 use borrow.Author.Tests.{le-leb, lt-leb, ltb-true}
 use Rattle.base.specs.Lists.{allOf, pairwise}
-use Rattle.base.proofs.Lists.{append-nil, all-left, pairwise-pairs, all-every, every}
+use Rattle.base.proofs.Lists.{all-left, pairwise-pairs, all-every, every}
 use Rattle.base.proofs.Tests.{and-both, and-left, and-right, not-both}
 use Rattle.committee.specs.Committee.{AuthorityIndex, Committee}
 use Rattle.blocks.specs.Reference.{newRange}

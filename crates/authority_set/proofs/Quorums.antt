@@ -1,6 +1,5 @@
 -- Quorum of a vote set, computed and as a relation; two quorums meet. Assumes nothing.
 use mathlib.Core.Path.{_≡_, refl, sym, _∙_, subst}
-use mathlib.Core.Logic.{_↔_}
 use mathlib.Core.Bool.{Bool, true, _&&_}
 use mathlib.Core.List.{List, [], _∷_, map}
 use Prim.Native.Nat.{_*_, _≤_, _<_}
@@ -46,10 +45,6 @@ counted-quorum c v In h q =
       inSet = λ a m. let r = chosen-in (member v) c a m in h a (r .0) (r .1);
       quorum = omega (arith, stake-sum c v, ltb-true (2 * totalStake c) (3 * stakeOf c v) q);
     }
-
--- the members of a vote set hold quorum exactly where its stake is quorum
-pub quorum-iff : (c : Committee) (v : AuthoritySet) → HoldQuorum c (λ a. member v a ≡ true) ↔ (isQuorum c (stakeOf c v) ≡ true)
-quorum-iff c v = (quorum-counted c v (λ a. member v a ≡ true) (λ a k e. e), counted-quorum c v (λ a. member v a ≡ true) (λ a k e. e))
 
 -- a larger set holds quorum too
 pub quorum-mono : (c : Committee) (In On : AuthorityIndex → Type 0) → ((a : AuthorityIndex) → In a → On a) → HoldQuorum c In → HoldQuorum c On

@@ -1,6 +1,6 @@
 -- Who is in a vote set. Assumes nothing.
 use mathlib.Core.Path.{_≡_, refl, sym}
-use mathlib.Core.Bool.{Bool, true, false, _||_, or-false}
+use mathlib.Core.Bool.{Bool, true, false, _||_, or-false, or-comm}
 use mathlib.Core.List.{List, [], _∷_}
 use Prim.Native.Nat.{_+_, _-_, _^_, _<_}
 use native.Mathlib.Omega.{arith}
@@ -55,10 +55,4 @@ member-inserted v a b = split (decLt a 64) (decLt b 64)
 pub member-setOf : (as′ : List AuthorityIndex) (b : AuthorityIndex) → member (setOf as′) b ≡ anyOf (eqb b) as′
 unfolding setOf anyOf
 member-setOf [] b = member-nobody b
-member-setOf (a ∷ as′) b = rw (member-inserted (setOf as′) a b, member-setOf as′ b) (swap (anyOf (eqb b) as′) (eqb b a))
-  where
-    swap : (s t : Bool) → s || t ≡ t || s
-    swap true true = refl
-    swap true false = refl
-    swap false true = refl
-    swap false false = refl
+member-setOf (a ∷ as′) b = rw (member-inserted (setOf as′) a b, member-setOf as′ b) (or-comm (anyOf (eqb b) as′) (eqb b a))

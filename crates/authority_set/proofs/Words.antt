@@ -1,7 +1,7 @@
 -- Vote sets in two words of 64 bits are told apart by their members. Assumes nothing.
-use mathlib.Core.Path.{_≡_, refl, sym, _∙_}
+use mathlib.Core.Path.{_≡_, sym, _∙_}
 use mathlib.Core.Logic.{_⊎_, inl, inr}
-use mathlib.Core.Bool.{Bool, true, false, _||_}
+use mathlib.Core.Bool.{or-assoc as test-assoc}
 use Prim.Native.Nat.{ℕ, zero, suc, _+_, _-_, _*_, _/_, _%_, _^_, _≤_, _<_}
 use native.Mathlib.Nat.{mod-lt, div-one, pow-suc}
 use native.Mathlib.Omega.{arith}
@@ -90,14 +90,10 @@ or-assoc a b c =
     let y : b < 2 ^ n = wide b (omega arith) in
     let z : c < 2 ^ n = wide c (omega arith) in
     word-ext n (bitOr (bitOr a b) c) (bitOr a (bitOr b c)) (or-lt n (bitOr a b) c (or-lt n a b x y) z) (or-lt n a (bitOr b c) x (or-lt n b c y z)) (λ i l.
-    rw (bit-or (bitOr a b) c i, bit-or a b i, bit-or a (bitOr b c) i, bit-or b c i) (regroup (bit a i) (bit b i) (bit c i)))
+    rw (bit-or (bitOr a b) c i, bit-or a b i, bit-or a (bitOr b c) i, bit-or b c i) (test-assoc (bit a i) (bit b i) (bit c i)))
   where
     wide : (m : ℕ) → m ≤ a + b + c → m < 2 ^ (a + b + c)
     wide m k = omega (arith, fits (a + b + c))
-
-    regroup : (s t u : Bool) → (s || t) || u ≡ s || (t || u)
-    regroup true t u = refl
-    regroup false t u = refl
 
 -- unions may be taken in any grouping
 pub united-assoc : (u v w : AuthoritySet) → united (united u v) w ≡ united u (united v w)

@@ -12,14 +12,15 @@ use Rattle.base.proofs.Tests.{not-both, and-left, and-right}
 use Rattle.base.specs.Lists.{pick, anyOf, allOf, pairwise, keep, find, holds, isEmpty, countFrom, _∈_, here, there}
 
 module _ {A : Type 0} where
-  pub append-nil : (s : List A) → s ++ [] ≡ s
-  append-nil [] = refl
-  append-nil (x ∷ s) = ap {B = List A} (λ r. x ∷ r) (append-nil s)
-
   pub isEmpty-true : (s : List A) → isEmpty s ≡ true → s ≡ []
   unfolding isEmpty
   isEmpty-true [] h = refl
   isEmpty-true (x ∷ s) h = absurd (not-both h refl)
+
+  pub isEmpty-false : (s : List A) → 0 < length s → isEmpty s ≡ false
+  unfolding isEmpty
+  isEmpty-false [] h = absurd (omega arith)
+  isEmpty-false (x ∷ s) h = refl
 
 -- what holds of every element
 pub data Every {A : Type 0} (P : A → Type 0) : List A → Type 0 where

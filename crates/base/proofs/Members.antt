@@ -3,10 +3,11 @@ use mathlib.Core.Path.{_≡_, refl, sym, subst}
 use mathlib.Core.Logic.{_⊎_, inl, inr}
 use mathlib.Core.Bool.{Bool, true, false, true≢false}
 use mathlib.Core.List.{List, [], _∷_, _++_, map, flatten}
+use mathlib.Core.Option.{some}
 use Prim.Native.Nat.{ℕ, zero, suc, _+_, _≤_, _<_}
 use native.Mathlib.Decide.{ℕ-discrete}
 use native.Mathlib.Omega.{arith}
-use Rattle.base.specs.Lists.{pick, anyOf, allOf, keep, countFrom, _∈_, here, there, Once, empty, also}
+use Rattle.base.specs.Lists.{pick, anyOf, allOf, keep, find, countFrom, _∈_, here, there, Once, empty, also}
 use Rattle.base.proofs.Tests.{or-cases, or-left, or-right, and-both, and-left, and-right}
 
 module _ {A : Type 0} where
@@ -68,6 +69,16 @@ module _ {A : Type 0} where
   unfolding anyOf
   in-any p {x} {xs = y ∷ xs} here h = or-left (p x) (anyOf p xs) h
   in-any p {x} {xs = y ∷ ys} (there m) h = or-right (p y) (anyOf p ys) (in-any p m h)
+
+  -- where a test holds of an element one is found, that or another before it
+  pub find-some : (p : A → Bool) {x : A} (xs : List A) → x ∈ xs → p x ≡ true → (y : A) × (find p xs ≡ some y)
+  unfolding find
+  find-some p {x} (y ∷ xs) here h = (x, rw h)
+  find-some p (y ∷ xs) (there m) h = go (p y) (find-some p xs m h)
+    where
+      go : (t : Bool) → (z : A) × (find p xs ≡ some z) → (z : A) × (pick t (some y) (find p xs) ≡ some z)
+      go true z = (y, refl)
+      go false z = z
 
   -- a test holds of all elements
   pub all-in : (p : A → Bool) {x : A} (xs : List A) → allOf p xs ≡ true → x ∈ xs → p x ≡ true

@@ -1,10 +1,10 @@
 -- Where a part of a list stands. Assumes nothing.
 use mathlib.Core.Path.{_≡_, refl, sym, ap, _∙_}
-use mathlib.Core.List.{List, [], _∷_, _++_, append-assoc}
-use Prim.Native.Nat.{ℕ, _+_}
+use mathlib.Core.List.{List, [], _∷_, _++_, append-assoc, append-nil}
+use Prim.Native.Nat.{ℕ, zero, suc, _+_, _≤_}
 use native.Mathlib.Omega.{arith}
 use lib.ListN.{length, take, drop, length-append}
-use lib.Seq.{take-at, drop-at}
+use lib.Seq.{take-at, drop-at, take-take}
 
 -- v stands in l, after n elements
 pub record PartOf (l v : List ℕ) (n : ℕ) : Type 0 where
@@ -18,11 +18,7 @@ pub part-taken : (l v : List ℕ) (n : ℕ) → PartOf l v n → take (length v)
 part-taken l v n p = rw (p .are, drop-at (p .before) (v ++ p .after) n (p .many)) (take-at v (p .after) (length v) refl)
 
 pub part-complete : (l : List ℕ) → PartOf l l 0
-part-complete l = record { before = []; after = []; are = sym (nil l); many = refl }
-  where
-    nil : (l : List ℕ) → l ++ [] ≡ l
-    nil [] = refl
-    nil (x ∷ l) = ap {B = List ℕ} (λ r. x ∷ r) (nil l)
+part-complete l = record { before = []; after = []; are = sym (append-nil l); many = refl }
 
 -- with more after it, or before it
 pub part-left : (l v t : List ℕ) (n : ℕ) → PartOf l v n → PartOf (l ++ t) v n
@@ -54,3 +50,10 @@ part-at l v n m e p = record { before = p .before; after = p .after; are = p .ar
 
 pub part-same : (k l v : List ℕ) (n : ℕ) → k ≡ l → PartOf l v n → PartOf k v n
 part-same k l v n e p = record { before = p .before; after = p .after; are = e ∙ p .are; many = p .many }
+
+-- a part of the first k elements is that part of the whole
+pub part-of-front : (n m k : ℕ) (l : List ℕ) → m + n ≤ k → take n (drop m (take k l)) ≡ take n (drop m l)
+part-of-front n zero k l h = take-take n k l (omega arith)
+part-of-front n (suc m) zero l h = absurd (omega arith)
+part-of-front n (suc m) (suc k) [] h = refl
+part-of-front n (suc m) (suc k) (x ∷ l) h = part-of-front n m k l (omega arith)

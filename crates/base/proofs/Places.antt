@@ -1,4 +1,5 @@
 -- What holds of the elements of a list, by their places. Assumes nothing.
+use mathlib.Core.Path.{_≡_, refl}
 use mathlib.Core.List.{List, [], _∷_}
 use Prim.Native.Nat.{ℕ, zero, suc, _<_}
 use native.Mathlib.Omega.{arith}
@@ -11,6 +12,10 @@ module _ {A : Type 0} (d : A) where
   in-place [] j h = absurd (omega arith)
   in-place (x ∷ xs) zero h = here
   in-place (x ∷ xs) (suc j) h = there (in-place xs j (omega arith))
+
+  pub member-place : (xs : List A) {x : A} → x ∈ xs → (j : ℕ) × ((j < length xs) × (getD xs j d ≡ x))
+  member-place (y ∷ xs) here = (0, (omega arith, refl))
+  member-place (y ∷ xs) (there m) = let r = member-place xs m in (suc (r .0), (omega (arith, r .1 .0), r .1 .1))
 
   pub every-place : {P : A → Type 0} (xs : List A) (j : ℕ) → Every P xs → j < length xs → P (getD xs j d)
   every-place [] j none-of h = absurd (omega arith)

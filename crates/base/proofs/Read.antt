@@ -1,6 +1,6 @@
 -- Laws of reading: what was written is read (forward), and what was read had been written so (back). Assumes nothing.
 use mathlib.Core.Path.{_≡_, refl, sym, ap, _∙_}
-use mathlib.Core.List.{List, [], _∷_, _++_, map, append-assoc, flatten}
+use mathlib.Core.List.{List, [], _∷_, _++_, map, append-assoc, flatten, append-nil}
 use mathlib.Core.Option.{Option, none, some, Option·some-injective, Option·none-ne-some}
 use mathlib.Core.Bool.{Bool, true, false}
 use Prim.Native.Nat.{ℕ, zero, suc, _^_, _<_}
@@ -12,7 +12,7 @@ use borrow.Author.Tests.{le-leb, leb-true}
 use Rattle.base.specs.Lists.{pick, isEmpty}
 use Rattle.base.specs.Le.{leNumber, leBytes}
 use Rattle.base.specs.Read.{Part, Read, give, fail, onward, _>>=_, items, number, given, repeated, complete}
-use Rattle.base.proofs.Lists.{append-nil, isEmpty-true, Every, none-of, and}
+use Rattle.base.proofs.Lists.{isEmpty-true, Every, none-of, and}
 use Rattle.base.proofs.Le.{AllBytes, bytes-left, bytes-right, length-leBytes, leNumber-leBytes, leBytes-leNumber, leNumber-lt}
 
 abbrev pub part : {A : Type 0} → A → List ℕ → Part A

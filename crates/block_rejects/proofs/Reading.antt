@@ -1,6 +1,6 @@
 -- Reading the rejects of a block, statement by statement. Assumes nothing.
 use mathlib.Core.Path.{_≡_, sym, ap, _∙_}
-use mathlib.Core.Bool.{Bool, true, false, _||_}
+use mathlib.Core.Bool.{Bool, true, false, _||_, or-false}
 use mathlib.Core.Option.{Option}
 use Prim.Native.Nat.{ℕ, _+_, _≤_, _<_}
 use native.Mathlib.Numerals.{add-one}
@@ -11,7 +11,6 @@ use Rattle.authority_set.specs.AuthoritySet.{nobody, inserted}
 use Rattle.blocks.specs.Reference.{TransactionLocator, sameLocator}
 use Rattle.blocks.specs.Block.{reject, Block, author}
 use Rattle.blocks.specs.Record.{noStatement}
-use Rattle.block_votes.proofs.Reading.{or-false}
 use Rattle.readings.specs.Rejecting.{rejectedIn, rejects, ownReject}
 use Rattle.readings.proofs.Rejecting.{rejects-by-statement}
 use Rattle.block_rejects.specs.Speeches.{statementRejects}

@@ -115,10 +115,6 @@ leading-most (s ∷ ss) = go (isOfKind true s) (leading-most ss)
     go true h = omega arith
     go false h = omega arith
 
-pub joined-first : (b : Block) → joinedSpans b ≡ joinedAt b 0
-unfolding joinedSpans joinedAt
-joined-first b = refl
-
 module _ (b : Block) (i : ℕ) where
   pub joined-end : length (b .statements) ≤ i → joinedAt b i ≡ []
   unfolding joinedAt joinedFrom

@@ -20,7 +20,7 @@ use Rattle.store_layout.specs.Layout.{Entry, referenceOf, entries, positionOf, 
 use Rattle.store_layout.specs.Store.{blockCount, recordsOf}
 use Rattle.store_layout.specs.Entry.{blockAt, laidOut, isEntry}
 use Rattle.store_layout.specs.Step.{first}
-use Rattle.block_store.specs.Step.{LastAt, none-last, last-at, Between}
+use Rattle.block_store.specs.Step.{LastAt, none-last, last-at, Neighbours}
 use Rattle.store_layout.proofs.Chain.{lower, Ascending, least-first, ascending-ascends, next-after}
 use Rattle.store_layout.proofs.Visit.{ascending-in, in-ascending, length-ascending, length-entries}
 use Rattle.types.proofs.Words.{compared-less, compared-equal, compared-greater}
@@ -164,7 +164,7 @@ module _ (s : Bytes) (h : laidOut s ≡ true) (r : BlockReference) where
       met-last next below o p b = subst (λ (n : ℕ). LastAt (a .passed ++ (coming l .entry ∷ [])) n) (coming l .stands) (last-at (a .passed) (coming l .entry))
 
     -- a new block goes here
-    between : (below : ℕ) → LastAt (a .passed) below → Every (λ e. referenceBefore r (referenceOf e) ≡ true) (a .rest) → Between s r below at
+    between : (below : ℕ) → LastAt (a .passed) below → Every (λ e. referenceBefore r (referenceOf e) ≡ true) (a .rest) → Neighbours s r below at
     between below b high =
         record {
           lower = a .passed;
@@ -176,8 +176,8 @@ module _ (s : Bytes) (h : laidOut s ≡ true) (r : BlockReference) where
           high = λ e m. every-in (a .rest) e high m;
         }
 
-    pub between-met : (below : ℕ) (l : 0 < left) (x : BlockReference) (q : x ≡ blockAt s at .reference) → referenceOrder x r ≡ Greater → LastAt (a .passed) below → Between s r below at
+    pub between-met : (below : ℕ) (l : 0 < left) (x : BlockReference) (q : x ≡ blockAt s at .reference) → referenceOrder x r ≡ Greater → LastAt (a .passed) below → Neighbours s r below at
     between-met below l x q o b = between below b (met-high l x q o)
 
-    pub between-end : (below : ℕ) → left ≤ 0 → LastAt (a .passed) below → Between s r below at
+    pub between-end : (below : ℕ) → left ≤ 0 → LastAt (a .passed) below → Neighbours s r below at
     between-end below l b = between below b (none-left l)

@@ -23,7 +23,7 @@ use Rattle.store_layout.specs.Layout.{Record, usedBy, Entry, referenceOf, entri
 use Rattle.store_layout.specs.Store.{usedLength, blockCount, recordsOf, recordIn, storeFull, storeHolding}
 use Rattle.store_layout.specs.Entry.{laidOut}
 use Rattle.store_layout.specs.Step.{first}
-use Rattle.block_store.specs.Step.{LastAt, none-last, last-at, Between}
+use Rattle.block_store.specs.Step.{LastAt, none-last, last-at, Neighbours}
 use Rattle.store_layout.proofs.Store.{laid, length-body, length-layout, Within, entries-within}
 use Rattle.store_layout.proofs.Chain.{Distinct, next-new, next-higher, first-new, first-same}
 use Rattle.store_layout.proofs.Splice.{sets-left, sets-seam, sets-right, body-same, body-patched, entries-apart, ascending-apart, one-changed}
@@ -101,7 +101,7 @@ pub record Reach (s : Bytes) (below above : ℕ) : Type 0 where
   pub below-in : below + 4 ≤ length s
   pub above-in : above ≤ length s
 
-pub reach : (s : Bytes) → laidOut s ≡ true → (i : BlockReference) (below above : ℕ) → Between s i below above → Reach s below above
+pub reach : (s : Bytes) → laidOut s ≡ true → (i : BlockReference) (below above : ℕ) → Neighbours s i below above → Reach s below above
 unfolding positionOf first
 reach s h i below above p =
     record { below-in = by-last (p .last) (λ e m. inside e (in-left (p .higher) m)); above-in = by-next (p .higher) (p .next) (λ e m. inside e (in-right (p .lower) m)) }
@@ -122,7 +122,7 @@ reach s h i below above p =
 
 -- ---- the new store
 
-module _ (s : Bytes) (b : AllBytes s) (h : laidOut s ≡ true) (r : Record) (below above : ℕ) (p : Between s (r .block .reference) below above) (room : usedBy (r ∷ recordsOf s) ≤ length s) where
+module _ (s : Bytes) (b : AllBytes s) (h : laidOut s ≡ true) (r : Record) (below above : ℕ) (p : Neighbours s (r .block .reference) below above) (room : usedBy (r ∷ recordsOf s) ≤ length s) where
   abbrev rs : List Record
   rs = recordsOf s
 
@@ -249,7 +249,7 @@ module _ (s : Bytes) (b : AllBytes s) (h : laidOut s ≡ true) (r : Record) (bel
       by-last (last-at zs d) q m = as-next zs d q m
 
 -- the same from the numbers that the code reads and writes
-pub appended-so : (s : Bytes) → AllBytes s → (h : laidOut s ≡ true) (rec : Bytes) (below above used end count : ℕ) → Between s (blockIn rec .reference) below above → storeFull s (recordIn rec) ≡ false
+pub appended-so : (s : Bytes) → AllBytes s → (h : laidOut s ≡ true) (rec : Bytes) (below above used end count : ℕ) → Neighbours s (blockIn rec .reference) below above → storeFull s (recordIn rec) ≡ false
     → used ≡ leAt 4 s 4 → end ≡ leAt 4 s 4 + (8 + length rec) → count ≡ leAt 2 s 8 + 1
     → sets (sets (sets (sets s used (leBytes 4 above ++ (leBytes 4 (length rec) ++ rec))) 4 (leBytes 4 end)) 8 (leBytes 2 count)) below (leBytes 4 used)
     ≡ storeHolding (recordIn rec ∷ recordsOf s) s

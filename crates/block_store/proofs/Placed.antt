@@ -9,12 +9,12 @@ use Rattle.store_layout.specs.Layout.{entries, lookup}
 use Rattle.store_layout.specs.Store.{recordsOf}
 use Rattle.store_layout.proofs.Lookups.{none-is}
 use Rattle.block_store.specs.declared.Place as place
-use Rattle.block_store.specs.Step.{Between, PlacedBy}
+use Rattle.block_store.specs.Step.{Neighbours, PlacedBy}
 
-pub placed-between : (s : Bytes) (r : BlockReference) (p : place.Place) → lookup (entries (recordsOf s)) r ≡ none → PlacedBy s r p → Between s r (p .below) (p .above)
+pub placed-between : (s : Bytes) (r : BlockReference) (p : place.Place) → lookup (entries (recordsOf s)) r ≡ none → PlacedBy s r p → Neighbours s r (p .below) (p .above)
 unfolding PlacedBy
 placed-between s r p e w = go (p .stored) refl
   where
-    go : (t : Bool) → p .stored ≡ t → Between s r (p .below) (p .above)
+    go : (t : Bool) → p .stored ≡ t → Neighbours s r (p .below) (p .above)
     go true h = absurd (not-both (none-is (lookup (entries (recordsOf s)) r) e) (w .0 h .0))
     go false h = w .1 h .1

@@ -18,7 +18,7 @@ pub data LastAt : List Entry → ℕ → Type 0 where
   last-at : (es : List Entry) (e : Entry) → LastAt (es ++ (e ∷ [])) (e .position)
 
 -- of the entries in ascending order those lower than a reference, the last of them at `below`, and those higher, the first of them at `above`
-pub record Between (s : Bytes) (r : BlockReference) (below above : ℕ) : Type 0 where
+pub record Neighbours (s : Bytes) (r : BlockReference) (below above : ℕ) : Type 0 where
   pub lower : List Entry
   pub higher : List Entry
   pub sorted : ascending (entries (recordsOf s)) ≡ lower ++ higher
@@ -31,4 +31,4 @@ pub record Between (s : Bytes) (r : BlockReference) (below above : ℕ) : Type 0
 unfoldable pub PlacedBy : Bytes → BlockReference → place.Place → Type 0
 PlacedBy s r p =
     (p .stored ≡ true → (isNone (lookup (entries (recordsOf s)) r) ≡ false) × (p .above ≡ positionOf (lookup (entries (recordsOf s)) r)))
-    × (p .stored ≡ false → (lookup (entries (recordsOf s)) r ≡ none) × Between s r (p .below) (p .above))
+    × (p .stored ≡ false → (lookup (entries (recordsOf s)) r ≡ none) × Neighbours s r (p .below) (p .above))

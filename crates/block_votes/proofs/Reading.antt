@@ -1,6 +1,6 @@
 -- Reading the votes of a block, statement by statement. Assumes nothing.
 use mathlib.Core.Path.{_≡_, refl, sym, ap, _∙_}
-use mathlib.Core.Bool.{Bool, true, false, _&&_, _||_}
+use mathlib.Core.Bool.{Bool, true, false, _||_, and-false, or-false}
 use mathlib.Core.List.{List, [], _++_, Option·toList}
 use mathlib.Core.Option.{Option}
 use Prim.Native.Nat.{ℕ, _+_, _≤_, _<_}
@@ -39,20 +39,12 @@ covers-other q l h = rw h
 pub covers-early : (q : TransactionLocatorRange) (l : TransactionLocator) → l .offset < q .start → covers q l ≡ false
 unfolding covers within
 covers-early q l h = rw (lt-leb (q .start) (l .offset) h) (and-false (sameReference (q .block) (l .block)))
-  where
-    and-false : (t : Bool) → t && false ≡ false
-    and-false true = refl
-    and-false false = refl
 
 pub covers-from : (q : TransactionLocatorRange) (l : TransactionLocator) → sameReference (q .block) (l .block) ≡ true → q .start ≤ l .offset → covers q l ≡ ltb (l .offset) (q .end)
 unfolding covers within
 covers-from q l e h = rw (e, le-leb (q .start) (l .offset) h)
 
 -- ---- one statement
-
-pub or-false : (t : Bool) → t || false ≡ t
-or-false true = refl
-or-false false = refl
 
 module _ (r : BlockReference) (o : ℕ) (l : TransactionLocator) where
   pub votes-share : (p : List ℕ) → statementVotes r o (share p) l ≡ covers (oneRange (locator r o)) l

@@ -2,7 +2,7 @@
 use mathlib.Core.Path.{_≡_, refl, sym, ap, _∙_}
 use mathlib.Core.Logic.{_⊎_, inl, inr}
 use mathlib.Core.Bool.{true, false, not, _&&_}
-use mathlib.Core.List.{List, [], _∷_, map}
+use mathlib.Core.List.{List, [], _∷_}
 use mathlib.Core.Option.{Option, none, some}
 use Prim.Native.Nat.{ℕ, _<_, _≤_}
 use native.Mathlib.Omega.{arith}
@@ -19,7 +19,7 @@ use Rattle.base.proofs.Members.{in-empty, in-left, in-right, in-flatten, in-map
 use Rattle.base.proofs.Checks.{passes-none}
 use Rattle.base.proofs.Places.{in-place}
 use Rattle.committee.specs.Committee.{Committee}
-use Rattle.authority_set.specs.AuthoritySet.{nobody, inserted, united}
+use Rattle.authority_set.specs.AuthoritySet.{nobody, inserted}
 use Rattle.blocks.specs.Reference.{BlockReference, TransactionLocator, referenceKey, sameReference, referenceBefore}
 use Rattle.blocks.specs.Block.{Block, author, round}
 use Rattle.blocks.specs.Record.{noReference}
@@ -35,11 +35,10 @@ use Rattle.store_layout.proofs.Store.{in-order, entries-within}
 use Rattle.store_layout.proofs.Loops.{EntryAt, entry-at, block-of-entry}
 use Rattle.store_layout.proofs.Lookups.{lookup-in, lookup-stored}
 use Rattle.store_layout.proofs.Search.{referenceIn, order-entry, order-rises}
-use Rattle.finality.specs.Voters.{votesFor, ownVote, unions, voters}
+use Rattle.finality.specs.Voters.{votesFor, ownVote}
 use Rattle.finality.specs.Finality.{blocksOf}
 use Rattle.finality.specs.Claims.{Stored}
-use Rattle.block_votes.specs.Walk.{Sorted, SortedStore, blockAtPlace, votersAt}
-use Rattle.finality.proofs.Spoken.{spoken-step}
+use Rattle.block_votes.specs.Walk.{Sorted, SortedStore, blockAtPlace}
 use Rattle.finality.proofs.Claimed.{well-stored, small-authors}
 
 -- ---- accepted blocks
@@ -129,11 +128,6 @@ module _ (s : Bytes) (order : List ℕ) (o : SortedStore s order) where
 
     pub place-author : author (blockAtPlace s order k) < 128
     place-author = sorted-authors (blockAtPlace s order k) place-stored
-
-    -- the step: the block's own vote with its includes' voters
-    pub place-voters : (l : TransactionLocator) → votersAt s order l k ≡ united (ownVote (blockAtPlace s order k) l) (unions (map (voters (blocksOf s) l) (blockAtPlace s order k .includes)))
-    unfolding votersAt
-    place-voters l = spoken-step ownVote sorted-well l (blockAtPlace s order k) place-stored
 
     module _ (j : ℕ) (n : j < length (blockAtPlace s order k .includes)) where
       pub include-found : isStored (recordsOf s) (getD (blockAtPlace s order k .includes) j noReference) ≡ true

@@ -7,13 +7,10 @@ use lib.ListN.{getD}
 use Rattle.base.specs.Lists.{pick, anyOf}
 use Rattle.base.specs.Le.{Bytes}
 use Rattle.committee.specs.Committee.{Committee, broken}
-use Rattle.authority_set.specs.AuthoritySet.{AuthoritySet}
 use Rattle.blocks.specs.Reference.{BlockReference, TransactionLocator, TransactionLocatorRange, locator, oneRange, covers}
 use Rattle.blocks.specs.Block.{Statement, Block, isShare, votedRange}
 use Rattle.store_layout.specs.Store.{recordsOf, storeInOrder}
 use Rattle.store_layout.specs.Entry.{blockAt, laidOut, sortedPositions}
-use Rattle.finality.specs.Voters.{voters}
-use Rattle.finality.specs.Finality.{blocksOf}
 
 -- the locators for which the statement at an offset of a block votes
 unfoldable pub spanOf : BlockReference → ℕ → Statement → List TransactionLocatorRange
@@ -36,7 +33,3 @@ SortedStore s order = (c : Committee) × Sorted c s order
 -- the block at a place of that order
 unfoldable pub blockAtPlace : Bytes → List ℕ → ℕ → Block
 blockAtPlace s order k = blockAt s (getD order k 0)
-
--- its voters
-unfoldable pub votersAt : Bytes → List ℕ → TransactionLocator → ℕ → AuthoritySet
-votersAt s order l k = voters (blocksOf s) l (blockAtPlace s order k .reference)

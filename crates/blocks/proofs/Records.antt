@@ -1,6 +1,6 @@
 -- Block records there and back, with the edition as a parameter: what is written is read, and what is read had been written so. Assumes nothing.
 use mathlib.Core.Path.{_≡_, refl, sym, ap, _∙_, subst}
-use mathlib.Core.List.{List, [], _∷_, _++_, map, append-assoc, flatten}
+use mathlib.Core.List.{List, [], _∷_, _++_, map, append-assoc, flatten, append-nil}
 use mathlib.Core.Option.{Option, none, some, Option·map, Option·getD, Option·some-injective, Option·none-ne-some}
 use mathlib.Core.Bool.{Bool, true, false, not, _&&_}
 use Prim.Native.Nat.{ℕ, zero, suc, _+_, _*_, _%_, _^_, _≤_, _<_}
@@ -13,14 +13,14 @@ use borrow.Author.Tests.{lt-ltb, ltb-true, le-leb, leb-true, eqb-true, eqb-false
 use Rattle.base.specs.Lists.{pick, same, isNone}
 use Rattle.base.specs.Le.{leBytes}
 use Rattle.base.specs.Read.{Read, give, fail, onward, _>>=_, number, given, complete}
-use Rattle.base.proofs.Tests.{and-left, and-right, not-both}
-use Rattle.base.proofs.Lists.{append-nil, Every, none-of, and, every}
+use Rattle.base.proofs.Tests.{and-left, and-right, not-both, flag-back}
+use Rattle.base.proofs.Lists.{Every, none-of, and, every}
 use Rattle.base.proofs.Orders.{same-refl, same-true}
 use Rattle.base.proofs.Le.{AllBytes, length-leBytes}
 use Rattle.base.proofs.Read.{part, items-reads, number-reads, ReadsBack, repeated-reads, complete-reads, Back, give-back, fail-back, given-back, bind-back, map-back, Items, items-back, Number, number-back, One, Many, repeated-back, complete-back}
 use Rattle.blocks.specs.Reference.{BlockReference, TransactionLocator, TransactionLocatorRange, newRange}
 use Rattle.blocks.specs.Block.{Statement, share, accept, reject, voteRange, Block}
-use Rattle.blocks.specs.Record.{readReference, readLocator, readShare, readAccept, readOther, readReject, readRange, readKind, readStatement, Edition, old, timed, Timed, editionBytes, readTime, readIn, editionOf, timedOf, blockOf, timeOf, timeIn, wellFormed, noBlock, blockIn, referenceBytes, locatorBytes, otherBytes, statementBytes, timeBytes, bytesIn, editionFor, timedBytes, blockBytes}
+use Rattle.blocks.specs.Record.{readReference, readLocator, readShare, readAccept, readOther, readReject, readRange, readKind, readStatement, Edition, old, timed, Timed, editionBytes, readTime, readIn, editionOf, timedOf, blockOf, timeOf, timeIn, wellFormed, noBlock, blockIn, referenceBytes, locatorBytes, otherBytes, statementBytes, timeBytes, bytesIn, editionFor, timedBytes}
 
 -- ---- the limits: what fits a record
 
@@ -140,10 +140,6 @@ mark-low : (m : Bool) → leb (pick m 1 0) 1 ≡ true
 mark-low true = refl
 mark-low false = refl
 
-pub mark-back : (m : Bool) → eqb (pick m 1 0) 1 ≡ m
-mark-back true = refl
-mark-back false = refl
-
 -- a time of 64 bits fits 16 bytes
 wide-enough : (x : ℕ) → x < 18446744073709551616 → x < 256 ^ 16
 wide-enough x h = lt-trans h (lit< tt)
@@ -179,7 +175,7 @@ in-reads e t h =
       le-leb (length (b .includes)) 256 (h .block .fewIncludes),
       le-leb (length (b .statements)) 1024 (h .block .fewStatements),
       same-refl (editionBytes e),
-      mark-back (b .marked),
+      flag-back (b .marked),
       time-reads e (t .time) (h .time) (is ++ (ss ++ [])),
       repeated-reads readReference referenceBytes (b .includes) (every reference-reads (b .includes) (h .block .includes)) (ss ++ []),
       repeated-reads readStatement statementBytes (b .statements) (every statement-reads (b .statements) (h .block .statements)) [],
@@ -445,10 +441,6 @@ timed-block r b h = go (timedOf r) refl h
     go : (o : Option Timed) → timedOf r ≡ o → Option·map (λ t. t .block) o ≡ some b → (t : Timed) × ((timedOf r ≡ some t) × (t .block ≡ b))
     go none e k = absurd (Option·none-ne-some b k)
     go (some t) e k = (t, (e, Option·some-injective _ _ k))
-
-pub blockOf-blockBytes : (b : Block) → BlockFits b → blockOf (blockBytes b) ≡ some b
-unfolding blockOf blockBytes editionFor
-blockOf-blockBytes b h = rw (timedOf-timedBytes (record { block = b; time = none }) (record { block = h; time = tt }))
 
 pub blockOf-fits : (r : List ℕ) (b : Block) → AllBytes r → blockOf r ≡ some b → BlockFits b
 blockOf-fits r b h k =

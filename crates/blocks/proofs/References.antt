@@ -7,7 +7,7 @@ use Prim.Native.Nat.{ℕ, _<_}
 use native.Mathlib.Omega.{arith}
 use lib.Dec.{eqb, ltb}
 use borrow.Author.Tests.{eq-eqb, eqb-true, lt-ltb, ltb-true}
-use Rattle.base.specs.Lists.{same}
+use Rattle.base.specs.Lists.{same, before}
 use Rattle.base.proofs.Tests.{and-both, and-left, and-right, or-cases, or-left, or-right, fails, not-both, holds-or-not}
 use Rattle.base.proofs.Orders.{same-refl, same-true, before-irrefl, before-trans, before-total}
 use Rattle.blocks.specs.Reference.{BlockReference, TransactionLocator, referenceKey, sameReference, referenceBefore, sameLocator, locatorBefore}
@@ -95,6 +95,14 @@ is-before l m (byBlock h) = or-left (referenceBefore (l .block) (m .block)) _ h
 is-before l m (byOffset e h) = or-right (referenceBefore (l .block) (m .block)) _ (and-both _ _ (same-reference e) (lt-ltb (l .offset) (m .offset) h))
 
 -- no locator comes before itself
+-- of two rounds the lower comes first, in references and in locators
+pub round-before : (r q : BlockReference) → r .round < q .round → referenceBefore r q ≡ true
+unfolding referenceBefore referenceKey before
+round-before r q h = or-left _ _ (lt-ltb (r .round) (q .round) h)
+
+pub lower-round : (l m : TransactionLocator) → l .block .round < m .block .round → locatorBefore l m ≡ true
+lower-round l m h = is-before l m (byBlock (round-before (l .block) (m .block) h))
+
 pub locator-irrefl : (l : TransactionLocator) → locatorBefore l l ≡ true → ⊥
 locator-irrefl l h = split (precedes l l h)
   where

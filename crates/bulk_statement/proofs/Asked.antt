@@ -2,7 +2,7 @@
 use mathlib.Core.Path.{_≡_, sym, ap, subst, _∙_}
 use mathlib.Core.Logic.{_⊎_, inl, inr}
 use mathlib.Core.Bool.{Bool, true, false}
-use mathlib.Core.List.{List, [], _++_, map, map-append}
+use mathlib.Core.List.{List, [], _++_, map, map-append, append-nil}
 use mathlib.Core.Option.{Option}
 use Prim.Native.Nat.{ℕ, _/_}
 use native.Mathlib.Omega.{arith}
@@ -10,7 +10,7 @@ use lib.ListN.{length}
 use Rattle.base.specs.Lists.{_∈_, allOf}
 use Rattle.base.specs.Le.{Bytes}
 use Rattle.base.specs.Checks.{checked, passes}
-use Rattle.base.proofs.Lists.{append-nil, flatten-append}
+use Rattle.base.proofs.Lists.{flatten-append}
 use Rattle.base.proofs.Members.{in-append}
 use Rattle.committee.specs.Committee.{Committee, broken}
 use Rattle.blocks.specs.Reference.{TransactionLocator}

@@ -1,7 +1,7 @@
 -- Finding the blocks of which a test holds one after the other, in ascending reference order: their positions and authors. Assumes nothing.
 use mathlib.Core.Path.{_≡_, refl, sym, ap, subst, _∙_}
-use mathlib.Core.Bool.{Bool, true, false, _||_}
-use mathlib.Core.List.{List, [], _∷_, _++_, map}
+use mathlib.Core.Bool.{Bool, true, false, _||_, or-false}
+use mathlib.Core.List.{List, [], _∷_, _++_, map, append-nil}
 use Prim.Native.Nat.{ℕ, _+_, _<_, _≤_}
 use native.Mathlib.Omega.{arith}
 use native.Mathlib.Numerals.{add-one}
@@ -11,22 +11,22 @@ use lib.Seq.{take-suc, take-length}
 use Rattle.base.specs.Lists.{pick, anyOf, keep, _∈_, here, there}
 use Rattle.base.specs.Le.{Bytes}
 use Rattle.base.proofs.Tests.{same-test}
-use Rattle.base.proofs.Lists.{append-nil, length-keep, keep-append}
+use Rattle.base.proofs.Lists.{length-keep, keep-append}
 use Rattle.base.proofs.Members.{any-in, in-any, in-map, map-in, in-keep, keep-in}
 use Rattle.committee.specs.Committee.{AuthorityIndex, Committee}
 use Rattle.authority_set.specs.AuthoritySet.{AuthoritySet, nobody, member, inserted, setOf}
 use Rattle.authority_set.proofs.Words.{Small, small-nobody, small-inserted, set-ext}
 use Rattle.authority_set.proofs.Votes.{member-nobody, member-inserted, member-setOf}
 use Rattle.blocks.specs.Block.{Block, author}
-use Rattle.store_layout.specs.Layout.{Record, usedBy, Entry, entries, ascending}
+use Rattle.store_layout.specs.Layout.{Entry, entries, ascending}
 use Rattle.store_layout.specs.Store.{recordsOf}
 use Rattle.store_layout.specs.Entry.{blockAt, sortedPositions}
 use Rattle.store_layout.proofs.Loops.{block-of-entry}
 use Rattle.store_layout.proofs.Search.{laid-out}
 use Rattle.store_layout.proofs.Visit.{ascending-in, in-ascending}
+use Rattle.store_layout.proofs.Lookups.{block-entry}
 use Rattle.finality.specs.Finality.{blocksOf}
 use Rattle.block_votes.specs.Walk.{Sorted}
-use Rattle.block_votes.proofs.Reading.{or-false}
 use Rattle.block_votes.proofs.Sorting.{some-committee, entry-block, sorted-authors}
 
 -- ---- a list written over the front of another
@@ -106,11 +106,6 @@ authors-more s ps v p h w =
           member-inserted v (author (blockAt s p)) a ∙ ap (λ (t : Bool). t || eqb a (author (blockAt s p))) (w .are a)
           ∙ sym (any-more (eqb a) (λ q. author (blockAt s q)) ps p);
     }
-
-block-entry : (rs : List Record) (b : Block) → b ∈ map (λ r. r .block) rs → (e : Entry) × (e ∈ entries rs) × (e .block ≡ b)
-unfolding entries
-block-entry (r ∷ rs) b here = (record { position = usedBy rs; bytes = r .bytes; block = r .block }, here, refl)
-block-entry (r ∷ rs) b (there m) = let e = block-entry rs b m in (e .0, there (e .1), e .2)
 
 module _ (c : Committee) (s : Bytes) (order : List ℕ) (o : Sorted c s order) where
   pub position-block : (p : ℕ) → p ∈ order → blockAt s p ∈ blocksOf s

@@ -1,6 +1,6 @@
 -- What is given, there and back: taken apart it reads as itself, and what is read fits. Assumes nothing.
 use mathlib.Core.Path.{_≡_, refl, _∙_}
-use mathlib.Core.List.{List, [], _∷_, _++_, map, append-assoc, flatten}
+use mathlib.Core.List.{List, [], _∷_, _++_, map, append-assoc, flatten, append-nil}
 use mathlib.Core.Option.{some}
 use mathlib.Core.Bool.{Bool, true, false}
 use Prim.Native.Nat.{ℕ, _/_, _^_, _<_}
@@ -11,7 +11,7 @@ use borrow.Author.Tests.{eqb-true, eqb-false}
 use Rattle.base.specs.Lists.{pick, isEmpty}
 use Rattle.base.specs.Le.{leBytes}
 use Rattle.base.specs.Read.{give, onward, _>>=_, repeated}
-use Rattle.base.proofs.Lists.{append-nil, Every, every}
+use Rattle.base.proofs.Lists.{Every, every}
 use Rattle.base.proofs.Le.{AllBytes}
 use Rattle.base.proofs.UpTo.{ReadAll, to-end-reads, to-end-back}
 use Rattle.base.proofs.Read.{items-reads, number-reads, ReadsBack, repeated-reads, complete-reads, Back, bind-back, map-back, Items, items-back, Number, number-back, One, Many, repeated-back, complete-back}

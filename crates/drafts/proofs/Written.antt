@@ -12,7 +12,7 @@ use borrow.Author.Tests.{ltb-true, ltb-false, le-ltb, eqb-true, eq-eqb, not-fals
 use Rattle.base.specs.Lists.{pick, allOf, anyOf, isNone}
 use Rattle.base.specs.Le.{Bytes}
 use Rattle.base.specs.Checks.{passes, refused, answered, checked}
-use Rattle.base.proofs.Tests.{and-left, and-right, neither-left, neither-right}
+use Rattle.base.proofs.Tests.{and-left, and-right, neither-left, neither-right, flag-back}
 use Rattle.base.proofs.Lists.{Every, none-of, and, every}
 use Rattle.base.proofs.Le.{AllBytes}
 use Rattle.base.proofs.Checks.{passes-first, passes-others, passes-left, passes-right, checked-answered, checked-refused}
@@ -22,7 +22,7 @@ use Rattle.blocks.specs.Block.{Statement, share, accept, reject, voteRange, Blo
 use Rattle.blocks.specs.Record.{Timed, blockOf, wellFormed, referenceBytes, editionFor, timedBytes}
 use Rattle.blocks.specs.Claims.{areBytes}
 use Rattle.blocks.proofs.Claimed.{bytes-fit, time-fits}
-use Rattle.blocks.proofs.Records.{ReferenceFits, StatementFits, BlockFits, mark-back, mark-byte, timedOf-timedBytes, timed-back}
+use Rattle.blocks.proofs.Records.{ReferenceFits, StatementFits, BlockFits, mark-byte, timedOf-timedBytes, timed-back}
 use Rattle.drafts.specs.Draft.{Draft, Request, includesIn, statementsIn, withParts, draftIn, givenBytes, takenApart}
 use Rattle.drafts.specs.Joining.{joined, noNeighbours}
 use Rattle.drafts.specs.Writing.{writtenBlock, recordBytes, isLong, formChecks, writeChecks, writeDraft, writeTimed}
@@ -137,11 +137,6 @@ block-fits q d f g w =
       statements = joins-every range-fits (joins (d .statements)) (short-fits (d .statements) (w .short) (g .statements .right));
     }
 
-pub written-fits : (q : Request) (d : Draft) → fitsRequest q ≡ true → draftIn q ≡ some d → passes (formChecks d) ≡ true → BlockFits (writtenBlock d)
-written-fits q d f e p =
-    let g : RequestFits q = request-fits q f in
-    block-fits q d g (drafted q d g e) (writable d p)
-
 -- ---- the slice afterwards
 
 module _ (o : Option ℕ) where
@@ -252,7 +247,7 @@ module _ (t : Timed) (f : BlockFits (t .block)) (k : noNeighbours (t .block .sta
 
   anew-bytes : recordBytes (t .time) (draftOf b) ≡ timedBytes t
   unfolding recordBytes writtenBlock draftOf
-  anew-bytes = rw (mark-back (b .marked), joined-alone (b .statements) k)
+  anew-bytes = rw (flag-back (b .marked), joined-alone (b .statements) k)
 
   anew-passes : (out : Bytes) → length (timedBytes t) ≤ length out → passes (writeChecks (t .time) (draftOf b) out) ≡ true
   unfolding writeChecks formChecks passes allOf draftOf

@@ -1,5 +1,5 @@
 -- Where the stretch of a locator of a list ends: from edge to edge while it is shown and the certifying blocks stay the same. Assumes nothing.
-use mathlib.Core.Path.{_≡_, refl, sym, ap, subst, _∙_}
+use mathlib.Core.Path.{_≡_, sym, ap, subst, _∙_}
 use mathlib.Core.Bool.{Bool, true, false, and-false}
 use mathlib.Core.List.{List}
 use Prim.Native.Nat.{ℕ, _≤_, _<_}
@@ -9,7 +9,9 @@ use lib.ListN.{length, getD}
 use Rattle.base.specs.Lists.{pick, allOf, _∈_}
 use Rattle.base.specs.Le.{Bytes}
 use Rattle.base.proofs.Le.{AllBytes}
-use Rattle.base.proofs.Tests.{not-both, and-both, fails}
+use Rattle.base.proofs.Tests.{not-both, and-both, fails, flag-same}
+use Rattle.base.proofs.Places.{member-place}
+use Rattle.base.proofs.Members.{all-in, in-all}
 use Rattle.committee.specs.Committee.{Committee}
 use Rattle.blocks.specs.Reference.{TransactionLocator, locator}
 use Rattle.blocks.specs.Block.{Block}
@@ -21,7 +23,7 @@ use Rattle.block_votes.proofs.Sorting.{some-committee, place-stored}
 use Rattle.certifying_blocks.proofs.Finding.{block-position}
 use Rattle.readings.specs.Readings.{Reading, readingOf, certifiesIn}
 use Rattle.stretches.specs.Stretches.{Listing, agree, certifiedAlike, goesOn, EndsAt, nearest, stretchEnd}
-use Rattle.stretches.proofs.Ends.{all-in, in-all, agrees, goes-at, next-end, one-end, end-meant}
+use Rattle.stretches.proofs.Ends.{agrees, goes-at, next-end, one-end, end-meant, agree-same}
 use Rattle.reading_lists.specs.Lists.{listing}
 use Rattle.reading_lists.proofs.Least.{lists-lawful}
 use Rattle.final_walk.specs.Walk.{Flags, SameWords}
@@ -32,7 +34,6 @@ use Rattle.final_search.specs.declared.FoundFinal.{FoundFinal}
 use Rattle.final_search.specs.declared.NextStretch.{NextStretch}
 use Rattle.final_search.specs.declared.NextStretch.the-variants.{At}
 use Rattle.final_search.proofs.Onward.{when-shown}
-use Rattle.final_walk.proofs.Counting.{place-in}
 use Rattle.final_search.proofs.Ways.{list-cuts}
 
 -- the stretch of a locator goes on up to there
@@ -109,22 +110,10 @@ found-here k reading c s order flags l r f e q t =
 
 -- ---- the words say whether the certifying blocks are the same
 
-one-word : (t u : Bool) → _≡_ {A = ℕ} (pick t 1 0) (pick u 1 0) → u ≡ t
-one-word true true h = refl
-one-word true false h = absurd (omega arith)
-one-word false true h = absurd (omega arith)
-one-word false false h = refl
-
-agree-same : (t u : Bool) → u ≡ t → agree t u ≡ true
-unfolding agree
-agree-same true u h = h
-agree-same false true h = sym h
-agree-same false false h = refl
-
 module _ (ordinary : Bool) (reading : Reading) (c : Committee) (s : Bytes) (order : List ℕ) (o : Sorted c s order) (l m : TransactionLocator) (a b : List ℕ) (f : Flags reading c s order l a) (g : Flags reading c s order m b) where
   same-there : (k : ℕ) → k < length order → getD a k 0 ≡ getD b k 0 → certifiesIn reading c (blocksOf s) m (blockAtPlace s order k) ≡ certifiesIn reading c (blocksOf s) l (blockAtPlace s order k)
   unfolding Flags
-  same-there k h e = one-word _ _ (sym (f k h) ∙ e ∙ g k h)
+  same-there k h e = sym (flag-same _ _ (sym (f k h) ∙ e ∙ g k h))
 
   pub words-same : SameWords a b (length order) true → certifiedAlike (blocksOf s) (listing ordinary reading c (blocksOf s)) l m ≡ true
   unfolding SameWords certifiedAlike blockAtPlace listing
@@ -133,7 +122,7 @@ module _ (ordinary : Bool) (reading : Reading) (c : Committee) (s : Bytes) (orde
       each : (d : Block) → d ∈ blocksOf s → agree (certifiesIn reading c (blocksOf s) l d) (certifiesIn reading c (blocksOf s) m d) ≡ true
       each d i =
           let x = block-position c s order o d i in
-          let y = place-in order (x .0) (x .1) in
+          let y = member-place 0 order (x .1) in
           agree-same _ _ (subst (λ (z : Block). certifiesIn reading c (blocksOf s) m z ≡ certifiesIn reading c (blocksOf s) l z) (ap (blockAt s) (y .1 .1) ∙ x .2) (same-there (y .0) (y .1 .0) (h (y .0) (y .1 .0))))
 
   pub words-other : SameWords a b (length order) false → certifiedAlike (blocksOf s) (listing ordinary reading c (blocksOf s)) l m ≡ false
@@ -141,5 +130,5 @@ module _ (ordinary : Bool) (reading : Reading) (c : Committee) (s : Bytes) (orde
   words-other h =
       let k : ℕ = h .0 in
       fails (allOf (λ d. agree (certifiesIn reading c (blocksOf s) l d) (certifiesIn reading c (blocksOf s) m d)) (blocksOf s)) λ t.
-      let e = agrees _ _ (all-in (λ d. agree (certifiesIn reading c (blocksOf s) l d) (certifiesIn reading c (blocksOf s) m d)) (blocksOf s) t (blockAtPlace s order k) (place-stored s order (some-committee o) k (h .1 .0))) in
+      let e = agrees _ _ (all-in (λ d. agree (certifiesIn reading c (blocksOf s) l d) (certifiesIn reading c (blocksOf s) m d)) (blocksOf s) t (place-stored s order (some-committee o) k (h .1 .0))) in
       h .1 .1 (f k (h .1 .0) ∙ ap {B = ℕ} (λ (z : Bool). pick z 1 0) (sym e) ∙ sym (g k (h .1 .0)))

@@ -1,15 +1,16 @@
 -- The voters that count, in either reading. Assumes nothing.
 use mathlib.Core.Path.{_≡_, refl, sym, ap, subst, _∙_}
 use mathlib.Core.Bool.{true, false}
-use mathlib.Core.List.{List, _∷_}
-use Prim.Native.Nat.{ℕ, suc, _<_}
+use mathlib.Core.List.{List}
+use Prim.Native.Nat.{ℕ, _<_}
 use native.Mathlib.Omega.{arith}
 use lib.Dec.{eqb}
 use lib.ListN.{length, getD}
-use Rattle.base.specs.Lists.{_∈_, here, there}
+use Rattle.base.specs.Lists.{_∈_}
 use Rattle.base.specs.Le.{Bytes}
 use Rattle.base.proofs.Le.{AllBytes}
 use Rattle.base.proofs.Tests.{fails}
+use Rattle.base.proofs.Places.{member-place}
 use Rattle.authority_set.specs.AuthoritySet.{nobody}
 use Rattle.blocks.specs.Reference.{BlockReference, TransactionLocator}
 use Rattle.blocks.specs.Block.{Block}
@@ -27,11 +28,6 @@ use Rattle.certifying_blocks.proofs.Finding.{block-position}
 use Rattle.reading_lists.proofs.Between.{no-voters}
 use Rattle.speakers.specs.Heard.{Owned, HeardBelow}
 use Rattle.final_walk.specs.Walk.{counted, CountedRight}
-
--- a number stands at a place of a list
-pub place-in : (xs : List ℕ) (x : ℕ) → x ∈ xs → (k : ℕ) × ((k < length xs) × (getD xs k 0 ≡ x))
-place-in (y ∷ xs) x here = (0, (omega arith, refl))
-place-in (y ∷ xs) x (there m) = let r = place-in xs x m in (suc (r .0), (omega (arith, r .1 .0), r .1 .1))
 
 module _ (s : Bytes) (order : List ℕ) (l : TransactionLocator) where
   -- in the old reading every voter counts
@@ -63,7 +59,7 @@ none-rejects s order o l own w f r = spoken-nobody ownReject l (blocksOf s) (λ 
     quiet : (d : Block) → d ∈ blocksOf s → rejects d l ≡ false
     quiet d m =
         let p = block-position (o .0) s order (o .1) d m in
-        let y = place-in order (p .0) (p .1) in
+        let y = member-place 0 order (p .1) in
         subst (λ (x : Block). rejects x l ≡ false) (ap (blockAt s) (y .1 .1) ∙ p .2) (sym (w (y .0) (y .1 .0)) ∙ f (y .0) (y .1 .0))
 
 -- no vote reaches the last offset

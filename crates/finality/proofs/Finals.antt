@@ -2,10 +2,10 @@
 use mathlib.Core.Path.{_≡_, sym, _∙_}
 use mathlib.Core.Logic.{_↔_}
 use mathlib.Core.Bool.{true, false, not}
-use mathlib.Core.List.{List, _∷_, map}
+use mathlib.Core.List.{List, map}
 use lib.Dec.{eqb}
 use borrow.Author.Tests.{eq-eqb, eqb-true, not-true}
-use Rattle.base.specs.Lists.{_∈_, there}
+use Rattle.base.specs.Lists.{_∈_}
 use Rattle.base.proofs.Tests.{and-left, and-right, same-test}
 use Rattle.base.proofs.Members.{any-in, in-any, in-map, map-in, in-keep, keep-in}
 use Rattle.committee.specs.Committee.{AuthorityIndex, Committee}
@@ -45,10 +45,6 @@ final-grows c {bs} {cs} f {l} {m} g =
       quorum = quorum-mono c (Voter bs (k .block) l) (Voter cs (k .block) m) (voter-grows f g (k .block)) (k .quorum);
       authored = k .authored;
     })
-
--- growth: what is final stays final when a block is added
-pub final-stays : (c : Committee) (b : Block) (bs : List Block) (l : TransactionLocator) → Final c bs l → Final c (b ∷ bs) l
-final-stays c b bs l = final-grows c (λ x m. there m) (λ d m v. v)
 
 -- order: finality depends on which blocks are stored alone
 pub final-order : (c : Committee) (bs cs : List Block) (l : TransactionLocator) → ((x : Block) → x ∈ bs ↔ x ∈ cs) → Final c bs l ↔ Final c cs l

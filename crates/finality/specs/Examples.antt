@@ -25,9 +25,6 @@ four = 1 ∷ 1 ∷ 1 ∷ 1 ∷ []
 abbrev pub the : TransactionLocator
 the = record { block = ref 0 1 5; offset = 0 }
 
-abbrev pub other : TransactionLocator
-other = record { block = ref 0 1 5; offset = 1 }
-
 abbrev pub shared : Block
 shared = block (ref 0 1 5) false [] (share [] ∷ share [] ∷ [])
 

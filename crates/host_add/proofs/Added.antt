@@ -1,7 +1,7 @@
 -- Adding a vote, over bytes. Assumes nothing.
 use mathlib.Core.Path.{_≡_, refl, sym, ap, _∙_}
 use mathlib.Core.Bool.{Bool, true, false}
-use mathlib.Core.List.{List, [], _∷_, _++_, flatten}
+use mathlib.Core.List.{List, [], _∷_, _++_, flatten, append-nil}
 use Prim.Native.Nat.{ℕ, _≤_}
 use native.Mathlib.Decide.{ℕ-discrete}
 use native.Mathlib.Omega.{arith}
@@ -11,7 +11,6 @@ use borrow.Author.Tests.{eq-eqb, ne-eqb}
 use Rattle.base.specs.Lists.{pick, allOf}
 use Rattle.base.specs.Le.{leBytes, leAt}
 use Rattle.base.specs.Checks.{_⇒_, refusal, passes, refused, answered, checked}
-use Rattle.base.proofs.Lists.{append-nil}
 use Rattle.base.proofs.Le.{AllBytes, length-leBytes, sets-append}
 use Rattle.committee.specs.Committee.{Committee, broken}
 use Rattle.stake_aggregator.specs.StakeAggregator.{StakeAggregator, add, addChecks, counted, told}

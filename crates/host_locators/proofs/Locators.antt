@@ -1,5 +1,5 @@
 -- Locators as bytes, and the numbers of the questions about one. Assumes nothing.
-use mathlib.Core.Path.{_≡_, refl, ap}
+use mathlib.Core.Path.{_≡_, ap}
 use mathlib.Core.Bool.{Bool, true, false}
 use mathlib.Core.List.{List, [], _∷_, _++_}
 use mathlib.Core.Option.{Option, none, some}
@@ -12,6 +12,7 @@ use Rattle.base.specs.Lists.{pick, isEmpty, allOf}
 use Rattle.base.specs.Read.{complete}
 use Rattle.base.specs.Checks.{_⇒_, refusal, Answer, refused}
 use Rattle.base.proofs.Fixed.{reads-at, short-at}
+use Rattle.base.proofs.Lists.{isEmpty-false}
 use Rattle.committee.specs.Committee.{Committee, broken}
 use Rattle.blocks.specs.Reference.{TransactionLocator}
 use Rattle.blocks.specs.Record.{readLocator}
@@ -33,11 +34,7 @@ locator-none b h = by (decLt (length b) 56)
   where
     by : Dec (length b < 56) → complete (readLocator b) ≡ none
     by (yes k) = rw (short-at readLocator 56 fixed-locator b 0 (omega arith))
-    by (no k) = rw (reads-at readLocator 56 fixed-locator b 0 (omega arith)) (ap (λ (t : Bool). pick t (some (fixed-locator .value b)) none) (left (drop 56 b) (omega (arith, length-drop 56 b))))
-      where
-        left : (r : List ℕ) → 0 < length r → isEmpty r ≡ false
-        left [] l = absurd (omega arith)
-        left (x ∷ r) l = refl
+    by (no k) = rw (reads-at readLocator 56 fixed-locator b 0 (omega arith)) (ap (λ (t : Bool). pick t (some (fixed-locator .value b)) none) (isEmpty-false (drop 56 b) (omega (arith, length-drop 56 b))))
 
 -- ---- numbers
 

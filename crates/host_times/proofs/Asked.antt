@@ -1,7 +1,7 @@
 -- The time of a stored block, as a host asks for it. Assumes nothing.
 use mathlib.Core.Path.{_≡_, refl, ap}
-use mathlib.Core.Bool.{Bool, false}
-use mathlib.Core.List.{List, [], _∷_}
+use mathlib.Core.Bool.{Bool}
+use mathlib.Core.List.{List}
 use mathlib.Core.Option.{Option, none, some}
 use Prim.Native.Nat.{ℕ, _≤_, _<_}
 use native.Mathlib.Decide.{decLt}
@@ -12,6 +12,7 @@ use Rattle.base.specs.Lists.{pick, isEmpty, allOf}
 use Rattle.base.specs.Read.{complete}
 use Rattle.base.specs.Checks.{Answer, refused}
 use Rattle.base.proofs.Fixed.{reads-at, short-at}
+use Rattle.base.proofs.Lists.{isEmpty-false}
 use Rattle.committee.specs.Committee.{Committee}
 use Rattle.blocks.specs.Reference.{BlockReference}
 use Rattle.blocks.specs.Record.{readReference}
@@ -34,11 +35,7 @@ reference-none b h = by (decLt (length b) 48)
   where
     by : Dec (length b < 48) → complete (readReference b) ≡ none
     by (yes k) = rw (short-at readReference 48 fixed-reference b 0 (omega arith))
-    by (no k) = rw (reads-at readReference 48 fixed-reference b 0 (omega arith)) (ap (λ (t : Bool). pick t (some (fixed-reference .value b)) none) (left (drop 48 b) (omega (arith, length-drop 48 b))))
-      where
-        left : (r : List ℕ) → 0 < length r → isEmpty r ≡ false
-        left [] l = absurd (omega arith)
-        left (x ∷ r) l = refl
+    by (no k) = rw (reads-at readReference 48 fixed-reference b 0 (omega arith)) (ap (λ (t : Bool). pick t (some (fixed-reference .value b)) none) (isEmpty-false (drop 48 b) (omega (arith, length-drop 48 b))))
 
 pub time-most : (c : Committee) (s : List ℕ) (r : BlockReference) (n : ℕ) → askTime c s r ≡ refused n → n ≤ 10
 unfolding askTime timeChecks allOf

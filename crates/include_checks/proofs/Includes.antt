@@ -1,6 +1,6 @@
 -- The checks of includes by index, as code makes them, and the authors of those at the round before. Assumes nothing.
 use mathlib.Core.Path.{_≡_, refl}
-use mathlib.Core.Bool.{Bool, true, false, not}
+use mathlib.Core.Bool.{Bool, true, false}
 use mathlib.Core.List.{List, [], _∷_, map, flatten}
 use Prim.Native.Nat.{ℕ, zero, suc, _+_, _-_, _≤_, _<_}
 use native.Mathlib.Numerals.{add-one, sub-one}
@@ -8,10 +8,9 @@ use native.Mathlib.Omega.{arith}
 use lib.Dec.{eqb, ltb, leb, lit<}
 use lib.ListN.{length, getD, drop, drop-of-length-le}
 use lib.Seq.{drop-cons}
-use borrow.Author.Tests.{le-leb, lt-leb, ltb-true, leb-false}
+use borrow.Author.Tests.{le-leb, lt-leb, ltb-true, leb-false, not-false}
 use Rattle.base.specs.Lists.{pick, keep}
 use Rattle.base.specs.Checks.{refusal, passes}
-use Rattle.base.proofs.Tests.{not-both}
 use Rattle.base.proofs.Lists.{none-of, and, every-one, every-flatten}
 use Rattle.base.proofs.Checks.{passes-first, passes-others, passes-left, passes-right}
 use Rattle.base.proofs.Refusals.{Numbered}
@@ -37,16 +36,12 @@ lookup-known c a s h = go (known c a) h
 
 -- ---- 24 and 25
 
-yes-then : (t : Bool) → not t ≡ false → t ≡ true
-yes-then true e = refl
-yes-then false e = absurd (not-both refl e)
-
 -- an include that passes
 known-lower : (c : Committee) (b : Block) (i : BlockReference) → passes (includeChecks c b i) ≡ true → (i .authority < length c) × (i .round < b .reference .round)
 unfolding includeChecks known
 known-lower c b i h =
     let low : leb (b .reference .round) (i .round) ≡ false = passes-first _ _ (passes-others _ _ h) in
-    (ltb-true (i .authority) (length c) (yes-then (ltb (i .authority) (length c)) (passes-first _ _ h)), leb-false (b .reference .round) (i .round) low)
+    (ltb-true (i .authority) (length c) (not-false (ltb (i .authority) (length c)) (passes-first _ _ h)), leb-false (b .reference .round) (i .round) low)
 
 module _ (c : Committee) (b : Block) where
   -- the refusal of includes

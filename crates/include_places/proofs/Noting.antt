@@ -42,7 +42,7 @@ before-more : (s : Bytes) (order : List ℕ) (k : ℕ) → includesBefore s orde
 unfolding includesBefore
 before-more s order k = rw (add-one k)
 
-before-grows : (s : Bytes) (order : List ℕ) (k n : ℕ) → k < n → includesBefore s order k + length (blockAtPlace s order k .includes) ≤ includesBefore s order n
+pub before-grows : (s : Bytes) (order : List ℕ) (k n : ℕ) → k < n → includesBefore s order k + length (blockAtPlace s order k .includes) ≤ includesBefore s order n
 unfolding includesBefore
 before-grows s order k zero h = absurd (omega arith)
 before-grows s order k (suc n) h = go (ℕ-discrete k n) (λ l. before-grows s order k n l)
@@ -82,9 +82,6 @@ module _ (s : Bytes) (order : List ℕ) where
           (x .noted j (rw f (subst (λ (z : ℕ). j < length (blockAtPlace s order z .includes)) q l))))
       at p h j l (no q) =
           rw (x .kept (includesBefore s order p + j) (omega (arith, before-grows s order p k (omega arith)))) (w .placed p (omega arith) j l)
-
-  pub before-room : (k n : ℕ) → k < n → includesBefore s order k + length (blockAtPlace s order k .includes) ≤ includesBefore s order n
-  before-room k n h = before-grows s order k n h
 
 -- ---- who speaks below
 

@@ -35,9 +35,9 @@ use Rattle.voters_index.specs.Part.{partFrom, partIn}
 use Rattle.voters_index.specs.Index.{partWords, indexed, bodyWords, usedWords, indexAgrees}
 use Rattle.voters_index.proofs.Grown.{used-grows, agrees-used}
 use Rattle.voters_index.proofs.Checking.{agrees-part, Checked, checked-start, checked-on, checked-end}
-use Rattle.voters_index.proofs.Reading.{part-back}
+use Rattle.voters_index.proofs.Reading.{part-back, part-length}
 use Rattle.voters_index.proofs.Fitting.{run-reference}
-use Rattle.index_parts.proofs.Words.{length-part, part-count}
+use Rattle.index_parts.proofs.Words.{part-count}
 use Rattle.index_check.specs.Known.{Stands, Known}
 use Rattle.index_check.proofs.Fits.{span-fits}
 use Rattle.index_check.proofs.Arriving.{olderAt, older-none, older-all, Arrival, arrival, older-stored, own-stands}
@@ -120,7 +120,7 @@ module _ (c : Committee) (s : Bytes) (order ix starts₀ : List ℕ) (o : Sorted
       newest-stands =
           let f : drop pos ix ≡ partWords (partIn (b ∷ blocks older) (b .reference)) ++ drop e ix = ap (λ (n : ℕ). drop n ix) (g .words) ∙ part-words in
           record {
-            inside = omega (arith, ends, inside, length-part part, part-count ix pos part (drop e ix) there-is);
+            inside = omega (arith, ends, inside, part-length part, part-count ix pos part (drop e ix) there-is);
             are = part-back ix pos (partIn (b ∷ blocks older) (b .reference)) (drop e ix) f run-fits;
           }
 

@@ -56,7 +56,7 @@ pub fn next_quorum(
         if !is_dull(stakes, total, place, run) {
             return at;
         }
-        at += 10;
+        at += index_runs::RUN_WORDS;
     }
     end
 }

@@ -12,10 +12,10 @@ use Rattle.finality.specs.Finality.{blocksOf}
 use Rattle.voters_index.specs.Part.{RunsOf}
 use Rattle.voters_index.specs.Index.{indexed, usedWords, indexAgrees, indexShort}
 use Rattle.voters_index.proofs.Grown.{used-grows, agrees-used}
+use Rattle.voters_index.proofs.Reading.{part-length}
 use Rattle.index_parts.specs.Parts.{merged, Counted}
 use Rattle.index_parts.specs.declared.RunCount.{RunCount}
 use Rattle.index_parts.specs.declared.RunCount.the-variants.{Runs, TooMany}
-use Rattle.index_parts.proofs.Words.{length-part}
 use Rattle.index_check.specs.Known.{Opened}
 use Rattle.index_check.proofs.Opening.{opened-runs}
 use Rattle.index_check.proofs.Agreeing.{newest-part}
@@ -31,7 +31,7 @@ module _ (s rec : Bytes) (ix : List ℕ) (h : indexAgrees (blocksOf s) ix ≡ tr
   -- the words that are used with it
   needed : usedWords (indexed (blockIn rec ∷ blocksOf s)) ≡ getD ix 0 0 + 1 + 10 * length (newPart s rec)
   unfolding newPart
-  needed = omega (arith, used-grows (blockIn rec) (blocksOf s), agrees-used (blocksOf s) ix h, length-part (newPart s rec))
+  needed = omega (arith, used-grows (blockIn rec) (blocksOf s), agrees-used (blocksOf s) ix h, part-length (newPart s rec))
 
   pub room-short : length ix < getD ix 0 0 + 1 + 10 * length (newPart s rec) → indexShort (blockIn rec ∷ blocksOf s) ix ≡ true
   unfolding indexShort

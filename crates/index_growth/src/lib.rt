@@ -55,7 +55,13 @@ pub fn new_part_runs(
     }
     let mut cursors = [0u64; 512];
     let n = index_check::open_sources(store, order, starts, &index[..used], rec, &mut cursors);
-    index_parts::run_count(&index[..used], &mut cursors, n, rec, (room - 1) / 10)
+    index_parts::run_count(
+        &index[..used],
+        &mut cursors,
+        n,
+        rec,
+        (room - 1) / index_runs::RUN_WORDS,
+    )
 }
 
 // Appends a record's part, of so many runs, for which there is room.

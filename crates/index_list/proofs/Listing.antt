@@ -12,6 +12,7 @@ use Rattle.base.specs.Lists.{keep}
 use Rattle.base.specs.Le.{Bytes}
 use Rattle.base.proofs.Le.{AllBytes}
 use Rattle.base.proofs.Tests.{fails, and-both}
+use Rattle.base.proofs.Members.{all-in, in-all}
 use Rattle.committee.specs.Committee.{Committee, Stake}
 use Rattle.authority_set.specs.AuthoritySet.{AuthoritySet, setOf, stakeOf}
 use Rattle.blocks.specs.Reference.{BlockReference, TransactionLocator, locator, locatorBefore}
@@ -26,7 +27,7 @@ use Rattle.finality.proofs.LeastOf.{one-least}
 use Rattle.block_spans.proofs.Fits.{final-offset}
 use Rattle.stretches.specs.Stretches.{Listing, wide, agree, certifiedAlike, goesOn, EndsAt, stretchEnd, stretchAt}
 use Rattle.stretches.specs.Claims.{Lawful}
-use Rattle.stretches.proofs.Ends.{agrees, all-in, in-all, end-meant}
+use Rattle.stretches.proofs.Ends.{agrees, end-meant, agree-same}
 use Rattle.readings.specs.Readings.{old}
 use Rattle.reading_lists.specs.Lists.{listing}
 use Rattle.reading_lists.proofs.Least.{lists-lawful}
@@ -35,7 +36,7 @@ use Rattle.voters_index.specs.Walk.{Past, byBlock, byOffset, Place, beyond, At}
 use Rattle.index_search.specs.Search.{Alike, Ended}
 use Rattle.index_search.proofs.Counting.{final-alike}
 use Rattle.index_listed.specs.Shown.{ShownAt}
-use Rattle.stretch_words.specs.Step.{stretchOf}
+use Rattle.stretch_words.specs.Step.{finalStretch}
 use Rattle.stretch_words.proofs.Filling.{stretch-parts}
 use Rattle.index_list.specs.After.{nextOffset, placeAfter}
 
@@ -56,12 +57,6 @@ past-before : (r : BlockReference) (o e : ℕ) (m : TransactionLocator) → o < 
 unfolding locator
 past-before r o e m h (byBlock x) = is-before (locator r o) m (order.byBlock x)
 past-before r o e m h (byOffset x y) = is-before (locator r o) m (order.byOffset x (omega arith))
-
-agree-same : (t u : Bool) → u ≡ t → agree t u ≡ true
-unfolding agree
-agree-same true u h = h
-agree-same false true h = sym h
-agree-same false false h = refl
 
 -- after a stretch that ends there
 pub place-end : (r : BlockReference) (e : ℕ) → 0 < e → e ≤ 18446744073709551615 → placeAfter (some (locator r (e - 1))) ≡ beyond r e
@@ -133,13 +128,13 @@ module _ (c : Committee) (s : Bytes) (bytes : AllBytes s) (in-order : storeInOrd
                     differs : end < limit → certifiedAlike bs (wide c bs) l (locator (l .block) end) ≡ true → ⊥
                     differs h t =
                         let x = e .stops h in
-                        x .1 .1 (agrees _ _ (all-in (λ b. agree (certifies c bs l b) (certifies c bs (locator (l .block) end) b)) bs t (x .0) (x .1 .0)))
+                        x .1 .1 (agrees _ _ (all-in (λ b. agree (certifies c bs l b) (certifies c bs (locator (l .block) end) b)) bs t (x .1 .0)))
             stop (no u) = let z : end ≡ limit = omega (arith, e .inside) in rw (z, f .stops)
 
         pub end-right : end ≡ stretchEnd bs k l
         end-right = end-meant bs k l law (f .shown) .only end ends-there
 
-        pub stretch-right : (stake : Stake) → stake ≡ stakeOf c v → stretchOf l end n stake ≡ stretchAt c bs k l
+        pub stretch-right : (stake : Stake) → stake ≡ stakeOf c v → finalStretch l end n stake ≡ stretchAt c bs k l
         unfolding certifiers
         stretch-right stake g =
             stretch-parts c bs k l end n stake end-right

@@ -51,7 +51,7 @@ fn source_piece(index: &[u64], from: usize, count: usize, place: Place) -> Found
                 };
             }
             MaybeRun::Nothing => {
-                at = at + 10;
+                at = at + index_runs::RUN_WORDS;
                 left = left - 1;
             }
         }

@@ -23,17 +23,17 @@ fn first_ahead(index: &[u64], from: usize, end: usize, place: Place) -> usize
     ensures { λ r. ⌜ Ahead (now (index .entry)) (asPlace place) from end r ⌝ }
 {
     let mut low: usize = 0;
-    let mut high = (end - from) / 10;
+    let mut high = (end - from) / index_runs::RUN_WORDS;
     while low < high {
         let middle = low + (high - low) / 2;
-        let run = index_runs::read_run(index, from + 10 * middle);
+        let run = index_runs::read_run(index, from + index_runs::RUN_WORDS * middle);
         if index_cursors::is_passed(place, run) {
             low = middle + 1;
         } else {
             high = middle;
         }
     }
-    from + 10 * low
+    from + index_runs::RUN_WORDS * low
 }
 
 // Where a cursor stands, and where its part ends.
@@ -62,7 +62,7 @@ fn open_part(
         };
     }
     let first = start + 1;
-    let end = first + 10 * index[start] as usize;
+    let end = first + index_runs::RUN_WORDS * index[start] as usize;
     let ahead = first_ahead(index, first, end, place);
     let at = index_cursors::next_quorum(stakes, total, index, ahead, end, place);
     Opened { at, end }

@@ -24,12 +24,12 @@ use Rattle.index_pieces.proofs.Pieces.{past-not, at-beyond}
 use Rattle.index_merge.specs.Sources.{namedBy}
 use Rattle.index_prefix.specs.Prefix.{Nexts, here, onward, PassedOn}
 use Rattle.index_prefix.proofs.Chains.{not-past, chain-rest}
-use Rattle.voters_index.proofs.Reading.{length-runs}
+use Rattle.voters_index.proofs.Reading.{length-runs, part-length}
 use Rattle.index_parts.specs.declared.PartEnd.{PartEnd}
 use Rattle.index_parts.specs.declared.PartEnd.the-variants.{Ends, Differs as Other}
 use Rattle.index_parts.specs.Parts.{merged, Compared, Rested}
 use Rattle.index_parts.proofs.Unfolded.{runs-unfolded, next-first}
-use Rattle.index_parts.proofs.Words.{runsWords, length-part, words-append, part-count, part-body, part-from}
+use Rattle.index_parts.proofs.Words.{runsWords, words-append, part-count, part-body, part-from}
 
 -- ---- runs found one after the other
 
@@ -168,7 +168,7 @@ module _ (b : Block) (ix : List ℕ) (n at count : ℕ) (cs cs′ : List ℕ) (k
   pub compared : (res : PartEnd) → Rested ix (at + 10 * k) (count - k) (runs-left b ix n (at + 1) count cs cs′ k p w xs r) res → Compared ix at xs res
   unfolding Rested Compared partWords zs
   compared (Ends e) q = (
-    omega (arith, length-part xs, many, q .1 .0),
+    omega (arith, part-length xs, many, q .1 .0),
     (
       q .1 .1 .0,
       drop-next ix at inside

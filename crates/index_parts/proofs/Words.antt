@@ -12,24 +12,11 @@ use Rattle.base.proofs.Loops.{drop-next}
 use Rattle.base.proofs.Tests.{and-left, and-right, and-both, not-both}
 use Rattle.voters_index.specs.Runs.{Run}
 use Rattle.voters_index.specs.Index.{digestWords, runWords, partWords}
+use Rattle.voters_index.proofs.Reading.{length-run}
 use Rattle.index_runs.specs.Values.{startsWith}
-
--- ten words a run
-pub length-run : (x : Run) → length (runWords x) ≡ 10
-unfolding runWords digestWords
-length-run x = refl
 
 abbrev pub runsWords : List Run → List ℕ
 runsWords xs = flatten (map runWords xs)
-
-pub length-runs : (xs : List Run) → length (runsWords xs) ≡ 10 * length xs
-unfolding flatten
-length-runs [] = refl
-length-runs (x ∷ xs) = omega (arith, length-append (runWords x) (runsWords xs), length-run x, length-runs xs)
-
-pub length-part : (xs : List Run) → length (partWords xs) ≡ 1 + 10 * length xs
-unfolding partWords
-length-part xs = omega (arith, length-runs xs)
 
 words-drop : (k : ℕ) (xs : List Run) (rest : List ℕ) → k ≤ length xs → drop (10 * k) (runsWords xs ++ rest) ≡ runsWords (drop k xs) ++ rest
 unfolding flatten runWords digestWords

@@ -9,7 +9,8 @@ use lib.Seq.{sets, take-set-le, length-take-le, take-length}
 use Rattle.base.proofs.Le.{sets-append}
 use Rattle.voters_index.specs.Runs.{Run}
 use Rattle.voters_index.specs.Index.{runWords, partWords}
-use Rattle.index_parts.proofs.Words.{runsWords, length-runs, words-append, take-more}
+use Rattle.voters_index.proofs.Reading.{runs-length}
+use Rattle.index_parts.proofs.Words.{runsWords, words-append, take-more}
 
 -- words written past the first n leave these
 pub take-sets : (n : ℕ) (l vs : List ℕ) (i : ℕ) → n ≤ i → take n (sets l i vs) ≡ take n l
@@ -29,7 +30,7 @@ module _ (l₀ : List ℕ) (p : ℕ) (xs : List Run) where
   unfolding Written flatten
   written-on l k y h w e =
       ap (λ (m : List ℕ). sets m (p + 10 * k) (runWords y)) w
-      ∙ ap (λ (n : ℕ). sets (sets l₀ p (runsWords (take k xs))) (p + n) (runWords y)) (sym (length-runs (take k xs) ∙ ap (λ (n : ℕ). 10 * n) (length-take-le k xs h)))
+      ∙ ap (λ (n : ℕ). sets (sets l₀ p (runsWords (take k xs))) (p + n) (runWords y)) (sym (runs-length (take k xs) ∙ ap (λ (n : ℕ). 10 * n) (length-take-le k xs h)))
       ∙ sym (sets-append (runsWords (take k xs)) (runWords y) l₀ p)
       ∙ ap (sets l₀ p) (ap (λ (ws : List ℕ). runsWords (take k xs) ++ ws) (sym (append-nil (runWords y))) ∙ sym (words-append (take k xs) (y ∷ [])) ∙ ap runsWords (sym (take-more k xs y (drop (k + 1) xs) e)))
 

@@ -61,13 +61,13 @@ fn rest_end(
         let run = grown.run;
         own = grown.own;
         next = grown.next;
-        if index.len() - pos < 10 {
+        if index.len() - pos < index_runs::RUN_WORDS {
             return PartEnd::Differs;
         }
         if !index_runs::stands_at(index, pos, run) {
             return PartEnd::Differs;
         }
-        pos = pos + 10;
+        pos = pos + index_runs::RUN_WORDS;
         k = k + 1;
     }
 }
@@ -89,7 +89,7 @@ pub fn part_end(index: &[u64], cursors: &mut [u64], n: usize, rec: &[u8], at: us
         n,
         rec,
         mine,
-        at + 10 * passed,
+        at + index_runs::RUN_WORDS * passed,
         count - passed,
     )
 }
@@ -146,8 +146,8 @@ pub fn append_part(
         let run = grown.run;
         own = grown.own;
         next = grown.next;
-        index_runs::write_run(index, used + 1 + 10 * k, run);
+        index_runs::write_run(index, used + 1 + index_runs::RUN_WORDS * k, run);
         k = k + 1;
     }
-    index[0] = (used + 1 + 10 * count) as u64;
+    index[0] = (used + 1 + index_runs::RUN_WORDS * count) as u64;
 }

@@ -29,11 +29,11 @@ fn same_runs(index: &[u64], a: usize, b: usize, most: usize) -> usize
     requires { ⌜ (a + 10 * most ≤ length (now index)) × (b + 10 * most ≤ length (now index)) ⌝ }
     ensures { λ r. ⌜ (r ≤ most) × (runsFrom r (drop a (now (index .entry))) ≡ runsFrom r (drop b (now (index .entry)))) ⌝ }
 {
-    let words = 10 * most;
+    let words = index_runs::RUN_WORDS * most;
     let mut i: usize = 0;
     while i < words {
         if index[a + i] != index[b + i] {
-            return i / 10;
+            return i / index_runs::RUN_WORDS;
         }
         i += 1;
     }
@@ -76,7 +76,7 @@ fn apart_runs(index: &[u64], pos: usize, most: usize) -> usize
 {
     let mut k: usize = 1;
     while k < most {
-        if goes_on(index, pos + 10 * (k - 1)) {
+        if goes_on(index, pos + index_runs::RUN_WORDS * (k - 1)) {
             return k;
         }
         k += 1;
@@ -130,14 +130,17 @@ pub fn pass_shared(
     if n == 0 {
         return 0;
     }
-    let most = fewer(count, (index.len() - pos) / 10);
+    let most = fewer(count, (index.len() - pos) / index_runs::RUN_WORDS);
     let shared = shared_runs(index, cursors, n, pos, most);
     let apart = apart_runs(index, pos, shared);
     if apart < 2 {
         return 0;
     }
     let runs = apart - 1;
-    if !is_past(index_runs::read_run(index, pos + 10 * runs), own) {
+    if !is_past(
+        index_runs::read_run(index, pos + index_runs::RUN_WORDS * runs),
+        own,
+    ) {
         return 0;
     }
     move_on(cursors, n, runs);

@@ -8,20 +8,17 @@ use native.Mathlib.Numerals.{towards-suc}
 use native.Mathlib.Nat.{add-zero, add-assoc}
 use lib.Dec.{eqb}
 use lib.ListN.{length, getD, take, drop, set}
-use lib.Seq.{sets, getD-drop, take-at, drop-at, drop-drop, take-length}
+use lib.Seq.{sets, getD-drop, take-at, drop-drop, take-length}
 use Rattle.base.specs.Le.{leNumber, leBytes}
 use Rattle.base.proofs.Le.{leNumber-leBytes, sets-append}
 use Rattle.base.proofs.Loops.{drop-next}
 use Rattle.types.specs.Values.{beBytes, digestBytes}
-use Rattle.types.proofs.Written.{length-beBytes}
+use Rattle.types.proofs.Written.{length-beBytes, next-word}
 use Rattle.types.specs.declared.BlockDigest as digest
 use Rattle.voters_index.specs.Runs.{Run, run}
 use Rattle.voters_index.specs.Index.{digestWords, runWords}
 use Rattle.voters_index.specs.Walk.{runFrom}
 use Rattle.index_runs.specs.Values.{digestAt, startsWith}
-
-next-word : (n v : ℕ) (xs : List ℕ) → drop (8 + n) (beBytes 8 v ++ xs) ≡ drop n xs
-next-word n v xs = sym (drop-drop n 8 (beBytes 8 v ++ xs)) ∙ ap (drop n) (drop-at (beBytes 8 v) xs 8 (length-beBytes 8 v))
 
 -- turned twice a word is as it was
 turned-back : (n r v : ℕ) → beBytes n r ≡ leBytes n v → beBytes n v ≡ leBytes n r

@@ -14,6 +14,9 @@ ghost use Rattle.voters_index.specs.Index.{digestWords, runWords};
 ghost use Rattle.voters_index.specs.Walk.{runFrom};
 ghost use Rattle.index_runs.specs.Values.{asRun, digestAt, startsWith};
 
+// The words of a run.
+pub const RUN_WORDS: usize = 10;
+
 // Offsets of one block with the same voters.
 pub struct Run {
     pub block: BlockReference,

@@ -1,6 +1,6 @@
 -- Where the stretch of a final locator ends: from edge to edge while the flagged blocks certify. Assumes nothing.
-use mathlib.Core.Path.{_≡_, refl, sym, ap, _∙_}
-use mathlib.Core.Bool.{Bool, true, false}
+use mathlib.Core.Path.{_≡_, sym, ap, _∙_}
+use mathlib.Core.Bool.{Bool}
 use mathlib.Core.List.{List}
 use Prim.Native.Nat.{ℕ, _≤_, _<_}
 use native.Mathlib.Omega.{arith}
@@ -8,6 +8,7 @@ use native.Mathlib.Decide.{decLt}
 use lib.ListN.{length, getD}
 use Rattle.base.specs.Lists.{pick, _∈_}
 use Rattle.base.proofs.Places.{in-place}
+use Rattle.base.proofs.Tests.{flag-same}
 use Rattle.committee.specs.Committee.{Committee}
 use Rattle.blocks.specs.Reference.{BlockReference, TransactionLocator, locator}
 use Rattle.blocks.specs.Block.{Block}
@@ -30,12 +31,6 @@ pub record Going (c : Committee) (bs : List Block) (ix ends : List ℕ) (l : Tra
   pub below : from ≤ end
   pub under : from < limit
   pub watched : Watched c bs ix ends (beyond (l .block) from) cursors
-
-flag-same : (t u : Bool) → _≡_ {A = ℕ} (pick t 1 0) (pick u 1 0) → t ≡ u
-flag-same true true h = refl
-flag-same true false h = absurd (omega arith)
-flag-same false true h = absurd (omega arith)
-flag-same false false h = refl
 
 module _ (c : Committee) (bs : List Block) (ix ends : List ℕ) (l : TransactionLocator) (limit : ℕ) where
   pub going-start : (cursors : List ℕ) (edge q : ℕ) → q ≤ l .offset → l .offset < edge → l .offset < limit → Alike c bs l edge → Watched c bs ix ends (beyond (l .block) q) cursors

@@ -1,6 +1,6 @@
 -- The checks of feeding with the index, one group after the other, and what such a feed gives in each case. Assumes nothing.
 use mathlib.Core.Path.{_≡_, refl, ap, _∙_}
-use mathlib.Core.Bool.{Bool, true, false, not, _&&_}
+use mathlib.Core.Bool.{Bool, true, false, not, _&&_, and-true}
 use mathlib.Core.List.{List, _∷_, _++_}
 use mathlib.Core.Option.{Option, some}
 use Prim.Native.Nat.{ℕ}
@@ -69,7 +69,3 @@ module _ (c : Committee) (m : Lent) (ix : List ℕ) (r : Record) (h : indexAgree
   pub room-passes : passes (indexedChecks c m ix (some r)) ≡ passes (feedChecks c m (some r)) && not (indexShort (r .block ∷ blocksOf (m .store)) ix)
   unfolding roomChecks passes allOf
   room-passes = agreed-passes c m ix (some r) h ∙ (unfold passes in passes-append (feedChecks c m (some r)) _) ∙ ap (λ (t : Bool). passes (feedChecks c m (some r)) && t) (and-true _)
-    where
-      and-true : (t : Bool) → t && true ≡ t
-      and-true true = refl
-      and-true false = refl

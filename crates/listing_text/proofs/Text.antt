@@ -1,7 +1,7 @@
 -- Text in a buffer. Assumes nothing.
 use mathlib.Core.Path.{_≡_, refl, sym, ap, _∙_}
 use mathlib.Core.Bool.{Bool, true, false}
-use mathlib.Core.List.{List, [], _∷_, _++_, map, flatten, append-assoc}
+use mathlib.Core.List.{List, [], _∷_, _++_, map, flatten, append-assoc, append-nil}
 use Prim.Native.Nat.{ℕ, zero, suc, _+_, _*_, _/_, _%_, _^_, _-_, _≤_, _<_}
 use native.Mathlib.Numerals.{add-one, sub-one}
 use native.Mathlib.Nat.{pow-suc}
@@ -11,7 +11,6 @@ use lib.ListN.{length, getD, take, set, length-append}
 use lib.Seq.{length-sets, take-suc, length-take-le}
 use borrow.Author.Tests.{lt-ltb, le-ltb}
 use Rattle.base.specs.Lists.{pick}
-use Rattle.base.proofs.Lists.{append-nil}
 use Rattle.base.proofs.Le.{sets-append}
 use Rattle.listing_text.specs.Text.{digitsIn, decimal, hexDigit, hex, fields, line, Wrote, numbers, numberLine}
 

@@ -1,20 +1,19 @@
 -- The list of loadable stored shares. Assumes nothing.
 use mathlib.Core.Path.{_≡_, refl, sym, ap₂, subst, _∙_}
-use mathlib.Core.Bool.{Bool, true}
+use mathlib.Core.Bool.{Bool}
 use mathlib.Core.List.{List}
 use mathlib.Core.Option.{some, Option·some-injective, Option·none-ne-some}
 use Prim.Native.Nat.{_≤_, _<_}
 use lib.ListN.{length}
-use borrow.Author.Tests.{lt-ltb}
-use Rattle.base.specs.Lists.{anyOf, keep, before, _∈_, here}
+use Rattle.base.specs.Lists.{anyOf, keep, _∈_, here}
 use Rattle.base.specs.Le.{Bytes}
-use Rattle.base.proofs.Tests.{or-left, same-test}
+use Rattle.base.proofs.Tests.{same-test}
 use Rattle.base.proofs.Lists.{length-keep}
 use Rattle.base.proofs.Members.{any-in, in-any, in-right, in-keep, keep-in}
 use Rattle.committee.specs.Committee.{Committee}
-use Rattle.blocks.specs.Reference.{TransactionLocator, referenceKey, referenceBefore, sameLocator, locatorBefore}
+use Rattle.blocks.specs.Reference.{TransactionLocator, sameLocator}
 use Rattle.blocks.specs.Block.{Block}
-use Rattle.blocks.proofs.References.{byBlock, is-before, locator-same, same-locator}
+use Rattle.blocks.proofs.References.{locator-same, same-locator, lower-round}
 use Rattle.store_layout.proofs.Stored.{WellStored}
 use Rattle.finality.specs.Ancestry.{Final}
 use Rattle.finality.proofs.Finals.{is-final}
@@ -32,11 +31,6 @@ use Rattle.loadable.specs.Loadable.{Loadable, alone, following, isLoadab
 use Rattle.loadable.specs.Claims.{NeededFirst, ListMeant, SameLoadable}
 use Rattle.loadable.proofs.Payloads.{one-payload}
 use Rattle.loadable.proofs.Meaning.{loadable-stored, loadable-stays, loadable-is, is-loadable}
-
--- a locator of a lower round comes first
-pub round-before : (m l : TransactionLocator) → m .block .round < l .block .round → locatorBefore m l ≡ true
-unfolding referenceBefore referenceKey before
-round-before m l h = is-before m l (byBlock (or-left _ _ (lt-ltb (m .block .round) (l .block .round) h)))
 
 loadable-final : {c : Committee} {bs : List Block} {l : TransactionLocator} → Loadable c bs l → Final c bs l
 loadable-final (alone s f e) = f
@@ -71,7 +65,7 @@ module _ (c : Committee) {bs : List Block} (w : WellStored bs) where
   needed-first xs l ys e p m s k =
       let own : l ∈ loadableList c bs = subst (λ (ls : List TransactionLocator). l ∈ ls) (sym e) (in-right xs here) in
       let x = needed-loadable w (list-in l own) s m k in
-      stands-before xs l ys (subst Ascending e list-ascending) m (subst (λ (ls : List TransactionLocator). m ∈ ls) e (in-list m (x .1))) (round-before m l (x .0))
+      stands-before xs l ys (subst Ascending e list-ascending) m (subst (λ (ls : List TransactionLocator). m ∈ ls) e (in-list m (x .1))) (lower-round m l (x .0))
 
   agrees : (l : TransactionLocator) → isLoadable c bs l ≡ anyOf (sameLocator l) (loadableList c bs)
   agrees l =

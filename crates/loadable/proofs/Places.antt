@@ -1,17 +1,16 @@
 -- The places of the list. Assumes nothing.
 use mathlib.Core.Path.{_≡_, refl, sym, ap, ap₂, _∙_}
-use mathlib.Core.Bool.{Bool, true, false, not}
+use mathlib.Core.Bool.{Bool, true, false}
 use mathlib.Core.List.{List, [], _∷_, _++_, map, flatten}
 use mathlib.Core.Option.{Option, some}
 use Prim.Native.Nat.{ℕ, _*_, _/_, _≤_}
 use native.Mathlib.Nat.{mul-div-le}
 use native.Mathlib.Omega.{arith}
 use lib.ListN.{length, drop, length-append, length-drop}
-use borrow.Author.Tests.{ltb-false}
+use borrow.Author.Tests.{ltb-false, not-false}
 use Rattle.base.specs.Lists.{pick, _∈_, here, there}
 use Rattle.base.specs.Le.{Bytes}
 use Rattle.base.specs.Checks.{passes}
-use Rattle.base.proofs.Tests.{not-both}
 use Rattle.base.proofs.Members.{keep-in}
 use Rattle.base.proofs.Lists.{holds-some, length-keep}
 use Rattle.base.proofs.Checks.{passes-first, passes-others}
@@ -73,10 +72,6 @@ read-back c s h (l ∷ ls) f rest =
     let e = place-block c s h l (f l here) in
     ap₂ {C = List TransactionLocator} (λ x xs. x ∷ xs) (λ i. record { block = e i; offset = l .offset }) (read-back c s h ls (λ x m. f x (there m)) rest)
 
-turned : (t : Bool) → not t ≡ false → t ≡ true
-turned true h = refl
-turned false h = absurd (not-both refl h)
-
 pub places-read : (c : Committee) (s : Bytes) (ps : List ℕ) → passes (listChecks c s ps) ≡ true
     → namedBy s (length (loadableList c (blocksOf s))) (loadableQuestions c s ps .places) ≡ loadableList c (blocksOf s)
 unfolding loadableQuestions
@@ -86,7 +81,7 @@ places-read c s ps h =
     (drop (2 * length (loadableList c (blocksOf s))) ps))
   where
     in-order-too : passes (listChecks c s ps) ≡ true → storeInOrder c s ≡ true
-    in-order-too k = unfold listChecks in turned (storeInOrder c s) (passes-first _ _ (passes-others _ _ k))
+    in-order-too k = unfold listChecks in not-false (storeInOrder c s) (passes-first _ _ (passes-others _ _ k))
 
 -- ---- how long they are
 

@@ -1,16 +1,16 @@
 -- Going through the stored shares in ascending order. Assumes nothing.
 use mathlib.Core.Path.{_≡_, refl, sym, ap, subst, _∙_}
 use mathlib.Core.Bool.{Bool, true, false}
-use mathlib.Core.List.{List, [], _∷_, _++_, append-assoc}
+use mathlib.Core.List.{List, [], _∷_, _++_, append-assoc, append-nil}
 use Prim.Native.Nat.{_<_}
 use Rattle.base.specs.Lists.{pick, anyOf, keep, _∈_}
 use Rattle.base.proofs.Tests.{same-test}
-use Rattle.base.proofs.Lists.{append-nil, keep-append}
+use Rattle.base.proofs.Lists.{keep-append}
 use Rattle.base.proofs.Members.{any-in, in-any, in-keep, keep-in}
 use Rattle.committee.specs.Committee.{Committee}
 use Rattle.blocks.specs.Reference.{TransactionLocator, sameLocator}
 use Rattle.blocks.specs.Block.{Block}
-use Rattle.blocks.proofs.References.{locator-same, same-locator}
+use Rattle.blocks.proofs.References.{locator-same, same-locator, lower-round}
 use Rattle.store_layout.proofs.Stored.{WellStored}
 use Rattle.finality.proofs.FinalList.{Ascending, ascending-unique, keep-ascending}
 use Rattle.stored_finals.specs.Shares.{storedShares}
@@ -21,7 +21,7 @@ use Rattle.stored_finals.proofs.Lists.{final-shares-ascending}
 use Rattle.loadable.specs.Loadable.{Loadable, isLoadable, loadableList, loadableAfter, foundOn}
 use Rattle.loadable.specs.Claims.{Walked}
 use Rattle.loadable.proofs.Meaning.{loadable-stored, loadable-is, is-loadable, by-test}
-use Rattle.loadable.proofs.Lists.{round-before, list-in, in-list, list-ascending, list-meant}
+use Rattle.loadable.proofs.Lists.{list-in, in-list, list-ascending, list-meant}
 
 -- through an ascending list that has every loadable share
 module _ (c : Committee) {bs : List Block} (w : WellStored bs) (zs : List TransactionLocator) (up : Ascending zs)
@@ -36,7 +36,7 @@ module _ (c : Committee) {bs : List Block} (w : WellStored bs) (zs : List Transa
       rw (locator-same m (x .0) (x .2)) (keep-in (isLoadable c bs) xs (x .1) .1))
       (λ h.
       let there-is = subst (λ (ls : List TransactionLocator). m ∈ ls) e (every m (loadable-is c w m h)) in
-      let i = stands-before xs l ys (subst Ascending e up) m there-is (round-before m l r) in
+      let i = stands-before xs l ys (subst Ascending e up) m there-is (lower-round m l r) in
       in-any (sameLocator m) (in-keep (isLoadable c bs) xs i h) (same-locator refl))
 
   stepwise : (xs : List TransactionLocator) (l : TransactionLocator) (ys : List TransactionLocator) → zs ≡ xs ++ l ∷ ys

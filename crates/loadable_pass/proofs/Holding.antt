@@ -1,7 +1,7 @@
 -- The places while the stored shares are gone through. Assumes nothing.
 use mathlib.Core.Path.{_≡_, refl, sym, ap, ap₂, subst, _∙_}
 use mathlib.Core.Bool.{Bool, true, false}
-use mathlib.Core.List.{List, [], _∷_, _++_, map, map-append, append-assoc, flatten}
+use mathlib.Core.List.{List, [], _∷_, _++_, map, map-append, append-assoc, flatten, append-nil}
 use mathlib.Core.Option.{some}
 use Prim.Native.Nat.{ℕ, _+_, _-_, _*_, _≤_}
 use native.Mathlib.Omega.{arith}
@@ -9,7 +9,7 @@ use lib.ListN.{length, take, drop, length-append, take-append-drop}
 use lib.Seq.{sets, sets-eq, length-sets, length-take-le, take-at, drop-at, drop-drop}
 use Rattle.base.specs.Lists.{pick, anyOf, keep, holds, _∈_}
 use Rattle.base.specs.Le.{Bytes}
-use Rattle.base.proofs.Lists.{append-nil, keep-append, length-keep, flatten-append}
+use Rattle.base.proofs.Lists.{keep-append, length-keep, flatten-append}
 use Rattle.base.proofs.Members.{in-left, keep-in}
 use Rattle.committee.specs.Committee.{Committee}
 use Rattle.blocks.specs.Reference.{TransactionLocator, sameLocator}

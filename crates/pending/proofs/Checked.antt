@@ -2,8 +2,8 @@
 use mathlib.Core.Path.{_≡_, refl, sym, _∙_}
 use mathlib.Core.Logic.{_⊎_, inl, inr}
 use mathlib.Core.Bool.{Bool, true, false}
-use mathlib.Core.List.{List, [], _∷_}
-use mathlib.Core.Option.{none, some}
+use mathlib.Core.List.{List, [], _∷_, append-nil}
+use mathlib.Core.Option.{none}
 use Prim.Native.Nat.{ℕ, _+_, _≤_, _<_}
 use native.Mathlib.Decide.{decLt}
 use native.Mathlib.Omega.{arith}
@@ -14,7 +14,8 @@ use Rattle.base.specs.Lists.{pick, find, holds, _∈_, here, there}
 use Rattle.base.specs.Le.{Bytes}
 use Rattle.base.proofs.Tests.{fails, not-both}
 use Rattle.base.proofs.Places.{every-place, places-every, pairs-places}
-use Rattle.base.proofs.Lists.{append-nil, find-passes, find-in, every-in, every-all, all-every}
+use Rattle.base.proofs.Lists.{find-passes, find-in, every-in, every-all, all-every}
+use Rattle.base.proofs.Members.{find-some}
 use Rattle.blocks.specs.Record.{blockIn}
 use Rattle.statement_cursor.specs.Cursor.{cursorAt}
 use Rattle.statement_cursor.specs.declared.StatementCursor.{StatementCursor}
@@ -33,16 +34,6 @@ use Rattle.pending.proofs.Entries.{stands-next}
 use Rattle.pending.proofs.Offsets.{placed-first, placed-later}
 
 module _ {A : Type 0} (p : A → Bool) where
-  -- what stands in a list and passes is found, or another before it
-  find-some : (x : A) (xs : List A) → x ∈ xs → p x ≡ true → (y : A) × (find p xs ≡ some y)
-  unfolding find
-  find-some x (y ∷ xs) here e = (x, rw e)
-  find-some x (y ∷ xs) (there m) e = go (p y) (find-some x xs m e)
-    where
-      go : (t : Bool) → (z : A) × (find p xs ≡ some z) → (z : A) × (pick t (some y) (find p xs) ≡ some z)
-      go true z = (y, refl)
-      go false z = z
-
   find-none : (xs : List A) → ((x : A) → x ∈ xs → p x ≡ false) → find p xs ≡ none
   unfolding find
   find-none [] f = refl
@@ -78,7 +69,7 @@ module _ (s : Bytes) (x : Item) where
   unfolding itemStored itemSuits holds at-position
   is-there h =
       let k : EntryAt s (x .position) = entry-at s (x .position) h in
-      let f = find-some at-position (k .entry) _ (k .stored) (eq-eqb (k .entry .position) (x .position) (k .place)) in
+      let f = find-some at-position _ (k .stored) (eq-eqb (k .entry .position) (x .position) (k .place)) in
       let d : f .0 ≡ k .entry = one-position (recordsOf s) (f .0) (k .entry) (find-in at-position _ (f .0) (f .1)) (k .stored) (eqb-true _ _ (find-passes at-position (entries (recordsOf s)) (f .0) (f .1)) ∙ sym (k .place)) in
       let b : blockAt s (x .position) ≡ k .entry .block = block-at s (x .position) (record { bytes = k .entry .bytes; block = k .entry .block }) (k .stands) in
       rw (f .1, d, b)

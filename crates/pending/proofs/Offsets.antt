@@ -8,7 +8,7 @@ use native.Mathlib.Omega.{arith}
 use lib.ListN.{length, getD, getElem?}
 use Rattle.base.specs.Lists.{holds, countFrom}
 use Rattle.base.proofs.Tests.{fails, not-both}
-use Rattle.base.proofs.Lists.{every-all, all-every, every-countFrom, countFrom-every}
+use Rattle.base.proofs.Lists.{all-every, countFrom-every}
 use Rattle.blocks.specs.Block.{Statement, Block, isShare, isShareAt}
 use Rattle.base.specs.Le.{Bytes}
 use Rattle.blocks.specs.Record.{noStatement, blockIn}
@@ -16,6 +16,7 @@ use Rattle.statement_cursor.specs.Cursor.{cursorAt}
 use Rattle.statement_cursor.specs.declared.StatementCursor.{StatementCursor}
 use Rattle.shared_ranges.proofs.Walk.{placed-index, placed}
 use Rattle.pending_items.specs.Table.{sharesIn}
+use Rattle.pending_items.proofs.Order.{shares-from}
 use Rattle.pending.specs.Step.{NotPast}
 
 at-index : (ss : List Statement) (o : ℕ) → o < length ss → holds isShare (getElem? ss o) ≡ isShare (getD ss o noStatement)
@@ -43,10 +44,6 @@ share-past b o h = past-last (b .statements) o h
 -- ---- all of a range
 
 module _ (b : Block) (start end : ℕ) where
-  pub all-shares : ((o : ℕ) → start ≤ o → o < end → isShareAt b o ≡ true) → sharesIn b start end ≡ true
-  unfolding sharesIn
-  all-shares f = every-all (isShareAt b) (countFrom start (end - start)) (every-countFrom start (end - start) (λ o l (u : o < start + (end - start)). f o l (omega arith)))
-
   pub one-missing : (o : ℕ) → start ≤ o → o < end → isShareAt b o ≡ false → sharesIn b start end ≡ false
   unfolding sharesIn
   one-missing o l u h =
@@ -96,4 +93,4 @@ module _ (r : Bytes) (start end : ℕ) where
   pub sharing-all : (o : ℕ) (c : StatementCursor) → Sharing r start end o c → end ≤ o → (true ≡ sharesIn (blockIn r) start end) × (true ≡ true → NotPast r end c)
   sharing-all o c s h =
       let z : o ≡ end = omega (arith, s .most) in
-      (sym (all-shares (blockIn r) start end (λ q l (u : q < end). s .shares q l (omega arith))), λ _. rw (← z) (s .place))
+      (sym (shares-from (blockIn r) start end (λ q l (u : q < end). s .shares q l (omega arith))), λ _. rw (← z) (s .place))

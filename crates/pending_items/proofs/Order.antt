@@ -45,7 +45,8 @@ shares-at : (b : Block) (s e : ℕ) → sharesIn b s e ≡ true → (o : ℕ) �
 unfolding sharesIn
 shares-at b s e h o l u = countFrom-every s (e - s) (all-every (isShareAt b) (countFrom s (e - s)) h) o l (omega arith)
 
-shares-from : (b : Block) (s e : ℕ) → ((o : ℕ) → s ≤ o → o < e → isShareAt b o ≡ true) → sharesIn b s e ≡ true
+-- all of a range are shares
+pub shares-from : (b : Block) (s e : ℕ) → ((o : ℕ) → s ≤ o → o < e → isShareAt b o ≡ true) → sharesIn b s e ≡ true
 unfolding sharesIn
 shares-from b s e f = every-all (isShareAt b) (countFrom s (e - s)) (every-countFrom s (e - s) (λ o l (u : o < s + (e - s)). f o l (omega arith)))
 

@@ -1,11 +1,10 @@
 -- The claims about the lists in both readings. Assumes nothing.
 use mathlib.Core.Path.{_≡_, refl, sym, ap, ap₂, _∙_}
 use mathlib.Core.Bool.{Bool, true, false, _&&_}
-use mathlib.Core.List.{List, [], _∷_, map, flatten}
+use mathlib.Core.List.{List, [], _∷_, map, flatten, append-nil}
 use mathlib.Core.Option.{Option}
 use Prim.Native.Nat.{ℕ, _+_}
 use Rattle.base.specs.Lists.{pick, _∈_, here, there}
-use Rattle.base.proofs.Lists.{append-nil}
 use Rattle.committee.specs.Committee.{Committee}
 use Rattle.blocks.specs.Reference.{BlockReference, TransactionLocator, sameReference}
 use Rattle.blocks.specs.Block.{Block, spans}

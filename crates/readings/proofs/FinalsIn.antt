@@ -120,10 +120,6 @@ module _ (reading : Reading) (c : Committee) (bs : List Block) (l m : Transactio
   unfolding certifiersIn
   certifiers-in-alike = λ i. keep (λ b. certifies-in-alike b i) bs
 
-  pub final-in-alike : isFinalIn reading c bs l ≡ isFinalIn reading c bs m
-  unfolding isFinalIn
-  final-in-alike = ap (λ (ds : List Block). isQuorum c (stakeOf c (setOf (map author ds)))) certifiers-in-alike
-
 -- with no rejects both readings find the same
 pub certifies-in-same : (reading : Reading) (c : Committee) (bs : List Block) → NoRejects bs → (l : TransactionLocator) (b : Block) → certifiesIn reading c bs l b ≡ certifiesIn old c bs l b
 unfolding certifiesIn

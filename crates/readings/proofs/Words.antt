@@ -8,12 +8,11 @@ use native.Mathlib.Omega.{arith}
 use native.Mathlib.Decide.{decLt}
 use lib.Dec.{eqb}
 use lib.Arith.{digits-mod}
-use lib.Bits.{differ, bitAnd, bitXor, and-step, xor-step, and-shr, xor-shr, and-lt, xor-lt, and-zero-r, xor-zero-r}
+use lib.Bits.{differ, bitAnd, bitXor, and-step, xor-step, and-shr, xor-shr, and-zero-r, xor-zero-r}
 use borrow.Author.Tests.{lt-ltb, le-ltb}
 use Rattle.committee.specs.Committee.{AuthorityIndex}
 use Rattle.authority_set.specs.AuthoritySet.{AuthoritySet, nobody, bit, member}
 use Rattle.authority_set.proofs.Bits.{two-pos, digit}
-use Rattle.authority_set.proofs.Words.{Small}
 use Rattle.readings.specs.Rejecting.{without}
 
 min-two : (a b : ℕ) → a < 2 → b < 2 → min a b < 2
@@ -60,11 +59,3 @@ without-nobody v =
     let e : bitXor (v .low) (bitAnd (v .low) 0) ≡ v .low = rw (and-zero-r (v .low)) (xor-zero-r (v .low)) in
     let f : bitXor (v .high) (bitAnd (v .high) 0) ≡ v .high = rw (and-zero-r (v .high)) (xor-zero-r (v .high)) in
     λ i. record { low = e i; high = f i }
-
-pub small-without : (v w : AuthoritySet) → Small v → Small w → Small (without v w)
-unfolding without
-small-without v w h k =
-    record {
-      low = xor-lt 64 (v .low) _ (h .low) (and-lt 64 (v .low) (w .low) (h .low) (k .low));
-      high = xor-lt 64 (v .high) _ (h .high) (and-lt 64 (v .high) (w .high) (h .high) (k .high));
-    }

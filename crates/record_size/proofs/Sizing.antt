@@ -1,7 +1,7 @@
 -- What is measured of a record: 51 applies, or its size. Assumes nothing.
 use mathlib.Core.Path.{_≡_, refl, sym, ap, _∙_}
 use mathlib.Core.Logic.{_⊎_, inl, inr}
-use mathlib.Core.List.{List, [], _∷_, _++_, map, flatten, append-assoc}
+use mathlib.Core.List.{List, [], _∷_, _++_, map, flatten, append-assoc, append-nil}
 use mathlib.Core.Option.{Option, none, some, Option·map, Option·some-injective, Option·none-ne-some}
 use mathlib.Core.Bool.{Bool, true, false, _||_}
 use Prim.Native.Nat.{ℕ, _+_, _*_, _/_, _%_, _≤_, _<_}
@@ -16,7 +16,6 @@ use Rattle.base.specs.Le.{leBytes}
 use Rattle.base.specs.Read.{complete}
 use Rattle.base.specs.Checks.{passes}
 use Rattle.base.proofs.Tests.{not-both, fails, or-cases, neither-left, neither-right}
-use Rattle.base.proofs.Lists.{append-nil}
 use Rattle.base.proofs.Le.{AllBytes, length-leBytes}
 use Rattle.base.proofs.Fixed.{fixed-repeated}
 use Rattle.blocks.specs.Reference.{BlockReference, TransactionLocator, locators}

@@ -1,7 +1,7 @@
 -- One pass over the committee finds the next owner to ring. Assumes nothing.
 use mathlib.Core.Path.{_≡_, refl, ap, _∙_}
 use mathlib.Core.Bool.{Bool, true, false}
-use mathlib.Core.List.{List, [], _∷_, _++_}
+use mathlib.Core.List.{List, [], _∷_, _++_, append-nil}
 use Prim.Native.Nat.{ℕ, _+_, _-_, _≤_, _<_}
 use native.Mathlib.Omega.{arith}
 use lib.Dec.{eqb}
@@ -10,7 +10,7 @@ use borrow.Author.Tests.{lt-ltb, le-ltb, eq-eqb, not-true, not-false}
 use Rattle.base.specs.Lists.{pick, keep, countFrom, anyOf, _∈_}
 use Rattle.base.specs.Checks.{passes}
 use Rattle.base.proofs.Checks.{passes-first, passes-others}
-use Rattle.base.proofs.Lists.{append-nil, keep-append, countFrom-add}
+use Rattle.base.proofs.Lists.{keep-append, countFrom-add}
 use Rattle.base.proofs.Members.{in-any, keep-in, countFrom-in}
 use Rattle.base.proofs.Places.{in-place}
 use Rattle.base.proofs.Tests.{fails, not-both, and-left, and-right}

@@ -2,13 +2,13 @@
 use mathlib.Core.Path.{_≡_, refl, sym, ap, _∙_}
 use mathlib.Core.Logic.{_⊎_, inl, inr}
 use mathlib.Core.Bool.{Bool, true, false, not, _&&_, _||_}
-use mathlib.Core.List.{List, [], _∷_, _++_, append-assoc}
+use mathlib.Core.List.{List, [], _∷_, _++_, append-assoc, append-nil}
 use Prim.Native.Nat.{_+_, _-_, _≤_, _<_}
 use native.Mathlib.Omega.{arith}
 use lib.Dec.{eqb}
 use lib.ListN.{length}
 use Rattle.base.specs.Lists.{countFrom, _∈_}
-use Rattle.base.proofs.Lists.{append-nil, length-keep, length-countFrom}
+use Rattle.base.proofs.Lists.{length-keep, length-countFrom}
 use Rattle.base.proofs.Members.{in-empty, in-cases, in-append, keep-in}
 use Rattle.base.proofs.Once.{once-keep, once-countFrom}
 use Rattle.base.proofs.Tests.{not-both}

@@ -1,7 +1,7 @@
 -- The stored shares, block by block and offset by offset. Assumes nothing.
 use mathlib.Core.Path.{_≡_, refl, sym, ap, ap₂, _∙_}
 use mathlib.Core.Bool.{true, false}
-use mathlib.Core.List.{List, [], _∷_, _++_, map, map-append, append-assoc, flatten}
+use mathlib.Core.List.{List, [], _∷_, _++_, map, map-append, append-assoc, flatten, append-nil}
 use Prim.Native.Nat.{ℕ, _+_, _-_, _<_, _≤_}
 use native.Mathlib.Omega.{arith}
 use native.Mathlib.Numerals.{add-one}
@@ -9,7 +9,7 @@ use lib.ListN.{length, take, drop, getD, take-append-drop}
 use lib.Seq.{take-suc, take-length}
 use Rattle.base.specs.Lists.{keep, countFrom, _∈_, here, there}
 use Rattle.base.specs.Le.{Bytes}
-use Rattle.base.proofs.Lists.{append-nil, keep-append, countFrom-add, flatten-append}
+use Rattle.base.proofs.Lists.{keep-append, countFrom-add, flatten-append}
 use Rattle.base.proofs.Loops.{drop-next}
 use Rattle.committee.specs.Committee.{Committee}
 use Rattle.blocks.specs.Reference.{TransactionLocator, locator}

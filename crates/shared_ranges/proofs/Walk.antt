@@ -7,12 +7,11 @@ use native.Mathlib.Numerals.{add-one}
 use native.Mathlib.Omega.{arith}
 use lib.ListN.{length, getD, drop, length-drop, drop-of-length-le}
 use lib.Seq.{drop-cons, drop-drop}
-use lib.Dec.{eqb}
-use borrow.Author.Tests.{eq-eqb, eqb-true, ne-eqb, ltb-false, leb-false}
+use borrow.Author.Tests.{eq-eqb, ne-eqb, ltb-false, leb-false}
 use Rattle.base.specs.Lists.{pick, sumOf}
 use Rattle.base.specs.Le.{Bytes}
 use Rattle.base.specs.Checks.{passes}
-use Rattle.base.proofs.Tests.{not-both, and-left, and-right}
+use Rattle.base.proofs.Tests.{not-both}
 use Rattle.base.proofs.Lists.{Every, none-of, and}
 use Rattle.base.proofs.Checks.{passes-left, passes-right, passes-first, passes-others}
 use Rattle.blocks.specs.Reference.{BlockReference, TransactionLocatorRange, newRange, oneRange}
@@ -21,7 +20,6 @@ use Rattle.blocks.specs.Verify.{statementChecks}
 use Rattle.blocks.specs.Record.{noStatement}
 use Rattle.statement_reader.specs.Values.{asStatement}
 use Rattle.statement_cursor.specs.Cursor.{cursorAt}
-use Rattle.statement_reader.specs.Step.{payloadBetween}
 use Rattle.shared_ranges.specs.Cursor.{runsLeft}
 use Rattle.shared_ranges.specs.Step.{isOfKind, leading}
 use Rattle.statement_cursor.specs.declared.StatementCursor.{StatementCursor}
@@ -38,12 +36,6 @@ module _ (r : Bytes) (c : StatementCursor) (i : ℕ) (e : c ≡ cursorAt r i) wh
 
   pub placed : c ≡ cursorAt r (c .index)
   placed = e ∙ ap (cursorAt r) (sym placed-index)
-
--- where a share has its payload
-pub payload-place : (at next start len : ℕ) → payloadBetween at next (Share start len) ≡ true → (start ≡ at + 3) × (start + len ≡ next)
-unfolding payloadBetween
-payload-place at next start len h =
-    (eqb-true start (at + 3) (and-left _ _ h), eqb-true (start + len) next (and-right (eqb start (at + 3)) _ h))
 
 -- ---- statements of one kind in front
 

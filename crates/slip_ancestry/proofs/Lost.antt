@@ -6,12 +6,11 @@ use mathlib.Core.List.{List}
 use Prim.Native.Nat.{ℕ, _+_, _≤_, _<_}
 use native.Mathlib.Omega.{arith}
 use native.Mathlib.Decide.{ℕ-discrete}
-use lib.Dec.{eqb}
 use lib.ListN.{length, getD, getElem?, set}
 use lib.Seq.{getD-set-same, getD-set-other}
 use Rattle.base.specs.Lists.{pick, anyOf, isNone, holds, _∈_}
 use Rattle.base.specs.Le.{Bytes}
-use Rattle.base.proofs.Tests.{or-cases, or-left, or-right, same-test}
+use Rattle.base.proofs.Tests.{or-cases, or-left, or-right, same-test, flag-back}
 use Rattle.base.proofs.Members.{any-in, in-any}
 use Rattle.base.proofs.Index.{any-no, any-at}
 use Rattle.base.proofs.Places.{in-place}
@@ -75,10 +74,6 @@ in-longer order t (To j) h k = omega (arith, h, k)
 in-longer order t Nowhere h k = tt
 in-longer order t NotGiven h k = tt
 
-byte-test : (x : Bool) → eqb (pick x 1 0) 1 ≡ x
-byte-test true = refl
-byte-test false = refl
-
 module _ (q : Bytes) (order : List ℕ) (p : Places q (suppliedBlocks q) order) (f : Falling (suppliedBlocks q)) where
   abbrev bs : List Block
   bs = suppliedBlocks q
@@ -99,7 +94,7 @@ module _ (q : Bytes) (order : List ℕ) (p : Places q (suppliedBlocks q) order) 
         go (To i) e =
             let x = led-block q order r _ i e led in
             let y = from-block (named bs (getD its k noReference)) (blockAtPlace q order i) (x .1) in
-            rw (y, n .at i (lower-place q order p f j i h (x .0) (getD its k noReference) (in-place noReference its k m) y)) (byte-test (inAncestry (lacks bs) bs (blockAtPlace q order i)))
+            rw (y, n .at i (lower-place q order p f j i h (x .0) (getD its k noReference) (in-place noReference its k m) y)) (flag-back (inAncestry (lacks bs) bs (blockAtPlace q order i)))
         go Nowhere e = absurd (from-somewhere (named bs (getD its k noReference)) (led-nowhere q order r _ e led))
         go NotGiven e = rw (from-none (named bs (getD its k noReference)) (led-missing q order r _ e led))
 

@@ -7,30 +7,25 @@ use Prim.Native.Nat.{ℕ, _<_}
 use native.Mathlib.Omega.{arith}
 use native.Mathlib.Decide.{decLt, ℕ-discrete}
 use lib.ListN.{length}
-use borrow.Author.Tests.{lt-ltb, not-false}
-use Rattle.base.specs.Lists.{before, _∈_, here}
+use borrow.Author.Tests.{not-false}
+use Rattle.base.specs.Lists.{_∈_, here}
 use Rattle.base.specs.Checks.{_⇒_, passes}
 use Rattle.base.specs.Le.{Bytes}
-use Rattle.base.proofs.Tests.{or-left, and-left}
+use Rattle.base.proofs.Tests.{and-left}
 use Rattle.base.proofs.Members.{all-in}
 use Rattle.base.proofs.Checks.{passes-none}
 use Rattle.committee.specs.Committee.{known}
 use Rattle.committee.proofs.Bounds.{known-below, few-members}
-use Rattle.blocks.specs.Reference.{BlockReference, referenceKey, referenceBefore}
+use Rattle.blocks.specs.Reference.{BlockReference, referenceBefore}
 use Rattle.blocks.specs.Block.{Block, author}
 use Rattle.blocks.specs.Verify.{headChecks, bodyChecks}
-use Rattle.blocks.proofs.References.{reference-irrefl, reference-trans}
+use Rattle.blocks.proofs.References.{reference-irrefl, reference-trans, round-before}
 use Rattle.slips.specs.Supplied.{suppliedBlocks, rightBlocks}
 use Rattle.slips.specs.Paths.{named}
 use Rattle.slips.proofs.Paths.{named-reference}
 use Rattle.slips.proofs.Ancestry.{Falling, right-falling}
 use Rattle.slip_records.specs.Places.{blockAtPlace, referenceIn, Places}
 use Rattle.slip_ancestry.specs.Lacking.{Right}
-
--- references ascend by round first
-round-before : (r q : BlockReference) → r .round < q .round → referenceBefore r q ≡ true
-unfolding referenceBefore referenceKey before
-round-before r q h = or-left _ _ (lt-ltb (r .round) (q .round) h)
 
 pub right-falls : (q : Bytes) → Right q → Falling (suppliedBlocks q)
 unfolding Right

@@ -1,6 +1,6 @@
 -- What certifiers show, with the quorum of authors. Assumes nothing.
 use mathlib.Core.Path.{_≡_, refl, sym, _∙_}
-use mathlib.Core.Bool.{Bool}
+use mathlib.Core.Bool.{Bool, or-false, and-true}
 use mathlib.Core.List.{List, [], _∷_, _++_, map}
 use Prim.Native.Nat.{ℕ}
 use Rattle.base.specs.Lists.{pick, anyOf, allOf, holds}
@@ -15,7 +15,6 @@ use Rattle.slips.specs.Paths.{named}
 use Rattle.slips.specs.Reading.{missingFrom, missing, certifierHolds, slipHolds}
 use Rattle.slip_verdicts.specs.Verdict.{verdict, worse}
 use Rattle.slip_verdicts.proofs.Verdicts.{worse-both}
-use Rattle.slip_voters.proofs.Taking.{or-none, and-none}
 use Rattle.base.proofs.Lists.{any-append}
 use Rattle.slip_certifier.specs.Verdict.{certifierVerdict}
 use Rattle.slip_certifier.proofs.Joining.{join-found, join-quorum}
@@ -34,7 +33,7 @@ module _ (reading : Reading) (c : Committee) (bs : List Block) (l : TransactionL
   shows-more ks k =
       let gone : SlipCertifier → Bool = λ x. missingFrom reading bs (x .voters) (named bs (x .reference)) in
       let held : SlipCertifier → Bool = λ x. holds (certifierHolds reading c bs l (x .voters)) (named bs (x .reference)) in
-      rw (any-append gone ks (k ∷ []), all-append held ks (k ∷ []), or-none (gone k), and-none (held k)) (sym (worse-both (anyOf gone ks) (gone k) (allOf held ks) (held k)))
+      rw (any-append gone ks (k ∷ []), all-append held ks (k ∷ []), or-false (gone k), and-true (held k)) (sym (worse-both (anyOf gone ks) (gone k) (allOf held ks) (held k)))
 
 module _ (c : Committee) (bs : List Block) (s : Slip) (v : ℕ) (e : v ≡ certifiersVerdict (s .reading) c bs (s .locator) (s .certifiers)) where
   abbrev gone : Bool

@@ -1,6 +1,6 @@
 -- What a certifier shows, with the quorum of its voters. Assumes nothing.
 use mathlib.Core.Path.{_≡_, refl, sym, ap, _∙_}
-use mathlib.Core.Bool.{Bool, true, false, not, _&&_, _||_}
+use mathlib.Core.Bool.{Bool, true, false, not, _&&_, _||_, and-assoc}
 use mathlib.Core.List.{List, map}
 use mathlib.Core.Option.{Option, none, some}
 use Prim.Native.Nat.{ℕ, _<_}
@@ -54,10 +54,6 @@ join-quorum false false q e = absurd (one-not-zero e)
 
 -- ---- a certifier
 
-and-both-sides : (a b c : Bool) → (a && b) && c ≡ a && (b && c)
-and-both-sides true b c = refl
-and-both-sides false b c = refl
-
 module _ (reading : Reading) (c : Committee) (bs : List Block) (l : TransactionLocator) (vs : List SlipVoter) where
   abbrev lost : Option Block → SlipVoter → Bool
   lost o v = isNotGiven (onFrom (leads bs (v .path)) o)
@@ -91,8 +87,8 @@ module _ (reading : Reading) (c : Committee) (bs : List Block) (l : TransactionL
   unfolding certifierVerdict missingFrom certifierHolds holds onFrom
   whole-some b =
       ap (verdict (anyOf (lost (some b)) vs || lacksAncestor reading bs b))
-      (sym (and-both-sides (not (b .marked) && allOf (right (some b)) vs) (allOf (keeps b) vs) quorum
-      ∙ and-both-sides (not (b .marked)) (allOf (right (some b)) vs) (allOf (keeps b) vs && quorum)))
+      (sym (and-assoc (not (b .marked) && allOf (right (some b)) vs) (allOf (keeps b) vs) quorum
+      ∙ and-assoc (not (b .marked)) (allOf (right (some b)) vs) (allOf (keeps b) vs && quorum)))
 
   pub certifier-found : (o : Option Block) (v : ℕ) → v ≡ shownOf o → (v ≡ 0 → ⊥) → v ≡ certifierVerdict reading c bs l vs o
   unfolding certifierVerdict missingFrom holds

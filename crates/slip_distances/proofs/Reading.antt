@@ -1,6 +1,6 @@
 -- The rows of one block after the other. Assumes nothing.
 use mathlib.Core.Path.{_≡_, refl, sym, ap, _∙_, subst}
-use mathlib.Core.Bool.{Bool, true, false, _&&_}
+use mathlib.Core.Bool.{Bool, true, false, and-false}
 use mathlib.Core.List.{List, [], _∷_, _++_, map}
 use mathlib.Core.Option.{Option, none, some, Option·map, Option·none-ne-some, Option·some-injective}
 use Prim.Native.Nat.{ℕ, suc, _+_, _*_, _≤_, _<_}
@@ -159,11 +159,7 @@ module _ (s : Bytes) (order : List ℕ) (l : TransactionLocator) where
           }
         where
           nobody : (a : ℕ) → votesAs l a b ≡ false
-          nobody a = unfold votesAs in rw e (none-and (eqb (author b) a))
-            where
-              none-and : (t : Bool) → t && false ≡ false
-              none-and true = refl
-              none-and false = refl
+          nobody a = unfold votesAs in rw e (and-false (eqb (author b) a))
 
           known : (q : ℕ) → q < k + 1 → (a : ℕ) → a < 128 → Dec (q ≡ k) → getD near (128 * q + a) 0 ≡ word (away s l a (blockAtPlace s order q .reference))
           known q n a w (yes z) = rw z (r .words .are a w ∙ ap word (sym (other a (nobody a))))

@@ -1,34 +1,22 @@
 -- A block by its reference, among the records that come with a slip. Assumes nothing.
 use mathlib.Core.Path.{_≡_, refl, sym, ap, _∙_}
-use mathlib.Core.Logic.{_⊎_, inl, inr}
-use mathlib.Core.Bool.{Bool, true, false}
-use mathlib.Core.List.{List, _∷_}
+use mathlib.Core.Bool.{Bool}
+use mathlib.Core.List.{List}
 use mathlib.Core.Option.{Option, none, some}
 use Prim.Native.Nat.{ℕ, _<_}
 use native.Mathlib.Omega.{arith}
 use native.Mathlib.Decide.{decLt}
 use lib.ListN.{length}
-use Rattle.base.specs.Lists.{pick, find, _∈_}
+use Rattle.base.specs.Lists.{find}
 use Rattle.base.specs.Le.{Bytes}
-use Rattle.base.proofs.Tests.{not-both}
-use Rattle.base.proofs.Members.{in-cases}
 use Rattle.base.proofs.Lists.{find-passes, find-in}
+use Rattle.base.proofs.Members.{find-some}
 use Rattle.blocks.specs.Reference.{BlockReference, sameReference, referenceBefore}
 use Rattle.blocks.specs.Block.{Block}
 use Rattle.blocks.proofs.References.{reference-same, same-reference, reference-irrefl}
 use Rattle.slips.specs.Paths.{named}
 use Rattle.slip_records.specs.Places.{blockAtPlace, referenceIn, Sorted, Places}
 use Rattle.reference_search.specs.Places.{Between}
-
--- where the test holds of an element, one is found
-find-some : {A : Type 0} (p : A → Bool) {x : A} (xs : List A) → x ∈ xs → p x ≡ true → (y : A) × (find p xs ≡ some y)
-unfolding find
-find-some {A} p {x} (y ∷ xs) m h = go (p y) refl (in-cases m) (λ k. find-some p xs k h)
-  where
-    go : (t : Bool) → p y ≡ t → (x ≡ y) ⊎ (x ∈ xs) → (x ∈ xs → (w : A) × (find p xs ≡ some w)) → (w : A) × (pick t (some y) (find p xs) ≡ some w)
-    go true e k ih = (y, refl)
-    go false e (inl k) ih = absurd (not-both h (ap p k ∙ e))
-    go false e (inr k) ih = ih k
 
 module _ (q : Bytes) (order : List ℕ) (s : Sorted q order) where
   -- no two places have one reference

@@ -12,19 +12,24 @@ use Rattle.reference_search.specs.Places.{referenceFrom, Ascending, Between, Fo
 use Rattle.reference_search.specs.declared.FoundPlace.{FoundPlace}
 use Rattle.reference_search.specs.declared.FoundPlace.the-variants.{At, Before}
 use Rattle.reference_search.proofs.Known.{known-ascend, known-at, known-between}
-use Rattle.slip_records.specs.Places.{recordFrom, blockFrom, blockAtPlace, referenceIn, Sorted}
+use Rattle.slip_records.specs.Places.{recordFrom, blockFrom, Framed, blockAtPlace, referenceIn, Sorted}
 
 -- a record lent as a part of all
 pub record-part : (q : Bytes) (p end : ℕ) → end ≡ p + 4 + leAt 4 q p → take (end - (p + 4)) (drop (p + 4) q) ≡ recordFrom q p
 unfolding recordFrom
 record-part q p end h = rw (h, add-sub-cancel-left (p + 4) (leAt 4 q p))
 
+-- a record begins with the reference of its block
+pub framed-reference : (q : Bytes) (p : ℕ) → Framed q p → (p + 4 + 48 ≤ length q) × (referenceAt q (p + 4) ≡ blockFrom q p .reference)
+unfolding recordFrom blockFrom
+framed-reference q p h = reference-within q (p + 4) (leAt 4 q p) (h .formed)
+
 -- ---- by reference
 
 module _ (q : Bytes) (order : List ℕ) (s : Sorted q order) where
   stand : (j : ℕ) → j < length order → (getD order j 0 + 4 + 48 ≤ length q) × (referenceAt q (getD order j 0 + 4) ≡ referenceIn q order j)
-  unfolding recordFrom blockFrom blockAtPlace
-  stand j h = reference-within q (getD order j 0 + 4) (leAt 4 q (getD order j 0)) (s .framed j h .formed)
+  unfolding blockAtPlace
+  stand j h = framed-reference q (getD order j 0) (s .framed j h)
 
   pub sorted-ascends : Ascending q order 4
   sorted-ascends = known-ascend q order 4 (referenceIn q order) stand (s .rises)

@@ -1,6 +1,6 @@
 -- Who rejects in an ancestry, include by include. Assumes nothing.
 use mathlib.Core.Path.{_≡_, refl, sym, ap, ap₂, _∙_}
-use mathlib.Core.Bool.{Bool, true, false, _||_}
+use mathlib.Core.Bool.{Bool, false, _||_, or-assoc, or-false}
 use mathlib.Core.List.{List}
 use Prim.Native.Nat.{ℕ, _+_, _*_, _≤_, _<_}
 use native.Mathlib.Omega.{arith}
@@ -44,14 +44,6 @@ module _ {A : Type 0} (p : A → Bool) (d : A) (xs : List A) (k : ℕ) where
   any-past : length xs ≤ k → anyOf p (drop k xs) ≡ false
   unfolding anyOf
   any-past h = rw (drop-of-length-le xs h)
-
-or-onward : (a b c : Bool) → (a || b) || c ≡ a || (b || c)
-or-onward true b c = refl
-or-onward false b c = refl
-
-or-false : (a : Bool) → a || false ≡ a
-or-false true = refl
-or-false false = refl
 
 -- ---- one block
 
@@ -105,7 +97,7 @@ module _ (q : Bytes) (order : List ℕ) (p : Places q (suppliedBlocks q) order) 
       rejects-on v w r d e =
           ap (λ (x : AuthoritySet). member x a || anyOf below (drop (k + 1) its)) e
           ∙ ap (λ (x : Bool). x || anyOf below (drop (k + 1) its)) (member-united v (rejectersAt t r) a ∙ ap (λ (x : Bool). member v a || x) (noted-rejects r d))
-          ∙ or-onward (member v a) (below (getD its k noReference)) (anyOf below (drop (k + 1) its))
+          ∙ or-assoc (member v a) (below (getD its k noReference)) (anyOf below (drop (k + 1) its))
           ∙ ap (λ (x : Bool). member v a || x) (sym (any-next below noReference its k m))
 
     -- all of them

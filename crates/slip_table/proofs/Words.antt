@@ -1,15 +1,16 @@
 -- The table of certifying blocks, word by word, and the blocks at its places. Assumes nothing.
-use mathlib.Core.Path.{_≡_, refl, ap, _∙_, subst}
+use mathlib.Core.Path.{_≡_, ap, _∙_, subst}
 use mathlib.Core.Bool.{true}
-use mathlib.Core.List.{List, _∷_}
-use Prim.Native.Nat.{ℕ, suc, _+_, _*_, _≤_, _<_}
+use mathlib.Core.List.{List}
+use Prim.Native.Nat.{ℕ, _+_, _*_, _≤_, _<_}
 use native.Mathlib.Omega.{arith}
 use native.Mathlib.Decide.{ℕ-discrete}
 use lib.ListN.{length, getD, set, length-set}
 use lib.Seq.{getD-set-same, getD-set-other}
-use Rattle.base.specs.Lists.{_∈_, here, there}
+use Rattle.base.specs.Lists.{_∈_}
 use Rattle.base.specs.Le.{Bytes}
 use Rattle.base.proofs.Members.{map-in, in-any}
+use Rattle.base.proofs.Places.{member-place}
 use Rattle.authority_set.specs.AuthoritySet.{AuthoritySet}
 use Rattle.blocks.specs.Reference.{TransactionLocator, sameReference}
 use Rattle.blocks.specs.Block.{Block}
@@ -72,17 +73,13 @@ module _ (t : List ℕ) (i k : ℕ) (v : AuthoritySet) where
 
 -- ---- the blocks at positions of the order
 
-place-of : (xs : List ℕ) (p : ℕ) → p ∈ xs → (k : ℕ) × ((k < length xs) × (getD xs k 0 ≡ p))
-place-of (x ∷ xs) p here = (0, (omega arith, refl))
-place-of (x ∷ xs) p (there m) = let r = place-of xs p m in (suc (r .0), (omega (arith, r .1 .0), r .1 .1))
-
 module _ (s : Bytes) (order : List ℕ) (o : SortedStore s order) (p : ℕ) (m : p ∈ order) where
   pub position-entry : isEntry s p ≡ true
-  position-entry = let r = place-of order p m in subst (λ (x : ℕ). isEntry s x ≡ true) (r .1 .1) (place-entry s order o (r .0) (r .1 .0))
+  position-entry = let r = member-place 0 order m in subst (λ (x : ℕ). isEntry s x ≡ true) (r .1 .1) (place-entry s order o (r .0) (r .1 .0))
 
   position-stored : blockAt s p ∈ blocksOf s
   unfolding blockAtPlace
-  position-stored = let r = place-of order p m in subst (λ (x : ℕ). blockAt s x ∈ blocksOf s) (r .1 .1) (place-stored s order o (r .0) (r .1 .0))
+  position-stored = let r = member-place 0 order m in subst (λ (x : ℕ). blockAt s x ∈ blocksOf s) (r .1 .1) (place-stored s order o (r .0) (r .1 .0))
 
   pub position-found : isStored (recordsOf s) (blockAt s p .reference) ≡ true
   unfolding isStored blocksOf

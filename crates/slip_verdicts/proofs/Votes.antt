@@ -1,13 +1,13 @@
 -- What a note says of an author's vote. Assumes nothing.
-use mathlib.Core.Path.{_≡_, refl}
-use mathlib.Core.Bool.{Bool, true, false}
+use mathlib.Core.Path.{_≡_}
+use mathlib.Core.Bool.{false}
 use mathlib.Core.List.{List}
 use Prim.Native.Nat.{ℕ, _<_}
 use lib.Dec.{eqb}
 use lib.ListN.{getD}
 use borrow.Author.Tests.{eq-eqb, ne-eqb}
-use Rattle.base.specs.Lists.{pick}
 use Rattle.base.specs.Le.{Bytes}
+use Rattle.base.proofs.Tests.{flag-back}
 use Rattle.committee.specs.Committee.{AuthorityIndex}
 use Rattle.blocks.specs.Reference.{TransactionLocator}
 use Rattle.blocks.specs.Block.{Block, author}
@@ -20,11 +20,7 @@ use Rattle.slip_paths.specs.Walk.{Noted}
 pub vote-noted : (q : Bytes) (order votes : List ℕ) (l : TransactionLocator) (n j : ℕ) (a : AuthorityIndex) → Noted q order l n votes → j < n → author (blockAtPlace q order j) ≡ a
     → eqb (getD votes j 0) 1 ≡ votesAs l a (blockAtPlace q order j)
 unfolding votesAs
-vote-noted q order votes l n j a k h e = rw (k .at j h, eq-eqb _ _ e) (go (votesFor (blockAtPlace q order j) l))
-  where
-    go : (t : Bool) → eqb (pick t 1 0) 1 ≡ t
-    go true = refl
-    go false = refl
+vote-noted q order votes l n j a k h e = rw (k .at j h, eq-eqb _ _ e) (flag-back (votesFor (blockAtPlace q order j) l))
 
 pub other-author : (l : TransactionLocator) (a : AuthorityIndex) (b : Block) → (author b ≡ a → ⊥) → false ≡ votesAs l a b
 unfolding votesAs

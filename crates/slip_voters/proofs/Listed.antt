@@ -2,7 +2,7 @@
 use mathlib.Core.Path.{_≡_, refl, sym, ap, subst, _∙_}
 use mathlib.Core.Logic.{_⊎_, inl, inr}
 use mathlib.Core.Bool.{Bool, true, false}
-use mathlib.Core.List.{List, [], _∷_, _++_, append-assoc}
+use mathlib.Core.List.{List, [], _∷_, _++_, append-assoc, append-nil}
 use mathlib.Core.Option.{Option, none, some, Option·map, Option·some-injective, Option·none-ne-some}
 use Prim.Native.Nat.{ℕ, zero, suc, _+_, _-_, _≤_, _<_}
 use native.Mathlib.Omega.{arith}
@@ -13,7 +13,7 @@ use Rattle.base.specs.Lists.{allOf, pairwise, _∈_, here, there}
 use Rattle.base.specs.Le.{Bytes}
 use Rattle.base.specs.Read.{Part, Read, give, onward, _>>=_, repeated}
 use Rattle.base.proofs.Tests.{and-left, and-right, fails, not-both}
-use Rattle.base.proofs.Lists.{append-nil, Every, none-of, and, pairs-pairwise, pairwise-pairs, pairs-append, no-pairs, with-later}
+use Rattle.base.proofs.Lists.{Every, none-of, and, pairs-pairwise, pairwise-pairs, pairs-append, no-pairs, with-later}
 use Rattle.base.proofs.Members.{in-append, in-cases, in-empty, in-right, all-in}
 use Rattle.base.proofs.Read.{part}
 

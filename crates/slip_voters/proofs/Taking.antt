@@ -1,7 +1,7 @@
 -- Voters taken one after the other. Assumes nothing.
 use mathlib.Core.Path.{_≡_, refl, sym, _∙_}
 use mathlib.Core.Logic.{_⊎_, inl, inr}
-use mathlib.Core.Bool.{Bool, true, false, _&&_, _||_}
+use mathlib.Core.Bool.{Bool, true, false, _||_, or-false, and-true}
 use mathlib.Core.List.{List, [], _∷_, _++_, map, map-append}
 use mathlib.Core.Option.{Option, none, some, Option·none-ne-some}
 use Prim.Native.Nat.{ℕ, _+_, _-_, _≤_, _<_}
@@ -56,14 +56,6 @@ module _ (s : Bytes) (p : ℕ) where
 
 -- ---- their authors
 
-pub or-none : (t : Bool) → t || false ≡ t
-or-none true = refl
-or-none false = refl
-
-pub and-none : (t : Bool) → t && true ≡ t
-and-none true = refl
-and-none false = refl
-
 pub speak-none : Speak nobody []
 unfolding Speak anyOf
 speak-none a h = member-nobody a
@@ -73,8 +65,8 @@ unfolding Speak anyOf
 speak-more v as′ a h b k = go (decLt a 128) ∙ sym (any-append (eqb b) as′ (a ∷ []))
   where
     go : Dec (a < 128) → member (pick (ltb a 128) (inserted v a) v) b ≡ anyOf (eqb b) as′ || (eqb b a || false)
-    go (yes m) = rw (lt-ltb a 128 m, or-none (eqb b a)) (member-inserted v a b ∙ rw (h b k))
-    go (no m) = rw (le-ltb a 128 (omega arith), ne-eqb b a (λ (e : b ≡ a). omega arith), or-none (anyOf (eqb b) as′)) (h b k)
+    go (yes m) = rw (lt-ltb a 128 m, or-false (eqb b a)) (member-inserted v a b ∙ rw (h b k))
+    go (no m) = rw (le-ltb a 128 (omega arith), ne-eqb b a (λ (e : b ≡ a). omega arith), or-false (anyOf (eqb b) as′)) (h b k)
 
 -- ---- what they show
 
@@ -88,7 +80,7 @@ module _ (bs : List Block) (l : TransactionLocator) (o : Option Block) where
   shows-more vs v =
       let lost : SlipVoter → Bool = λ w. isNotGiven (onFrom (leads bs (w .path)) o) in
       let right : SlipVoter → Bool = λ w. endsAtVote l (w .author) (onFrom (leads bs (w .path)) o) in
-      rw (any-append lost vs (v ∷ []), all-append right vs (v ∷ []), or-none (lost v), and-none (right v)) (sym (worse-both (anyOf lost vs) (lost v) (allOf right vs) (right v)))
+      rw (any-append lost vs (v ∷ []), all-append right vs (v ∷ []), or-false (lost v), and-true (right v)) (sym (worse-both (anyOf lost vs) (lost v) (allOf right vs) (right v)))
 
 -- ---- the loop
 

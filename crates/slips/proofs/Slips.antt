@@ -1,9 +1,9 @@
 -- Slips there and back: what is written is read, and what is read had been written so. Assumes nothing.
 use mathlib.Core.Path.{_≡_, refl, sym, _∙_}
-use mathlib.Core.List.{List, [], _∷_, _++_, map, append-assoc, flatten}
+use mathlib.Core.List.{List, [], _∷_, _++_, map, append-assoc, flatten, append-nil}
 use mathlib.Core.Bool.{Bool, true, false}
 use mathlib.Core.Option.{some, Option·none-ne-some}
-use Prim.Native.Nat.{ℕ, _%_, _^_, _<_}
+use Prim.Native.Nat.{ℕ, _^_, _<_}
 use native.Mathlib.Omega.{arith}
 use lib.Dec.{ltb, eqb, lit<}
 use lib.ListN.{length}
@@ -12,13 +12,13 @@ use Rattle.base.specs.Lists.{allOf}
 use Rattle.base.specs.Le.{leBytes}
 use Rattle.base.specs.Read.{give, fail, onward, _>>=_, items, number, given, complete}
 use Rattle.base.proofs.Tests.{and-left, and-right}
-use Rattle.base.proofs.Lists.{append-nil, Every, every, all-every}
+use Rattle.base.proofs.Lists.{Every, every, all-every}
 use Rattle.base.proofs.Le.{AllBytes, leAt-byte}
 use Rattle.base.proofs.Fixed.{number-at}
 use Rattle.base.proofs.Read.{part, items-reads, number-reads, ReadsBack, repeated-reads, complete-reads, Back, give-back, given-back, bind-back, map-back, Items, items-back, Number, number-back, One, Many, repeated-back, complete-back}
 use Rattle.blocks.specs.Record.{referenceBytes, locatorBytes}
 use Rattle.blocks.specs.Claims.{fitsReference, fitsLocator}
-use Rattle.blocks.proofs.Records.{ReferenceFits, LocatorFits, reference-reads, locator-reads, reference-back, locator-back, byte-reads}
+use Rattle.blocks.proofs.Records.{ReferenceFits, LocatorFits, reference-reads, locator-reads, reference-back, locator-back, byte-reads, one-byte}
 use Rattle.blocks.proofs.Claimed.{bytes-fit, reference-fits, locator-fits}
 use Rattle.readings.specs.Readings.{Reading, old, withdrawing, readingOf}
 use Rattle.slips.specs.Slip.{SlipVoter, SlipCertifier, Slip, votersAscend, certifiersAscend, readVoter, readCertifier, readBody, readFirst, namesReading, readSlip, voterBytes, certifierBytes, readingByte, slipBytes, fitsVoter, fitsCertifier, fitsSlip}
@@ -67,11 +67,6 @@ certifier-reads k h t =
       repeated-reads readVoter voterBytes (k .voters) (every voter-reads (k .voters) (h .voters)) t,
       h .ascend,
     )
-
--- a byte, as a number of one byte
-one-byte : (k : ℕ) → k < 256 → leBytes 1 k ≡ k ∷ []
-unfolding leBytes
-one-byte k h = let e : k % 256 ≡ k = omega arith in rw e
 
 -- the byte of a reading is a byte, names a reading, and that one
 byte-small : (reading : Reading) → readingByte reading < 256
@@ -176,10 +171,6 @@ read-names (first ∷ r) s h = go (ltb first 2) refl (sym on ∙ h)
 pub slipBytes-readSlip : (r : List ℕ) (s : Slip) → AllBytes r → readSlip r ≡ some s → slipBytes s ≡ r
 unfolding readSlip
 slipBytes-readSlip r s h k = sym (complete-back readFirst (One slipBytes SlipFits) first-back r s h k .are)
-
-pub readSlip-fits : (r : List ℕ) (s : Slip) → AllBytes r → readSlip r ≡ some s → SlipFits s
-unfolding readSlip
-readSlip-fits r s h k = complete-back readFirst (One slipBytes SlipFits) first-back r s h k .right
 
 -- ---- the tests of the claims say what the laws ask
 

@@ -1,7 +1,7 @@
 -- The stored blocks and their parts one after the other, in order of arrival. Assumes nothing.
 use mathlib.Core.Path.{_≡_, refl, sym, ap, subst, _∙_}
 use mathlib.Core.Bool.{true, false}
-use mathlib.Core.List.{List, [], _∷_, _++_, map, flatten, append-nil, append-assoc, map-append}
+use mathlib.Core.List.{List, [], _∷_, _++_, append-nil, append-assoc, map-append}
 use Prim.Native.Nat.{ℕ, _+_, _*_, _≤_, _<_}
 use native.Mathlib.Omega.{arith}
 use native.Mathlib.Nat.{add-zero}
@@ -32,12 +32,12 @@ use Rattle.finality.proofs.Claimed.{small-authors}
 use Rattle.finality.proofs.Votes.{is-spanned, votes-for}
 use Rattle.voters_index.specs.Runs.{Run}
 use Rattle.voters_index.specs.Part.{RunsOf, partIn}
-use Rattle.voters_index.specs.Index.{runWords, digestWords, partWords, indexed, bodyWords, usedWords, indexAgrees}
+use Rattle.voters_index.specs.Index.{partWords, indexed, bodyWords, usedWords, indexAgrees}
 use Rattle.voters_index.specs.Walk.{partAt}
 use Rattle.voters_index.proofs.Parts.{part-runs}
 use Rattle.voters_index.proofs.Grown.{used-grows}
 use Rattle.voters_index.proofs.Fitting.{run-span}
-use Rattle.voters_index.proofs.Reading.{part-back}
+use Rattle.voters_index.proofs.Reading.{part-back, part-length}
 use Rattle.voters_index.proofs.Checking.{agrees-part}
 use Rattle.sorted_step.specs.Step.{PartWords}
 use Rattle.finality.proofs.Fits.{block-fits}
@@ -57,19 +57,6 @@ run-fits bs f r x m =
 
 -- ---- a part in its words
 
-run-ten : (x : Run) → length (runWords x) ≡ 10
-unfolding runWords digestWords
-run-ten x = refl
-
-runs-long : (xs : List Run) → length (flatten (map runWords xs)) ≡ 10 * length xs
-unfolding flatten
-runs-long [] = refl
-runs-long (x ∷ xs) = omega (arith, length-append (runWords x) (flatten (map runWords xs)), run-ten x, runs-long xs)
-
-part-long : (xs : List Run) → length (partWords xs) ≡ 1 + 10 * length xs
-unfolding partWords
-part-long xs = omega (arith, runs-long xs)
-
 part-read : (xs : List Run) → ((x : Run) → x ∈ xs → ReferenceFits (x .reference)) → partAt (partWords xs) 0 ≡ xs
 part-read xs f = part-back (partWords xs) 0 xs [] (sym (append-nil (partWords xs))) f
 
@@ -82,7 +69,7 @@ part-formed : (bs : List Block) (r : BlockReference) → ((x : Run) → x ∈ pa
 part-formed bs r f =
     let xs : List Run = partIn bs r in
     record {
-      long = part-long xs ∙ ap (λ (n : ℕ). 1 + 10 * n) (sym (ap (λ (ws : List ℕ). getD ws 0 0) (sym (append-nil (partWords xs))) ∙ part-first xs []));
+      long = part-length xs ∙ ap (λ (n : ℕ). 1 + 10 * n) (sym (ap (λ (ws : List ℕ). getD ws 0 0) (sym (append-nil (partWords xs))) ∙ part-first xs []));
       names = λ l. voters bs l r;
       runs = subst (RunsOf (λ l. voters bs l r)) (sym (part-read xs f)) (part-runs bs r);
     }
@@ -178,7 +165,7 @@ module _ (c : Committee) (s : Bytes) (ix : List ℕ) (sound : broken c ≡ false
       let fits : (x : Run) → x ∈ xs → ReferenceFits (x .reference) = run-fits (b ∷ blocks older) (λ d m. block-fits s bytes d (subst (λ (ds : List Block). d ∈ ds) (sym bs) (in-right (blocks front) m))) (b .reference) in
       let first : getD ix p 0 ≡ getD (drop p ix) 0 0 = ap (λ (n : ℕ). getD ix n 0) (sym (add-zero p)) ∙ sym (getD-drop p ix 0 0) in
       let count : getD ix p 0 ≡ length xs = first ∙ ap (λ (ws : List ℕ). getD ws 0 0) words ∙ part-first xs (here-is .0) in
-      let size : length (partWords xs) ≡ 1 + 10 * getD ix p 0 = part-long xs ∙ ap (λ (n : ℕ). 1 + 10 * n) (sym count) in
+      let size : length (partWords xs) ≡ 1 + 10 * getD ix p 0 = part-length xs ∙ ap (λ (n : ℕ). 1 + 10 * n) (sym count) in
       let taken : take (1 + 10 * getD ix p 0) (drop p ix) ≡ partWords xs = ap (take (1 + 10 * getD ix p 0)) words ∙ take-at (partWords xs) (here-is .0) (1 + 10 * getD ix p 0) size in
       record {
         next = r;

@@ -66,7 +66,7 @@ fn step_all(
     while k < count {
         let from = at + 8;
         let end = store_entries::record_end(store, at);
-        let next = p + 1 + 10 * (index[p] as usize);
+        let next = p + 1 + index_runs::RUN_WORDS * (index[p] as usize);
         sorted_step::step(
             stakes,
             total,

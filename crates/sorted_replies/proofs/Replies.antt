@@ -1,15 +1,14 @@
 -- After the steps of some blocks the replies are those of the single question about these blocks. Assumes nothing.
 use mathlib.Core.Path.{_≡_, refl, sym, ap, _∙_}
-use mathlib.Core.Bool.{Bool, true, false, not}
+use mathlib.Core.Bool.{Bool, true, false}
 use mathlib.Core.List.{List, [], _∷_, _++_, map, flatten}
 use Prim.Native.Nat.{ℕ, _*_}
 use native.Mathlib.Omega.{arith}
 use lib.ListN.{length, drop}
-use borrow.Author.Tests.{le-ltb}
+use borrow.Author.Tests.{le-ltb, not-false}
 use Rattle.base.specs.Lists.{pick, keep, _∈_}
 use Rattle.base.specs.Le.{Bytes}
 use Rattle.base.specs.Checks.{_⇒_, passes}
-use Rattle.base.proofs.Tests.{not-both}
 use Rattle.base.proofs.Checks.{passes-first, passes-others}
 use Rattle.committee.specs.Committee.{Committee, broken, totalStake, isQuorum}
 use Rattle.authority_set.specs.AuthoritySet.{inserted, setOf, stakeOf}
@@ -88,10 +87,6 @@ pub replies-first : (c : Committee) (ls : List TransactionLocator) (newer older 
 replies-first c ls newer older w = ap (repliesAfter c ls) (indexed-first newer older) ∙ replies-single c ls (stored-first newer older w)
 
 -- ---- the question
-
-not-false : (t : Bool) → not t ≡ false → t ≡ true
-not-false true e = refl
-not-false false e = absurd (not-both refl e)
 
 question-stored : (c : Committee) (s : Bytes) (ix : List ℕ) (bytes : Bytes) (out : List ℕ) → passes (sortedChecks c s ix bytes out) ≡ true → WellStored (blocksOf s)
 unfolding sortedChecks blocksOf

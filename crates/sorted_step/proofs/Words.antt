@@ -1,6 +1,6 @@
 -- Replies in words, and the reply to one locator after a step. Assumes nothing.
 use mathlib.Core.Path.{_≡_, refl, sym, ap, subst, _∙_}
-use mathlib.Core.Bool.{Bool, true, false, not, _&&_, _||_}
+use mathlib.Core.Bool.{true, false, not, _||_, and-false, or-false}
 use mathlib.Core.List.{List, [], _∷_, _++_, flatten}
 use Prim.Native.Nat.{ℕ, zero, suc, _+_, _*_, _≤_, _<_}
 use native.Mathlib.Omega.{arith}
@@ -11,7 +11,7 @@ use lib.ListN.{length, getD, take, drop, set, length-drop, take-append-drop}
 use lib.Seq.{getD-take, getD-drop, drop-drop, take-add, length-take-le, sets, sets-eq}
 use borrow.Author.Tests.{le-ltb, ne-eqb}
 use Rattle.base.specs.Lists.{pick}
-use Rattle.base.proofs.Tests.{or-left}
+use Rattle.base.proofs.Tests.{or-left, flag-back}
 use Rattle.base.proofs.Lists.{Every, none-of, and}
 use Rattle.committee.specs.Committee.{Committee, totalStake, isQuorum}
 use Rattle.authority_set.specs.AuthoritySet.{AuthoritySet, nobody, inserted, member, stakeOf}
@@ -26,13 +26,9 @@ use Rattle.sorted_step.specs.Step.{replyFrom, repliesFrom, repliesWords,
 
 -- ---- replies read back
 
-word-back : (t : Bool) → eqb (pick t 1 0) 1 ≡ t
-word-back true = refl
-word-back false = refl
-
 pub reply-back : (q : Reply) (rest : List ℕ) → replyFrom (replyWords q ++ rest) ≡ q
 unfolding replyFrom replyWords
-reply-back q rest = let e = word-back (q .final) in λ i. record { final = e i; authors = q .authors }
+reply-back q rest = let e = flag-back (q .final) in λ i. record { final = e i; authors = q .authors }
 
 pub replies-back : (qs : List Reply) → repliesFrom (length qs) (repliesWords qs) ≡ qs
 unfolding repliesFrom repliesWords replyWords flatten
@@ -70,7 +66,7 @@ module _ (c : Committee) where
   unfolding SettledReply replyFrom replyOf replyWords
   settled-reply ws h =
       let w : getD ws 0 0 ≡ pick (isQuorum c (stakeOf c (record { low = getD ws 1 0; high = getD ws 2 0 }))) 1 0 = sym (getD-take 3 ws 0 0 (omega arith)) ∙ ap (λ (xs : List ℕ). getD xs 0 0) h in
-      let e = ap (λ (n : ℕ). eqb n 1) w ∙ word-back (isQuorum c (stakeOf c (record { low = getD ws 1 0; high = getD ws 2 0 }))) in
+      let e = ap (λ (n : ℕ). eqb n 1) w ∙ flag-back (isQuorum c (stakeOf c (record { low = getD ws 1 0; high = getD ws 2 0 }))) in
       λ i. record { final = e i; authors = record { low = getD ws 1 0; high = getD ws 2 0 } }
 
   pub reply-stays : (b : Block) (xs : List Run) (l : TransactionLocator) (ws : List ℕ) → SettledReply c ws → partCertifies c b xs l ≡ false
@@ -85,11 +81,7 @@ module _ (c : Committee) where
 
   pub certifies-nobody : (b : Block) (xs : List Run) (l : TransactionLocator) → votersIn xs l ≡ nobody → partCertifies c b xs l ≡ false
   unfolding partCertifies isQuorum stakeOf
-  certifies-nobody b xs l h = rw (h, stake-nobody c 0, le-ltb (2 * totalStake c) 0 (omega arith)) (go (not (b .marked)))
-    where
-      go : (t : Bool) → t && false ≡ false
-      go true = refl
-      go false = refl
+  certifies-nobody b xs l h = rw (h, stake-nobody c 0, le-ltb (2 * totalStake c) 0 (omega arith)) (and-false (not (b .marked)))
 
   pub certifies-voters : (b : Block) (xs : List Run) (l : TransactionLocator) (v : AuthoritySet) → b .marked ≡ false → votersIn xs l ≡ v → partCertifies c b xs l ≡ isQuorum c (stakeOf c v)
   unfolding partCertifies
@@ -105,11 +97,7 @@ inserted-again v a s h m = set-ext (inserted v a) v (small-inserted v a h s) s (
   where
     go : (b : ℕ) → Dec (b ≡ a) → member v b || eqb b a ≡ member v b
     go b (yes e) = or-left (member v b) (eqb b a) (ap (member v) e ∙ m) ∙ sym (ap (member v) e ∙ m)
-    go b (no e) = rw (ne-eqb b a e) (none-of-them (member v b))
-      where
-        none-of-them : (t : Bool) → t || false ≡ t
-        none-of-them true = refl
-        none-of-them false = refl
+    go b (no e) = rw (ne-eqb b a e) (or-false (member v b))
 
 -- ---- an author put into the reply of an index
 

@@ -98,7 +98,7 @@ fn merge(
             // The part is used up: nobody is named from here on.
             return;
         }
-        let run = index_runs::read_run(part, 10 * j + 1);
+        let run = index_runs::read_run(part, index_runs::RUN_WORDS * j + 1);
         let locator = types::read_locator(locators, types::LOCATOR_BYTES * i);
         let stands = side_of(run, locator);
         match stands {

@@ -12,7 +12,7 @@ use lib.Seq.{take-all}
 use Rattle.base.specs.Lists.{keep, countFrom, _∈_, there}
 use Rattle.base.specs.Le.{Bytes}
 use Rattle.base.proofs.Lists.{keep-append}
-use Rattle.base.proofs.Places.{in-place}
+use Rattle.base.proofs.Places.{in-place, member-place}
 use Rattle.base.proofs.Members.{in-left, in-right, in-append, in-map, map-in, in-flatten, flatten-in, in-keep, keep-in, in-countFrom, countFrom-in}
 use Rattle.blocks.specs.Reference.{BlockReference, TransactionLocator, TransactionLocatorRange}
 use Rattle.blocks.specs.Block.{Block}
@@ -32,7 +32,6 @@ use Rattle.vote_edges.specs.Edges.{edgesIn, edgesAt}
 use Rattle.vote_table.specs.declared.TableSizes as sizes
 use Rattle.vote_rows.specs.Row.{placeAt, rangeAt}
 use Rattle.vote_table.specs.Table.{tableRanges, Tabled, BothTabled}
-use Rattle.final_walk.proofs.Counting.{place-in}
 use Rattle.spoken_places.specs.Search.{spokenStarts}
 
 dropped-in : (n : ℕ) (xs : List ℕ) (x : ℕ) → x ∈ drop n xs → x ∈ xs
@@ -67,7 +66,7 @@ module _ (rejecting : Bool) (s : Bytes) (order : List ℕ) (o : SortedStore s or
   unfolding SortedStore blockAtPlace
   somewhere q z =
       let x = block-position (o .0) s order (o .1) (z .block) (z .stands) in
-      let y = place-in order (x .0) (x .1) in
+      let y = member-place 0 order (x .1) in
       go (y .0) (y .1 .0) (subst (λ (d : Block). q ∈ (rangesOf rejecting) d) (sym (ap (blockAt s) (y .1 .1) ∙ x .2)) (z .span)) (decLt (y .0) n)
     where
       go : (k : ℕ) → k < length order → q ∈ (rangesOf rejecting) (blockAt s (getD order k 0)) → Dec (k < n) → Somewhere q

@@ -8,7 +8,7 @@ use native.Mathlib.Omega.{arith}
 use native.Mathlib.Decide.{ℕ-discrete, decLe}
 use lib.Dec.{ltb, leb}
 use lib.ListN.{length, take, drop, getD}
-use lib.Seq.{take-take, drop-drop}
+use lib.Seq.{drop-drop}
 use borrow.Author.Tests.{eq-eqb, ne-eqb, ltb-true, leb-true}
 use Rattle.base.specs.Lists.{pick, countFrom, _∈_, here, there, Once, empty, also}
 use Rattle.base.specs.Le.{Bytes, leAt, leNumber}
@@ -17,6 +17,7 @@ use Rattle.base.proofs.Members.{in-countFrom}
 use Rattle.base.proofs.Lists.{length-countFrom}
 use Rattle.base.proofs.Covered.{covered}
 use Rattle.base.proofs.Places.{in-place}
+use Rattle.base.proofs.Parts.{part-of-front}
 use Rattle.stakes_chain.specs.Layout.{wellSized, recordCount, place, firstIndex, nextIndex, inFile}
 use Rattle.stakes_chain.specs.Chain.{Chain, ends, links, Chained, linked, chainFrom, chainOf, Inside}
 use Rattle.stakes_chain.specs.Claims.{SameOnChain}
@@ -128,16 +129,10 @@ chained-inside f is c =
       below = λ k h. record-inside f (getD is k 0) (c .sized) (chain-inside f (c .chain) _ (in-place 0 is k h));
     }
 
-part-of : (n m k : ℕ) (l : Bytes) → m + n ≤ k → take n (drop m (take k l)) ≡ take n (drop m l)
-part-of n zero k l h = take-take n k l (omega arith)
-part-of n (suc m) zero l h = absurd (omega arith)
-part-of n (suc m) (suc k) [] h = refl
-part-of n (suc m) (suc k) (x ∷ l) h = part-of n m k l (omega arith)
-
 -- a part of a record, from the record's bytes
 pub part-same : (f g : Bytes) (n m p : ℕ) → m + n ≤ 26 → take 26 (drop p f) ≡ take 26 (drop p g) → take n (drop (p + m) f) ≡ take n (drop (p + m) g)
 part-same f g n m p h e =
-    rw (← drop-drop m p f, ← drop-drop m p g, ← part-of n m 26 (drop p f) h, ← part-of n m 26 (drop p g) h, e)
+    rw (← drop-drop m p f, ← drop-drop m p g, ← part-of-front n m 26 (drop p f) h, ← part-of-front n m 26 (drop p g) h, e)
 
 -- records off the chain do not change it
 pub off-chain : (f g : Bytes) (is : List ℕ) → Chained f is → SameOnChain f g is → Chained g is

@@ -1,7 +1,7 @@
 -- The walk along the chain: what was met so far, then what is left. Assumes nothing.
 use mathlib.Core.Path.{_≡_, refl, _∙_}
 use mathlib.Core.Bool.{true}
-use mathlib.Core.List.{List, [], _∷_, _++_}
+use mathlib.Core.List.{List, [], _∷_, _++_, append-nil}
 use mathlib.Core.Option.{Option, none, some}
 use Prim.Native.Nat.{ℕ, zero, suc, _+_, _-_, _/_, _≤_, _<_}
 use native.Mathlib.Numerals.{add-one, sub-one}
@@ -11,7 +11,6 @@ use lib.Seq.{take-suc-set, append-snoc}
 use borrow.Author.Tests.{eq-eqb, ne-eqb, lt-ltb, le-leb, lt-leb}
 use Rattle.base.specs.Le.{Bytes}
 use Rattle.base.proofs.Tests.{and-both}
-use Rattle.base.proofs.Lists.{append-nil}
 use Rattle.stakes_chain.specs.Layout.{wellSized, recordCount, place, firstIndex, nextIndex, inFile}
 use Rattle.stakes_chain.specs.Chain.{linked, chainFrom, chainOf}
 use Rattle.stakes_chain.proofs.Chains.{long-enough, record-inside}

@@ -16,10 +16,10 @@ use Rattle.stakes_chain.specs.Chain.{Chained, chainOf}
 use Rattle.stakes_chain.proofs.Chains.{chain-found, off-chain, part-same}
 use Rattle.stakes_names.specs.Names.{nameAt, goodNames, WellNamed}
 use Rattle.stakes_names.proofs.Names.{names-meant}
-use Rattle.base.proofs.Checks.{refused-answered}
+use Rattle.base.proofs.Checks.{refused-answered, checked-answered}
 use Rattle.stakes_file.specs.Load.{stakeAt, membersAt, memberChecks, loadAlong, load}
 use Rattle.stakes_file.specs.Claims.{Loaded, LoadedMeant, NeverBroken, EmptyFile, BrokenChain, BadNames, ThenCommittee, OffChain, Claims}
-use Rattle.stakes_file.proofs.Loaded.{refused-same, passes-sound, sound-passes, checked-answered, checked-passes, small-refusal, load-empty, load-broken, load-chained, along-bad, along-good}
+use Rattle.stakes_file.proofs.Loaded.{refused-same, passes-sound, sound-passes, checked-passes, small-refusal, load-empty, load-broken, load-chained, along-bad, along-good}
 
 -- the names of a chain are good or not, and loading goes on or not
 data Names (f : Bytes) (is : List ℕ) : Type 0 where

@@ -22,7 +22,7 @@ use Rattle.stakes_chain.specs.declared.ChainAnswer.{ChainAnswer}
 use Rattle.stakes_chain.specs.declared.ChainAnswer.the-variants.{Members, Broken as ChainBroken}
 use Rattle.stakes_chain.proofs.Chains.{found-chain}
 use Rattle.stakes_names.specs.Names.{nameAt, goodNames}
-use Rattle.base.proofs.Checks.{refused-answered}
+use Rattle.base.proofs.Checks.{refused-answered, checked-answered}
 use Rattle.stakes_file.specs.Load.{membersAt, memberChecks, loadAlong, load}
 
 -- ---- answers and refusals
@@ -31,14 +31,6 @@ pub refused-same : {m n : ℕ} → _≡_ {A = Answer Committee} (refused m) (ref
 refused-same p = cc
 
 module _ {A : Type 0} (ks : List Check) where
-  pub checked-answered : (a b : A) → checked ks a ≡ answered b → (passes ks ≡ true) × (a ≡ b)
-  unfolding checked
-  checked-answered a b h = go (passes ks) h
-    where
-      go : (t : Bool) → pick {A = Answer A} t (answered a) (refused (refusal ks)) ≡ answered b → (t ≡ true) × (a ≡ b)
-      go true k = (refl, cc)
-      go false k = absurd (refused-answered refl k)
-
   pub checked-passes : (a : A) → passes ks ≡ true → checked ks a ≡ answered a
   unfolding checked
   checked-passes a h = rw h

@@ -1,6 +1,6 @@
 -- One step of each loop over names. Assumes nothing.
 use mathlib.Core.Path.{_≡_, refl}
-use mathlib.Core.Bool.{Bool, true, false, not, _&&_}
+use mathlib.Core.Bool.{Bool, true, false, not, and-false}
 use mathlib.Core.List.{List, [], _∷_, map}
 use Prim.Native.Nat.{ℕ, _+_, _-_, _<_, _≤_}
 use native.Mathlib.Decide.{ℕ-discrete}
@@ -115,11 +115,7 @@ module _ (f : Bytes) (is : List ℕ) (k : ℕ) where
 
   pub names-again : k < length is → goodName (nameAt f (getD is k 0)) ≡ true → allOf (λ n. not (same (nameAt f (getD is k 0)) n)) (map (nameAt f) (drop (k + 1) is)) ≡ false → good (drop k is) ≡ false
   unfolding goodNames allOf pairwise
-  names-again h e d = rw (drop-next is k h, e, d) (and-no (allOf goodName (map (nameAt f) (drop (k + 1) is))))
-    where
-      and-no : (t : Bool) → t && false ≡ false
-      and-no true = refl
-      and-no false = refl
+  names-again h e d = rw (drop-next is k h, e, d) (and-false (allOf goodName (map (nameAt f) (drop (k + 1) is))))
 
   pub names-on : k < length is → goodName (nameAt f (getD is k 0)) ≡ true → allOf (λ n. not (same (nameAt f (getD is k 0)) n)) (map (nameAt f) (drop (k + 1) is)) ≡ true → good (drop k is) ≡ good (drop (k + 1) is)
   unfolding goodNames allOf pairwise

@@ -1,4 +1,4 @@
--- The search by reference among the entries of a store. Assumes nothing.
+-- The reference of an entry, and the search by reference among the entries of a store. Assumes nothing.
 use mathlib.Core.Path.{_≡_}
 use mathlib.Core.List.{List}
 use mathlib.Core.Bool.{true}
@@ -15,14 +15,19 @@ use Rattle.reference_search.specs.declared.FoundPlace.the-variants.{At, Before}
 use Rattle.reference_search.proofs.Known.{known-ascend, known-at, known-between}
 use Rattle.store_layout.specs.Layout.{entries, positionOf, lookup}
 use Rattle.store_layout.specs.Store.{recordsOf}
-use Rattle.store_layout.specs.Entry.{recordAt, blockAt, sortedPositions, laidOut}
+use Rattle.store_layout.specs.Entry.{recordAt, blockAt, sortedPositions, laidOut, isEntry}
 use Rattle.store_layout.proofs.Loops.{entry-room}
 use Rattle.store_layout.proofs.Search.{referenceIn, order-entry, order-rises, found-nowhere}
 
+-- an entry's record begins with the reference of its block
+pub entry-reference : (s : Bytes) (p : ℕ) → isEntry s p ≡ true → (p + 8 + 48 ≤ length s) × (referenceAt s (p + 8) ≡ blockAt s p .reference)
+unfolding blockAt recordAt
+entry-reference s p h = reference-within s (p + 8) (leAt 4 s (p + 4)) (entry-room s p h .formed)
+
 module _ (s : Bytes) (h : laidOut s ≡ true) (order : List ℕ) (q : order ≡ sortedPositions (recordsOf s)) where
   stand : (j : ℕ) → j < length order → (getD order j 0 + 8 + 48 ≤ length s) × (referenceAt s (getD order j 0 + 8) ≡ referenceIn s order j)
-  unfolding referenceIn blockAt recordAt
-  stand j l = reference-within s (getD order j 0 + 8) (leAt 4 s (getD order j 0 + 4)) (entry-room s (getD order j 0) (order-entry s h order q j l) .formed)
+  unfolding referenceIn
+  stand j l = entry-reference s (getD order j 0) (order-entry s h order q j l)
 
   pub order-ascends : Ascending s order 8
   order-ascends = known-ascend s order 8 (referenceIn s order) stand (order-rises s h order q)

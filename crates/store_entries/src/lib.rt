@@ -24,9 +24,7 @@ pub fn reference_at(store: &[u8], at: usize) -> BlockReference
     requires { ⌜ isEntry (now store) at ≡ true ⌝ }
     ensures { λ r. ⌜ asReference r ≡ blockAt (now (store .entry)) at .reference ⌝ }
 {
-    let from = at + 8;
-    let end = record_end(store, at);
-    block_record::reference(&store[from..end])
+    types::read_reference(store, at + 8)
 }
 
 // Its author alone.

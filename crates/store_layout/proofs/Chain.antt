@@ -1,9 +1,8 @@
--- The chain of next positions, from the first position on, is the entries in ascending reference order. Assumes nothing.
+-- The entries in ascending reference order: the first position, and the next one of each entry. Assumes nothing.
 use mathlib.Core.Path.{_≡_, refl, sym, _∙_}
 use mathlib.Core.List.{List, [], _∷_, _++_, append-assoc}
 use mathlib.Core.Option.{some}
 use mathlib.Core.Bool.{Bool, true, false}
-use Prim.Native.Nat.{ℕ}
 use Rattle.base.specs.Lists.{pick, anyOf, keep}
 use Rattle.base.specs.Checks.{passes}
 use Rattle.base.proofs.Tests.{fails, and-left, and-right, neither-left, neither-right}
@@ -137,27 +136,11 @@ after (x ∷ xs) ys e (with-later h hs) = rw (lower-not x e (at xs h)) (after xs
     at [] (and k ks) = k
     at (z ∷ zs) (and k ks) = at zs ks
 
--- what the walk along next positions from p meets
-pub data Chain (es : List Entry) : ℕ → List Entry → Type 0 where
-  ends : Chain es 0 []
-  link : {e : Entry} {xs : List Entry} → Chain es (nextPosition es e) xs → Chain es (e .position) (e ∷ xs)
-
 pub next-after : (es xs ys : List Entry) (e : Entry) → Distinct es → ascending es ≡ xs ++ e ∷ ys → nextPosition es e ≡ positionOf (first ys)
 unfolding nextPosition
 next-after es xs ys e d h =
     let up : Ascending (xs ++ e ∷ ys) = rw h at (ascending-ascends es d) in
     rw (least-first (keep (lower e) es), ascending-keep (lower e) es d, h, after xs ys e up)
-
-chained-from : (es xs ys : List Entry) → Distinct es → ascending es ≡ xs ++ ys → Chain es (positionOf (first ys)) ys
-unfolding positionOf first
-chained-from es xs [] d h = ends
-chained-from es xs (e ∷ ys) d h =
-    link {e = e} {xs = ys} (rw (next-after es xs ys e d h) (chained-from es (xs ++ (e ∷ [])) ys d (h ∙ sym (append-assoc xs (e ∷ []) ys))))
-
--- from the first position on, the next positions chain all the entries in ascending order; zero ends the chain
-pub chained : (es : List Entry) → Distinct es → Chain es (firstPosition es) (ascending es)
-unfolding firstPosition
-chained es d = rw (least-first es) (chained-from es [] (ascending es) d refl)
 
 -- ---- the entries of a store have distinct references
 

@@ -1,6 +1,6 @@
 -- "In order" by the steps of the check: the header, the entries, the chain, and every record accepted after those before it. Assumes nothing.
 use mathlib.Core.Path.{_≡_, refl, sym, ap, _∙_}
-use mathlib.Core.List.{List, [], _∷_, _++_, append-assoc, flatten}
+use mathlib.Core.List.{List, [], _∷_, _++_, append-assoc, flatten, append-nil}
 use mathlib.Core.Option.{Option, none, some}
 use mathlib.Core.Bool.{Bool, true, false, not, _&&_}
 use Prim.Native.Nat.{ℕ, _+_, _*_, _^_, _≤_, _<_}
@@ -13,7 +13,7 @@ use Rattle.base.specs.Lists.{pick, allOf, _∈_, here, there}
 use Rattle.base.specs.Le.{Bytes, leBytes, leAt, leNumber}
 use Rattle.base.specs.Read.{Part}
 use Rattle.base.proofs.Tests.{and-left, and-right, same-test, fails}
-use Rattle.base.proofs.Lists.{append-nil, Every, none-of, and, every, every-keep, all-every, every-all, Pairs, no-pairs, with-later, pairwise-pairs, pairs-pairwise}
+use Rattle.base.proofs.Lists.{Every, none-of, and, every, every-keep, all-every, every-all, Pairs, no-pairs, with-later, pairwise-pairs, pairs-pairwise}
 use Rattle.base.proofs.Le.{AllBytes, bytes-left, length-leBytes, leBytes-leNumber, leNumber-leBytes, leAt-add, bytes-drop}
 use Rattle.base.proofs.Read.{part}
 use Rattle.base.proofs.Parts.{PartOf, part-taken, part-complete, part-left, part-right, part-part, part-at, part-same}

@@ -5,7 +5,6 @@ pub mod Store
 pub mod Chain
 pub mod Splice
 pub mod Payloads
-pub mod Holding
 pub mod Claimed
 pub mod Walk
 pub mod Check

@@ -2,7 +2,7 @@
 use mathlib.Core.Path.{_≡_, refl, sym, ap, _∙_}
 use mathlib.Core.List.{List, [], _∷_, _++_, map}
 use mathlib.Core.Option.{Option, none, some}
-use mathlib.Core.Bool.{Bool, true, false, not, _&&_, _||_}
+use mathlib.Core.Bool.{Bool, true, false, not, _&&_, _||_, and-true}
 use Prim.Native.Nat.{ℕ, suc, _+_, _≤_, _<_}
 use native.Mathlib.Omega.{arith}
 use native.Mathlib.Numerals.{add-one}
@@ -175,10 +175,6 @@ unfolding acceptedAt usedBy
 accepted-at c [] older r = rw (eq-eqb (usedBy older) (usedBy older) refl)
 accepted-at c (n ∷ newer) older r =
     rw (ne-eqb (usedBy (newer ++ r ∷ older)) (usedBy older) (λ (e : usedBy (newer ++ r ∷ older) ≡ usedBy older). omega (arith, used-more newer (r ∷ older)))) (accepted-at c newer older r)
-
-and-true : (t : Bool) → t && true ≡ t
-and-true true = refl
-and-true false = refl
 
 -- where its reference is new, a block is accepted where it passes the checks of its own and its includes are stored
 pub checks-new : (c : Committee) (older : List Record) (b : Block) → isStored older (b .reference) ≡ false

@@ -1,7 +1,7 @@
 -- The slice as it fills, stretch by stretch. Assumes nothing.
 use mathlib.Core.Path.{_≡_, refl, sym, ap, _∙_}
 use mathlib.Core.Bool.{true, false}
-use mathlib.Core.List.{List, [], _∷_, _++_, map, flatten, append-assoc, map-append}
+use mathlib.Core.List.{List, [], _∷_, _++_, map, flatten, append-assoc, map-append, append-nil}
 use mathlib.Core.Option.{Option, none, some}
 use Prim.Native.Nat.{ℕ, zero, suc, _+_, _-_, _*_, _≤_, _<_}
 use native.Mathlib.Omega.{arith}
@@ -9,7 +9,6 @@ use native.Mathlib.Numerals.{add-one, sub-one}
 use lib.ListN.{length, drop, length-append}
 use lib.Seq.{sets, length-sets}
 use Rattle.base.specs.Lists.{keep, isNone}
-use Rattle.base.proofs.Lists.{append-nil}
 use Rattle.committee.specs.Committee.{Committee, Stake}
 use Rattle.authority_set.specs.AuthoritySet.{setOf, stakeOf}
 use Rattle.blocks.specs.Reference.{TransactionLocator}
@@ -17,7 +16,7 @@ use Rattle.blocks.specs.Block.{Block, author}
 use Rattle.certifying_blocks.proofs.Finding.{written-more}
 use Rattle.stretches.specs.Stretches.{Listing, FinalStretch, lastLocator, stretchEnd, stretchAt, fromFound, stretches, reached, moreFollow}
 use Rattle.stretches.specs.Bulk.{digestWords, referenceWords, stretchWords, givenAfter, wordsAfter}
-use Rattle.stretch_words.specs.Step.{stretchOf, Filled}
+use Rattle.stretch_words.specs.Step.{finalStretch, Filled}
 
 -- ---- one stretch more, or none
 
@@ -53,8 +52,8 @@ reached-append after (x ∷ ts) t = reached-append (some (lastLocator x)) ts t
 -- ---- the words
 
 pub stretch-parts : (c : Committee) (bs : List Block) (k : Listing) (l : TransactionLocator) (end blocks : ℕ) (stake : Stake) → end ≡ stretchEnd bs k l → blocks ≡ length (keep (k .certifies l) bs)
-    → stake ≡ stakeOf c (setOf (map author (keep (k .certifies l) bs))) → stretchOf l end blocks stake ≡ stretchAt c bs k l
-unfolding stretchOf stretchAt
+    → stake ≡ stakeOf c (setOf (map author (keep (k .certifies l) bs))) → finalStretch l end blocks stake ≡ stretchAt c bs k l
+unfolding finalStretch stretchAt
 stretch-parts c bs k l end blocks stake e f g = rw (e, f, g)
 
 ten-words : (t : FinalStretch) → length (stretchWords t) ≡ 10

@@ -3,30 +3,24 @@ use mathlib.Core.Path.{_≡_, refl, sym, ap, _∙_}
 use mathlib.Core.List.{List, [], _∷_, _++_, reverse-reverse}
 use Prim.Native.Nat.{ℕ, suc, _+_, _^_, _<_}
 use native.Mathlib.Omega.{arith}
-use lib.ListN.{length, set, take, drop, length-reverse}
-use lib.Seq.{sets, take-at, drop-at, drop-drop, take-length}
+use lib.ListN.{length, set, take}
+use lib.Seq.{sets, take-at, take-length}
 use Rattle.base.specs.Le.{leNumber, leBytes}
-use Rattle.base.proofs.Le.{length-leBytes, leNumber-leBytes, sets-append}
+use Rattle.base.proofs.Le.{leNumber-leBytes, sets-append}
 use Rattle.blocks.specs.Reference.{BlockReference}
 use Rattle.types.specs.Values.{beBytes, digestBytes}
 use Rattle.types.specs.declared.BlockDigest as digest
 use Rattle.types.proofs.Words.{Words}
+use Rattle.types.proofs.Written.{length-beBytes, next-word}
 use Rattle.stretches.specs.Bulk.{beNumber, digestWords, referenceWords}
 
 be-number : (v : ℕ) → v < 256 ^ 8 → beNumber (beBytes 8 v) ≡ v
 unfolding beNumber beBytes
 be-number v h = ap leNumber (reverse-reverse (leBytes 8 v)) ∙ leNumber-leBytes 8 v h
 
-be-length : (v : ℕ) → length (beBytes 8 v) ≡ 8
-unfolding beBytes
-be-length v = length-reverse (leBytes 8 v) ∙ length-leBytes 8 v
-
 -- the first word, and what is left
 first-word : (v : ℕ) (xs : List ℕ) → v < 256 ^ 8 → beNumber (take 8 (beBytes 8 v ++ xs)) ≡ v
-first-word v xs h = ap beNumber (take-at (beBytes 8 v) xs 8 (be-length v)) ∙ be-number v h
-
-next-word : (n v : ℕ) (xs : List ℕ) → drop (8 + n) (beBytes 8 v ++ xs) ≡ drop n xs
-next-word n v xs = sym (drop-drop n 8 (beBytes 8 v ++ xs)) ∙ ap (drop n) (drop-at (beBytes 8 v) xs 8 (be-length v))
+first-word v xs h = ap beNumber (take-at (beBytes 8 v) xs 8 (length-beBytes 8 v)) ∙ be-number v h
 
 pub digest-words : (d : digest.BlockDigest) → Words d → digestWords (digestBytes d) ≡ d .0 ∷ d .1 ∷ d .2 ∷ d .3 ∷ []
 unfolding digestWords digestBytes
@@ -35,7 +29,7 @@ digest-words d h =
     let w1 : List ℕ = beBytes 8 (d .1) in
     let w2 : List ℕ = beBytes 8 (d .2) in
     let w3 : List ℕ = beBytes 8 (d .3) in
-    let last : take 8 w3 ≡ w3 = ap (λ (n : ℕ). take n w3) (sym (be-length (d .3))) ∙ take-length w3 in
+    let last : take 8 w3 ≡ w3 = ap (λ (n : ℕ). take n w3) (sym (length-beBytes 8 (d .3))) ∙ take-length w3 in
     rw (
       first-word (d .0) (w1 ++ (w2 ++ w3)) (omega (arith, h .0)),
       next-word 0 (d .0) (w1 ++ (w2 ++ w3)),

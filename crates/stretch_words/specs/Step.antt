@@ -11,8 +11,8 @@ use Rattle.stretches.specs.Stretches.{Listing, FinalStretch, stretches, reached
 use Rattle.stretches.specs.Bulk.{stretchWords}
 
 -- a stretch from its parts
-unfoldable pub stretchOf : TransactionLocator → ℕ → ℕ → Stake → FinalStretch
-stretchOf l end blocks stake = record { block = l .block; first = l .offset; end = end; blocks = blocks; stake = stake }
+unfoldable pub finalStretch : TransactionLocator → ℕ → ℕ → Stake → FinalStretch
+finalStretch l end blocks stake = record { block = l .block; first = l .offset; end = end; blocks = blocks; stake = stake }
 
 -- what stands in the slice once n stretches of a list are written, the last of which ends with the given locator
 pub record Filled (c : Committee) (bs : List Block) (k : Listing) (room : ℕ) (after : Option TransactionLocator) (out₀ out : List ℕ) (last : Option TransactionLocator) (n : ℕ) : Type 0 where

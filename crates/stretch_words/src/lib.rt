@@ -8,7 +8,7 @@ ghost use lib.ListN.{length};
 ghost use lib.Seq.{sets};
 ghost use Rattle.types.specs.Values.{asReference, asLocator};
 ghost use Rattle.stretches.specs.Bulk.{referenceWords, stretchWords};
-ghost use Rattle.stretch_words.specs.Step.{stretchOf};
+ghost use Rattle.stretch_words.specs.Step.{finalStretch};
 
 // The words of a stretch.
 pub const STRETCH_WORDS: usize = 10;
@@ -39,7 +39,7 @@ pub fn write_stretch(
     stake: Stake,
 )
     requires { ⌜ 10 * n + 10 ≤ length (now out) ⌝ }
-    ensures { λ _. ⌜ now (out .exit) ≡ sets (now (out .entry)) (10 * n) (stretchWords (stretchOf (asLocator locator) end blocks (stake .0))) ⌝ }
+    ensures { λ _. ⌜ now (out .exit) ≡ sets (now (out .entry)) (10 * n) (stretchWords (finalStretch (asLocator locator) end blocks (stake .0))) ⌝ }
 {
     let at = STRETCH_WORDS * n;
     write_reference(out, at, locator.block);

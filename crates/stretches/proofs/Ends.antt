@@ -7,19 +7,15 @@ use Prim.Native.Nat.{ℕ, zero, suc, _+_, _-_, _≤_, _<_}
 use native.Mathlib.Omega.{arith}
 use native.Mathlib.Decide.{decLt, decLe}
 use lib.Dec.{eqb}
-use borrow.Author.Tests.{eqb-true, eq-eqb}
+use borrow.Author.Tests.{eqb-true, eq-eqb, not-true}
 use Rattle.base.specs.Lists.{allOf, anyOf, keep, _∈_, here, there}
-use Rattle.base.proofs.Tests.{not-both, holds-or-not, and-both, and-right}
-use Rattle.base.proofs.Members.{in-keep, keep-in, any-in, in-any}
+use Rattle.base.proofs.Tests.{not-both, holds-or-not, and-both}
+use Rattle.base.proofs.Members.{in-keep, keep-in, any-in, in-any, in-all}
 use Rattle.blocks.specs.Reference.{TransactionLocator, locator}
 use Rattle.blocks.specs.Block.{Block}
 use Rattle.stretches.specs.Stretches.{Listing, agree, certifiedAlike, goesOn, EndsAt, nearest, endAmong, stretchEnd}
 use Rattle.stretches.specs.Claims.{Edges, Lawful, EndMeant, StretchEndMeant}
 use Rattle.stretches.proofs.Nearest.{Nearest, nearest-is}
-
-not-true : (t : Bool) → not t ≡ true → t ≡ false
-not-true true h = sym h
-not-true false h = refl
 
 -- ---- a test that changes at edges only
 
@@ -104,19 +100,11 @@ agrees true u h = h
 agrees false true h = sym h
 agrees false false h = refl
 
-pub all-in : {A : Type 0} (p : A → Bool) (xs : List A) → allOf p xs ≡ true → (x : A) → x ∈ xs → p x ≡ true
-unfolding allOf
-all-in p (x ∷ xs) h y here = and-first (p x) (allOf p xs) h
-  where
-    and-first : (t u : Bool) → t && u ≡ true → t ≡ true
-    and-first true u k = refl
-    and-first false u k = k
-all-in p (x ∷ xs) h y (there m) = all-in p xs (and-right (p x) (allOf p xs) h) y m
-
-pub in-all : {A : Type 0} (p : A → Bool) (xs : List A) → ((x : A) → x ∈ xs → p x ≡ true) → allOf p xs ≡ true
-unfolding allOf
-in-all p [] f = refl
-in-all p (x ∷ xs) f = and-both (p x) (allOf p xs) (f x here) (in-all p xs (λ y m. f y (there m)))
+pub agree-same : (t u : Bool) → u ≡ t → agree t u ≡ true
+unfolding agree
+agree-same true u h = h
+agree-same false true h = sym h
+agree-same false false h = refl
 
 all-same : {A : Type 0} (p q : A → Bool) (xs : List A) → ((x : A) → x ∈ xs → p x ≡ q x) → allOf p xs ≡ allOf q xs
 unfolding allOf

@@ -8,15 +8,13 @@ use native.Mathlib.Omega.{arith}
 use native.Mathlib.Decide.{ℕ-discrete}
 use Rattle.base.specs.Lists.{keep, _∈_}
 use Rattle.base.proofs.Members.{in-left, in-right, in-flatten, in-map}
-use Rattle.committee.specs.Committee.{Committee}
 use Rattle.blocks.specs.Reference.{TransactionLocator, TransactionLocatorRange, locator}
 use Rattle.blocks.specs.Block.{Block}
 use Rattle.finality.specs.Voters.{votesFor}
 use Rattle.finality.specs.NextFinal.{isAfter, LeastOf, justAfter, leastLocator}
-use Rattle.finality.proofs.Growing.{final-mono, final-votes}
 use Rattle.finality.proofs.LeastOf.{after-below, least-among, one-least}
 use Rattle.finality.proofs.Votes.{Covered}
-use Rattle.stretches.specs.Stretches.{Listing, wide}
+use Rattle.stretches.specs.Stretches.{Listing}
 use Rattle.stretches.specs.Claims.{Lawful}
 use Rattle.stretches.proofs.Spreading.{least-following, follows}
 use Rattle.stretches.proofs.Wide.{Telling}
@@ -105,9 +103,3 @@ module _ {f : Block → List TransactionLocatorRange} (told : Telling f) (bs : L
       go : {s : ℕ} (n : ℕ) → l .offset ≡ n → s < l .offset → (o : ℕ) × (suc o ≡ l .offset)
       go zero e k = absurd (omega arith)
       go (suc o) e k = (o, sym e)
-
-pub wide-starts : {f : Block → List TransactionLocatorRange} → Telling f → (c : Committee) (bs : List Block) → Starts (wide c bs) (startsBy f bs)
-wide-starts told c bs l h off =
-    let v = final-votes c bs l h in
-    let x = some-below told bs l off (v .block) (v .stands) (v .votes) in
-    record { offset = x .0; next = x .1; shown = final-mono c bs l (locator (l .block) (x .0)) (λ d m e. votes-below told bs l off (x .0) (x .1) d m e) h }

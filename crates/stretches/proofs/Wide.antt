@@ -12,7 +12,7 @@ use Rattle.base.specs.Lists.{keep, countFrom, sumOf, _∈_, here, there}
 use Rattle.base.specs.Le.{Bytes}
 use Rattle.base.specs.Checks.{Answer, answered}
 use Rattle.base.proofs.Tests.{fails, same-test, and-left, and-right}
-use Rattle.base.proofs.Members.{map-in, countFrom-in}
+use Rattle.base.proofs.Members.{map-in, countFrom-in, all-in}
 use Rattle.committee.specs.Committee.{Committee, isQuorum}
 use Rattle.authority_set.specs.AuthoritySet.{setOf, stakeOf}
 use Rattle.blocks.specs.Reference.{BlockReference, TransactionLocator, TransactionLocatorRange, locator, newRange, offsets, locators}
@@ -33,7 +33,7 @@ use Rattle.store_layout.proofs.Lookups.{entry-block}
 use Rattle.stretches.specs.Stretches.{Listing, edgesBy, wide, FinalStretch, stretchLocators, agree, certifiedAlike, goesOn, stretchAt}
 use Rattle.stretches.specs.Claims.{SameBefore, Edges, Lawful, Gives, done, onward, WideGives, Alike, StretchesAlike}
 use Rattle.stretches.proofs.Nearest.{edge-start, edge-end}
-use Rattle.stretches.proofs.Ends.{agrees, all-in}
+use Rattle.stretches.proofs.Ends.{agrees}
 use Rattle.stretches.proofs.Spreading.{begun, shown-ends}
 
 -- ---- ranges that tell the votes of blocks, as `spans` does
@@ -149,7 +149,7 @@ wide-gives c s b h after ls = gives-asked (wide c (blocksOf s)) (nextFinal c s) 
 module _ (c : Committee) (s : Bytes) (l m : TransactionLocator) (h : certifiedAlike (blocksOf s) (wide c (blocksOf s)) l m ≡ true) where
   alike-block : (b : Block) → b ∈ blocksOf s → certifies c (blocksOf s) m b ≡ certifies c (blocksOf s) l b
   unfolding certifiedAlike
-  alike-block b i = agrees _ _ (all-in (λ d. agree (certifies c (blocksOf s) l d) (certifies c (blocksOf s) m d)) (blocksOf s) h b i)
+  alike-block b i = agrees _ _ (all-in (λ d. agree (certifies c (blocksOf s) l d) (certifies c (blocksOf s) m d)) (blocksOf s) h i)
 
   pub alike-certifiers : certifiers c (blocksOf s) m ≡ certifiers c (blocksOf s) l
   unfolding certifiers

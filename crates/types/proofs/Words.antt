@@ -182,7 +182,7 @@ module _ (l m : TransactionLocator) where
 
 -- ---- words read from bytes
 
-be-double : (n h l : ℕ) → l < 256 ^ n → beBytes (n + n) (h * 256 ^ n + l) ≡ beBytes n h ++ beBytes n l
+pub be-double : (n h l : ℕ) → l < 256 ^ n → beBytes (n + n) (h * 256 ^ n + l) ≡ beBytes n h ++ beBytes n l
 unfolding beBytes
 be-double n h l k =
     let v : ℕ = h * 256 ^ n + l in

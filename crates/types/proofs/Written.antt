@@ -1,12 +1,12 @@
 -- Bytes written with the highest first, and references and locators written. Assumes nothing.
-use mathlib.Core.Path.{_≡_, sym, _∙_}
+use mathlib.Core.Path.{_≡_, sym, ap, _∙_}
 use mathlib.Core.List.{List, _++_, reverse-append}
 use Prim.Native.Nat.{ℕ, _+_, _/_, _%_, _^_, _<_}
 use native.Mathlib.Nat.{mod-eq-of-lt}
 use native.Mathlib.Numerals.{add-one}
 use native.Mathlib.Omega.{arith}
-use lib.ListN.{length, set, length-append, length-reverse}
-use lib.Seq.{sets}
+use lib.ListN.{length, drop, set, length-append, length-reverse}
+use lib.Seq.{sets, drop-drop, drop-at}
 use Rattle.base.specs.Le.{leBytes}
 use Rattle.base.proofs.Le.{length-leBytes, leBytes-add, leBytes-mod, sets-append}
 use Rattle.blocks.specs.Reference.{BlockReference, locator}
@@ -19,6 +19,10 @@ use Rattle.types.specs.declared.TransactionLocator as locators
 pub length-beBytes : (n v : ℕ) → length (beBytes n v) ≡ n
 unfolding beBytes
 length-beBytes n v = length-reverse (leBytes n v) ∙ length-leBytes n v
+
+-- behind a word
+pub next-word : (n v : ℕ) (xs : List ℕ) → drop (8 + n) (beBytes 8 v ++ xs) ≡ drop n xs
+next-word n v xs = sym (drop-drop n 8 (beBytes 8 v ++ xs)) ∙ ap (drop n) (drop-at (beBytes 8 v) xs 8 (length-beBytes 8 v))
 
 -- the high part stands first
 be-add : (m n v : ℕ) → beBytes (m + n) v ≡ beBytes n (v / 256 ^ m) ++ beBytes m (v % 256 ^ m)

@@ -1,13 +1,12 @@
 -- The least edge above an offset, found block by block and span by span. Assumes nothing.
 use mathlib.Core.Path.{_≡_, refl, sym, ap, _∙_}
 use mathlib.Core.Bool.{Bool}
-use mathlib.Core.List.{List, [], _∷_, _++_, map, flatten, append-assoc}
+use mathlib.Core.List.{List, [], _∷_, _++_, map, flatten, append-assoc, append-nil}
 use Prim.Native.Nat.{ℕ, suc, _+_, _≤_, _<_}
 use native.Mathlib.Numerals.{add-one}
 use lib.ListN.{length, getD, drop, drop-of-length-le}
 use lib.Seq.{drop-cons}
 use Rattle.base.specs.Le.{Bytes}
-use Rattle.base.proofs.Lists.{append-nil}
 use Rattle.blocks.specs.Reference.{BlockReference, TransactionLocatorRange}
 use Rattle.blocks.specs.Block.{Block}
 use Rattle.store_layout.specs.Entry.{blockAt}

@@ -1,6 +1,6 @@
 -- Rounds decide first, and offsets. Assumes nothing.
-use mathlib.Core.Path.{_≡_, refl}
-use mathlib.Core.Bool.{Bool, true, false, _&&_}
+use mathlib.Core.Path.{_≡_}
+use mathlib.Core.Bool.{false, and-false, and-true}
 use Prim.Native.Nat.{_≤_, _<_}
 use native.Mathlib.Omega.{arith}
 use borrow.Author.Tests.{ne-eqb, lt-ltb, le-ltb, le-leb}
@@ -12,22 +12,9 @@ pub other-round : (r q : BlockReference) → (r .round ≡ q .round → ⊥) →
 unfolding sameReference referenceKey same
 other-round r q h = rw (ne-eqb (r .round) (q .round) h)
 
--- the locator of the lower round comes first
-pub lower-round : (l m : TransactionLocator) → l .block .round < m .block .round → locatorBefore l m ≡ true
-unfolding locatorBefore referenceBefore referenceKey before
-lower-round l m h = rw (lt-ltb (l .block .round) (m .block .round) h)
-
 pub higher-round : (l m : TransactionLocator) → m .block .round < l .block .round → locatorBefore l m ≡ false
 unfolding locatorBefore referenceBefore sameReference referenceKey before same
 higher-round l m h = rw (le-ltb (l .block .round) (m .block .round) (omega arith), ne-eqb (l .block .round) (m .block .round) (λ e. omega arith))
-
-and-false : (t : Bool) → t && false ≡ false
-and-false true = refl
-and-false false = refl
-
-and-true : (t : Bool) → t && true ≡ t
-and-true true = refl
-and-true false = refl
 
 module _ (q : TransactionLocatorRange) (l : TransactionLocator) where
   pub covers-late : q .end ≤ l .offset → q .start ≤ l .offset → covers q l ≡ false

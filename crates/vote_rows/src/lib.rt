@@ -14,7 +14,7 @@ ghost use Rattle.types.specs.Step.{referenceAt};
 ghost use Rattle.finality.specs.NextFinal.{isAfter};
 ghost use Rattle.vote_starts.specs.Answers.{asMaybe};
 ghost use Rattle.stretches.specs.Stretches.{edgesOf, nearest};
-ghost use Rattle.vote_rows.specs.Row.{rowWords, StandsAt, isPast};
+ghost use Rattle.vote_rows.specs.Row.{rowWords, StandsAt, isAfterBest};
 
 // The words of a row.
 pub const ROW_WORDS: usize = 4;
@@ -120,10 +120,10 @@ pub fn follows(store: &[u8], at: usize, offset: u64, last: MaybeLocator) -> bool
     comes_after(store, at, offset, given)
 }
 
-// Whether it comes after the best so far; none does where there is none.
-pub fn is_past(store: &[u8], at: usize, offset: u64, best: MaybeLocator) -> bool
+// Whether it comes after the best so far; no locator comes after none.
+pub fn is_after_best(store: &[u8], at: usize, offset: u64, best: MaybeLocator) -> bool
     requires { ⌜ at + 48 ≤ length (now store) ⌝ }
-    ensures { λ r. ⌜ r ≡ isPast (asMaybe best) (locator (referenceAt (now (store .entry)) at) offset) ⌝ }
+    ensures { λ r. ⌜ r ≡ isAfterBest (asMaybe best) (locator (referenceAt (now (store .entry)) at) offset) ⌝ }
 {
     let MaybeLocator::Locator(given) = best else {
         return false;

@@ -36,9 +36,6 @@ one-least xs ys f g (no-one h) (no-one e) = refl
 pub least-same : (xs ys : List TransactionLocator) → ((m : TransactionLocator) → m ∈ xs → m ∈ ys) → ((m : TransactionLocator) → m ∈ ys → m ∈ xs) → leastLocator xs ≡ leastLocator ys
 least-same xs ys f g = one-least xs ys f g (least-locator xs) (least-locator ys)
 
-pub least-is : (xs : List TransactionLocator) (l : TransactionLocator) → l ∈ xs → ((m : TransactionLocator) → m ∈ xs → locatorBefore m l ≡ false) → leastLocator xs ≡ some l
-least-is xs l i h = one-least xs xs (λ m j. j) (λ m j. j) (least-locator xs) (one-of l i h)
-
 told : (xs : List TransactionLocator) (l : TransactionLocator) {o : Option TransactionLocator} → Least xs o → o ≡ some l → (l ∈ xs) × ((m : TransactionLocator) → m ∈ xs → locatorBefore m l ≡ false)
 told xs l (one-of x m h) e = subst (λ (y : TransactionLocator). (y ∈ xs) × ((k : TransactionLocator) → k ∈ xs → locatorBefore k y ≡ false)) (Option·some-injective x l e) (m, h)
 told xs l (no-one h) e = absurd (Option·none-ne-some l e)

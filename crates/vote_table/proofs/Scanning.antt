@@ -5,18 +5,18 @@ use mathlib.Core.List.{List, [], _∷_, map, flatten}
 use mathlib.Core.Option.{Option, none, some}
 use Prim.Native.Nat.{ℕ, suc, _+_, _-_, _≤_, _<_}
 use native.Mathlib.Omega.{arith}
-use Rattle.base.specs.Lists.{keep, countFrom}
+use Rattle.base.specs.Lists.{isNone, keep, countFrom}
 use Rattle.base.specs.Le.{Bytes}
 use Rattle.base.proofs.Tests.{not-both}
 use Rattle.base.proofs.Lists.{keep-append}
 use Rattle.blocks.specs.Reference.{BlockReference, TransactionLocator, TransactionLocatorRange}
-use Rattle.finality.specs.NextFinal.{lesserLocator, leastLocator}
+use Rattle.finality.specs.NextFinal.{isAfter, lesserLocator, leastLocator}
 use Rattle.vote_starts.specs.Walk.{startOf, lesserOf}
 use Rattle.vote_starts.proofs.Minimum.{lesser-none, lesser-assoc, least-append}
 use Rattle.stretches.specs.Stretches.{edgesOf, nearest}
 use Rattle.stretches.proofs.Nearest.{nearest-append}
 use Rattle.vote_edges.specs.Edges.{edgesIn}
-use Rattle.vote_rows.specs.Row.{rangeAt, isPast}
+use Rattle.vote_rows.specs.Row.{rangeAt, isAfterBest}
 use Rattle.vote_table.specs.Table.{tableRanges}
 
 -- the ranges of the votes from index i on
@@ -66,12 +66,12 @@ module _ (p : TransactionLocator → Bool) (l : TransactionLocator) where
   unfolding keep leastLocator
   start-early best h = rw h (sym (lesser-none best))
 
-  pub start-past : (best : Option TransactionLocator) → p l ≡ true → isPast best l ≡ true → best ≡ lesserOf best (leastLocator (keep p (l ∷ [])))
-  unfolding keep leastLocator lesserOf lesserLocator isPast
+  pub start-past : (best : Option TransactionLocator) → p l ≡ true → isAfterBest best l ≡ true → best ≡ lesserOf best (leastLocator (keep p (l ∷ [])))
+  unfolding keep leastLocator lesserOf lesserLocator isAfterBest isNone isAfter
   start-past none h k = absurd (not-both k refl)
   start-past (some b) h k = rw (h, k)
 
-  pub start-taken : (best : Option TransactionLocator) → p l ≡ true → isPast best l ≡ false → some l ≡ lesserOf best (leastLocator (keep p (l ∷ [])))
-  unfolding keep leastLocator lesserOf lesserLocator isPast
+  pub start-taken : (best : Option TransactionLocator) → p l ≡ true → isAfterBest best l ≡ false → some l ≡ lesserOf best (leastLocator (keep p (l ∷ [])))
+  unfolding keep leastLocator lesserOf lesserLocator isAfterBest isNone isAfter
   start-taken none h k = rw h
   start-taken (some b) h k = rw (h, k)

@@ -2,7 +2,7 @@
 use mathlib.Core.Path.{_≡_, refl, sym, ap, subst, _∙_}
 use mathlib.Core.Logic.{_⊎_, inl, inr}
 use mathlib.Core.Bool.{Bool, true, false}
-use mathlib.Core.List.{List, [], _∷_, _++_}
+use mathlib.Core.List.{List, [], _∷_, _++_, append-nil}
 use Prim.Native.Nat.{ℕ, _+_, _-_, _*_, _≤_, _<_}
 use native.Mathlib.Omega.{arith}
 use native.Mathlib.Decide.{decLt, ℕ-discrete}
@@ -13,7 +13,6 @@ use Rattle.base.specs.Lists.{_∈_, here, there}
 use Rattle.base.specs.Le.{Bytes}
 use Rattle.base.proofs.Le.{getD-sets-below}
 use Rattle.base.proofs.Index.{getD-sets-in}
-use Rattle.base.proofs.Lists.{append-nil}
 use Rattle.base.proofs.Members.{in-empty, in-cases}
 use Rattle.blocks.specs.Reference.{BlockReference, TransactionLocatorRange, newRange}
 use Rattle.blocks.specs.Block.{Block}

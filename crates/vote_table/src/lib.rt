@@ -180,7 +180,7 @@ pub fn table_start(
         if !vote_rows::follows(store, at, offset, last) {
             continue;
         }
-        if vote_rows::is_past(store, at, offset, least) {
+        if vote_rows::is_after_best(store, at, offset, least) {
             continue;
         }
         let block = types::read_reference(store, at);

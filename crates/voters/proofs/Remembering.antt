@@ -19,10 +19,6 @@ use Rattle.voters.specs.Walk.{spokenAt, remembered, noted, Remembers}
 -- ---- three words
 
 module _ (memo : List ℕ) (k : ℕ) (v : AuthoritySet) where
-  pub length-noted : length (noted memo k v) ≡ length memo
-  unfolding noted
-  length-noted = simp length-set
-
   noted-same : 3 * k + 2 < length memo → remembered (noted memo k v) k ≡ v
   unfolding noted remembered
   noted-same h =

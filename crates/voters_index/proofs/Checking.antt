@@ -6,24 +6,20 @@ use Prim.Native.Nat.{ℕ, zero, suc, _≤_, _<_}
 use native.Mathlib.Omega.{arith}
 use lib.ListN.{length, getD, take, drop, take-append-drop}
 use lib.Seq.{drop-drop, drop-at, take-append-seam}
-use Rattle.base.specs.Lists.{same, _∈_}
+use Rattle.base.specs.Lists.{same}
 use Rattle.base.specs.Le.{Bytes}
 use Rattle.base.specs.Checks.{passes}
 use Rattle.base.proofs.Orders.{same-refl, same-true}
 use Rattle.committee.specs.Committee.{Committee}
 use Rattle.blocks.specs.Block.{Block}
-use Rattle.blocks.proofs.Records.{ReferenceFits}
 use Rattle.store_layout.specs.Layout.{Record}
 use Rattle.store_layout.specs.Accept.{blockChecks}
 use Rattle.store_layout.specs.Store.{recordsOf, storeInOrder, storeFull, storeHolding}
 use Rattle.store_layout.proofs.Store.{Right, accepting}
 use Rattle.finality.specs.Finality.{blocksOf}
-use Rattle.voters_index.specs.Runs.{Run}
 use Rattle.voters_index.specs.Part.{partIn}
 use Rattle.voters_index.specs.Index.{partWords, indexed, bodyWords, usedWords, indexWords, indexOf, usedPart, indexAgrees, indexShort, appended}
-use Rattle.voters_index.specs.Walk.{partAt}
 use Rattle.voters_index.proofs.Grown.{used-length, used-grows, agrees-used, holding-agrees, index-appends, part-at}
-use Rattle.voters_index.proofs.Reading.{part-back}
 
 -- ---- where it agrees
 
@@ -57,13 +53,6 @@ agrees-part newer b older ix h =
           ∙ ap (λ (xs : List ℕ). xs ++ drop (usedWords (indexed bs)) ix) (p .1)
           ∙ append-assoc part (p .0) (drop (usedWords (indexed bs)) ix),
     )
-
--- so that it can be read there
-pub agrees-read : (newer : List Block) (b : Block) (older : List Block) (ix : List ℕ) → indexAgrees (newer ++ b ∷ older) ix ≡ true
-    → ((x : Run) → x ∈ partIn (b ∷ older) (b .reference) → ReferenceFits (x .reference)) → partAt ix (usedWords (indexed older)) ≡ partIn (b ∷ older) (b .reference)
-agrees-read newer b older ix h f =
-    let p = agrees-part newer b older ix h in
-    part-back ix (usedWords (indexed older)) (partIn (b ∷ older) (b .reference)) (p .0) (p .1) f
 
 -- ---- one part after the other
 

@@ -3,7 +3,7 @@ use mathlib.Core.Path.{_≡_, refl, sym, subst, _∙_}
 use mathlib.Core.Logic.{_⊎_, inl, inr, _↔_}
 use mathlib.Core.Bool.{Bool, true, false}
 use mathlib.Core.List.{List, [], _∷_, map}
-use Prim.Native.Nat.{ℕ, _-_, _≤_, _<_}
+use Prim.Native.Nat.{ℕ, _≤_, _<_}
 use native.Mathlib.Omega.{arith}
 use Rattle.base.specs.Lists.{pick, anyOf, countFrom, _∈_, here, there}
 use Rattle.base.proofs.Tests.{holds-or-not, not-both, fails}
@@ -76,14 +76,6 @@ module _ (bs : List Block) (r : BlockReference) (x : Run) (m : x ∈ partIn bs r
   run-reference P h =
       let s = run-span bs r x m (x .start) (omega arith) (part-runs bs r .stretches x m .full) in
       subst P (s .2 .covering .of) (h (s .0) (s .1) (s .2 .span) (s .2 .stands))
-
-  -- a run ends no later than the votes
-  pub run-end : (n : ℕ) → ((b : Block) → b ∈ bs → (q : TransactionLocatorRange) → q ∈ spans b → q .end ≤ n) → x .end ≤ n
-  unfolding locator
-  run-end n h =
-      let f = part-runs bs r .stretches x m .full in
-      let s = run-span bs r x m (x .end - 1) (omega arith) (omega arith) in
-      omega (arith, s .2 .covering .below, h (s .0) (s .1) (s .2 .span) (s .2 .stands))
 
   -- its voters fit two words
   pub run-small : ((b : Block) → b ∈ bs → author b < 128) → Small (x .votes)

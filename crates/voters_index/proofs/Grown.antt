@@ -70,7 +70,7 @@ index-appends b bs ix h k =
     ∙ ap (λ (xs : List ℕ). set (xs ++ part ++ drop (getD ix 0 0 + length part) ix) 0 (getD ix 0 0 + length part)) first
     ∙ ap (λ (n : ℕ). set (indexWords bs ++ part ++ drop n ix) 0 n) next)
 
-kept-agrees : {bs : List Block} {ix : List ℕ} → Kept bs ix → indexAgrees bs ix ≡ true
+pub kept-agrees : {bs : List Block} {ix : List ℕ} → Kept bs ix → indexAgrees bs ix ≡ true
 unfolding indexAgrees usedPart indexWords freshIndex usedWords bodyWords indexed
 kept-agrees (Kept.fresh past) = same-refl (1 ∷ [])
 kept-agrees (Kept.fed {bs = bs} {ix = ix} b k h) =

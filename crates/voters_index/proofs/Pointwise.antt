@@ -1,11 +1,11 @@
 -- Whom runs name once one more is among them, once neighbours are joined, and once they are merged. Assumes nothing.
 use mathlib.Core.Path.{_≡_, refl, sym, ap, _∙_}
-use mathlib.Core.Bool.{Bool, true, false, not, _&&_, _||_}
+use mathlib.Core.Bool.{Bool, true, false, _&&_, _||_}
 use mathlib.Core.List.{List, [], _∷_, _++_}
 use Prim.Native.Nat.{ℕ, _≤_, _<_}
 use native.Mathlib.Omega.{arith}
 use native.Mathlib.Decide.{decLt}
-use borrow.Author.Tests.{lt-ltb, le-ltb}
+use borrow.Author.Tests.{lt-ltb, le-ltb, not-false}
 use Rattle.base.specs.Lists.{pick, _∈_, here, there}
 use Rattle.base.proofs.Tests.{and-left, and-right, neither-left, not-both}
 use Rattle.authority_set.specs.AuthoritySet.{AuthoritySet, nobody, united}
@@ -127,10 +127,6 @@ pub silent : (x : Run) → says x ≡ false → (l : TransactionLocator) → vot
 unfolding says votesAt
 silent x h l = go (decLt (x .start) (x .end))
   where
-    not-false : (t : Bool) → not t ≡ false → t ≡ true
-    not-false true e = refl
-    not-false false e = absurd (not-both refl e)
-
     either : (t : Bool) → x .votes ≡ nobody → pick t (x .votes) nobody ≡ nobody
     either true e = e
     either false e = refl

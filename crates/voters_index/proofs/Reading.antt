@@ -1,10 +1,10 @@
 -- Runs read back from the words that they were written as. Assumes nothing.
 use mathlib.Core.Path.{_≡_, refl, sym, ap, subst, _∙_}
 use mathlib.Core.List.{List, [], _∷_, _++_, map, flatten, append-nil}
-use Prim.Native.Nat.{ℕ, zero, suc, _+_, _≤_}
+use Prim.Native.Nat.{ℕ, zero, suc, _+_, _*_, _≤_}
 use native.Mathlib.Omega.{arith}
 use native.Mathlib.Nat.{add-zero}
-use lib.ListN.{length, getD, take, drop, length-drop, take-append-drop, drop-of-length-le}
+use lib.ListN.{length, getD, take, drop, length-append, length-drop, take-append-drop, drop-of-length-le}
 use lib.Seq.{length-take-le, drop-drop, getD-drop}
 use Rattle.base.specs.Lists.{_∈_, here, there}
 use Rattle.base.specs.Le.{Bytes, leNumber, leBytes}
@@ -13,6 +13,20 @@ use Rattle.blocks.proofs.Records.{ReferenceFits}
 use Rattle.voters_index.specs.Runs.{Run}
 use Rattle.voters_index.specs.Index.{digestWords, runWords, partWords}
 use Rattle.voters_index.specs.Walk.{digestOf, runFrom, runsFrom, partAt}
+
+-- ten words a run
+pub length-run : (x : Run) → length (runWords x) ≡ 10
+unfolding runWords digestWords
+length-run x = refl
+
+pub runs-length : (xs : List Run) → length (flatten (map runWords xs)) ≡ 10 * length xs
+unfolding flatten
+runs-length [] = refl
+runs-length (x ∷ xs) = omega (arith, length-append (runWords x) (flatten (map runWords xs)), length-run x, runs-length xs)
+
+pub part-length : (xs : List Run) → length (partWords xs) ≡ 1 + 10 * length xs
+unfolding partWords
+part-length xs = omega (arith, runs-length xs)
 
 -- the first n bytes, through their number
 chunk : (n : ℕ) (d : Bytes) → n ≤ length d → AllBytes d → leBytes n (leNumber (take n d)) ++ drop n d ≡ d

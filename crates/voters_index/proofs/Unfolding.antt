@@ -11,13 +11,11 @@ use Rattle.authority_set.specs.AuthoritySet.{AuthoritySet, nobody, united}
 use Rattle.authority_set.proofs.Words.{united-nobody}
 use Rattle.blocks.specs.Reference.{BlockReference, TransactionLocator, locator, referenceBefore}
 use Rattle.blocks.proofs.References.{reference-irrefl}
-use Rattle.voters_index.specs.Runs.{Run, run, runCovers, votesAt, votersIn}
-use Rattle.voters_index.specs.Part.{Stretch, RunsOf}
-use Rattle.voters_index.specs.Walk.{Past, byBlock, byOffset, Place, anywhere, beyond, At, NextRun, Unfolded, done, more}
+use Rattle.voters_index.specs.Runs.{Run, runCovers, votesAt, votersIn}
+use Rattle.voters_index.specs.Walk.{Past, byBlock, byOffset, Place, beyond, At, NextRun, Unfolded, done, more}
 use Rattle.voters_index.proofs.Sets.{united-comm, united-nobody-left}
 use Rattle.voters_index.proofs.Chain.{past-trans, touched, Covered, covered, is-covered, votes-in, Good, Chain, end, link, Differs, no-next, other, past-head, chain-from, nobody-before, at-head}
 use Rattle.voters_index.proofs.Unique.{PlaceOrder, earlier, later, alike, place-order}
-use Rattle.voters_index.proofs.Relation.{out-chain, chain-runs}
 
 -- ---- one after the other
 
@@ -56,10 +54,6 @@ module _ {f : TransactionLocator → AuthoritySet} where
           past-head x xs l (λ c. reference-irrefl (l .block) (subst (λ (r : BlockReference). referenceBefore r (l .block) ≡ true) (c .of) b)) ∙ ih (byBlock b)
       split (later (byOffset r o)) (yes d) ih = inside (record { of = r; from = omega arith; below = d })
       split (later (byOffset r o)) (no d) ih = past-head x xs l (λ c. d (c .below)) ∙ ih (byOffset r (omega arith))
-
-  -- the runs found one after the other are the runs
-  pub unfolded-runs : (xs : List Run) → Unfolded f anywhere xs → RunsOf f xs
-  unfolded-runs xs u = chain-runs f xs (unfolded-chain xs u) (λ l. unfolded-told xs u l tt)
 
 -- ---- between edges nothing changes
 
@@ -104,14 +98,6 @@ module _ {D : Run → List Run → Type 0} where
       out (byBlock n) r m = reference-irrefl (l .block) (subst (λ (q : BlockReference). referenceBefore q (l .block) ≡ true) r n)
       out (byOffset n k) r m = omega arith
 
--- where all runs end at or before the locator, nobody
-pub all-passed : (xs : List Run) (l : TransactionLocator) → ((x : Run) → x ∈ xs → Past (x .reference) (x .end) (l .block) (l .offset)) → votersIn xs l ≡ nobody
-all-passed xs l h = out-chain xs l (λ x m c. out x (h x m) (c .of) (c .below))
-  where
-    out : (x : Run) → Past (x .reference) (x .end) (l .block) (l .offset) → x .reference ≡ l .block → l .offset < x .end → ⊥
-    out x (byBlock n) r m = reference-irrefl (l .block) (subst (λ (q : BlockReference). referenceBefore q (l .block) ≡ true) r n)
-    out x (byOffset n k) r m = omega arith
-
 -- ---- a stretch that is found edge by edge
 
 -- where some run with a voter covers the locator, somebody is named
@@ -119,19 +105,3 @@ pub somebody : (xs : List Run) (x : Run) → x ∈ xs → (l : TransactionLocato
 unfolding votersIn
 somebody (y ∷ xs) x here l c v e = v (sym (votes-in x l c) ∙ united-nobody-left (votesAt x l) (votersIn xs l) e)
 somebody (y ∷ xs) x (there m) l c v e = somebody xs x m l c v (united-nobody-left (votersIn xs l) (votesAt y l) (united-comm (votersIn xs l) (votesAt y l) ∙ e))
-
--- from a first locator with voters up to the next edge
-pub stretch-starts : (xs : List Run) (r : BlockReference) (o e : ℕ) → o < e → ((x : Run) → x ∈ xs → Steady r o e x) → (votersIn xs (locator r o) ≡ nobody → ⊥)
-    → Stretch (votersIn xs) (run r o e (votersIn xs (locator r o)))
-unfolding run
-stretch-starts xs r o e h s v = record { full = h; voted = v; told = λ k a b. steady r o e k xs s a b }
-
--- and on to the edge after it, where the voters are the same
-pub stretch-goes-on : (xs : List Run) (x : Run) (e : ℕ) → Stretch (votersIn xs) x → x .end < e → ((y : Run) → y ∈ xs → Steady (x .reference) (x .end) e y)
-    → votersIn xs (locator (x .reference) (x .end)) ≡ x .votes → Stretch (votersIn xs) (run (x .reference) (x .start) e (x .votes))
-unfolding run
-stretch-goes-on xs x e t h s v = record { full = omega (arith, t .full); voted = t .voted; told = λ k a b. go k a b (decLt k (x .end)) }
-  where
-    go : (k : ℕ) → x .start ≤ k → k < e → Dec (k < x .end) → votersIn xs (locator (x .reference) k) ≡ x .votes
-    go k a b (yes n) = t .told k a n
-    go k a b (no n) = steady (x .reference) (x .end) e k xs s (omega arith) b ∙ v

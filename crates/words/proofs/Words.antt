@@ -1,6 +1,6 @@
 -- Words as bytes: one word more, and there and back. Assumes nothing.
 use mathlib.Core.Path.{_≡_, refl, sym, ap, _∙_}
-use mathlib.Core.List.{List, [], _∷_, _++_, map, flatten, append-assoc}
+use mathlib.Core.List.{List, [], _∷_, _++_, map, flatten, append-assoc, append-nil}
 use Prim.Native.Nat.{ℕ, zero, suc, _+_, _*_, _<_, _≤_}
 use native.Mathlib.Numerals.{add-one}
 use native.Mathlib.Omega.{arith}
@@ -9,7 +9,6 @@ use lib.Dec.{lit<}
 use lib.ListN.{length, getD, set, take, drop, length-append, length-drop, take-append-drop, drop-of-length-le}
 use lib.Seq.{drop-drop, drop-length, take-all, take-suc, take-at, drop-at, length-take-le, sets}
 use Rattle.base.specs.Le.{leNumber, leBytes, leAt}
-use Rattle.base.proofs.Lists.{append-nil}
 use Rattle.base.proofs.Loops.{drop-next}
 use Rattle.base.proofs.Le.{AllBytes, bytes-left, bytes-right, length-leBytes, leNumber-leBytes, leBytes-leNumber, leNumber-lt, sets-append}
 use Rattle.words.specs.Words.{wordsIn, bytesOf}

@@ -1,6 +1,5 @@
 use mathlib.Core.Path.{sym, _∙_}
-use mathlib.Core.List.{flatten}
-use Rattle.base.proofs.Lists.{append-nil}
+use mathlib.Core.List.{flatten, append-nil}
 use Rattle.types.specs.Values.{asLocator}
 use Rattle.statement_reader.specs.Values.{asStatement}
 use Rattle.readings.specs.Rejecting.{rejectedIn}

@@ -8,7 +8,7 @@ use Rattle.base.proofs.Le.{AllBytes, bytes-of}
 use Rattle.blocks.specs.Record.{blockIn}
 use Rattle.types.specs.Values.{asReference}
 use Rattle.store_layout.specs.Store.{recordsOf}
-use Rattle.block_store.specs.Step.{Between}
+use Rattle.block_store.specs.Step.{Neighbours}
 use Rattle.store_layout.proofs.Lookups.{not-stored-none}
 use Rattle.store_layout.proofs.Search.{laid-out}
 use Rattle.block_store.proofs.Placed.{placed-between}
@@ -83,7 +83,7 @@ returns c =
     let rec : Bytes = a .rec .now in
     let used : ℕ = c .before .before .before .before .before .before .before .before .before .before .before .before .before .before .before .before .before .before .before .before .before .before .read-u32 .result in
     let b : AllBytes s = bytes-of s (λ i h. omega (arith, c .before .before .before .before .before .before .before .before .before .before .before .before .before .before .before .before .before .before .before .before .before .before .before .before .before .slice-known .given i)) in
-    let p : Between s (blockIn rec .reference) (c .before .before .before .before .before .before .before .before .before .before .before .before .before .before .before .before .before .chain-place .result .below) (c .before .before .before .before .before .before .before .before .before .before .before .before .before .before .before .before .before .chain-place .result .above) = rw (c .before .before .before .before .before .before .before .before .before .before .before .before .before .before .before .before .before .before .reference .ensures) at (placed-between ((c .before .before .before .before .before .before .before .before .before .before .before .before .before .before .before .before .before .before .before .before .before .before .before .before .before .before .args) .store .now) (asReference ((c .before .before .before .before .before .before .before .before .before .before .before .before .before .before .before .before .before .before .reference) .result)) ((c .before .before .before .before .before .before .before .before .before .before .before .before .before .before .before .before .before .chain-place) .result) (rw ((c .before .before .before .before .before .before .before .before .before .before .before .before .before .before .before .before .before .before .reference) .ensures) (not-stored-none (recordsOf ((c .before .before .before .before .before .before .before .before .before .before .before .before .before .before .before .before .before .before .before .before .before .before .before .before .before .before .args) .store .now)) (blockIn ((c .before .before .before .before .before .before .before .before .before .before .before .before .before .before .before .before .before .before .before .before .before .before .before .before .before .before .args) .rec .now) .reference) ((c .before .before .before .before .before .before .before .before .before .before .before .before .before .before .before .before .before .before .before .before .before .before .before .before .before .before .pre) .1 .1 .0))) ((c .before .before .before .before .before .before .before .before .before .before .before .before .before .before .before .before .before .chain-place) .ensures)) in
+    let p : Neighbours s (blockIn rec .reference) (c .before .before .before .before .before .before .before .before .before .before .before .before .before .before .before .before .before .chain-place .result .below) (c .before .before .before .before .before .before .before .before .before .before .before .before .before .before .before .before .before .chain-place .result .above) = rw (c .before .before .before .before .before .before .before .before .before .before .before .before .before .before .before .before .before .before .reference .ensures) at (placed-between ((c .before .before .before .before .before .before .before .before .before .before .before .before .before .before .before .before .before .before .before .before .before .before .before .before .before .before .args) .store .now) (asReference ((c .before .before .before .before .before .before .before .before .before .before .before .before .before .before .before .before .before .before .reference) .result)) ((c .before .before .before .before .before .before .before .before .before .before .before .before .before .before .before .before .before .chain-place) .result) (rw ((c .before .before .before .before .before .before .before .before .before .before .before .before .before .before .before .before .before .before .reference) .ensures) (not-stored-none (recordsOf ((c .before .before .before .before .before .before .before .before .before .before .before .before .before .before .before .before .before .before .before .before .before .before .before .before .before .before .args) .store .now)) (blockIn ((c .before .before .before .before .before .before .before .before .before .before .before .before .before .before .before .before .before .before .before .before .before .before .before .before .before .before .args) .rec .now) .reference) ((c .before .before .before .before .before .before .before .before .before .before .before .before .before .before .before .before .before .before .before .before .before .before .before .before .before .before .pre) .1 .1 .0))) ((c .before .before .before .before .before .before .before .before .before .before .before .before .before .before .before .before .before .chain-place) .ensures)) in
     c .before .before .write-u322 .ensures
     ∙ rw (c .before .before .before .before .before .before .write-u16 .ensures, c .before .before .before .before .before .before .before .before .before .before .write-u32 .ensures, c .before .before .before .before .before .before .before .before .before .before .before .before .before .before .write-entry .ensures)
     (appended-so s b (c .before .before .before .before .before .before .before .before .before .before .before .before .before .before .before .before .before .before .before .before .before .before .before .before .before .before .pre .0) rec (c .before .before .before .before .before .before .before .before .before .before .before .before .before .before .before .before .before .chain-place .result .below) (c .before .before .before .before .before .before .before .before .before .before .before .before .before .before .before .before .before .chain-place .result .above) used (used + 8 + length rec) (c .before .before .before .before .before .before .before .before .before .before .before .before .before .before .before .before .before .before .before .before .read-u16 .result + 1) p (c .before .before .before .before .before .before .before .before .before .before .before .before .before .before .before .before .before .before .before .before .before .before .before .before .before .before .pre .1 .1 .1)

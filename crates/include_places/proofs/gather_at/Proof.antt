@@ -1,4 +1,4 @@
-use Rattle.include_places.proofs.Noting.{before-room, gathered-all}
+use Rattle.include_places.proofs.Noting.{before-grows, gathered-all}
 use Rattle.include_places.specs.Places.{IsPlace, GatheredAt}
 use Rattle.block_votes.proofs.Sorting.{place-entry, include-lower}
 use Rattle.block_votes.specs.Walk.{blockAtPlace}
@@ -22,7 +22,7 @@ unfolding blockAtPlace IsPlace
 gather-requires c κs = let a = (c .before .before .before .before .before .before .before .args) in
     let p = c .before .before .before .before .before .before .before .pre .0 .1 in
     let n = c .include-count-at .ensures in (
-      omega (arith, before-room (a .store .now) (a .order .now) (a .k) (a .noted) (c .before .before .if1 .taken), p .room, c .before .before .before .before .before .before .before .pre .1 .1 .0, n),
+      omega (arith, before-grows (a .store .now) (a .order .now) (a .k) (a .noted) (c .before .before .if1 .taken), p .room, c .before .before .before .before .before .before .before .pre .1 .1 .0, n),
       λ j m. let x = p .placed (a .k) (c .before .before .if1 .taken) j (omega (arith, n, m)) in
           let y = include-lower (a .store .now) (a .order .now) (c .before .before .before .before .before .before .before .pre .0 .0) (a .k) (c .before .before .before .before .before .before .before .pre .1 .0) j (omega (arith, n, m)) _ (x .0) (x .1) in
           rw (c .before .before .before .before .before .before .before .pre .1 .1 .0) (omega (arith, y, c .before .before .before .before .before .before .before .pre .1 .1 .1)),

@@ -9,12 +9,12 @@ use Rattle.voters_index.specs.Part.{RunsOf}
 use Rattle.voters_index.specs.Index.{runWords, partWords}
 use Rattle.finality.specs.Voters.{ownVote}
 use Rattle.voters_index.specs.Walk.{anywhere}
+use Rattle.voters_index.proofs.Reading.{part-length}
 use Rattle.index_runs.specs.Values.{asRun, asMaybe, asPlace}
 use Rattle.index_merge.specs.Sources.{Ready, GrownFrom}
 use Rattle.index_parts.specs.Parts.{merged}
 use Rattle.index_parts.proofs.Stepping.{Stepping, runs-moved, stepping-start, stepping-none, stepping-ahead, stepping-next, stepping-on}
 use Rattle.index_merge.proofs.Merged.{piece-ahead}
-use Rattle.index_parts.proofs.Words.{length-part}
 use Rattle.index_parts.proofs.Writing.{take-sets, Written, written-start, written-on, part-written}
 use borrow.Author.Needs.{needs}
 use native.Mathlib.Omega.{arith}
@@ -136,7 +136,7 @@ returns-2 : tie.Need-returns-2 Inv-loop μ-loop
 unfolding asPlace
 returns-2 c = λ xs r h.
     let k : c .before .loop .k ≡ (c .before .before .before .before .before .before .before .before .before .before .before .args .count) = omega (arith, c .before .loop .inv .0, c .loop-test .left) in
-    let z : (c .before .before .before .before .before .before .before .before .before .before .before .args .used) + 1 + 10 * (c .before .before .before .before .before .before .before .before .before .before .before .args .count) ≡ (c .before .before .before .before .before .before .before .before .before .before .before .args .used) + length (partWords xs) = omega (arith, length-part xs) in
+    let z : (c .before .before .before .before .before .before .before .before .before .before .before .args .used) + 1 + 10 * (c .before .before .before .before .before .before .before .before .before .before .before .args .count) ≡ (c .before .before .before .before .before .before .before .before .before .before .before .args .used) + length (partWords xs) = omega (arith, part-length xs) in
     ap (λ (l : List ℕ). set l 0 ((c .before .before .before .before .before .before .before .before .before .before .before .args .used) + 1 + 10 * (c .before .before .before .before .before .before .before .before .before .before .before .args .count))) (part-written (c .before .before .before .before .before .before .before .before .before .before .before .args .index .now) (c .before .loop .index) (c .before .before .before .before .before .before .before .before .before .before .before .args .used) (c .before .before .before .before .before .before .before .before .before .before .before .args .count) xs h (subst (λ (j : ℕ). Written (set (c .before .before .before .before .before .before .before .before .before .before .before .args .index .now) (c .before .before .before .before .before .before .before .before .before .before .before .args .used) (c .before .before .before .before .before .before .before .before .before .before .before .args .count)) (c .before .loop .index) ((c .before .before .before .before .before .before .before .before .before .before .before .args .used) + 1) j xs) k (c .before .loop .inv .1 .1 .1 .1 xs (runs-moved (blockIn (c .before .before .before .before .before .before .before .before .before .before .before .args .rec .now)) (take (c .before .before .before .before .before .before .before .before .before .before .before .args .used) (set (c .before .before .before .before .before .before .before .before .before .before .before .args .index .now) (c .before .before .before .before .before .before .before .before .before .before .before .args .used) (c .before .before .before .before .before .before .before .before .before .before .before .args .count))) (c .before .before .before .before .before .before .before .before .before .before .before .args .n) (c .before .before .before .before .before .before .before .before .before .before .before .args .cursors .now) (c .before .before .before .before .next-piece .last .1 .0) (c .before .before .before .before .next-piece .ensures .1 .1) xs (subst (λ (ws : List ℕ). RunsOf (merged (blockIn (c .before .before .before .before .before .before .before .before .before .before .before .args .rec .now)) ws (c .before .before .before .before .before .before .before .before .before .before .before .args .cursors .now) (c .before .before .before .before .before .before .before .before .before .before .before .args .n)) xs) (sym (take-set-le (c .before .before .before .before .before .before .before .before .before .before .before .args .used) (c .before .before .before .before .before .before .before .before .before .before .before .args .index .now) (c .before .before .before .before .before .before .before .before .before .before .before .args .used) (c .before .before .before .before .before .before .before .before .before .before .before .args .count) (omega arith))) r))))) ∙ ap (set (sets (c .before .before .before .before .before .before .before .before .before .before .before .args .index .now) (c .before .before .before .before .before .before .before .before .before .before .before .args .used) (partWords xs)) 0) z
 
 pub append-part-spec : {M : Type 1} → statement M

@@ -3,6 +3,7 @@ use mathlib.Core.Path.{ap, _∙_}
 use native.Mathlib.Omega.{arith}
 use lib.ListN.{length, length-replicate}
 use Rattle.base.proofs.Le.{bytes-of}
+use Rattle.base.proofs.Lists.{zeros-at}
 use Rattle.types.specs.Values.{asLocator}
 use Rattle.types.proofs.Written.{length-locatorBytes}
 use Rattle.slips.specs.Writing.{Written}
@@ -11,7 +12,6 @@ use Rattle.slip_table.specs.Table.{placeIn}
 use Rattle.slip_bytes.specs.Answers.{asSlipAnswer}
 use Rattle.slip_bytes.specs.Listed.{Voted, listedBytes}
 use Rattle.slip_bytes.proofs.Over.{over-short, over-long, listed-length}
-use Rattle.slips.proofs.Fresh.{no-words}
 use borrow.Author.Needs.{needs}
 use Rattle.slip_bytes.proofs.write_listed.Statement.{statement}
 use Rattle.slip_bytes.proofs.write_listed.Tie as tie
@@ -25,7 +25,7 @@ slice-aggregate-find-distances-2 c = search needs
 find-distances-requires : tie.Need-find-distances-requires
 find-distances-requires c κs = let a = c .before .before .before .before .before .before .args in
     let q = c .before .before .before .before .before .before .pre in
-    ((q .0 .0, q .0 .1), fresh-tables (a .store .now) (a .order .now) (asLocator (a .locator)) _ _ (length-replicate {A = ℕ} 131072 0) (length-replicate {A = ℕ} 131072 0) (no-words 131072))
+    ((q .0 .0, q .0 .1), fresh-tables (a .store .now) (a .order .now) (asLocator (a .locator)) _ _ (length-replicate {A = ℕ} 131072 0) (length-replicate {A = ℕ} 131072 0) (zeros-at 131072))
 
 slice-aggregate-certifiers-size : tie.Need-slice-aggregate-certifiers-size
 slice-aggregate-certifiers-size c = search needs

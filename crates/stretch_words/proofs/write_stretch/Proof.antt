@@ -4,7 +4,7 @@ use lib.ListN.{length-set}
 use Rattle.blocks.specs.Reference.{locator}
 use Rattle.types.specs.Values.{asReference, asLocator}
 use Rattle.stretches.specs.Bulk.{stretchWords}
-use Rattle.stretch_words.specs.Step.{stretchOf}
+use Rattle.stretch_words.specs.Step.{finalStretch}
 use Rattle.stretch_words.proofs.Words.{rest-written}
 use borrow.Author.Needs.{needs}
 use Rattle.stretch_words.proofs.write_stretch.Statement.{statement}
@@ -56,7 +56,7 @@ same-length : tie.Need-same-length
 same-length c = search needs
 
 returns : tie.Need-returns
-unfolding stretchWords stretchOf asLocator locator
+unfolding stretchWords finalStretch asLocator locator
 returns c = let a = c .before .before .before .before .before .args in
     rw (c .before .before .write-reference .ensures) (rest-written (a .out .now) (asReference (a .locator .block)) (10 * a .n) (a .locator .offset) (a .end) (a .blocks) (a .stake .0))
 

@@ -1,9 +1,10 @@
 use mathlib.Core.Path.{sym, ap, _∙_}
 use native.Mathlib.Omega.{arith}
 use Rattle.blocks.specs.Reference.{BlockReference, locator, locatorBefore}
+use Rattle.blocks.proofs.References.{lower-round}
 use Rattle.types.specs.Values.{asReference, asLocator}
 use Rattle.types.specs.Step.{referenceAt}
-use Rattle.vote_rows.proofs.Rows.{lower-round, higher-round}
+use Rattle.vote_rows.proofs.Rows.{higher-round}
 use borrow.Author.Needs.{needs}
 use Rattle.vote_rows.proofs.comes_after.Statement.{statement}
 use Rattle.vote_rows.proofs.comes_after.Tie as tie

@@ -1,6 +1,6 @@
 use Rattle.vote_table.proofs.Scanning.{startsFrom, first-range, starts-on, starts-end, start-early, start-past, start-taken}
 use Rattle.vote_table.specs.Table.{tableRanges, Standing}
-use Rattle.vote_rows.specs.Row.{positionAt, rangeAt, isPast}
+use Rattle.vote_rows.specs.Row.{positionAt, rangeAt, isAfterBest}
 use Rattle.vote_starts.specs.Walk.{startOf, lesserOf}
 use Rattle.vote_starts.specs.Answers.{asMaybe}
 use Rattle.finality.specs.NextFinal.{isAfter, leastLocator}
@@ -62,9 +62,9 @@ loop-again c = let a = (c .before .before .before .before .before .before .befor
     let f : p l ≡ false = ap (λ (o : ℕ). p (locator (referenceAt (a .store .now) (positionAt (a .votes .now) (g .i))) o)) (sym ((c .before .before .start-word) .ensures)) ∙ sym ((c .before .follows) .ensures) ∙ not-true _ ((c .if1) .taken) in
     (omega (arith, (c .before .before .before .before .loop-test) .taken), sym (starts-on (a .rejecting) p (a .store .now) (a .votes .now) (a .m) (g .i) (asMaybe (g .least)) (asMaybe (g .least)) ((c .before .before .before .before .loop-test) .taken) (start-early p l (asMaybe (g .least)) f)) ∙ g .inv .1)
 
-is-past-requires : tie.Need-is-past-requires Inv-loop μ-loop
+is-after-best-requires : tie.Need-is-after-best-requires Inv-loop μ-loop
 unfolding Standing positionAt
-is-past-requires c κs = (c .before .before .before .before .before .before .before .before .pre) .1 ((c .before .before .before .before .before .loop) .i) ((c .before .before .before .before .loop-test) .taken)
+is-after-best-requires c κs = (c .before .before .before .before .before .before .before .before .pre) .1 ((c .before .before .before .before .before .loop) .i) ((c .before .before .before .before .loop-test) .taken)
 
 loop-less-2 : tie.Need-loop-less-2 Inv-loop μ-loop
 loop-less-2 c = omega (arith, (c .before .before .before .before .before .before .loop-test) .taken, (c .before .before .before .before .before .before .before .before .before .before .pre) .0, (c .before .before .before .before .before .before .before .before .before .before .good))
@@ -76,7 +76,7 @@ loop-again-2 c = let a = (c .before .before .before .before .before .before .bef
     let p = isAfter (asMaybe (a .last)) in
     let l = startOf (a .rejecting) (rangeAt (a .store .now) (a .votes .now) (g .i)) in
     let f : p l ≡ true = ap (λ (o : ℕ). p (locator (referenceAt (a .store .now) (positionAt (a .votes .now) (g .i))) o)) (sym ((c .before .before .before .before .start-word) .ensures)) ∙ sym ((c .before .before .before .follows) .ensures) ∙ not-false _ ((c .before .before .if1) .left) in
-    let k : isPast (asMaybe (g .least)) l ≡ true = ap (λ (o : ℕ). isPast (asMaybe (g .least)) (locator (referenceAt (a .store .now) (positionAt (a .votes .now) (g .i))) o)) (sym ((c .before .before .before .before .start-word) .ensures)) ∙ sym ((c .before .is-past) .ensures) ∙ (c .if2) .taken in
+    let k : isAfterBest (asMaybe (g .least)) l ≡ true = ap (λ (o : ℕ). isAfterBest (asMaybe (g .least)) (locator (referenceAt (a .store .now) (positionAt (a .votes .now) (g .i))) o)) (sym ((c .before .before .before .before .start-word) .ensures)) ∙ sym ((c .before .is-after-best) .ensures) ∙ (c .if2) .taken in
     (omega (arith, (c .before .before .before .before .before .before .loop-test) .taken), sym (starts-on (a .rejecting) p (a .store .now) (a .votes .now) (a .m) (g .i) (asMaybe (g .least)) (asMaybe (g .least)) ((c .before .before .before .before .before .before .loop-test) .taken) (start-past p l (asMaybe (g .least)) f k)) ∙ g .inv .1)
 
 read-reference-requires : tie.Need-read-reference-requires Inv-loop μ-loop
@@ -93,7 +93,7 @@ loop-again-3 c = let a = (c .before .before .before .before .before .before .bef
     let p = isAfter (asMaybe (a .last)) in
     let l = startOf (a .rejecting) (rangeAt (a .store .now) (a .votes .now) (g .i)) in
     let f : p l ≡ true = ap (λ (o : ℕ). p (locator (referenceAt (a .store .now) (positionAt (a .votes .now) (g .i))) o)) (sym ((c .before .before .before .before .before .start-word) .ensures)) ∙ sym ((c .before .before .before .before .follows) .ensures) ∙ not-false _ ((c .before .before .before .if1) .left) in
-    let k : isPast (asMaybe (g .least)) l ≡ false = ap (λ (o : ℕ). isPast (asMaybe (g .least)) (locator (referenceAt (a .store .now) (positionAt (a .votes .now) (g .i))) o)) (sym ((c .before .before .before .before .before .start-word) .ensures)) ∙ sym ((c .before .before .is-past) .ensures) ∙ (c .before .if2) .left in
+    let k : isAfterBest (asMaybe (g .least)) l ≡ false = ap (λ (o : ℕ). isAfterBest (asMaybe (g .least)) (locator (referenceAt (a .store .now) (positionAt (a .votes .now) (g .i))) o)) (sym ((c .before .before .before .before .before .start-word) .ensures)) ∙ sym ((c .before .before .is-after-best) .ensures) ∙ (c .before .if2) .left in
     let e = ap (λ (r : BlockReference). some (locator r ((c .before .before .before .before .before .start-word) .result))) ((c .read-reference) .ensures) ∙ ap (λ (o : ℕ). some (locator (referenceAt (a .store .now) (positionAt (a .votes .now) (g .i))) o)) ((c .before .before .before .before .before .start-word) .ensures) in
     (omega (arith, (c .before .before .before .before .before .before .before .loop-test) .taken), sym (starts-on (a .rejecting) p (a .store .now) (a .votes .now) (a .m) (g .i) (asMaybe (g .least)) _ ((c .before .before .before .before .before .before .before .loop-test) .taken) (e ∙ start-taken p l (asMaybe (g .least)) f k)) ∙ g .inv .1)
 
@@ -118,7 +118,7 @@ table-start-spec =
     follows-requires
     loop-less
     loop-again
-    is-past-requires
+    is-after-best-requires
     loop-less-2
     loop-again-2
     read-reference-requires

@@ -1,8 +1,10 @@
-use Rattle.vote_rows.specs.Row.{isPast}
+use Rattle.base.specs.Lists.{isNone}
+use Rattle.finality.specs.NextFinal.{isAfter}
+use Rattle.vote_rows.specs.Row.{isAfterBest}
 use Rattle.vote_starts.specs.Answers.{asMaybe}
 use borrow.Author.Needs.{needs}
-use Rattle.vote_rows.proofs.is_past.Statement.{statement}
-use Rattle.vote_rows.proofs.is_past.Tie as tie
+use Rattle.vote_rows.proofs.is_after_best.Statement.{statement}
+use Rattle.vote_rows.proofs.is_after_best.Tie as tie
 
 enum-known-best : tie.Need-enum-known-best
 enum-known-best c = search needs
@@ -11,16 +13,16 @@ enum-told : tie.Need-enum-told
 enum-told c = search needs
 
 returns : tie.Need-returns
-unfolding isPast asMaybe
+unfolding isAfterBest isNone isAfter asMaybe
 returns c = rw (c .enum-told .given .1)
 
 comes-after-requires : tie.Need-comes-after-requires
 comes-after-requires c κs = search needs
 
 returns-2 : tie.Need-returns-2
-unfolding isPast asMaybe
+unfolding isAfterBest isNone isAfter asMaybe
 returns-2 c = rw (c .before .before .best .given .1) (c .comes-after .ensures)
 
-pub is-past-spec : {M : Type 1} → statement M
-is-past-spec =
+pub is-after-best-spec : {M : Type 1} → statement M
+is-after-best-spec =
     tie.close (tie.spec enum-known-best enum-told returns comes-after-requires returns-2)
