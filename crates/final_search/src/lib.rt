@@ -1,20 +1,17 @@
-// The next stretch of a list of final locators, the ordinary or the wide one, in either reading of a reject: the least locator that it shows after a given one, and where its stretch ends.
+// The least locator after a given one that a list of final locators shows, the ordinary or the wide one, in either reading of a reject.
 use certifying_blocks::Certifiers;
 use committee::Stake;
 use types::TransactionLocator;
 use vote_starts::MaybeLocator;
 use vote_table::TableSizes;
 ghost use mathlib.Core.Path.{_≡_};
-ghost use mathlib.Core.Bool.{true};
 ghost use lib.ListN.{length};
 ghost use Rattle.types.specs.Values.{asLocator};
 ghost use Rattle.finality.specs.Finality.{blocksOf};
 ghost use Rattle.readings.specs.Readings.{readingOf};
 ghost use Rattle.vote_starts.specs.Answers.{asMaybe};
-ghost use Rattle.stretches.specs.Stretches.{stretchEnd};
 ghost use Rattle.stored_shares.specs.Stores.{Ordered};
 ghost use Rattle.reading_lists.specs.Lists.{listing};
-ghost use Rattle.final_walk.specs.Walk.{Flags};
 ghost use Rattle.spoken_places.specs.Search.{startsIn};
 ghost use Rattle.final_search.specs.Search.{Ready, Tables, leastStart, mayShow, whenShown, asNext, FoundRight};
 
@@ -43,7 +40,7 @@ fn may_show(store: &[u8], ordinary: bool, locator: TransactionLocator) -> bool
 }
 
 // A locator with its certifying blocks, where the list shows it; a word for each block then says whether it certifies it.
-fn shown_at(
+pub fn shown_at(
     stakes: &[u64],
     total: Stake,
     store: &[u8],
@@ -217,62 +214,4 @@ pub fn final_after(
         after,
         certified,
     )
-}
-
-// ---- its stretch
-
-// Where the stretch of a locator that the list shows ends, of which a word for each block says whether it certifies it: from edge to edge
-// while the list shows the next one and the certifying blocks stay the same.
-pub fn stretch_end(
-    stakes: &[u64],
-    total: Stake,
-    store: &[u8],
-    order: &[u64],
-    table: &[u64],
-    sizes: TableSizes,
-    places: &[u64],
-    noted: usize,
-    ordinary: bool,
-    withdrawing: bool,
-    locator: TransactionLocator,
-    certified: &[u64],
-) -> u64
-    requires { ⌜ ((Ready (now stakes) (total .0) (now store) (now order) × (length (now certified) ≡ 1024)) × Tables (now store) (now order) (now table) sizes (now places) noted) × ((listing ordinary (readingOf withdrawing) (now stakes) (blocksOf (now store)) .shows (asLocator locator) ≡ true) × Flags (readingOf withdrawing) (now stakes) (now store) (now order) (asLocator locator) (now certified)) ⌝ }
-    ensures { λ r. ⌜ r ≡ stretchEnd (blocksOf (now (store .entry))) (listing ordinary (readingOf withdrawing) (now (stakes .entry)) (blocksOf (now (store .entry)))) (asLocator locator) ⌝ }
-{
-    let mut other = [0u64; types::MAX_BLOCKS];
-    let mut end = spoken_places::next_edge(
-        store,
-        order,
-        table,
-        sizes,
-        withdrawing,
-        locator.block,
-        locator.offset,
-    );
-    loop {
-        let block = locator.block;
-        let at = TransactionLocator { block, offset: end };
-        let next = shown_at(
-            stakes,
-            total,
-            store,
-            order,
-            table,
-            sizes,
-            places,
-            noted,
-            ordinary,
-            withdrawing,
-            at,
-            &mut other,
-        );
-        let NextStretch::At(_) = next else {
-            return end;
-        };
-        if !final_walk::same_words(certified, &other, order.len()) {
-            return end;
-        }
-        end = spoken_places::next_edge(store, order, table, sizes, withdrawing, block, end);
-    }
 }

@@ -6,17 +6,78 @@ use types::TransactionLocator;
 use vote_starts::MaybeLocator;
 use vote_table::TableSizes;
 ghost use mathlib.Core.Path.{_≡_};
+ghost use mathlib.Core.Bool.{true};
 ghost use Prim.Native.Nat.{_/_};
 ghost use lib.ListN.{length};
 ghost use Rattle.base.specs.Checks.{answered};
 ghost use Rattle.finality.specs.Finality.{blocksOf};
 ghost use Rattle.vote_starts.specs.Answers.{asMaybe};
-ghost use Rattle.stretches.specs.Stretches.{stretches};
+ghost use Rattle.types.specs.Values.{asLocator};
+ghost use Rattle.stretches.specs.Stretches.{stretchEnd, stretches};
 ghost use Rattle.stretches.specs.Bulk.{givenAfter, wordsAfter};
 ghost use Rattle.readings.specs.Readings.{withdrawing, readingOf};
 ghost use Rattle.reading_lists.specs.Lists.{listing};
+ghost use Rattle.final_walk.specs.Walk.{Flags};
 ghost use Rattle.final_search.specs.Search.{Ready, Tables};
 ghost use Rattle.stretch_words.specs.Answers.{asStretches};
+
+// ---- a stretch by itself
+
+// Where the stretch of a locator that the list shows ends, of which a word for each block says whether it certifies it: from edge to edge
+// while the list shows the next one and the certifying blocks stay the same.
+fn stretch_end(
+    stakes: &[u64],
+    total: Stake,
+    store: &[u8],
+    order: &[u64],
+    table: &[u64],
+    sizes: TableSizes,
+    places: &[u64],
+    noted: usize,
+    ordinary: bool,
+    withdrawing: bool,
+    locator: TransactionLocator,
+    certified: &[u64],
+) -> u64
+    requires { ⌜ ((Ready (now stakes) (total .0) (now store) (now order) × (length (now certified) ≡ 1024)) × Tables (now store) (now order) (now table) sizes (now places) noted) × ((listing ordinary (readingOf withdrawing) (now stakes) (blocksOf (now store)) .shows (asLocator locator) ≡ true) × Flags (readingOf withdrawing) (now stakes) (now store) (now order) (asLocator locator) (now certified)) ⌝ }
+    ensures { λ r. ⌜ r ≡ stretchEnd (blocksOf (now (store .entry))) (listing ordinary (readingOf withdrawing) (now (stakes .entry)) (blocksOf (now (store .entry)))) (asLocator locator) ⌝ }
+{
+    let mut other = [0u64; types::MAX_BLOCKS];
+    let mut end = spoken_places::next_edge(
+        store,
+        order,
+        table,
+        sizes,
+        withdrawing,
+        locator.block,
+        locator.offset,
+    );
+    loop {
+        let block = locator.block;
+        let at = TransactionLocator { block, offset: end };
+        let next = final_search::shown_at(
+            stakes,
+            total,
+            store,
+            order,
+            table,
+            sizes,
+            places,
+            noted,
+            ordinary,
+            withdrawing,
+            at,
+            &mut other,
+        );
+        let NextStretch::At(_) = next else {
+            return end;
+        };
+        if !final_walk::same_words(certified, &other, order.len()) {
+            return end;
+        }
+        end = spoken_places::next_edge(store, order, table, sizes, withdrawing, block, end);
+    }
+}
 
 // ---- the question in bulk
 
@@ -68,7 +129,7 @@ pub fn fill(
         let locator = at.locator;
         let found = at.found;
         let stake = authority_set::stake_of(stakes, found.authors);
-        let end = final_search::stretch_end(
+        let end = stretch_end(
             stakes,
             total,
             store,

@@ -1,6 +1,6 @@
 use Rattle.final_search.proofs.Onward.{when-hidden}
-use Rattle.final_search.proofs.Ending.{found-here, Going, going-first, going-inside, going-hidden, going-stop, going-more, words-same, words-other}
+use Rattle.stretch_fill.proofs.Ending.{found-here, Going, going-first, going-inside, going-hidden, going-stop, going-more, words-same, words-other}
 use Rattle.final_search.specs.Search.{asNext}
 use Rattle.readings.specs.Readings.{readingOf}
 use Rattle.reading_lists.specs.Lists.{listing}
 use Rattle.stretches.specs.Stretches.{stretchEnd}
@@ -15,8 +15,8 @@ use native.Mathlib.Omega.{arith}
 use mathlib.Core.Path.{_≡_, refl, sym, ap, _∙_}
 use Prim.Native.Nat.{_-_}
 use borrow.Author.Needs.{needs}
-use Rattle.final_search.proofs.stretch_end.Statement.{statement}
-use Rattle.final_search.proofs.stretch_end.Tie as tie
+use Rattle.stretch_fill.proofs.stretch_end.Statement.{statement}
+use Rattle.stretch_fill.proofs.stretch_end.Tie as tie
 
 abbrev Inv-loop : tie.InvT-loop
 Inv-loop stakes total store order table sizes places noted ordinary withdrawing at certified other₀ end₀ other end =
