@@ -4,8 +4,8 @@ use committee::AuthorityIndex;
 use committee::NewCommittee;
 use committee::Stake;
 use libc::STDOUT_FILENO;
-use stake_aggregator::AddAnswer;
 use stake_aggregator::StakeAggregator;
+use vote_answer::AddAnswer;
 
 fn print(text: &[u8]) {
     io::write_all(STDOUT_FILENO, text);

@@ -7,12 +7,12 @@ use feeding::FeedAnswer;
 use finalization_interpreter::FinalityAnswer;
 use libc::STDOUT_FILENO;
 use next_final::NextFinalAnswer;
-use stake_aggregator::AddAnswer;
 use stake_aggregator::Added;
 use stake_aggregator::StakeAggregator;
 use types::BlockDigest;
 use types::BlockReference;
 use types::TransactionLocator;
+use vote_answer::AddAnswer;
 use vote_starts::MaybeLocator;
 
 fn print(text: &[u8]) {

@@ -17,8 +17,8 @@ use Rattle.stake_aggregator.specs.StakeAggregator.{StakeAggregator, add, addChe
 use Rattle.words.specs.Words.{wordsIn, bytesOf}
 use Rattle.words.proofs.Stores.{sets-complete}
 use Rattle.words.proofs.Words.{length-bytesOf, bytesOf-wordsIn}
-use Rattle.stake_aggregator.specs.declared.AddAnswer.{AddAnswer}
-use Rattle.stake_aggregator.specs.Answers.{asAddAnswer}
+use Rattle.vote_answer.specs.declared.AddAnswer.{AddAnswer}
+use Rattle.vote_answer.specs.Answers.{asAddAnswer}
 use Rattle.host_calls.specs.Calls.{encoded, committeeOf}
 use Rattle.host_add.specs.Add.{aggregatorOf, aggregatorBytes, numbered, AddCall, addOf, addCall}
 use Rattle.host_calls.proofs.Numbers.{refusal-most}

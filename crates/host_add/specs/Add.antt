@@ -8,7 +8,8 @@ use Rattle.base.specs.Lists.{pick}
 use Rattle.base.specs.Le.{Bytes, leAt}
 use Rattle.base.specs.Checks.{_⇒_, refusal, Answer, refused, answered}
 use Rattle.committee.specs.Committee.{AuthorityIndex, Committee, broken}
-use Rattle.stake_aggregator.specs.StakeAggregator.{StakeAggregator, Told, repeatedBelow, repeatedWith, newBelow, newWith, add}
+use Rattle.vote_answer.specs.VoteAnswer.{Told, repeatedBelow, repeatedWith, newBelow, newWith}
+use Rattle.stake_aggregator.specs.StakeAggregator.{StakeAggregator, add}
 use Rattle.words.specs.Words.{bytesOf}
 use Rattle.host_calls.specs.Calls.{committeeOf}
 

@@ -3,9 +3,9 @@ ghost use mathlib.Core.Path.{_≡_};
 ghost use Rattle.stake_aggregator.specs.StakeAggregator.{add};
 ghost use Rattle.stake_aggregator.specs.Answers.{asAggregator, asAdded};
 use committee::AuthorityIndex;
-use stake_aggregator::AddAnswer;
 use stake_aggregator::Added;
 use stake_aggregator::StakeAggregator;
+use vote_answer::AddAnswer;
 
 fn added(answer: AddAnswer, aggregator: StakeAggregator) -> Added
     ensures { λ r. ⌜ (r .answer ≡ answer) × (r .aggregator ≡ aggregator) ⌝ }

@@ -9,11 +9,13 @@ use Rattle.base.specs.Checks.{refusal, passes, refused, answered, checked}
 use Rattle.base.proofs.Tests.{and-right}
 use Rattle.committee.specs.Committee.{AuthorityIndex, Committee, broken, isQuorum, known, getStake}
 use Rattle.authority_set.specs.AuthoritySet.{member, members, stakeOf}
-use Rattle.stake_aggregator.specs.StakeAggregator.{StakeAggregator, counted, hasQuorum, aggregatorInOrder, addChecks, toldOf, told, add}
-use Rattle.stake_aggregator.specs.Answers.{asAggregator, asAddAnswer, asAdded}
+use Rattle.vote_answer.specs.VoteAnswer.{toldOf}
+use Rattle.stake_aggregator.specs.StakeAggregator.{StakeAggregator, counted, hasQuorum, aggregatorInOrder, addChecks, told, add}
+use Rattle.vote_answer.specs.Answers.{asAddAnswer}
+use Rattle.stake_aggregator.specs.Answers.{asAggregator, asAdded}
 use Rattle.stake_aggregator.specs.declared.StakeAggregator as code-aggregator
-use Rattle.stake_aggregator.specs.declared.AddAnswer.{AddAnswer}
-use Rattle.stake_aggregator.specs.declared.AddAnswer.the-variants.{Refused}
+use Rattle.vote_answer.specs.declared.AddAnswer.{AddAnswer}
+use Rattle.vote_answer.specs.declared.AddAnswer.the-variants.{Refused}
 use Rattle.stake_aggregator.specs.declared.Added as code-added
 use Rattle.committee.proofs.Bounds.{few-members, known-below, total-most, member-most}
 use Rattle.authority_set.proofs.Sums.{stake-most}

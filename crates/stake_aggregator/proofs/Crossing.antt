@@ -12,7 +12,8 @@ use Rattle.base.proofs.Tests.{and-right, not-both}
 use Rattle.committee.specs.Committee.{AuthorityIndex, Committee, totalStake, isQuorum, getStake}
 use Rattle.authority_set.specs.AuthoritySet.{member, inserted}
 use Rattle.committee.proofs.Bounds.{more-quorum}
-use Rattle.stake_aggregator.specs.StakeAggregator.{StakeAggregator, noVotes, counted, hasQuorum, addChecks, Told, toldOf, told, add}
+use Rattle.vote_answer.specs.VoteAnswer.{Told, toldOf}
+use Rattle.stake_aggregator.specs.StakeAggregator.{StakeAggregator, noVotes, counted, hasQuorum, addChecks, told, add}
 use Rattle.stake_aggregator.specs.Claims.{holdsNow, saysCrossed, answers, addedAll, crossings, CrossesAt}
 
 -- votes add stake, so quorum that holds stays

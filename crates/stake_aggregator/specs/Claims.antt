@@ -7,7 +7,8 @@ use mathlib.Core.List.{List, [], _∷_, _++_}
 use Rattle.base.specs.Lists.{pick}
 use Rattle.base.specs.Checks.{Answer, refused, answered}
 use Rattle.committee.specs.Committee.{AuthorityIndex, Committee, courseCommittee}
-use Rattle.stake_aggregator.specs.StakeAggregator.{StakeAggregator, noVotes, hasQuorum, Told, repeatedBelow, repeatedWith, newBelow, newWith, add}
+use Rattle.vote_answer.specs.VoteAnswer.{Told, repeatedBelow, repeatedWith, newBelow, newWith}
+use Rattle.stake_aggregator.specs.StakeAggregator.{StakeAggregator, noVotes, hasQuorum, add}
 
 -- 01: "whether quorum holds now"
 unfoldable pub holdsNow : Told → Bool

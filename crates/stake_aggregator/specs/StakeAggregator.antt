@@ -1,12 +1,13 @@
 -- The aggregator of stake (committee.rs). Assumes nothing: these are definitions.
 use Prim.Native.Nat.{_+_}
-use mathlib.Core.Bool.{Bool, true, false, not, _&&_}
+use mathlib.Core.Bool.{Bool, not, _&&_}
 use mathlib.Core.List.{List, [], _∷_}
 use lib.Dec.{eqb}
 use Rattle.base.specs.Lists.{pick, allOf}
 use Rattle.base.specs.Checks.{Check, _⇒_, passes, Answer, checked}
 use Rattle.committee.specs.Committee.{AuthorityIndex, Stake, Committee, broken, isQuorum, known, getStake}
 use Rattle.authority_set.specs.AuthoritySet.{AuthoritySet, nobody, member, inserted, members, stakeOf}
+use Rattle.vote_answer.specs.VoteAnswer.{Told, toldOf}
 
 pub record StakeAggregator : Type 0 where
   pub votes : AuthoritySet
@@ -40,20 +41,6 @@ addChecks c g a =
     ∷ (not (aggregatorInOrder c g) ⇒ 6)
     ∷ (not (known c a) ⇒ 21)
     ∷ []
-
--- 02: "`add` shall answer one of four: repeated below quorum, repeated with quorum, new below quorum, new with quorum, the last also saying whether this vote crossed it"
-pub data Told : Type 0 where
-  repeatedBelow : Told
-  repeatedWith : Told
-  newBelow : Told
-  newWith : (crossed : Bool) → Told
-
--- which of them it is, by whether the author had voted, whether quorum held before and whether it holds now; crossed: it holds now and did not before
-unfoldable pub toldOf : Bool → Bool → Bool → Told
-toldOf true before false = repeatedBelow
-toldOf true before true = repeatedWith
-toldOf false before false = newBelow
-toldOf false before true = newWith (not before)
 
 -- from the aggregator before the vote and after it
 unfoldable pub told : Committee → StakeAggregator → AuthorityIndex → Told

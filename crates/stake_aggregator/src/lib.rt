@@ -4,31 +4,22 @@ use committee::AuthorityIndex;
 use committee::FoundStake;
 use committee::NewCommittee;
 use committee::Stake;
+use vote_answer::AddAnswer;
 ghost use mathlib.Core.Path.{_≡_};
 ghost use mathlib.Core.Bool.{false};
 ghost use Prim.Native.Nat.{_+_, _<_};
 ghost use Rattle.base.specs.Lists.{allOf};
-ghost use Rattle.base.specs.Checks.{answered};
 ghost use Rattle.committee.specs.Committee.{broken, known};
 ghost use Rattle.authority_set.specs.AuthoritySet.{members};
-ghost use Rattle.stake_aggregator.specs.StakeAggregator.{noVotes, withVote, aggregatorInOrder, toldOf, add};
-ghost use Rattle.stake_aggregator.specs.Answers.{asAggregator, asAddAnswer, asAdded};
+ghost use Rattle.stake_aggregator.specs.StakeAggregator.{noVotes, withVote, aggregatorInOrder, add};
+ghost use Rattle.vote_answer.specs.Answers.{asAddAnswer};
+ghost use Rattle.stake_aggregator.specs.Answers.{asAggregator, asAdded};
 ghost use Rattle.stake_aggregator.specs.Claims.{Claims};
 
 // The authorities that voted, with the stake that they hold together.
 pub struct StakeAggregator {
     pub votes: AuthoritySet,
     pub stake: Stake,
-}
-
-// Whether the voter had voted or is new, and whether quorum holds now; of a new vote with quorum, whether it crossed it. Or
-// the refusal number.
-pub enum AddAnswer {
-    RepeatedBelow,
-    RepeatedWith,
-    NewBelow,
-    NewWith(bool),
-    Refused(u64),
 }
 
 // What adding a vote answers, and the aggregator afterwards.
@@ -49,22 +40,6 @@ fn all_known(stakes: &[u64], votes: AuthoritySet) -> bool
         i += 1;
     }
     true
-}
-
-// What a vote is told, by whether its author had voted, whether quorum held before and whether it holds now.
-fn told(repeated: bool, before: bool, now: bool) -> AddAnswer
-    ensures { λ r. ⌜ asAddAnswer r ≡ answered (toldOf repeated before now) ⌝ }
-{
-    if repeated {
-        if now {
-            return AddAnswer::RepeatedWith;
-        }
-        return AddAnswer::RepeatedBelow;
-    }
-    if now {
-        return AddAnswer::NewWith(!before);
-    }
-    AddAnswer::NewBelow
 }
 
 impl StakeAggregator {
@@ -135,7 +110,7 @@ impl StakeAggregator {
         let next = self.with_vote(vote, stake);
         let now = committee::is_quorum(total, next.stake);
         Added {
-            answer: told(repeated, before, now),
+            answer: vote_answer::told(repeated, before, now),
             aggregator: next,
         }
     }

@@ -44,14 +44,14 @@ use denote.Triple.Clauses.{ensured, lasts}
 use denote.Exit.{yes}
 use Rattle.stake_aggregator.specs.declared.StakeAggregator.{StakeAggregator}
 use Rattle.committee.specs.declared.AuthorityIndex.{AuthorityIndex}
-use Rattle.stake_aggregator.specs.declared.AddAnswer.{AddAnswer}
+use Rattle.vote_answer.specs.declared.AddAnswer.{AddAnswer}
 use Rattle.stake_aggregator.specs.declared.Added.{Added}
 use Rattle.stake_aggregator.specs.StakeAggregator as meant
 use Rattle.stake_aggregator.specs.Answers.{asAggregator, asAdded}
 use Rattle.stake_aggregator.proofs.Added as R
 use Rattle.stake_aggregator.proofs.Added.Laws as R′
-use Rattle.stake_aggregator.proofs.AddAnswer as E
-use Rattle.stake_aggregator.proofs.AddAnswer.Laws as E′
+use Rattle.vote_answer.proofs.AddAnswer as E
+use Rattle.vote_answer.proofs.AddAnswer.Laws as E′
 use Rattle.stake_aggregator.proofs.StakeAggregator as T
 use Rattle.stake_aggregator.proofs.StakeAggregator.Laws as T′
 use Rattle.committee.proofs.AuthorityIndex as I

@@ -1,7 +1,7 @@
-use Rattle.stake_aggregator.specs.Answers.{asAddAnswer}
-use Rattle.stake_aggregator.specs.StakeAggregator.{toldOf}
-use Rattle.stake_aggregator.proofs.told.Statement.{statement}
-use Rattle.stake_aggregator.proofs.told.Tie as tie
+use Rattle.vote_answer.specs.Answers.{asAddAnswer}
+use Rattle.vote_answer.specs.VoteAnswer.{toldOf}
+use Rattle.vote_answer.proofs.told.Statement.{statement}
+use Rattle.vote_answer.proofs.told.Tie as tie
 
 returns : tie.Need-returns
 unfolding asAddAnswer toldOf

@@ -1,0 +1,2 @@
+pub mod VoteAnswer
+pub mod Answers
