@@ -18,7 +18,7 @@ use Rattle.blocks.specs.Reference.{BlockReference}
 use Rattle.blocks.specs.Record.{readReference, readStatement, Edition, Timed, editionBytes, readTime, readIn, editionOf, timedOf, blockOf, wellFormed, bodyStart}
 use Rattle.statement_reader.specs.Step.{statementsOnly}
 use Rattle.record_edition.specs.Step.{editionRight}
-use Rattle.types.proofs.Fixed.{fixed-reference}
+use Rattle.reference_bytes.proofs.Fixed.{fixed-reference}
 use Rattle.statement_reader.proofs.Only.{Whole, whole-map}
 use Rattle.record_edition.proofs.Editions.{TimeRead, time-read}
 

@@ -19,8 +19,8 @@ use Rattle.blocks.specs.Reference.{BlockReference}
 use Rattle.blocks.specs.Block.{Statement, Block}
 use Rattle.blocks.specs.Record.{readReference, readStatement, Timed, readIn, editionOf, timedOf, timeIn, wellFormed, noReference, blockIn, bodyStart}
 use Rattle.blocks.proofs.Records.{block-of, timed-of}
-use Rattle.types.specs.Step.{referenceAt}
-use Rattle.types.proofs.Fixed.{fixed-reference, reference-value}
+use Rattle.reference_bytes.specs.Step.{referenceAt}
+use Rattle.reference_bytes.proofs.Fixed.{fixed-reference, reference-value}
 use Rattle.record_edition.proofs.Editions.{time-read, body-inside}
 use Rattle.block_record.proofs.Formed.{Head, whole-head, block-short, block-rest, block-cut}
 

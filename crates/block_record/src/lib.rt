@@ -53,7 +53,7 @@ pub fn reference(rec: &[u8]) -> BlockReference
     requires { ⌜ wellFormed (now rec) ≡ true ⌝ }
     ensures { λ r. ⌜ asReference r ≡ blockIn (now (rec .entry)) .reference ⌝ }
 {
-    types::read_reference(rec, 0)
+    reference_bytes::read_reference(rec, 0)
 }
 
 // Its author alone.
@@ -85,7 +85,7 @@ pub fn include(rec: &[u8], k: usize) -> BlockReference
     requires { ⌜ (wellFormed (now rec) ≡ true) × (k < length (blockIn (now rec) .includes)) ⌝ }
     ensures { λ r. ⌜ asReference r ≡ getD (blockIn (now (rec .entry)) .includes) k noReference ⌝ }
 {
-    types::read_reference(
+    reference_bytes::read_reference(
         rec,
         record_edition::body_start(rec) + k * types::REFERENCE_BYTES,
     )

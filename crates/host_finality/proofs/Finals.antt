@@ -20,7 +20,7 @@ use Rattle.readings.specs.Finality.{certifyingPositionsIn, finalityIn}
 use Rattle.finalization_interpreter.specs.Answers.{asFinality}
 use Rattle.finalization_interpreter.specs.declared.FinalityAnswer.{FinalityAnswer}
 use Rattle.finalization_interpreter.specs.declared.FinalityAnswer.the-variants.{Final, NotFinal, Refused}
-use Rattle.types.specs.Step.{locatorAt}
+use Rattle.reference_bytes.specs.Step.{locatorAt}
 use Rattle.host_locators.specs.Locators.{locatorOf, refusalBefore}
 use Rattle.host_finality.specs.Finality.{FinalityCall, finalityNumber, finalityOf, askedFinality, numbersFit}
 use Rattle.host_calls.proofs.Numbers.{checked-most}

@@ -23,7 +23,7 @@ fn finality_words(
 {
     let mut words = [0u64; types::MAX_BLOCKS];
     words::words_of(positions, &mut words);
-    let place = types::read_locator(locator, 0);
+    let place = reference_bytes::read_locator(locator, 0);
     let answer = finalization_interpreter::finality_in(
         stakes,
         store,

@@ -31,7 +31,7 @@ pub fn after_of(bytes: &[u8]) -> After
     if bytes.len() != types::LOCATOR_BYTES {
         return After::Malformed;
     }
-    After::Place(MaybeLocator::Locator(types::read_locator(bytes, 0)))
+    After::Place(MaybeLocator::Locator(reference_bytes::read_locator(bytes, 0)))
 }
 
 pub fn next_final_of(
@@ -52,7 +52,7 @@ pub fn next_final_of(
     }
     match next_final::next_listed(stakes, store, ordinary, withdrawing, place) {
         NextFinalAnswer::Found(locator) => {
-            types::write_locator(found, 0, locator);
+            reference_bytes::write_locator(found, 0, locator);
             1
         }
         NextFinalAnswer::NoneLeft => 0,

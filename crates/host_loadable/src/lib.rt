@@ -15,7 +15,7 @@ fn is_loadable_of(stakes: &[u64], store: &[u8], locator: &[u8]) -> LoadableAnswe
     if locator.len() != types::LOCATOR_BYTES {
         return LoadableAnswer::Refused(host_locators::refusal_before(20, stakes, store));
     }
-    loadable_share::is_loadable(stakes, store, types::read_locator(locator, 0))
+    loadable_share::is_loadable(stakes, store, reference_bytes::read_locator(locator, 0))
 }
 
 // Whether a locator names a loadable stored share: 1 or 0.

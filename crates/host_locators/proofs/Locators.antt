@@ -16,8 +16,8 @@ use Rattle.base.proofs.Lists.{isEmpty-false}
 use Rattle.committee.specs.Committee.{Committee, broken}
 use Rattle.blocks.specs.Reference.{TransactionLocator}
 use Rattle.blocks.specs.Record.{readLocator}
-use Rattle.types.specs.Step.{locatorAt}
-use Rattle.types.proofs.Fixed.{fixed-locator, locator-value}
+use Rattle.reference_bytes.specs.Step.{locatorAt}
+use Rattle.reference_bytes.proofs.Fixed.{fixed-locator, locator-value}
 use Rattle.store_layout.specs.Store.{storeInOrder}
 use Rattle.host_locators.specs.Locators.{locatorOf, storeChecks, refusalBefore, asked}
 use Rattle.host_calls.proofs.Numbers.{refusal-most}

@@ -34,7 +34,7 @@ fn ring_in(
         store,
         table,
         reachable,
-        types::read_locator(locator, 0),
+        reference_bytes::read_locator(locator, 0),
     )
 }
 

@@ -24,7 +24,7 @@ fn write_slip_of(
     slip_writer::write_slip_in(
         stakes,
         store,
-        types::read_locator(locator, 0),
+        reference_bytes::read_locator(locator, 0),
         withdrawing,
         out,
     )

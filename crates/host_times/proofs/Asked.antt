@@ -16,8 +16,8 @@ use Rattle.base.proofs.Lists.{isEmpty-false}
 use Rattle.committee.specs.Committee.{Committee}
 use Rattle.blocks.specs.Reference.{BlockReference}
 use Rattle.blocks.specs.Record.{readReference}
-use Rattle.types.specs.Step.{referenceAt}
-use Rattle.types.proofs.Fixed.{fixed-reference, reference-value}
+use Rattle.reference_bytes.specs.Step.{referenceAt}
+use Rattle.reference_bytes.proofs.Fixed.{fixed-reference, reference-value}
 use Rattle.block_time.specs.Times.{timeChecks, askTime}
 use Rattle.host_calls.proofs.Numbers.{checked-most}
 use Rattle.host_locators.specs.Locators.{refusalBefore}

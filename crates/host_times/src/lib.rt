@@ -13,7 +13,7 @@ fn time_of(stakes: &[u64], store: &[u8], reference: &[u8], found: &mut [u8]) -> 
     if found.len() != 8 {
         return host_calls::REFUSED + host_locators::refusal_before(40, stakes, store);
     }
-    match block_time::creation_time(stakes, store, types::read_reference(reference, 0)) {
+    match block_time::creation_time(stakes, store, reference_bytes::read_reference(reference, 0)) {
         TimeAnswer::Found(time) => {
             base::write_u64(found, 0, time);
             1

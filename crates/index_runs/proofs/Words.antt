@@ -13,7 +13,7 @@ use Rattle.base.specs.Le.{leNumber, leBytes}
 use Rattle.base.proofs.Le.{leNumber-leBytes, sets-append}
 use Rattle.base.proofs.Loops.{drop-next}
 use Rattle.types.specs.Values.{beBytes, digestBytes}
-use Rattle.types.proofs.Written.{length-beBytes, next-word}
+use Rattle.reference_bytes.proofs.Written.{length-beBytes, next-word}
 use Rattle.types.specs.declared.BlockDigest as digest
 use Rattle.voters_index.specs.Runs.{Run, run}
 use Rattle.voters_index.specs.Index.{digestWords, runWords}

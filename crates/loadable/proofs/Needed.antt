@@ -15,10 +15,10 @@ use Rattle.base.proofs.Le.{length-leBytes}
 use Rattle.blocks.specs.Reference.{TransactionLocator}
 use Rattle.blocks.specs.Record.{referenceBytes, locatorBytes}
 use Rattle.blocks.specs.Claims.{fitsLocator}
-use Rattle.types.specs.Step.{locatorAt}
+use Rattle.reference_bytes.specs.Step.{locatorAt}
 use Rattle.blocks.proofs.Records.{LocatorFits, locator-reads, length-reference}
 use Rattle.blocks.proofs.Claimed.{locator-fits}
-use Rattle.types.proofs.Fixed.{fixed-locator, locator-value}
+use Rattle.reference_bytes.proofs.Fixed.{fixed-locator, locator-value}
 use Rattle.loadable.specs.Needs.{neededBy}
 
 pub needs-short : (p : Bytes) → length p < 57 → neededBy p ≡ none

@@ -10,7 +10,7 @@ use Rattle.base.specs.Lists.{pick, find, _∈_}
 use Rattle.base.specs.Le.{Bytes}
 use Rattle.blocks.specs.Reference.{BlockReference, TransactionLocator, sameReference}
 use Rattle.blocks.specs.Block.{Statement, share, accept, reject, voteRange, Block}
-use Rattle.types.specs.Step.{locatorAt}
+use Rattle.reference_bytes.specs.Step.{locatorAt}
 
 -- 02: "A payload may begin with the byte 1 and a 56-byte locator: the program which this change needs"; "a payload of another beginning, or of
 -- fewer than 57 bytes, needs nothing"

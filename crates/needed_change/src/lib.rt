@@ -20,5 +20,5 @@ pub fn needed_by(bytes: &[u8]) -> Needed
     if bytes[0] != 1 {
         return Needed::Nothing;
     }
-    Needed::Change(types::read_locator(bytes, 1))
+    Needed::Change(reference_bytes::read_locator(bytes, 1))
 }

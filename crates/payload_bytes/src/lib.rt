@@ -12,7 +12,7 @@ pub fn payload_length(stakes: &[u64], store: &[u8], locator: &[u8]) -> PayloadLe
     if locator.len() != types::LOCATOR_BYTES {
         return PayloadLength::Refused(host_locators::refusal_before(20, stakes, store));
     }
-    payload::payload_length(stakes, store, types::read_locator(locator, 0))
+    payload::payload_length(stakes, store, reference_bytes::read_locator(locator, 0))
 }
 
 pub fn payload_place(stakes: &[u64], store: &[u8], locator: &[u8]) -> PayloadPlace
@@ -21,5 +21,5 @@ pub fn payload_place(stakes: &[u64], store: &[u8], locator: &[u8]) -> PayloadPla
     if locator.len() != types::LOCATOR_BYTES {
         return PayloadPlace::Refused(host_locators::refusal_before(20, stakes, store));
     }
-    payload::find_payload(stakes, store, types::read_locator(locator, 0))
+    payload::find_payload(stakes, store, reference_bytes::read_locator(locator, 0))
 }

@@ -27,7 +27,12 @@ fn pending_in(stakes: &[u64], store: &[u8], table: &[u64], locator: &[u8]) -> Pe
     if locator.len() != types::LOCATOR_BYTES {
         return PendingAnswer::Refused(no_locator(stakes, store, table));
     }
-    pending::pending(stakes, store, table, types::read_locator(locator, 0))
+    pending::pending(
+        stakes,
+        store,
+        table,
+        reference_bytes::read_locator(locator, 0),
+    )
 }
 
 pub fn pending_of(stakes: &[u64], store: &[u8], table: &[u8], locator: &[u8]) -> PendingAnswer

@@ -22,7 +22,7 @@ use Rattle.blocks.specs.Reference.{BlockReference, TransactionLocator, locators
 use Rattle.blocks.specs.Block.{Statement, accept}
 use Rattle.blocks.specs.Record.{readReference, referenceBytes, statementBytes, editionBytes, timeBytes, bytesIn as recordIn, editionFor, timedBytes}
 use Rattle.blocks.proofs.Records.{mark-byte, three-bytes, length-includes}
-use Rattle.types.proofs.Fixed.{fixed-reference}
+use Rattle.reference_bytes.proofs.Fixed.{fixed-reference}
 use Rattle.drafts.specs.Draft.{Draft, Request, includesIn, statementsIn, withParts, draftIn}
 use Rattle.drafts.specs.Joining.{joined}
 use Rattle.drafts.specs.Writing.{writtenBlock, recordBytes, isLong, formChecks}

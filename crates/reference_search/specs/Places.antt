@@ -6,7 +6,7 @@ use mathlib.Core.List.{List}
 use lib.ListN.{length, getD}
 use Rattle.base.specs.Le.{Bytes}
 use Rattle.blocks.specs.Reference.{BlockReference, referenceBefore}
-use Rattle.types.specs.Step.{referenceAt}
+use Rattle.reference_bytes.specs.Step.{referenceAt}
 use Rattle.reference_search.specs.declared.FoundPlace.{FoundPlace}
 use Rattle.reference_search.specs.declared.FoundPlace.the-variants.{At, Before}
 

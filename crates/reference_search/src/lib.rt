@@ -21,7 +21,7 @@ pub fn find_place(s: &[u8], order: &[u64], skip: usize, block: BlockReference) -
     while low < high {
         let middle = low + (high - low) / 2;
         let at = order[middle] as usize;
-        let compared = types::compare(types::read_reference(s, at + skip), block);
+        let compared = types::compare(reference_bytes::read_reference(s, at + skip), block);
         match compared {
             Ordering::Equal => {
                 return FoundPlace::At(middle);

@@ -17,8 +17,8 @@ use Rattle.base.proofs.Read.{part}
 use Rattle.base.proofs.Fixed.{fixed-number, Least, least-zero, least-bind, reads-at, number-at, empty-drop}
 use Rattle.blocks.specs.Record.{readLocator}
 use Rattle.readings.specs.Readings.{Reading, readingOf}
-use Rattle.types.specs.Step.{locatorAt}
-use Rattle.types.proofs.Fixed.{fixed-locator, locator-value}
+use Rattle.reference_bytes.specs.Step.{locatorAt}
+use Rattle.reference_bytes.proofs.Fixed.{fixed-locator, locator-value}
 use Rattle.slips.specs.Slip.{SlipCertifier, Slip, certifiersAscend, readCertifier, readBody, readFirst, namesReading, readSlip}
 use Rattle.slip_body.specs.Step.{headRight, readingAt}
 

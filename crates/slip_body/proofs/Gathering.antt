@@ -19,7 +19,7 @@ use Rattle.authority_set.specs.AuthoritySet.{AuthoritySet, nobody, inserted, st
 use Rattle.blocks.specs.Reference.{BlockReference, TransactionLocator, referenceBefore}
 use Rattle.readings.specs.Readings.{Reading}
 use Rattle.blocks.proofs.References.{reference-trans}
-use Rattle.types.specs.Step.{referenceAt, locatorAt}
+use Rattle.reference_bytes.specs.Step.{referenceAt, locatorAt}
 use Rattle.slips.specs.Slip.{SlipCertifier, Slip, certifiersAscend, readCertifier, readSlip}
 use Rattle.slips.specs.Supplied.{suppliedBlocks}
 use Rattle.slips.specs.Reading.{missing, slipHolds}

@@ -14,7 +14,7 @@ use Rattle.authority_set.specs.AuthoritySet.{AuthoritySet}
 use Rattle.blocks.specs.Reference.{TransactionLocator}
 use Rattle.blocks.specs.Block.{Block}
 use Rattle.readings.specs.Readings.{Reading, readingOf}
-use Rattle.types.specs.Step.{locatorAt}
+use Rattle.reference_bytes.specs.Step.{locatorAt}
 use Rattle.slips.specs.Slip.{SlipCertifier, Slip, certifiersAscend, readCertifier, namesReading, readSlip}
 use Rattle.slips.specs.Supplied.{suppliedBlocks}
 use Rattle.slips.specs.Paths.{named}

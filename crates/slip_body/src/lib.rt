@@ -9,7 +9,7 @@ ghost use mathlib.Core.Bool.{true, _||_};
 ghost use lib.Dec.{eqb};
 ghost use lib.ListN.{length};
 ghost use Rattle.blocks.specs.Reference.{referenceBefore};
-ghost use Rattle.types.specs.Step.{referenceAt};
+ghost use Rattle.reference_bytes.specs.Step.{referenceAt};
 ghost use Rattle.slip_certifier.specs.Step.{Ready};
 ghost use Rattle.slip_body.specs.Step.{headRight, TookCertifiers, TookSlip};
 
@@ -34,8 +34,8 @@ fn follows(slip: &[u8], i: usize, last: usize, at: usize) -> bool
         return true;
     }
     let order = types::compare(
-        types::read_reference(slip, last),
-        types::read_reference(slip, at),
+        reference_bytes::read_reference(slip, last),
+        reference_bytes::read_reference(slip, at),
     );
     match order {
         Ordering::Less => true,

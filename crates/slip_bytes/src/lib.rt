@@ -27,7 +27,7 @@ fn write_head(out: &mut [u8], first: u8, locator: TransactionLocator, count: u16
     ensures { λ _. ⌜ now (out .exit) ≡ sets (now (out .entry)) 0 (headBytes first (asLocator locator) count) ⌝ }
 {
     out[0] = first;
-    types::write_locator(out, 1, locator);
+    reference_bytes::write_locator(out, 1, locator);
     base::write_u16(out, 57, count);
 }
 

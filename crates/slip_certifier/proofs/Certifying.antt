@@ -12,8 +12,8 @@ use Rattle.base.proofs.Le.{leAt-byte}
 use Rattle.base.proofs.Read.{part}
 use Rattle.base.proofs.Fixed.{fixed-number, least-zero, least-bind, reads-at, number-at}
 use Rattle.blocks.specs.Record.{readReference}
-use Rattle.types.specs.Step.{referenceAt}
-use Rattle.types.proofs.Fixed.{fixed-reference, reference-value}
+use Rattle.reference_bytes.specs.Step.{referenceAt}
+use Rattle.reference_bytes.proofs.Fixed.{fixed-reference, reference-value}
 use Rattle.slips.specs.Slip.{SlipVoter, SlipCertifier, votersAscend, readVoter, readCertifier}
 
 -- ---- a certifier

@@ -12,7 +12,7 @@ use Rattle.authority_set.specs.AuthoritySet.{AuthoritySet, stakeOf}
 use Rattle.blocks.specs.Reference.{TransactionLocator}
 use Rattle.blocks.specs.Block.{Block}
 use Rattle.readings.specs.Readings.{Reading}
-use Rattle.types.specs.Step.{referenceAt}
+use Rattle.reference_bytes.specs.Step.{referenceAt}
 use Rattle.slips.specs.Supplied.{suppliedBlocks}
 use Rattle.slips.specs.Paths.{named, toBlock, onFrom}
 use Rattle.slip_records.specs.Places.{Places}

@@ -11,7 +11,7 @@ use Rattle.authority_set.specs.AuthoritySet.{AuthoritySet}
 use Rattle.blocks.specs.Reference.{TransactionLocator}
 use Rattle.blocks.specs.Block.{Block}
 use Rattle.readings.specs.Readings.{Reading}
-use Rattle.types.specs.Step.{referenceAt}
+use Rattle.reference_bytes.specs.Step.{referenceAt}
 use Rattle.slips.specs.Slip.{SlipVoter, SlipCertifier, readCertifier}
 use Rattle.slips.specs.Supplied.{suppliedBlocks}
 use Rattle.slips.specs.Paths.{named, toBlock, onFrom}

@@ -89,7 +89,7 @@ pub fn take_certifier(
     if slip.len() - at < 49 {
         return TakenCertifier::Malformed;
     }
-    let certifier = slip_paths::find(records, order, types::read_reference(slip, at));
+    let certifier = slip_paths::find(records, order, reference_bytes::read_reference(slip, at));
     let count = slip[at + types::REFERENCE_BYTES] as usize;
     let TakenVoters::Voters(end, voters, shown) = slip_voters::take_voters(
         slip,

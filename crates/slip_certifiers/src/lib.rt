@@ -44,7 +44,7 @@ fn write_certifier(
     ensures { λ r. ⌜ ((l : Locator) → Distances (now (store .entry)) (now (order .entry)) l (now (near .entry)) (now (steps .entry)) (length (now (order .entry))) → now (out .exit) ≡ sets (now (out .entry)) at (certifierBytesAt (now (store .entry)) (now (order .entry)) l k voters)) ⌝ }
 {
     let block = store_entries::reference_at(store, order[k] as usize);
-    types::write_reference(out, at, block);
+    reference_bytes::write_reference(out, at, block);
     out[at + types::REFERENCE_BYTES] = voters.count() as u8;
     slip_routes::write_voters(store, order, near, steps, k, voters, out, at + 49)
 }

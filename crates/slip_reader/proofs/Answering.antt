@@ -15,7 +15,7 @@ use Rattle.base.proofs.Tests.{and-both, and-left, and-right}
 use Rattle.committee.specs.Committee.{Committee, broken}
 use Rattle.blocks.specs.Reference.{TransactionLocator}
 use Rattle.readings.specs.Readings.{readingOf}
-use Rattle.types.specs.Step.{locatorAt}
+use Rattle.reference_bytes.specs.Step.{locatorAt}
 use Rattle.slips.specs.Slip.{Slip, namesReading, readSlip, slipIn}
 use Rattle.slips.specs.Supplied.{suppliedRecords, suppliedBlocks, rightBlocks}
 use Rattle.slips.specs.Reading.{missing, slipHolds, readChecks, readAnswer}

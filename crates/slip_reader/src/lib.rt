@@ -38,7 +38,7 @@ fn show_slip(stakes: &[u64], total: Stake, slip: &[u8], records: &[u8], order: &
     requires { ⌜ ((headRight (now slip) ≡ true) × ((broken (now stakes) ≡ false) × (total .0 ≡ totalStake (now stakes)))) × ((Places (now records) (suppliedBlocks (now records)) (now order) × Right (now records)) × (length (now order) ≤ 1024)) ⌝ }
     ensures { λ r. ⌜ Showed (now (stakes .entry)) (now (slip .entry)) (now (records .entry)) r ⌝ }
 {
-    let locator = types::read_locator(slip, 1);
+    let locator = reference_bytes::read_locator(slip, 1);
     let withdrawing = slip[0] == 1;
     let mut votes = [0u8; types::MAX_BLOCKS];
     slip_paths::note_votes(records, order, locator, &mut votes);

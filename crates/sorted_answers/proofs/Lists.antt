@@ -21,8 +21,8 @@ use Rattle.base.proofs.Fixed.{valuesOf, fixed-repeated, length-valuesOf, getD-v
 use Rattle.blocks.specs.Reference.{TransactionLocator, locator, locatorBefore}
 use Rattle.blocks.specs.Record.{readLocator, noReference}
 use Rattle.blocks.proofs.References.{not-before-trans}
-use Rattle.types.specs.Step.{locatorAt}
-use Rattle.types.proofs.Fixed.{fixed-locator, locator-value}
+use Rattle.reference_bytes.specs.Step.{locatorAt}
+use Rattle.reference_bytes.proofs.Fixed.{fixed-locator, locator-value}
 use Rattle.sorted_replies.specs.Sorted.{sortedLocators, locatorsOf, listOf, asked}
 use Rattle.sorted_step.specs.Step.{Listed}
 

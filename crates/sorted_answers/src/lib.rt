@@ -24,8 +24,8 @@ pub fn is_sorted_list(locators: &[u8]) -> bool
     let n = locators.len() / types::LOCATOR_BYTES;
     let mut i: usize = 1;
     while i < n {
-        let last = types::read_locator(locators, types::LOCATOR_BYTES * (i - 1));
-        let next = types::read_locator(locators, types::LOCATOR_BYTES * i);
+        let last = reference_bytes::read_locator(locators, types::LOCATOR_BYTES * (i - 1));
+        let next = reference_bytes::read_locator(locators, types::LOCATOR_BYTES * i);
         if types::locator_before(next, last) {
             return false;
         }

@@ -10,7 +10,7 @@ use Rattle.committee.specs.Committee.{Committee}
 use Rattle.authority_set.specs.AuthoritySet.{AuthoritySet}
 use Rattle.blocks.specs.Reference.{TransactionLocator, locatorBefore}
 use Rattle.blocks.specs.Block.{Block}
-use Rattle.types.specs.Step.{locatorAt}
+use Rattle.reference_bytes.specs.Step.{locatorAt}
 use Rattle.voters_index.specs.Runs.{Run, runCovers}
 use Rattle.voters_index.specs.Part.{RunsOf}
 use Rattle.voters_index.specs.Walk as walk

@@ -99,7 +99,7 @@ fn merge(
             return;
         }
         let run = index_runs::read_run(part, index_runs::RUN_WORDS * j + 1);
-        let locator = types::read_locator(locators, types::LOCATOR_BYTES * i);
+        let locator = reference_bytes::read_locator(locators, types::LOCATOR_BYTES * i);
         let stands = side_of(run, locator);
         match stands {
             Side::Past => {

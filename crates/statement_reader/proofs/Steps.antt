@@ -15,8 +15,8 @@ use Rattle.base.proofs.Fixed.{Fixed, fixed-items, fixed-bind, fixed-map, fixed-
 use Rattle.blocks.specs.Reference.{newRange}
 use Rattle.blocks.specs.Block.{Statement, share, accept, reject, voteRange}
 use Rattle.blocks.specs.Record.{readLocator, readShare, readAccept, readOther, readReject, readRange, readKind, readStatement}
-use Rattle.types.specs.Step.{referenceAt, locatorAt}
-use Rattle.types.proofs.Fixed.{fixed-reference, fixed-locator, reference-value, locator-value}
+use Rattle.reference_bytes.specs.Step.{referenceAt, locatorAt}
+use Rattle.reference_bytes.proofs.Fixed.{fixed-reference, fixed-locator, reference-value, locator-value}
 
 -- ---- readers of a fixed number of bytes
 

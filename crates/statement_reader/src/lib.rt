@@ -45,7 +45,7 @@ fn take_accept(s: &[u8], at: usize) -> Taken
     if s.len() - at < 57 {
         return Taken::Malformed;
     }
-    let locator = types::read_locator(s, at + 1);
+    let locator = reference_bytes::read_locator(s, at + 1);
     Taken::Statement(BaseStatement::Accept(locator), at + 57)
 }
 
@@ -56,7 +56,7 @@ fn take_reject(s: &[u8], at: usize) -> Taken
     if s.len() - at < 58 {
         return Taken::Malformed;
     }
-    let locator = types::read_locator(s, at + 1);
+    let locator = reference_bytes::read_locator(s, at + 1);
     let more = s[at + 57];
     if more == 0 {
         return Taken::Statement(BaseStatement::Reject(locator), at + 58);
@@ -67,7 +67,7 @@ fn take_reject(s: &[u8], at: usize) -> Taken
     if s.len() - at < 114 {
         return Taken::Malformed;
     }
-    let other = types::read_locator(s, at + 58);
+    let other = reference_bytes::read_locator(s, at + 58);
     Taken::Statement(BaseStatement::RejectFor(locator, other), at + 114)
 }
 
@@ -78,7 +78,7 @@ fn take_range(s: &[u8], at: usize) -> Taken
     if s.len() - at < 65 {
         return Taken::Malformed;
     }
-    let block = types::read_reference(s, at + 1);
+    let block = reference_bytes::read_reference(s, at + 1);
     let start = base::read_u64(s, at + 49);
     let end = base::read_u64(s, at + 57);
     let range = TransactionLocatorRange::new(block, start, end);

@@ -19,7 +19,7 @@ use Rattle.blocks.specs.Record.{referenceBytes, locatorBytes, otherBytes, state
 use Rattle.types.specs.Values.{asReference, asLocator, asRange}
 use Rattle.types.specs.declared.TransactionLocator.{TransactionLocator}
 use Rattle.types.specs.declared.TransactionLocatorRange.{TransactionLocatorRange}
-use Rattle.types.proofs.Written.{length-referenceBytes, length-locatorBytes}
+use Rattle.reference_bytes.proofs.Written.{length-referenceBytes, length-locatorBytes}
 use Rattle.statement_reader.specs.Values.{asStatement}
 use Rattle.statement_reader.specs.declared.BaseStatement.{BaseStatement}
 use Rattle.statement_reader.specs.declared.BaseStatement.the-variants.{Share, Accept, Reject, RejectFor, VoteRange}

@@ -55,7 +55,7 @@ fn write_marked(out: &mut [u8], at: usize, mark: u8, locator: TransactionLocator
     ensures { λ _. ⌜ now (out .exit) ≡ sets (now (out .entry)) at (mark ∷ locatorBytes (asLocator locator)) ⌝ }
 {
     out[at] = mark;
-    types::write_locator(out, at + 1, locator);
+    reference_bytes::write_locator(out, at + 1, locator);
 }
 
 fn write_range(out: &mut [u8], at: usize, range: TransactionLocatorRange)
@@ -63,7 +63,7 @@ fn write_range(out: &mut [u8], at: usize, range: TransactionLocatorRange)
     ensures { λ _. ⌜ now (out .exit) ≡ sets (now (out .entry)) at (statementBytes (voteRange (asRange range))) ⌝ }
 {
     out[at] = 3;
-    types::write_reference(out, at + 1, range.block);
+    reference_bytes::write_reference(out, at + 1, range.block);
     base::write_u64(out, at + 49, range.offset_start_inclusive);
     base::write_u64(out, at + 57, range.offset_end_exclusive);
 }

@@ -24,7 +24,7 @@ pub fn reference_at(store: &[u8], at: usize) -> BlockReference
     requires { ⌜ isEntry (now store) at ≡ true ⌝ }
     ensures { λ r. ⌜ asReference r ≡ blockAt (now (store .entry)) at .reference ⌝ }
 {
-    types::read_reference(store, at + 8)
+    reference_bytes::read_reference(store, at + 8)
 }
 
 // Its author alone.

@@ -11,7 +11,7 @@ use Rattle.blocks.specs.Reference.{BlockReference}
 use Rattle.types.specs.Values.{beBytes, digestBytes}
 use Rattle.types.specs.declared.BlockDigest as digest
 use Rattle.types.proofs.Words.{Words}
-use Rattle.types.proofs.Written.{length-beBytes, next-word}
+use Rattle.reference_bytes.proofs.Written.{length-beBytes, next-word}
 use Rattle.stretches.specs.Bulk.{beNumber, digestWords, referenceWords}
 
 be-number : (v : ℕ) → v < 256 ^ 8 → beNumber (beBytes 8 v) ≡ v

@@ -4,7 +4,7 @@ use Prim.Native.Nat.{ℕ, _+_, _*_, _/_, _%_, _^_, _<_}
 use Rattle.base.specs.Le.{leBytes}
 use Rattle.base.proofs.Le.{leBytes-add, leBytes-mod}
 use Rattle.types.specs.Values.{beBytes}
-use Rattle.types.proofs.Words.{be-double}
+use Rattle.reference_bytes.proofs.Read.{be-double}
 
 -- the two halves turned and in each other's place
 pub turned-halves : (n v h l : ℕ) → l < 256 ^ n → beBytes n h ≡ leBytes n (v % 256 ^ n) → beBytes n l ≡ leBytes n (v / 256 ^ n)

@@ -1,4 +1,2 @@
-pub mod Fixed
 pub mod References
 pub mod Words
-pub mod Written

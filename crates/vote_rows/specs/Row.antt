@@ -8,7 +8,7 @@ use lib.ListN.{length, getD}
 use Rattle.base.specs.Lists.{isNone}
 use Rattle.base.specs.Le.{Bytes}
 use Rattle.blocks.specs.Reference.{BlockReference, TransactionLocator, TransactionLocatorRange, newRange}
-use Rattle.types.specs.Step.{referenceAt}
+use Rattle.reference_bytes.specs.Step.{referenceAt}
 use Rattle.finality.specs.NextFinal.{isAfter}
 
 -- the place of the voting or rejecting block in ascending reference order, the position of the reference in question, start and end

@@ -10,7 +10,7 @@ ghost use lib.ListN.{length};
 ghost use lib.Seq.{sets};
 ghost use Rattle.blocks.specs.Reference.{sameReference, locator, locatorBefore, newRange, covers};
 ghost use Rattle.types.specs.Values.{asReference, asLocator};
-ghost use Rattle.types.specs.Step.{referenceAt};
+ghost use Rattle.reference_bytes.specs.Step.{referenceAt};
 ghost use Rattle.finality.specs.NextFinal.{isAfter};
 ghost use Rattle.vote_starts.specs.Answers.{asMaybe};
 ghost use Rattle.stretches.specs.Stretches.{edgesOf, nearest};
@@ -43,7 +43,7 @@ pub fn stands_at(store: &[u8], at: usize, block: BlockReference) -> bool
     if store.len() - types::REFERENCE_BYTES < at {
         return false;
     }
-    block_votes::same_reference(types::read_reference(store, at), block)
+    block_votes::same_reference(reference_bytes::read_reference(store, at), block)
 }
 
 // ---- the reference at its position
@@ -56,7 +56,7 @@ fn is_reference(store: &[u8], at: usize, block: BlockReference) -> bool
     if base::read_u64(store, at + 8) != block.round.0 {
         return false;
     }
-    block_votes::same_reference(types::read_reference(store, at), block)
+    block_votes::same_reference(reference_bytes::read_reference(store, at), block)
 }
 
 // Whether a range of the block whose reference stands at a position covers a locator.
@@ -105,7 +105,7 @@ fn comes_after(store: &[u8], at: usize, offset: u64, given: TransactionLocator) 
     if given.block.round.0 < round {
         return true;
     }
-    let block = types::read_reference(store, at);
+    let block = reference_bytes::read_reference(store, at);
     types::locator_before(given, TransactionLocator { block, offset })
 }
 

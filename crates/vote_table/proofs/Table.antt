@@ -16,7 +16,7 @@ use Rattle.base.proofs.Index.{getD-sets-in}
 use Rattle.base.proofs.Members.{in-empty, in-cases}
 use Rattle.blocks.specs.Reference.{BlockReference, TransactionLocatorRange, newRange}
 use Rattle.blocks.specs.Block.{Block}
-use Rattle.types.specs.Step.{referenceAt}
+use Rattle.reference_bytes.specs.Step.{referenceAt}
 use Rattle.block_votes.specs.Walk.{blockAtPlace}
 use Rattle.block_spans.specs.Ranges.{rangesAt, rangesOf}
 use Rattle.block_spans.proofs.Rejecting.{ranges-end}

@@ -183,7 +183,7 @@ pub fn table_start(
         if vote_rows::is_after_best(store, at, offset, least) {
             continue;
         }
-        let block = types::read_reference(store, at);
+        let block = reference_bytes::read_reference(store, at);
         least = MaybeLocator::Locator(TransactionLocator { block, offset });
     }
     least

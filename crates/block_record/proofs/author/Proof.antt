@@ -1,7 +1,7 @@
 use mathlib.Core.Path.{sym, ap, _∙_}
 use native.Mathlib.Omega.{arith}
 use Rattle.blocks.specs.Reference.{BlockReference}
-use Rattle.types.specs.Step.{referenceAt}
+use Rattle.reference_bytes.specs.Step.{referenceAt}
 use Rattle.block_record.proofs.Shape.{shape-in}
 use Rattle.block_record.proofs.author.Statement.{statement}
 use Rattle.block_record.proofs.author.Tie as tie

@@ -9,7 +9,7 @@ use Rattle.next_final.specs.Answers.{asNextFinal}
 use Rattle.vote_starts.specs.Answers.{asMaybe}
 use Rattle.blocks.specs.Record.{locatorBytes}
 use Rattle.types.specs.Values.{asLocator}
-use Rattle.types.proofs.Written.{length-locatorBytes}
+use Rattle.reference_bytes.proofs.Written.{length-locatorBytes}
 use Rattle.words.proofs.Stores.{sets-complete}
 use native.Mathlib.Omega.{arith}
 use mathlib.Core.Path.{sym, ap, _∙_}

@@ -6,7 +6,7 @@ use Rattle.block_time.specs.Times.{askTime}
 use Rattle.block_time.specs.Answers.{asTimeAnswer}
 use Rattle.host_calls.specs.Calls.{encoded}
 use Rattle.host_locators.proofs.Locators.{before-most}
-use Rattle.types.specs.Step.{referenceAt}
+use Rattle.reference_bytes.specs.Step.{referenceAt}
 use Rattle.host_times.specs.Times.{TimeCall, foundIn}
 use Rattle.host_times.proofs.Asked.{time-most, time-malformed, time-unsized, time-asked}
 use borrow.Author.Needs.{needs}

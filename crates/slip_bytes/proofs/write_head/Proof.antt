@@ -2,7 +2,7 @@ use mathlib.Core.Path.{_∙_}
 use native.Mathlib.Omega.{arith}
 use lib.ListN.{length-set}
 use Rattle.types.specs.Values.{asLocator}
-use Rattle.types.proofs.Written.{length-locatorBytes}
+use Rattle.reference_bytes.proofs.Written.{length-locatorBytes}
 use Rattle.slip_bytes.proofs.Over.{head-written}
 use borrow.Author.Needs.{needs}
 use Rattle.slip_bytes.proofs.write_head.Statement.{statement}

@@ -5,7 +5,7 @@ use lib.ListN.{length, length-replicate}
 use Rattle.base.proofs.Le.{bytes-of}
 use Rattle.base.proofs.Lists.{zeros-at}
 use Rattle.types.specs.Values.{asLocator}
-use Rattle.types.proofs.Written.{length-locatorBytes}
+use Rattle.reference_bytes.proofs.Written.{length-locatorBytes}
 use Rattle.slips.specs.Writing.{Written}
 use Rattle.slip_distances.proofs.Reading.{fresh-tables}
 use Rattle.slip_table.specs.Table.{placeIn}

@@ -5,7 +5,7 @@ use mathlib.Core.List.{List}
 use lib.Seq.{sets}
 use Rattle.base.proofs.Le.{bytes-of}
 use Rattle.types.specs.Values.{asLocator}
-use Rattle.types.proofs.Written.{length-locatorBytes}
+use Rattle.reference_bytes.proofs.Written.{length-locatorBytes}
 use Rattle.slip_routes.specs.Reached.{Found}
 use Rattle.slip_certifiers.specs.Ready.{certifiersBytes}
 use Rattle.slip_bytes.proofs.Over.{voted-ready, listed-length, listed-written}

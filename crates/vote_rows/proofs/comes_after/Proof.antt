@@ -3,7 +3,7 @@ use native.Mathlib.Omega.{arith}
 use Rattle.blocks.specs.Reference.{BlockReference, locator, locatorBefore}
 use Rattle.blocks.proofs.References.{lower-round}
 use Rattle.types.specs.Values.{asReference, asLocator}
-use Rattle.types.specs.Step.{referenceAt}
+use Rattle.reference_bytes.specs.Step.{referenceAt}
 use Rattle.vote_rows.proofs.Rows.{higher-round}
 use borrow.Author.Needs.{needs}
 use Rattle.vote_rows.proofs.comes_after.Statement.{statement}

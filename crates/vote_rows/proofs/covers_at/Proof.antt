@@ -2,7 +2,7 @@ use mathlib.Core.Path.{sym, _∙_}
 use native.Mathlib.Omega.{arith}
 use Rattle.blocks.specs.Reference.{newRange, locator}
 use Rattle.types.specs.Values.{asLocator}
-use Rattle.types.specs.Step.{referenceAt}
+use Rattle.reference_bytes.specs.Step.{referenceAt}
 use Rattle.block_votes.proofs.Reading.{covers-early}
 use Rattle.vote_rows.proofs.Rows.{covers-late, covers-in}
 use borrow.Author.Needs.{needs}

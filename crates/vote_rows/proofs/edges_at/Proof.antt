@@ -3,7 +3,7 @@ use mathlib.Core.Path.{sym, ap, _∙_}
 use borrow.Author.Tests.{not-true, not-false}
 use Rattle.blocks.specs.Reference.{newRange}
 use Rattle.types.specs.Values.{asReference}
-use Rattle.types.specs.Step.{referenceAt}
+use Rattle.reference_bytes.specs.Step.{referenceAt}
 use Rattle.stretches.specs.Stretches.{nearer}
 use Rattle.stretches.proofs.Nearest.{other-block, own-block}
 use borrow.Author.Needs.{needs}

@@ -1,7 +1,7 @@
 use mathlib.Core.Path.{sym, ap, _∙_}
 use Rattle.blocks.specs.Reference.{BlockReference, sameReference}
 use Rattle.types.specs.Values.{asReference}
-use Rattle.types.specs.Step.{referenceAt}
+use Rattle.reference_bytes.specs.Step.{referenceAt}
 use Rattle.vote_rows.proofs.Rows.{other-round}
 use borrow.Author.Needs.{needs}
 use Rattle.vote_rows.proofs.is_reference.Statement.{statement}

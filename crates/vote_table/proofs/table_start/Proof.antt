@@ -5,7 +5,7 @@ use Rattle.vote_starts.specs.Walk.{startOf, lesserOf}
 use Rattle.vote_starts.specs.Answers.{asMaybe}
 use Rattle.finality.specs.NextFinal.{isAfter, leastLocator}
 use Rattle.types.specs.Values.{asLocator}
-use Rattle.types.specs.Step.{referenceAt}
+use Rattle.reference_bytes.specs.Step.{referenceAt}
 use Rattle.blocks.specs.Reference.{BlockReference, TransactionLocatorRange, locator, newRange}
 use Rattle.base.specs.Lists.{keep}
 use native.Mathlib.Omega.{arith}

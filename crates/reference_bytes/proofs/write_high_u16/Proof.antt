@@ -1,9 +1,9 @@
-use Rattle.types.proofs.Written.{high-two}
+use Rattle.reference_bytes.proofs.Written.{high-two}
 use lib.ListN.{length-set}
 use native.Mathlib.Omega.{arith}
 use borrow.Author.Needs.{needs}
-use Rattle.types.proofs.write_high_u16.Statement.{statement}
-use Rattle.types.proofs.write_high_u16.Tie as tie
+use Rattle.reference_bytes.proofs.write_high_u16.Statement.{statement}
+use Rattle.reference_bytes.proofs.write_high_u16.Tie as tie
 
 cast-s : tie.Need-cast-s
 cast-s c = search needs

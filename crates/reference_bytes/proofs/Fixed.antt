@@ -9,7 +9,7 @@ use Rattle.base.specs.Le.{leAt}
 use Rattle.base.proofs.Fixed.{Fixed, fixed-items, fixed-bind, fixed-map, fixed-number}
 use Rattle.blocks.specs.Reference.{locator}
 use Rattle.blocks.specs.Record.{readReference, readLocator}
-use Rattle.types.specs.Step.{referenceAt, locatorAt}
+use Rattle.reference_bytes.specs.Step.{referenceAt, locatorAt}
 
 unfoldable pub fixed-reference : Fixed 48 readReference
 unfolding readReference

@@ -1,8 +1,8 @@
-use Rattle.types.proofs.Written.{high-double}
+use Rattle.reference_bytes.proofs.Written.{high-double}
 use mathlib.Core.Path.{_∙_}
 use borrow.Author.Needs.{needs}
-use Rattle.types.proofs.write_high_u64.Statement.{statement}
-use Rattle.types.proofs.write_high_u64.Tie as tie
+use Rattle.reference_bytes.proofs.write_high_u64.Statement.{statement}
+use Rattle.reference_bytes.proofs.write_high_u64.Tie as tie
 
 cast-write-high-u32 : tie.Need-cast-write-high-u32
 cast-write-high-u32 c = search needs

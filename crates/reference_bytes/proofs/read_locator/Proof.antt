@@ -1,8 +1,8 @@
 use Rattle.types.specs.Values.{asLocator}
-use Rattle.types.specs.Step.{locatorAt}
+use Rattle.reference_bytes.specs.Step.{locatorAt}
 use borrow.Author.Needs.{needs}
-use Rattle.types.proofs.read_locator.Statement.{statement}
-use Rattle.types.proofs.read_locator.Tie as tie
+use Rattle.reference_bytes.proofs.read_locator.Statement.{statement}
+use Rattle.reference_bytes.proofs.read_locator.Tie as tie
 
 read-reference-requires : tie.Need-read-reference-requires
 read-reference-requires c κs = search needs

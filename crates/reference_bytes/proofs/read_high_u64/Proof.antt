@@ -1,8 +1,8 @@
 use native.Mathlib.Omega.{arith}
-use Rattle.types.proofs.Words.{read-double}
+use Rattle.reference_bytes.proofs.Read.{read-double}
 use borrow.Author.Needs.{needs}
-use Rattle.types.proofs.read_high_u64.Statement.{statement}
-use Rattle.types.proofs.read_high_u64.Tie as tie
+use Rattle.reference_bytes.proofs.read_high_u64.Statement.{statement}
+use Rattle.reference_bytes.proofs.read_high_u64.Tie as tie
 
 read-high-u32-requires : tie.Need-read-high-u32-requires
 read-high-u32-requires c κs = search needs

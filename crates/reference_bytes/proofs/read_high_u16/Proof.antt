@@ -1,10 +1,10 @@
 use native.Mathlib.Omega.{arith}
 use Prim.Native.Nat.{_+_}
 use lib.ListN.{getD}
-use Rattle.types.proofs.Words.{read-single, read-double}
+use Rattle.reference_bytes.proofs.Read.{read-single, read-double}
 use borrow.Author.Needs.{needs}
-use Rattle.types.proofs.read_high_u16.Statement.{statement}
-use Rattle.types.proofs.read_high_u16.Tie as tie
+use Rattle.reference_bytes.proofs.read_high_u16.Statement.{statement}
+use Rattle.reference_bytes.proofs.read_high_u16.Tie as tie
 
 shared-slice-read-result : tie.Need-shared-slice-read-result
 shared-slice-read-result c = search needs

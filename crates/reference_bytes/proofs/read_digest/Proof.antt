@@ -1,7 +1,7 @@
-use Rattle.types.proofs.Words.{read-four}
+use Rattle.reference_bytes.proofs.Read.{read-four}
 use borrow.Author.Needs.{needs}
-use Rattle.types.proofs.read_digest.Statement.{statement}
-use Rattle.types.proofs.read_digest.Tie as tie
+use Rattle.reference_bytes.proofs.read_digest.Statement.{statement}
+use Rattle.reference_bytes.proofs.read_digest.Tie as tie
 
 read-high-u64-requires : tie.Need-read-high-u64-requires
 read-high-u64-requires c κs = search needs

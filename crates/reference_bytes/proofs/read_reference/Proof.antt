@@ -1,8 +1,8 @@
 use Rattle.types.specs.Values.{asReference}
-use Rattle.types.specs.Step.{referenceAt}
+use Rattle.reference_bytes.specs.Step.{referenceAt}
 use borrow.Author.Needs.{needs}
-use Rattle.types.proofs.read_reference.Statement.{statement}
-use Rattle.types.proofs.read_reference.Tie as tie
+use Rattle.reference_bytes.proofs.read_reference.Statement.{statement}
+use Rattle.reference_bytes.proofs.read_reference.Tie as tie
 
 read-u64-requires : tie.Need-read-u64-requires
 read-u64-requires c κs = search needs

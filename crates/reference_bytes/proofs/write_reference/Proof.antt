@@ -1,9 +1,9 @@
 use mathlib.Core.Path.{_∙_}
 use Rattle.types.specs.Values.{asReference}
-use Rattle.types.proofs.Written.{reference-written}
+use Rattle.reference_bytes.proofs.Written.{reference-written}
 use borrow.Author.Needs.{needs}
-use Rattle.types.proofs.write_reference.Statement.{statement}
-use Rattle.types.proofs.write_reference.Tie as tie
+use Rattle.reference_bytes.proofs.write_reference.Statement.{statement}
+use Rattle.reference_bytes.proofs.write_reference.Tie as tie
 
 write-u64-requires : tie.Need-write-u64-requires
 write-u64-requires c κs = search needs

@@ -1,8 +1,8 @@
-use Rattle.types.proofs.Written.{high-four}
+use Rattle.reference_bytes.proofs.Written.{high-four}
 use mathlib.Core.Path.{_∙_}
 use borrow.Author.Needs.{needs}
-use Rattle.types.proofs.write_digest.Statement.{statement}
-use Rattle.types.proofs.write_digest.Tie as tie
+use Rattle.reference_bytes.proofs.write_digest.Statement.{statement}
+use Rattle.reference_bytes.proofs.write_digest.Tie as tie
 
 write-high-u64-requires : tie.Need-write-high-u64-requires
 write-high-u64-requires c κs = search needs

@@ -1,8 +1,8 @@
 use mathlib.Core.Path.{_∙_}
-use Rattle.types.proofs.Written.{locator-written}
+use Rattle.reference_bytes.proofs.Written.{locator-written}
 use borrow.Author.Needs.{needs}
-use Rattle.types.proofs.write_locator.Statement.{statement}
-use Rattle.types.proofs.write_locator.Tie as tie
+use Rattle.reference_bytes.proofs.write_locator.Statement.{statement}
+use Rattle.reference_bytes.proofs.write_locator.Tie as tie
 
 write-reference-requires : tie.Need-write-reference-requires
 write-reference-requires c κs = search needs

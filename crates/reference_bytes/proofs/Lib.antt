@@ -1,0 +1,3 @@
+pub mod Fixed
+pub mod Read
+pub mod Written
