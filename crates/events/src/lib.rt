@@ -1,6 +1,6 @@
 // The events of a vote, written one after the other. Follows committee.rs.
 use committee::Stake;
-use table_words::Found;
+use table_search::Found;
 use types::BlockReference;
 use types::Ordering;
 ghost use mathlib.Core.Path.{_≡_};
@@ -17,7 +17,7 @@ ghost use Rattle.pending_items.specs.Table.{itemsOf, HoldsItems, room};
 ghost use Rattle.events.specs.Step.{eventsBetween, StatedAt, SameItem};
 ghost use Rattle.missed_events.specs.Kinds.{withNew};
 ghost use Rattle.pending_items.specs.Items.{itemHolds};
-ghost use Rattle.table_words.specs.Answers.{FoundBy};
+ghost use Rattle.table_search.specs.Answers.{FoundBy};
 
 // Where the voted block stands: the record being fed counts as stored, after all others. Zero: the block is not stored.
 pub fn voted_position(store: &[u8], rec: &[u8], block: BlockReference) -> u64
@@ -85,7 +85,7 @@ pub fn announce(
     let mut k = n;
     let mut o = start;
     while o < end {
-        let stretch = table_words::stretch_at(table, p, o, end);
+        let stretch = table_search::stretch_at(table, p, o, end);
         let found = stretch.found;
         k = stretch_events(
             total,

@@ -21,12 +21,12 @@ use Rattle.store_layout.specs.Entry.{readable, chained, laidOut}
 use Rattle.store_layout.proofs.Check.{order-checked}
 use Rattle.pending_items.specs.Items.{Item, noItem, itemHolds, itemAt}
 use Rattle.pending_items.specs.Table.{HoldsItems, itemsOf, tableInOrder}
-use Rattle.table_words.specs.Answers.{FoundBy, atIndex, nowhere, foundItem}
-use Rattle.table_words.specs.declared.Found.{Found}
-use Rattle.table_words.specs.declared.Found.the-variants.{At, Nothing}
+use Rattle.table_search.specs.Answers.{FoundBy, atIndex, nowhere, foundItem}
+use Rattle.table_search.specs.declared.Found.{Found}
+use Rattle.table_search.specs.declared.Found.the-variants.{At, Nothing}
 use Rattle.pending_items.proofs.Items.{Ordered}
-use Rattle.table_words.proofs.Halves.{holds-ordered}
-use Rattle.table_words.proofs.Finds.{found-item}
+use Rattle.table_words.proofs.Slots.{holds-ordered}
+use Rattle.table_search.proofs.Finds.{found-item}
 use Rattle.table_order.proofs.Forming.{order-parts}
 use Rattle.range_votes.proofs.Voting.{formed}
 use Rattle.feeds.specs.Pending.{pendingChecks, standingOf, standingAt, pending}

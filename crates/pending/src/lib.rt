@@ -2,7 +2,7 @@
 use committee::NewCommittee;
 use committee::Stake;
 use statement_cursor::StatementCursor;
-use table_words::Found;
+use table_search::Found;
 use table_words::Item;
 use types::TransactionLocator;
 ghost use mathlib.Core.Path.{_≡_};
@@ -238,7 +238,7 @@ fn standing(store: &[u8], table: &[u64], locator: TransactionLocator) -> Pending
 {
     let block = locator.block;
     let p = block_store::lookup(store, block) as u64;
-    let found = table_words::holding(table, p, locator.offset);
+    let found = table_search::holding(table, p, locator.offset);
     let Found::At(i) = found else {
         return PendingAnswer::Refused(42);
     };

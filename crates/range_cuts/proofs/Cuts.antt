@@ -10,16 +10,15 @@ use lib.Seq.{length-take-le, getD-take, getD-drop, getD-set-same, sets, length-s
 use borrow.Author.Tests.{lt-ltb, le-ltb}
 use Rattle.base.proofs.Tests.{fails}
 use Rattle.base.proofs.Index.{getD-right}
-use Rattle.table_words.specs.declared.Found.{Found}
-use Rattle.table_words.specs.declared.Found.the-variants.{At, Nothing}
+use Rattle.table_search.specs.declared.Found.{Found}
+use Rattle.table_search.specs.declared.Found.the-variants.{At, Nothing}
 use Rattle.pending_items.specs.Items.{Item, noItem, itemHolds, fallsInside, frontOf, backOf, cutItem, cutAt, bothCuts}
 use Rattle.pending_items.specs.Table.{itemWords, tableOf, itemsOf, HoldsItems}
-use Rattle.table_words.specs.Answers.{FoundBy, atIndex, nowhere}
+use Rattle.table_search.specs.Answers.{FoundBy, atIndex, nowhere}
 use Rattle.table_words.specs.Step.{slot, MovedUp, inTwo}
 use Rattle.pending_items.proofs.Items.{Ordered, Cut, two, complete, cut}
-use Rattle.table_words.proofs.Slots.{put-same, put-other, counted-slot, Holding, holding-table}
-use Rattle.table_words.proofs.Halves.{holds-ordered}
-use Rattle.table_words.proofs.Finds.{holds-from, inside-facts, inside-from, one-holds}
+use Rattle.table_words.proofs.Slots.{put-same, put-other, counted-slot, Holding, holding-table, holds-ordered}
+use Rattle.table_search.proofs.Finds.{holds-from, inside-facts, inside-from, one-holds}
 
 -- ---- one item in two parts
 

@@ -1,5 +1,5 @@
 // Cuts in the pending table: an item that an offset falls inside of becomes two. Follows range_map.rs.
-use table_words::Found;
+use table_search::Found;
 use table_words::Item;
 ghost use mathlib.Core.Path.{_≡_};
 ghost use Prim.Native.Nat.{_+_, _*_, _≤_, _<_};
@@ -53,7 +53,7 @@ pub fn cut_at(t: &mut [u64], p: u64, o: u64)
     requires { ⌜ HoldsItems (now t) × (6 * length (cutAt p o (itemsOf (now t))) < length (now t)) ⌝ }
     ensures { λ _. ⌜ now (t .exit) ≡ tableOf (length (now (t .entry))) (cutAt p o (itemsOf (now (t .entry)))) ⌝ }
 {
-    let Found::At(i) = table_words::inside(t, p, o) else {
+    let Found::At(i) = table_search::inside(t, p, o) else {
         return;
     };
     split_item(t, i, o);
@@ -64,7 +64,7 @@ fn cuts_at(t: &[u64], p: u64, o: u64) -> usize
     requires { ⌜ HoldsItems (now t) ⌝ }
     ensures { λ r. ⌜ (length (cutAt p o (itemsOf (now (t .entry)))) ≡ length (itemsOf (now (t .entry))) + r) × (r ≤ 1) ⌝ }
 {
-    let Found::At(_) = table_words::inside(t, p, o) else {
+    let Found::At(_) = table_search::inside(t, p, o) else {
         return 0;
     };
     1

@@ -23,8 +23,7 @@ use Rattle.table_words.specs.Answers.{asItem}
 use Rattle.table_words.specs.Step.{slot, Countable, votedIn}
 use Rattle.pending_items.proofs.Items.{Ordered, Cut, two, complete, cut, every-cut, ordered-cutAt}
 use Rattle.pending_items.proofs.Table.{itemsOf-tableOf, length-tableOf}
-use Rattle.table_words.proofs.Slots.{holds-holding}
-use Rattle.table_words.proofs.Halves.{Full, holds-ordered, holds-full}
+use Rattle.table_words.proofs.Slots.{holds-holding, Full, holds-ordered, holds-full}
 use Rattle.table_words.proofs.Moves.{Mapped}
 
 -- ---- a table written from items

@@ -1,4 +1,2 @@
 pub mod Slots
 pub mod Moves
-pub mod Halves
-pub mod Finds

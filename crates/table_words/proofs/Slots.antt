@@ -7,13 +7,16 @@ use native.Mathlib.Omega.{arith}
 use native.Mathlib.Decide.{decLt}
 use lib.ListN.{length, getD, set, replicate, length-append}
 use lib.Seq.{ext-getD, getD-set-other, sets}
+use borrow.Author.Tests.{ltb-true}
+use Rattle.base.proofs.Lists.{Every, every, all-every, pairwise-pairs}
 use Rattle.base.proofs.Le.{getD-sets-below, getD-sets-above}
 use Rattle.base.proofs.Index.{getD-sets-in}
 use Rattle.table_words.specs.declared.Item as declared
-use Rattle.pending_items.specs.Items.{Item, noItem}
+use Rattle.pending_items.specs.Items.{Item, noItem, itemBefore, itemFull}
 use Rattle.pending_items.specs.Table.{itemWords, tableOf, itemsOf, Laid, HoldsItems, itemFrom}
 use Rattle.table_words.specs.Answers.{asItem}
 use Rattle.table_words.specs.Step.{slot}
+use Rattle.pending_items.proofs.Items.{Ordered}
 use Rattle.pending_items.proofs.Table.{length-words, length-tableOf}
 
 -- ---- six words
@@ -127,12 +130,24 @@ unfolding tableOf
 holding-table t xs h =
     slots-ext t (tableOf (length t) xs) (sym (length-tableOf (length t) xs (omega (arith, h .fits)))) (h .count) (λ i. h .items i ∙ sym (table-slot (length t) xs i))
 
+-- none of the items is empty
+abbrev pub Full : List Item → Type 0
+Full xs = Every (λ x. x .start < x .end) xs
+
 -- what a table holds
 pub laid-holding : (t : List ℕ) → Laid t → Holding t (itemsOf t)
 laid-holding t e = table-holding t (itemsOf t) e
 
 pub holds-holding : (t : List ℕ) → HoldsItems t → Holding t (itemsOf t)
 holds-holding t h = laid-holding t (h .laid)
+
+-- and they ascend, none of them empty
+pub holds-ordered : (t : List ℕ) → HoldsItems t → Ordered (itemsOf t)
+holds-ordered t h = pairwise-pairs itemBefore (itemsOf t) (h .ordered)
+
+pub holds-full : (t : List ℕ) → HoldsItems t → Full (itemsOf t)
+unfolding itemFull
+holds-full t h = every (λ x e. ltb-true (x .start) (x .end) e) (itemsOf t) (all-every itemFull (itemsOf t) (h .full))
 
 -- its items lie inside it
 pub item-fits : (t : List ℕ) (i : ℕ) → Laid t → i < length (itemsOf t) → 6 * i + 7 ≤ length t

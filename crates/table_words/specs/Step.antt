@@ -1,10 +1,10 @@
--- Machinery for the contracts of inner functions: what stands at an index of the table, what a loop over items leaves, what a search finds.
+-- Machinery for the contracts of inner functions: what stands at an index of the table, what a loop over items leaves.
 -- Assumes nothing: these are definitions.
 use Prim.Native.Nat.{ℕ, _+_, _-_, _*_, _≤_, _<_}
 use mathlib.Core.Path.{_≡_}
-use mathlib.Core.Bool.{Bool, true, false, _&&_, _||_}
+use mathlib.Core.Bool.{Bool, _&&_, _||_}
 use mathlib.Core.List.{List, _∷_, _++_}
-use lib.Dec.{ltb, leb, eqb}
+use lib.Dec.{eqb}
 use lib.ListN.{length, getD, take, drop}
 use Rattle.base.specs.Lists.{pick}
 use Rattle.committee.specs.Committee.{AuthorityIndex, Stake}
@@ -31,16 +31,6 @@ pub record Cleared (t : List ℕ) (i n : ℕ) (u : List ℕ) : Type 0 where
   pub below : (j : ℕ) → j < i → slot u j ≡ slot t j
   pub zero : (j : ℕ) → i ≤ j → j < n → slot u j ≡ noItem
   pub above : (j : ℕ) → n ≤ j → slot u j ≡ slot t j
-
--- the item lies wholly before the offset o of the entry at p
-unfoldable pub endsBefore : ℕ → ℕ → Item → Bool
-endsBefore p o x = ltb (x .position) p || (eqb (x .position) p && leb (x .end) o)
-
--- where the items that lie wholly before the offset o of the entry at p end
-pub record Parted (p o : ℕ) (xs : List Item) (i : ℕ) : Type 0 where
-  pub most : i ≤ length xs
-  pub below : (j : ℕ) → j < i → endsBefore p o (getD xs j noItem) ≡ true
-  pub above : (j : ℕ) → i ≤ j → j < length xs → endsBefore p o (getD xs j noItem) ≡ false
 
 -- the item at index i in two parts, at o
 unfoldable pub inTwo : List Item → ℕ → ℕ → List Item

@@ -19,10 +19,10 @@ use Rattle.store_layout.specs.Layout.{entries, positionOf, lookup}
 use Rattle.store_layout.specs.Store.{recordsOf}
 use Rattle.pending_items.specs.Items.{Item, noItem, itemHolds, itemAt}
 use Rattle.pending_items.specs.Table.{HoldsItems, itemsOf}
-use Rattle.table_words.specs.Answers.{FoundBy}
-use Rattle.table_words.specs.declared.Found.{Found}
-use Rattle.table_words.specs.declared.Found.the-variants.{At, Nothing}
-use Rattle.table_words.proofs.Halves.{holds-ordered}
+use Rattle.table_search.specs.Answers.{FoundBy}
+use Rattle.table_search.specs.declared.Found.{Found}
+use Rattle.table_search.specs.declared.Found.the-variants.{At, Nothing}
+use Rattle.table_words.proofs.Slots.{holds-ordered}
 use Rattle.feeds.specs.Pending.{pendingChecks, standingOf, standingAt, pending}
 use Rattle.pending.proofs.Lending.{lying, at-none, at-some}
 use Rattle.whom_to_ring.specs.WhomToRing.{ringFor, ringAt, whomToRing, Claims}

@@ -1,7 +1,7 @@
 // Whom to ring for a pending locator: the voters are those of its item in the table.
 use authority_set::AuthoritySet;
 use ring::RingAnswer;
-use table_words::Found;
+use table_search::Found;
 use types::TransactionLocator;
 ghost use mathlib.Core.Path.{_≡_};
 ghost use mathlib.Core.Bool.{true};
@@ -24,7 +24,7 @@ pub fn ring_at(
 {
     let block = locator.block;
     let p = block_store::lookup(store, block) as u64;
-    let found = table_words::holding(table, p, locator.offset);
+    let found = table_search::holding(table, p, locator.offset);
     let Found::At(i) = found else {
         return RingAnswer::Refused(42);
     };

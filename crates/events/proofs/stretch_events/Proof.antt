@@ -2,7 +2,7 @@ use mathlib.Core.Path.{sym, ap, _∙_}
 use mathlib.Core.Option.{some}
 use borrow.Author.Tests.{not-true, not-false}
 use Rattle.table_words.specs.Answers.{asItem}
-use Rattle.table_words.proofs.Halves.{holds-ordered}
+use Rattle.table_words.proofs.Slots.{holds-ordered}
 use Rattle.pending.proofs.Lending.{index-found, at-none, at-some}
 use Rattle.events.proofs.Announced.{between-missed, between-processed, between-silent, stated-none, stated-by}
 use borrow.Author.Needs.{needs}

@@ -4,7 +4,7 @@ use borrow.Author.Needs.{needs}
 use Rattle.pending_items.specs.Items.{noItem}
 use Rattle.pending_items.specs.Table.{itemsOf}
 use Rattle.table_words.specs.Answers.{asItem}
-use Rattle.table_words.proofs.Halves.{holds-full}
+use Rattle.table_words.proofs.Slots.{holds-full}
 use Rattle.base.proofs.Places.{every-place}
 use mathlib.Core.Path.{ap}
 use lib.ListN.{length}

@@ -8,7 +8,7 @@ use Rattle.base.proofs.Places.{every-place}
 use Rattle.pending_items.specs.Items.{noItem}
 use Rattle.pending_items.specs.Table.{itemsOf}
 use Rattle.table_words.specs.Answers.{asItem}
-use Rattle.table_words.proofs.Halves.{holds-ordered, holds-full}
+use Rattle.table_words.proofs.Slots.{holds-ordered, holds-full}
 use Rattle.pending.proofs.Checked.{Checking, checking-start, checking-on, checking-no, checking-all}
 use Rattle.pending.proofs.items_stored.Statement.{statement}
 use Rattle.pending.proofs.items_stored.Tie as tie

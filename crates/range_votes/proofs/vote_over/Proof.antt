@@ -4,7 +4,7 @@ use borrow.Author.Needs.{needs}
 use Rattle.base.proofs.Tests.{not-both}
 use Rattle.committee.proofs.Answers.{known-sound, unknown-sound}
 use Rattle.range_votes.proofs.Voting.{formed, few, empty-vote, vote-range, first-room, first-cut, second-room, second-cut, cut-countable, all-voted}
-use Rattle.table_words.proofs.Halves.{holds-full}
+use Rattle.table_words.proofs.Slots.{holds-full}
 use Rattle.range_votes.proofs.vote_over.Statement.{statement}
 use Rattle.range_votes.proofs.vote_over.Tie as tie
 

@@ -1,10 +1,10 @@
 use mathlib.Core.Path.{_≡_}
 use native.Mathlib.Omega.{arith}
 use borrow.Author.Tests.{lt-ltb, le-ltb, eq-eqb, ne-eqb}
 use Rattle.table_words.specs.Answers.{asItem}
-use Rattle.table_words.specs.Step.{endsBefore}
-use Rattle.table_words.proofs.ends_before.Statement.{statement}
-use Rattle.table_words.proofs.ends_before.Tie as tie
+use Rattle.table_search.specs.Step.{endsBefore}
+use Rattle.table_search.proofs.ends_before.Statement.{statement}
+use Rattle.table_search.proofs.ends_before.Tie as tie
 
 returns : tie.Need-returns
 unfolding endsBefore asItem

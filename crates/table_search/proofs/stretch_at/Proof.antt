@@ -6,11 +6,10 @@ use lib.ListN.{length, getD}
 use borrow.Author.Needs.{needs}
 use Rattle.pending_items.specs.Items.{noItem}
 use Rattle.pending_items.specs.Table.{itemsOf}
-use Rattle.table_words.proofs.Slots.{fields}
-use Rattle.table_words.proofs.Halves.{holds-ordered, holds-full}
-use Rattle.table_words.proofs.Finds.{past, gap-constant, held-constant}
-use Rattle.table_words.proofs.stretch_at.Statement.{statement}
-use Rattle.table_words.proofs.stretch_at.Tie as tie
+use Rattle.table_words.proofs.Slots.{fields, holds-ordered, holds-full}
+use Rattle.table_search.proofs.Finds.{past, gap-constant, held-constant}
+use Rattle.table_search.proofs.stretch_at.Statement.{statement}
+use Rattle.table_search.proofs.stretch_at.Tie as tie
 
 search-requires : tie.Need-search-requires
 search-requires c κs = search needs

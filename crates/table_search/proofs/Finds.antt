@@ -13,13 +13,14 @@ use Rattle.base.proofs.Tests.{and-left, and-right, fails}
 use Rattle.base.proofs.Places.{every-place, pairs-places}
 use Rattle.base.proofs.Index.{find-at, find-no}
 use Rattle.blocks.proofs.Ranges.{within-yes}
-use Rattle.table_words.specs.declared.Found.{Found}
-use Rattle.table_words.specs.declared.Found.the-variants.{At, Nothing}
+use Rattle.table_search.specs.declared.Found.{Found}
+use Rattle.table_search.specs.declared.Found.the-variants.{At, Nothing}
 use Rattle.pending_items.specs.Items.{Item, noItem, itemHolds, itemAt, fallsInside}
-use Rattle.table_words.specs.Answers.{FoundBy, atIndex, nowhere, foundItem, Constant}
-use Rattle.table_words.specs.Step.{Parted}
+use Rattle.table_search.specs.Answers.{FoundBy, atIndex, nowhere, foundItem, Constant}
+use Rattle.table_search.specs.Step.{Parted}
 use Rattle.pending_items.proofs.Items.{Ordered, before-facts, holds-facts}
-use Rattle.table_words.proofs.Halves.{Full, ends-facts, ahead-facts}
+use Rattle.table_words.proofs.Slots.{Full}
+use Rattle.table_search.proofs.Halves.{ends-facts, ahead-facts}
 
 pub holds-from : (p o : ℕ) (x : Item) → x .position ≡ p → x .start ≤ o → o < x .end → itemHolds p o x ≡ true
 unfolding itemHolds

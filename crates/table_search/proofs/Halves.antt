@@ -9,23 +9,12 @@ use lib.Dec.{ltb, leb, eqb}
 use lib.ListN.{length, getD}
 use borrow.Author.Tests.{lt-ltb, le-ltb, le-leb, ltb-true, ltb-false, leb-true, leb-false, eqb-true, eqb-false, eq-eqb}
 use Rattle.base.proofs.Tests.{and-left, and-right, not-both, fails}
-use Rattle.base.proofs.Lists.{Every, every, all-every, pairwise-pairs}
 use Rattle.base.proofs.Narrowed.{Narrowed, narrowed-up, narrowed-down}
 use Rattle.base.proofs.Places.{every-place, pairs-places}
-use Rattle.pending_items.specs.Items.{Item, noItem, itemBefore, itemFull}
-use Rattle.pending_items.specs.Table.{itemsOf, HoldsItems}
-use Rattle.table_words.specs.Step.{endsBefore, Parted}
+use Rattle.pending_items.specs.Items.{Item, noItem, itemBefore}
+use Rattle.table_search.specs.Step.{endsBefore, Parted}
 use Rattle.pending_items.proofs.Items.{Ordered, before-facts}
-
-abbrev pub Full : List Item → Type 0
-Full xs = Every (λ x. x .start < x .end) xs
-
-pub holds-ordered : (t : List ℕ) → HoldsItems t → Ordered (itemsOf t)
-holds-ordered t h = pairwise-pairs itemBefore (itemsOf t) (h .ordered)
-
-pub holds-full : (t : List ℕ) → HoldsItems t → Full (itemsOf t)
-unfolding itemFull
-holds-full t h = every (λ x e. ltb-true (x .start) (x .end) e) (itemsOf t) (all-every itemFull (itemsOf t) (h .full))
+use Rattle.table_words.proofs.Slots.{Full}
 
 -- ---- wholly before an offset
 

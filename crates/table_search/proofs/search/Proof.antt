@@ -4,9 +4,10 @@ use native.Mathlib.Omega.{arith}
 use borrow.Author.Needs.{needs}
 use Rattle.base.proofs.Narrowed.{narrowed-start}
 use Rattle.pending_items.specs.Table.{itemsOf}
-use Rattle.table_words.proofs.Halves.{Halved, halved-up, halved-down, halved-end, holds-ordered, holds-full}
-use Rattle.table_words.proofs.search.Statement.{statement}
-use Rattle.table_words.proofs.search.Tie as tie
+use Rattle.table_words.proofs.Slots.{holds-ordered, holds-full}
+use Rattle.table_search.proofs.Halves.{Halved, halved-up, halved-down, halved-end}
+use Rattle.table_search.proofs.search.Statement.{statement}
+use Rattle.table_search.proofs.search.Tie as tie
 
 abbrev Inv-loop : tie.InvT-loop
 Inv-loop t p o low₀ high₀ low high = Halved p o (itemsOf t) low high

@@ -2,11 +2,10 @@ use mathlib.Core.Path.{sym, _∙_}
 use mathlib.Core.Logic.{inl, inr}
 use native.Mathlib.Omega.{arith}
 use borrow.Author.Needs.{needs}
-use Rattle.table_words.proofs.Slots.{fields}
-use Rattle.table_words.proofs.Halves.{holds-ordered, holds-full}
-use Rattle.table_words.proofs.Finds.{not-inside, inside-here}
-use Rattle.table_words.proofs.inside.Statement.{statement}
-use Rattle.table_words.proofs.inside.Tie as tie
+use Rattle.table_words.proofs.Slots.{fields, holds-ordered, holds-full}
+use Rattle.table_search.proofs.Finds.{not-inside, inside-here}
+use Rattle.table_search.proofs.inside.Statement.{statement}
+use Rattle.table_search.proofs.inside.Tie as tie
 
 search-requires : tie.Need-search-requires
 search-requires c κs = search needs
