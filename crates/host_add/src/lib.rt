@@ -14,6 +14,7 @@ ghost use Rattle.committee.specs.Committee.{broken};
 ghost use Rattle.vote_answer.specs.Answers.{asAddAnswer};
 ghost use Rattle.stake_aggregator.specs.Answers.{asAggregator};
 ghost use Rattle.host_calls.specs.Calls.{encoded};
+ghost use Rattle.host_add.specs.Claims.{Claims};
 ghost use Rattle.host_add.specs.Add.{aggregatorOf, aggregatorBytes, numbered, addOf, addCall};
 
 fn read_aggregator(bytes: &[u8]) -> StakeAggregator
@@ -75,3 +76,8 @@ pub fn add(stakes: &[u8], aggregator: &mut [u8], voter: u64) -> u64
         AddAnswer::Refused(number) => host_calls::REFUSED + number,
     }
 }
+
+// A refused vote keeps every byte.
+pub fn claims()
+    ensures { λ _. ⌜ Claims ⌝ }
+{}
