@@ -5,8 +5,8 @@ use mathlib.Core.List.{List, _∷_}
 use mathlib.Core.Option.{Option, none, some}
 use Prim.Native.Nat.{ℕ, zero, suc, _≤_, _/_}
 use native.Mathlib.Omega.{arith}
+use lib.Dec.{eqb}
 use lib.ListN.{length}
-use borrow.Author.Tests.{eq-eqb, ne-eqb}
 use Rattle.base.specs.Lists.{pick, allOf}
 use Rattle.base.specs.Checks.{refusal, passes, Answer, refused, answered, checked}
 use Rattle.committee.specs.Committee.{Committee}
@@ -21,7 +21,8 @@ use Rattle.stretches.specs.Bulk.{Given, givenAfter, listStretches}
 use Rattle.stretch_words.specs.declared.StretchesAnswer.{StretchesAnswer}
 use Rattle.stretch_words.specs.declared.StretchesAnswer.the-variants.{Last, More, Refused}
 use Rattle.host_locators.specs.Locators.{refusalBefore}
-use Rattle.host_finals.specs.Stretches.{stretchesNumber, stretchesIn, askedStretches, countsFit}
+use Rattle.host_finals.specs.Stretches.{stretchesIn, askedStretches}
+use Rattle.final_answers.specs.Answers.{stretchesNumber, countsFit}
 use Rattle.host_calls.proofs.Numbers.{checked-most}
 
 -- no more stretches than asked for
@@ -52,7 +53,7 @@ pub counts-fit : (c : Committee) (s ws : List ℕ) (k : Listing) (after : Option
 unfolding asStretches
 counts-fit c s ws k after (Last n) h e = omega (arith, given-few c s ws k after _ (sym e))
 counts-fit c s ws k after (More n) h e = omega (arith, given-few c s ws k after _ (sym e))
-counts-fit c s ws k after (Refused n) h e = few-numbers n (sym e)
+counts-fit c s ws k after (Refused n) h e = omega (arith, few-numbers n (sym e))
   where
     few-numbers : (n : ℕ) → listStretches c s k ws after .answer ≡ refused n → n ≤ 10
     few-numbers n e = unfold listStretches nextFinalChecks allOf in checked-most 10 (nextFinalChecks c s) _ n refl e
@@ -69,11 +70,11 @@ module _ (c : Committee) (s : List ℕ) (k : Listing) (o : Option (Option Transa
   unfolding askedStretches
   stretches-malformed e = rw e
 
-  pub stretches-unsized : (after : Option TransactionLocator) → o ≡ some after → (length out ≡ 10240 → ⊥)
+  pub stretches-unsized : (after : Option TransactionLocator) → o ≡ some after → eqb (length out) 10240 ≡ false
       → askedStretches c s k o out ≡ record { answer = refused (refusalBefore 40 c s); stretches = out }
   unfolding askedStretches
-  stretches-unsized after e h = rw (e, ne-eqb (length out) 10240 h)
+  stretches-unsized after e h = rw (e, h)
 
-  pub stretches-asked : (after : Option TransactionLocator) → o ≡ some after → length out ≡ 10240 → askedStretches c s k o out ≡ stretchesIn c s k after out
+  pub stretches-asked : (after : Option TransactionLocator) → o ≡ some after → eqb (length out) 10240 ≡ true → askedStretches c s k o out ≡ stretchesIn c s k after out
   unfolding askedStretches
-  stretches-asked after e h = rw (e, eq-eqb (length out) 10240 h)
+  stretches-asked after e h = rw (e, h)

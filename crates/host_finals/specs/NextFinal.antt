@@ -1,50 +1,22 @@
 -- The next locator of a list of final ones, asked for by a host. Assumes nothing: these are definitions.
-use Prim.Native.Nat.{ℕ}
 use mathlib.Core.Bool.{true, false}
 use mathlib.Core.Option.{Option, none, some}
 use lib.Dec.{eqb}
 use lib.ListN.{length}
 use Rattle.base.specs.Lists.{pick}
 use Rattle.base.specs.Le.{Bytes}
-use Rattle.base.specs.Checks.{Answer, refused, answered}
+use Rattle.base.specs.Checks.{refused}
 use Rattle.committee.specs.Committee.{Committee}
 use Rattle.blocks.specs.Reference.{TransactionLocator}
-use Rattle.blocks.specs.Record.{locatorBytes}
-use Rattle.vote_starts.specs.Answers.{asMaybe}
 use Rattle.finality.specs.Finality.{blocksOf}
 use Rattle.stretches.specs.Stretches.{Listing, wide}
 use Rattle.stretches.specs.Bulk.{listNext}
 use Rattle.stored_finals.specs.Ordinary.{ordinary}
 use Rattle.readings.specs.Readings.{withdrawing}
 use Rattle.reading_lists.specs.Lists.{listing}
-use Rattle.host_finals.specs.declared.After.{After}
-use Rattle.host_finals.specs.declared.After.the-variants.{Place, Malformed}
 use Rattle.host_calls.specs.Calls.{committeeOf}
-use Rattle.host_locators.specs.Locators.{locatorOf, refusalBefore}
-
-unfoldable pub afterLocator : Option TransactionLocator → Option (Option TransactionLocator)
-afterLocator none = none
-afterLocator (some l) = some (some l)
-
--- 01: "after a given one, or from the start": no bytes are the start; bytes that are no locator are no place
-unfoldable pub afterOf : Bytes → Option (Option TransactionLocator)
-afterOf b = pick (eqb (length b) 0) (some none) (afterLocator (locatorOf b))
-
--- the same as the code has it
-unfoldable pub asAfter : After → Option (Option TransactionLocator)
-asAfter (Place m) = some (asMaybe m)
-asAfter Malformed = none
-
--- what the question answers, and the bytes that it was lent for the locator afterwards
-pub record NextFinalCall : Type 0 where
-  pub answer : Answer ℕ
-  pub found : Bytes
-
--- 1 and the locator as it stands in a record, or 0 where none is left
-unfoldable pub foundIn : Bytes → Answer (Option TransactionLocator) → NextFinalCall
-foundIn out (answered (some l)) = record { answer = answered 1; found = locatorBytes l }
-foundIn out (answered none) = record { answer = answered 0; found = out }
-foundIn out (refused n) = record { answer = refused n; found = out }
+use Rattle.host_locators.specs.Locators.{refusalBefore}
+use Rattle.final_answers.specs.Answers.{afterOf, NextFinalCall, foundIn}
 
 -- 20 for bytes that are no place, then 40 for bytes that do not hold a locator
 unfoldable pub askedNextFinal : Committee → Bytes → Listing → Option (Option TransactionLocator) → Bytes → NextFinalCall

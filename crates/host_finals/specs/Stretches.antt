@@ -1,36 +1,29 @@
 -- The lists in bulk, asked for by a host. Assumes nothing: these are definitions.
-use Prim.Native.Nat.{ℕ, _+_, _*_, _≤_}
+use Prim.Native.Nat.{ℕ}
 use mathlib.Core.Bool.{true, false}
 use mathlib.Core.Option.{Option, none, some}
 use lib.Dec.{eqb}
 use lib.ListN.{length}
 use Rattle.base.specs.Lists.{pick}
 use Rattle.base.specs.Le.{Bytes}
-use Rattle.base.specs.Checks.{Answer, refused, answered}
+use Rattle.base.specs.Checks.{Answer, refused}
 use Rattle.committee.specs.Committee.{Committee}
 use Rattle.blocks.specs.Reference.{TransactionLocator}
 use Rattle.words.specs.Words.{wordsOf, bytesOf}
-use Rattle.stretch_words.specs.declared.StretchesAnswer.{StretchesAnswer}
-use Rattle.stretch_words.specs.declared.StretchesAnswer.the-variants.{Last, More, Refused}
 use Rattle.finality.specs.Finality.{blocksOf}
 use Rattle.stretches.specs.Stretches.{Listing, wide}
-use Rattle.stretches.specs.Bulk.{Given, listStretches}
+use Rattle.stretches.specs.Bulk.{listStretches}
 use Rattle.stored_finals.specs.Ordinary.{ordinary}
 use Rattle.readings.specs.Readings.{withdrawing}
 use Rattle.reading_lists.specs.Lists.{listing}
-use Rattle.host_calls.specs.Calls.{flag, committeeOf}
+use Rattle.host_calls.specs.Calls.{committeeOf}
 use Rattle.host_locators.specs.Locators.{refusalBefore}
-use Rattle.host_finals.specs.NextFinal.{afterOf}
+use Rattle.final_answers.specs.Answers.{afterOf, stretchesNumber}
 
 -- what the question answers, and the bytes that it was lent for the stretches afterwards
 pub record StretchesCall : Type 0 where
   pub answer : Answer ℕ
   pub stretches : Bytes
-
--- 2 · number of stretches, and 1 more where a locator of the list follows them
-unfoldable pub stretchesNumber : Answer Given → Answer ℕ
-stretchesNumber (answered g) = answered (2 * g .stretches + flag (g .more))
-stretchesNumber (refused n) = refused n
 
 -- the engine's question with room for 128 stretches of ten words
 unfoldable pub stretchesIn : Committee → Bytes → Listing → Option TransactionLocator → Bytes → StretchesCall
@@ -61,9 +54,3 @@ stretchesWithdrawingCall stakes s after out = askedStretches (committeeOf stakes
 -- of the wide list where owners may withdraw
 unfoldable pub wideStretchesWithdrawingCall : Bytes → Bytes → Bytes → Bytes → StretchesCall
 wideStretchesWithdrawingCall stakes s after out = askedStretches (committeeOf stakes) s (listing false withdrawing (committeeOf stakes) (blocksOf s)) (afterOf after) out
-
--- machinery for the contracts of private functions: counts and numbers that leave room for the answer's word
-abbrev pub countsFit : StretchesAnswer → Type 0
-countsFit (Last n) = n ≤ 128
-countsFit (More n) = n ≤ 128
-countsFit (Refused n) = n ≤ 10

@@ -5,9 +5,9 @@ use mathlib.Core.List.{List, [], _∷_, _++_}
 use mathlib.Core.Option.{Option, none, some}
 use Prim.Native.Nat.{ℕ, _≤_, _/_}
 use native.Mathlib.Omega.{arith}
-use lib.Dec.{lit<}
+use lib.Dec.{eqb, lit<}
 use lib.ListN.{length}
-use borrow.Author.Tests.{eq-eqb, ne-eqb, le-leb}
+use borrow.Author.Tests.{le-leb}
 use Rattle.base.specs.Lists.{pick, allOf}
 use Rattle.base.specs.Checks.{_⇒_, refusal, passes, Answer, refused, answered, checked}
 use Rattle.base.proofs.Lists.{none-of, and}
@@ -24,9 +24,9 @@ use Rattle.stretches.specs.Stretches.{Listing, stretches}
 use Rattle.stretches.specs.Bulk.{Given, givenAfter}
 use Rattle.indexed_lists.specs.Indexed.{indexedChecks, listStretchesIndexed}
 use Rattle.host_calls.proofs.Numbers.{checked-most, refusal-most}
-use Rattle.host_finals.specs.Stretches.{stretchesNumber}
+use Rattle.final_answers.specs.Answers.{stretchesNumber, countsFit}
 use Rattle.host_finals.proofs.Stretched.{few-stretches}
-use Rattle.host_index_finals.specs.Indexed.{refusalIndexed, stretchesIndexedIn, askedStretchesIndexed, indexedFit}
+use Rattle.host_index_finals.specs.Indexed.{refusalIndexed, stretchesIndexedIn, askedStretchesIndexed}
 
 -- ---- refusals
 
@@ -61,7 +61,7 @@ given-few c s ix ws k after g e = by (passes (indexedChecks c s ix)) e
     by false e = let z : _≡_ {A = ℕ} 0 1 = cc in absurd (omega arith)
 
 pub counts-fit : (c : Committee) (s ix ws : List ℕ) (k : Listing) (after : Option TransactionLocator) (r : StretchesAnswer) → length ws ≡ 1280
-    → asStretches r ≡ listStretchesIndexed c s ix k ws after .answer → indexedFit r
+    → asStretches r ≡ listStretchesIndexed c s ix k ws after .answer → countsFit r
 unfolding asStretches
 counts-fit c s ix ws k after (Last n) h e = omega (arith, given-few c s ix ws k after _ (sym e))
 counts-fit c s ix ws k after (More n) h e = omega (arith, given-few c s ix ws k after _ (sym e))
@@ -82,11 +82,11 @@ module _ (c : Committee) (s ix : List ℕ) (k : Listing) (o : Option (Option Tra
   unfolding askedStretchesIndexed
   stretches-malformed e = rw e
 
-  pub stretches-unsized : (after : Option TransactionLocator) → o ≡ some after → (length out ≡ 10240 → ⊥)
+  pub stretches-unsized : (after : Option TransactionLocator) → o ≡ some after → eqb (length out) 10240 ≡ false
       → askedStretchesIndexed c s ix k o out ≡ record { answer = refused (refusalIndexed 40 c s ix); stretches = out }
   unfolding askedStretchesIndexed
-  stretches-unsized after e h = rw (e, ne-eqb (length out) 10240 h)
+  stretches-unsized after e h = rw (e, h)
 
-  pub stretches-asked : (after : Option TransactionLocator) → o ≡ some after → length out ≡ 10240 → askedStretchesIndexed c s ix k o out ≡ stretchesIndexedIn c s ix k after out
+  pub stretches-asked : (after : Option TransactionLocator) → o ≡ some after → eqb (length out) 10240 ≡ true → askedStretchesIndexed c s ix k o out ≡ stretchesIndexedIn c s ix k after out
   unfolding askedStretchesIndexed
-  stretches-asked after e h = rw (e, eq-eqb (length out) 10240 h)
+  stretches-asked after e h = rw (e, h)

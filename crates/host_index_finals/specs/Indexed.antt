@@ -1,5 +1,5 @@
 -- A list of final locators with the index, asked for by a host. Assumes nothing: these are definitions.
-use Prim.Native.Nat.{ℕ, _≤_}
+use Prim.Native.Nat.{ℕ}
 use mathlib.Core.Bool.{true}
 use mathlib.Core.List.{List, [], _∷_, _++_}
 use mathlib.Core.Option.{Option, none, some}
@@ -14,12 +14,10 @@ use Rattle.words.specs.Words.{wordsOf, bytesOf}
 use Rattle.finality.specs.Finality.{blocksOf}
 use Rattle.stretches.specs.Stretches.{Listing, wide}
 use Rattle.stored_finals.specs.Ordinary.{ordinary}
-use Rattle.stretch_words.specs.declared.StretchesAnswer.{StretchesAnswer}
-use Rattle.stretch_words.specs.declared.StretchesAnswer.the-variants.{Last, More, Refused}
 use Rattle.indexed_lists.specs.Indexed.{indexedChecks, listStretchesIndexed}
 use Rattle.host_calls.specs.Calls.{committeeOf}
-use Rattle.host_finals.specs.NextFinal.{afterOf}
-use Rattle.host_finals.specs.Stretches.{StretchesCall, stretchesNumber}
+use Rattle.final_answers.specs.Answers.{afterOf, stretchesNumber}
+use Rattle.host_finals.specs.Stretches.{StretchesCall}
 
 -- the number of a refusal that applies in any case, after 5, 10 and 54
 unfoldable pub refusalIndexed : ℕ → Committee → Bytes → List ℕ → ℕ
@@ -46,9 +44,3 @@ stretchesIndexedCall stakes s ix after out = askedStretchesIndexed (committeeOf 
 -- of the wide list
 unfoldable pub wideStretchesIndexedCall : Bytes → Bytes → List ℕ → Bytes → Bytes → StretchesCall
 wideStretchesIndexedCall stakes s ix after out = askedStretchesIndexed (committeeOf stakes) s ix (wide (committeeOf stakes) (blocksOf s)) (afterOf after) out
-
--- machinery for the contracts of private functions: counts and numbers that leave room for the answer's word
-abbrev pub indexedFit : StretchesAnswer → Type 0
-indexedFit (Last n) = n ≤ 128
-indexedFit (More n) = n ≤ 128
-indexedFit (Refused n) = n ≤ 54

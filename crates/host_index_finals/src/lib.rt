@@ -1,6 +1,5 @@
 // What the host's calls about the lists with the index are made of: the index crosses as words, the rest as bytes.
-use host_finals::After;
-use stretch_words::StretchesAnswer;
+use final_answers::After;
 use vote_starts::MaybeLocator;
 ghost use mathlib.Core.Path.{_≡_};
 ghost use lib.ListN.{length};
@@ -8,11 +7,9 @@ ghost use Rattle.finality.specs.Finality.{blocksOf};
 ghost use Rattle.readings.specs.Readings.{old};
 ghost use Rattle.reading_lists.specs.Lists.{listing};
 ghost use Rattle.vote_starts.specs.Answers.{asMaybe};
-ghost use Rattle.stretch_words.specs.Answers.{asStretches};
 ghost use Rattle.host_calls.specs.Calls.{encoded};
-ghost use Rattle.host_finals.specs.NextFinal.{afterOf};
-ghost use Rattle.host_finals.specs.Stretches.{stretchesNumber};
-ghost use Rattle.host_index_finals.specs.Indexed.{refusalIndexed, stretchesIndexedIn, askedStretchesIndexed, indexedFit};
+ghost use Rattle.final_answers.specs.Answers.{afterOf};
+ghost use Rattle.host_index_finals.specs.Indexed.{refusalIndexed, stretchesIndexedIn, askedStretchesIndexed};
 
 // The number of a refusal that applies in any case: 5, 10 and 54 come first.
 fn refusal_indexed(number: u64, stakes: &[u64], store: &[u8], index: &[u64]) -> u64
@@ -33,10 +30,9 @@ fn indexed_words(
     index: &[u64],
     after: MaybeLocator,
     out: &mut [u8],
-) -> StretchesAnswer
+) -> u64
     requires { ⌜ length (now out) ≡ 10240 ⌝ }
-    ensures asked { λ r. ⌜ (stretchesNumber (asStretches r) ≡ stretchesIndexedIn (now (stakes .entry)) (now (store .entry)) (now (index .entry)) (listing ordinary old (now (stakes .entry)) (blocksOf (now (store .entry)))) (asMaybe after) (now (out .entry)) .answer) × (now (out .exit) ≡ stretchesIndexedIn (now (stakes .entry)) (now (store .entry)) (now (index .entry)) (listing ordinary old (now (stakes .entry)) (blocksOf (now (store .entry)))) (asMaybe after) (now (out .entry)) .stretches) ⌝ }
-    ensures bounded { λ r. ⌜ indexedFit r ⌝ }
+    ensures { λ r. ⌜ (r ≡ encoded (stretchesIndexedIn (now (stakes .entry)) (now (store .entry)) (now (index .entry)) (listing ordinary old (now (stakes .entry)) (blocksOf (now (store .entry)))) (asMaybe after) (now (out .entry)) .answer)) × (now (out .exit) ≡ stretchesIndexedIn (now (stakes .entry)) (now (store .entry)) (now (index .entry)) (listing ordinary old (now (stakes .entry)) (blocksOf (now (store .entry)))) (asMaybe after) (now (out .entry)) .stretches) ⌝ }
 {
     let mut words = [0u64; 1280];
     words::words_of(out, &mut words);
@@ -49,7 +45,7 @@ fn indexed_words(
         after,
     );
     words::bytes_of(&words, out);
-    answer
+    final_answers::stretches_number(answer)
 }
 
 pub fn stretches_of(
@@ -62,15 +58,11 @@ pub fn stretches_of(
 ) -> u64
     ensures { λ r. ⌜ (r ≡ encoded (askedStretchesIndexed (now (stakes .entry)) (now (store .entry)) (now (index .entry)) (listing ordinary old (now (stakes .entry)) (blocksOf (now (store .entry)))) (afterOf (now (after .entry))) (now (out .entry)) .answer)) × (now (out .exit) ≡ askedStretchesIndexed (now (stakes .entry)) (now (store .entry)) (now (index .entry)) (listing ordinary old (now (stakes .entry)) (blocksOf (now (store .entry)))) (afterOf (now (after .entry))) (now (out .entry)) .stretches) ⌝ }
 {
-    let After::Place(place) = host_finals::after_of(after) else {
+    let After::Place(place) = final_answers::after_of(after) else {
         return host_calls::REFUSED + refusal_indexed(20, stakes, store, index);
     };
-    if out.len() != 10240 {
+    if !final_answers::holds_stretches(out) {
         return host_calls::REFUSED + refusal_indexed(40, stakes, store, index);
     }
-    match indexed_words(stakes, store, ordinary, index, place, out) {
-        StretchesAnswer::Last(count) => 2 * count,
-        StretchesAnswer::More(count) => 2 * count + 1,
-        StretchesAnswer::Refused(number) => host_calls::REFUSED + number,
-    }
+    indexed_words(stakes, store, ordinary, index, place, out)
 }

@@ -3,7 +3,9 @@ use Rattle.reading_lists.specs.Lists.{listing}
 use Rattle.finality.specs.Finality.{blocksOf}
 use mathlib.Core.Path.{sym, ap, _∙_}
 use Rattle.vote_starts.specs.Answers.{asMaybe}
-use Rattle.host_finals.specs.Stretches.{StretchesCall, stretchesNumber}
+use Rattle.host_calls.specs.Calls.{encoded}
+use Rattle.final_answers.specs.Answers.{stretchesNumber}
+use Rattle.host_finals.specs.Stretches.{StretchesCall}
 use Rattle.host_finals.proofs.Stretched.{stretches-in, counts-fit}
 use borrow.Author.Needs.{needs}
 use Rattle.host_finals.proofs.stretches_words.Statement.{statement}
@@ -27,16 +29,22 @@ slice-aggregate-bytes-of c = search needs
 bytes-of-requires : tie.Need-bytes-of-requires
 bytes-of-requires c κs = search needs
 
+stretches-number-requires : tie.Need-stretches-number-requires
+stretches-number-requires c κs =
+    let start = c .before .before .before .before .before .before .before .before .before .before .before .before .before .before .before .args in
+    let told = c .before .before .before .before .before .before .list-stretches in
+    counts-fit (start .stakes .now) (start .store .now) _ (listing (start .ordinary) (readingOf (start .withdrawing)) (start .stakes .now) (blocksOf (start .store .now))) (asMaybe (start .after)) (told .result) (c .before .before .before .before .before .before .before .before .before .words-of .kept .1 .0) (told .ensures .0)
+
 same-length : tie.Need-same-length
 same-length c = search needs
 
 returns : tie.Need-returns
 returns c =
-    let start = c .before .before .before .before .before .before .before .before .before .before .before .before .before .before .before .args in
-    let e = stretches-in (start .stakes .now) (start .store .now) (start .out .now) (listing (start .ordinary) (readingOf (start .withdrawing)) (start .stakes .now) (blocksOf (start .store .now))) (asMaybe (start .after)) (c .before .before .before .before .before .before .before .before .before .before .before .before .before .before .before .pre) in
-    let words = c .before .before .before .before .before .before .before .before .before .words-of .ensures in
-    let told = c .before .before .before .before .before .before .list-stretches in
-    ((ap stretchesNumber (told .ensures .0) ∙ rw words (sym (ap (λ (x : StretchesCall). x .answer) e)), c .before .before .bytes-of .ensures ∙ rw (told .ensures .1, words) (sym (ap (λ (x : StretchesCall). x .stretches) e))), counts-fit (start .stakes .now) (start .store .now) _ (listing (start .ordinary) (readingOf (start .withdrawing)) (start .stakes .now) (blocksOf (start .store .now))) (asMaybe (start .after)) (told .result) (c .before .before .before .before .before .before .before .before .before .words-of .kept .1 .0) (told .ensures .0))
+    let start = c .before .before .before .before .before .before .before .before .before .before .before .before .before .before .before .before .args in
+    let e = stretches-in (start .stakes .now) (start .store .now) (start .out .now) (listing (start .ordinary) (readingOf (start .withdrawing)) (start .stakes .now) (blocksOf (start .store .now))) (asMaybe (start .after)) (c .before .before .before .before .before .before .before .before .before .before .before .before .before .before .before .before .pre) in
+    let words = c .before .before .before .before .before .before .before .before .before .before .words-of .ensures in
+    let told = c .before .before .before .before .before .before .before .list-stretches .ensures in
+    (c .stretches-number .ensures ∙ ap encoded (ap stretchesNumber (told .0) ∙ rw words (sym (ap (λ (x : StretchesCall). x .answer) e))), c .before .before .before .bytes-of .ensures ∙ rw (told .1, words) (sym (ap (λ (x : StretchesCall). x .stretches) e)))
 
 pub stretches-words-spec : {M : Type 1} → statement M
 stretches-words-spec =
@@ -48,5 +56,6 @@ stretches-words-spec =
     list-stretches-requires
     slice-aggregate-bytes-of
     bytes-of-requires
+    stretches-number-requires
     same-length
     returns)

@@ -3,11 +3,12 @@ use Rattle.reading_lists.specs.Lists.{listing}
 use Rattle.finality.specs.Finality.{blocksOf}
 use mathlib.Core.Path.{sym, ap, _∙_}
 use native.Mathlib.Omega.{arith}
-use Rattle.stretch_words.specs.Answers.{asStretches}
-use Rattle.host_calls.specs.Calls.{encoded, flag}
-use Rattle.host_finals.specs.NextFinal.{asAfter, afterOf}
-use Rattle.host_finals.specs.Stretches.{StretchesCall, stretchesNumber}
+use Rattle.host_calls.specs.Calls.{encoded}
+use Rattle.final_answers.specs.Answers.{asAfter, afterOf}
+use Rattle.host_finals.specs.Stretches.{StretchesCall}
 use Rattle.host_index_finals.proofs.Stretched.{indexed-most, stretches-malformed, stretches-unsized, stretches-asked}
+use lib.ListN.{length}
+use borrow.Author.Tests.{eqb-true, not-true, not-false}
 use borrow.Author.Needs.{needs}
 use Rattle.host_index_finals.proofs.stretches_of.Statement.{statement}
 use Rattle.host_index_finals.proofs.stretches_of.Tie as tie
@@ -35,79 +36,42 @@ returns c =
     let e = stretches-malformed (start .stakes .now) (start .store .now) (start .index .now) (listing (start .ordinary) old (start .stakes .now) (blocksOf (start .store .now))) (afterOf (start .after .now)) (start .out .now) place in
     (rw (c .refusal-indexed .ensures) (sym (ap (λ (x : StretchesCall). encoded (x .answer)) e)), sym (ap (λ (x : StretchesCall). x .stretches) e))
 
+holds-stretches-requires : tie.Need-holds-stretches-requires
+holds-stretches-requires c κs = search needs
+
 refusal-indexed-requires-2 : tie.Need-refusal-indexed-requires-2
 refusal-indexed-requires-2 c κs = search needs
 
 add-result-2 : tie.Need-add-result-2
-add-result-2 c = omega (arith, c .refusal-indexed2 .ensures, indexed-most 40 (c .before .before .before .before .before .before .before .before .before .before .before .args .stakes .now) (c .before .before .before .before .before .before .before .before .before .before .before .args .store .now) (c .before .before .before .before .before .before .before .before .before .before .before .args .index .now) (omega arith))
-
-returns-2 : tie.Need-returns-2
-unfolding encoded asAfter
-returns-2 c =
-    let start = c .before .before .before .before .before .before .before .before .before .before .before .args in
-    let place = sym (c .before .before .before .before .before .after-of .ensures) ∙ ap asAfter (c .before .before .before .place .given .1) in
-    let e = stretches-unsized (start .stakes .now) (start .store .now) (start .index .now) (listing (start .ordinary) old (start .stakes .now) (blocksOf (start .store .now))) (afterOf (start .after .now)) (start .out .now) _ place (c .before .if1 .taken) in
-    (rw (c .refusal-indexed2 .ensures) (sym (ap (λ (x : StretchesCall). encoded (x .answer)) e)), sym (ap (λ (x : StretchesCall). x .stretches) e))
-
-indexed-words-requires : tie.Need-indexed-words-requires
-indexed-words-requires c κs = search needs
-
-enum-known-count : tie.Need-enum-known-count
-enum-known-count c = search needs
-
-mul-result : tie.Need-mul-result
-mul-result c = omega (arith, rw (c .before .count .given .1) at (c .before .before .before .before .before .indexed-words .ensures .1))
-
-enum-known-count-2 : tie.Need-enum-known-count-2
-enum-known-count-2 c = search needs
-
-mul-result-2 : tie.Need-mul-result-2
-mul-result-2 c = omega (arith, rw (c .before .count2 .given .1) at (c .before .before .before .before .before .indexed-words .ensures .1))
-
-add-result-3 : tie.Need-add-result-3
-add-result-3 c = omega (arith, rw (c .before .count2 .given .1) at (c .before .before .before .before .before .indexed-words .ensures .1))
-
-enum-known-number : tie.Need-enum-known-number
-enum-known-number c = search needs
-
-add-result-4 : tie.Need-add-result-4
-add-result-4 c = omega (arith, rw (c .before .number .given .1) at (c .before .before .before .before .before .indexed-words .ensures .1))
+add-result-2 c = omega (arith, c .refusal-indexed2 .ensures, indexed-most 40 (c .before .before .before .before .before .before .before .before .before .before .before .before .before .args .stakes .now) (c .before .before .before .before .before .before .before .before .before .before .before .before .before .args .store .now) (c .before .before .before .before .before .before .before .before .before .before .before .before .before .args .index .now) (omega arith))
 
 same-length : tie.Need-same-length
 same-length c = search needs
 
-returns-3 : tie.Need-returns-3
-unfolding encoded asAfter asStretches stretchesNumber flag
-returns-3 c =
-    let start = c .before .before .before .before .before .before .before .before .before .before .before .before .before .before .before .before .before .args in
-    let place = sym (c .before .before .before .before .before .before .before .before .before .before .before .after-of .ensures) ∙ ap asAfter (c .before .before .before .before .before .before .before .before .before .place .given .1) in
-    let e = stretches-asked (start .stakes .now) (start .store .now) (start .index .now) (listing (start .ordinary) old (start .stakes .now) (blocksOf (start .store .now))) (afterOf (start .after .now)) (start .out .now) _ place (c .before .before .before .before .before .before .before .if1 .left) in
-    let told = c .before .before .before .before .before .indexed-words .ensures .0 in
-    (rw (e, ← told .0, c .before .count .given .1) (omega arith), told .1 ∙ sym (ap (λ (x : StretchesCall). x .stretches) e))
+returns-2 : tie.Need-returns-2
+unfolding encoded asAfter
+returns-2 c =
+    let start = c .before .before .before .before .before .before .before .before .before .before .before .before .before .args in
+    let place = sym (c .before .before .before .before .before .before .before .after-of .ensures) ∙ ap asAfter (c .before .before .before .before .before .place .given .1) in
+    let room = sym (c .before .before .holds-stretches .ensures) ∙ not-true _ (c .before .if1 .taken) in
+    let e = stretches-unsized (start .stakes .now) (start .store .now) (start .index .now) (listing (start .ordinary) old (start .stakes .now) (blocksOf (start .store .now))) (afterOf (start .after .now)) (start .out .now) _ place room in
+    (rw (c .refusal-indexed2 .ensures) (sym (ap (λ (x : StretchesCall). encoded (x .answer)) e)), sym (ap (λ (x : StretchesCall). x .stretches) e))
+
+indexed-words-requires : tie.Need-indexed-words-requires
+indexed-words-requires c κs = eqb-true (length (c .before .before .before .before .before .before .before .before .before .before .before .before .before .args .out .now)) 10240 (sym (c .before .before .holds-stretches .ensures) ∙ not-false _ (c .before .if1 .left))
 
 same-length-2 : tie.Need-same-length-2
 same-length-2 c = search needs
 
-returns-4 : tie.Need-returns-4
-unfolding encoded asAfter asStretches stretchesNumber flag
-returns-4 c =
-    let start = c .before .before .before .before .before .before .before .before .before .before .before .before .before .before .before .before .before .args in
-    let place = sym (c .before .before .before .before .before .before .before .before .before .before .before .after-of .ensures) ∙ ap asAfter (c .before .before .before .before .before .before .before .before .before .place .given .1) in
-    let e = stretches-asked (start .stakes .now) (start .store .now) (start .index .now) (listing (start .ordinary) old (start .stakes .now) (blocksOf (start .store .now))) (afterOf (start .after .now)) (start .out .now) _ place (c .before .before .before .before .before .before .before .if1 .left) in
-    let told = c .before .before .before .before .before .indexed-words .ensures .0 in
-    (rw (e, ← told .0, c .before .count2 .given .1), told .1 ∙ sym (ap (λ (x : StretchesCall). x .stretches) e))
-
-same-length-3 : tie.Need-same-length-3
-same-length-3 c = search needs
-
-returns-5 : tie.Need-returns-5
-unfolding encoded asAfter asStretches stretchesNumber flag
-returns-5 c =
-    let start = c .before .before .before .before .before .before .before .before .before .before .before .before .before .before .before .before .before .args in
-    let place = sym (c .before .before .before .before .before .before .before .before .before .before .before .after-of .ensures) ∙ ap asAfter (c .before .before .before .before .before .before .before .before .before .place .given .1) in
-    let e = stretches-asked (start .stakes .now) (start .store .now) (start .index .now) (listing (start .ordinary) old (start .stakes .now) (blocksOf (start .store .now))) (afterOf (start .after .now)) (start .out .now) _ place (c .before .before .before .before .before .before .before .if1 .left) in
-    let told = c .before .before .before .before .before .indexed-words .ensures .0 in
-    (rw (e, ← told .0, c .before .number .given .1), told .1 ∙ sym (ap (λ (x : StretchesCall). x .stretches) e))
+returns-3 : tie.Need-returns-3
+unfolding asAfter
+returns-3 c =
+    let start = c .before .before .before .before .before .before .before .before .before .before .before .before .before .before .before .before .args in
+    let place = sym (c .before .before .before .before .before .before .before .before .before .before .after-of .ensures) ∙ ap asAfter (c .before .before .before .before .before .before .before .before .place .given .1) in
+    let room = sym (c .before .before .before .before .before .holds-stretches .ensures) ∙ not-false _ (c .before .before .before .before .if1 .left) in
+    let e = stretches-asked (start .stakes .now) (start .store .now) (start .index .now) (listing (start .ordinary) old (start .stakes .now) (blocksOf (start .store .now))) (afterOf (start .after .now)) (start .out .now) _ place room in
+    let told = c .before .before .indexed-words .ensures in
+    (told .0 ∙ sym (ap (λ (x : StretchesCall). encoded (x .answer)) e), told .1 ∙ sym (ap (λ (x : StretchesCall). x .stretches) e))
 
 pub stretches-of-spec : {M : Type 1} → statement M
 stretches-of-spec =
@@ -119,20 +83,11 @@ stretches-of-spec =
     refusal-indexed-requires
     add-result
     returns
+    holds-stretches-requires
     refusal-indexed-requires-2
     add-result-2
+    same-length
     returns-2
     indexed-words-requires
-    enum-known-count
-    mul-result
-    enum-known-count-2
-    mul-result-2
-    add-result-3
-    enum-known-number
-    add-result-4
-    same-length
-    returns-3
     same-length-2
-    returns-4
-    same-length-3
-    returns-5)
+    returns-3)

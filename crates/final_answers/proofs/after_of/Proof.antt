@@ -1,11 +1,11 @@
 use Rattle.host_locators.proofs.Locators.{locator-none, locator-read}
-use Rattle.host_finals.specs.NextFinal.{afterOf, asAfter, afterLocator}
+use Rattle.final_answers.specs.Answers.{afterOf, asAfter, afterLocator}
 use Rattle.vote_starts.specs.Answers.{asMaybe}
 use lib.ListN.{length}
 use borrow.Author.Tests.{eq-eqb, ne-eqb}
 use borrow.Author.Needs.{needs}
-use Rattle.host_finals.proofs.after_of.Statement.{statement}
-use Rattle.host_finals.proofs.after_of.Tie as tie
+use Rattle.final_answers.proofs.after_of.Statement.{statement}
+use Rattle.final_answers.proofs.after_of.Tie as tie
 
 returns : tie.Need-returns
 unfolding afterOf asAfter asMaybe
