@@ -50,6 +50,6 @@ pub fn accept(
     ensures { λ r. ⌜ AcceptedAs (acceptedFeed (now (stakes .entry)) (lentOf (now (store .entry)) (now (table .entry)) [] (now (events .entry))) (recordIn (now (rec .entry)))) r (now (store .exit)) (now (table .exit)) (now (events .exit)) ⌝ }
 {
     let done = aggregator::process_block(stakes, store, rec, table, events, true);
-    block_store::append(store, rec);
+    store_append::append(store, rec);
     done.events as u64
 }

@@ -61,7 +61,7 @@ pub fn record_refusal(stakes: &[u64], store: &[u8], rec: &[u8], words: usize) ->
     if (words as u64) < shared_ranges::event_words(rec) {
         return 15;
     }
-    if block_store::is_full(store, rec) {
+    if store_append::is_full(store, rec) {
         return 13;
     }
     0

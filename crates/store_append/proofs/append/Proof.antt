@@ -8,13 +8,13 @@ use Rattle.base.proofs.Le.{AllBytes, bytes-of}
 use Rattle.blocks.specs.Record.{blockIn}
 use Rattle.types.specs.Values.{asReference}
 use Rattle.store_layout.specs.Store.{recordsOf}
 use Rattle.block_store.specs.Step.{Neighbours}
 use Rattle.store_layout.proofs.Lookups.{not-stored-none}
 use Rattle.store_layout.proofs.Search.{laid-out}
 use Rattle.block_store.proofs.Placed.{placed-between}
-use Rattle.block_store.proofs.Appended.{roomy, reach, appended-so}
-use Rattle.block_store.proofs.append.Statement.{statement}
-use Rattle.block_store.proofs.append.Tie as tie
+use Rattle.store_append.proofs.Appended.{roomy, reach, appended-so}
+use Rattle.store_append.proofs.append.Statement.{statement}
+use Rattle.store_append.proofs.append.Tie as tie
 
 read-u32-requires : tie.Need-read-u32-requires
 read-u32-requires c κs = omega (arith, laid-out (c .before .before .before .args .store .now) (c .before .before .before .pre .0) .reads .header .long)

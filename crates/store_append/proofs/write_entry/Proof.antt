@@ -1,9 +1,9 @@
 use borrow.Author.Needs.{needs}
 use mathlib.Core.Path.{_∙_}
 use lib.ListN.{length}
-use Rattle.block_store.proofs.Appended.{entry-written}
-use Rattle.block_store.proofs.write_entry.Statement.{statement}
-use Rattle.block_store.proofs.write_entry.Tie as tie
+use Rattle.store_append.proofs.Appended.{entry-written}
+use Rattle.store_append.proofs.write_entry.Statement.{statement}
+use Rattle.store_append.proofs.write_entry.Tie as tie
 
 write-u32-requires : tie.Need-write-u32-requires
 write-u32-requires c κs = search needs

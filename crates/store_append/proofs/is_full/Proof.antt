@@ -3,9 +3,9 @@ use mathlib.Core.Path.{sym}
 use native.Mathlib.Omega.{arith}
 use Rattle.store_layout.specs.Store.{usedLength}
 use Rattle.store_layout.proofs.Search.{laid-out}
-use Rattle.block_store.proofs.Appended.{full-bytes, full-blocks}
-use Rattle.block_store.proofs.is_full.Statement.{statement}
-use Rattle.block_store.proofs.is_full.Tie as tie
+use Rattle.store_append.proofs.Appended.{full-bytes, full-blocks}
+use Rattle.store_append.proofs.is_full.Statement.{statement}
+use Rattle.store_append.proofs.is_full.Tie as tie
 
 read-u32-requires : tie.Need-read-u32-requires
 read-u32-requires c κs = omega (arith, laid-out (c .before .before .args .store .now) (c .before .before .pre) .reads .header .long)
