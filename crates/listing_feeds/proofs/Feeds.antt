@@ -1,12 +1,12 @@
--- Feeds one after the other, and the store that `listing` starts with. Assumes nothing.
-use Prim.Native.Nat.{ℕ, _+_, _≤_}
+-- Feeds one after the other, from the start of `listing`. Assumes nothing.
+use Prim.Native.Nat.{ℕ, _≤_}
 use mathlib.Core.Path.{_≡_, refl, ap, _∙_}
-use mathlib.Core.List.{List, [], _∷_, _++_, flatten}
+use mathlib.Core.List.{List, [], _∷_, _++_}
 use native.Mathlib.Omega.{arith}
-use lib.ListN.{replicate, set, length-append, length-replicate, replicate-append-replicate}
-use Rattle.base.specs.Le.{Bytes, leBytes}
+use lib.ListN.{replicate, length-append, length-replicate}
+use Rattle.base.specs.Le.{Bytes}
 use Rattle.committee.specs.Committee.{Committee}
-use Rattle.store_layout.specs.Layout.{layout, headerBytes, bodyBytes, entries, firstPosition, positionOf, least, usedBy}
+use Rattle.store_layout.specs.Layout.{layout, usedBy}
 use Rattle.store_layout.specs.Claims.{FreshInOrder}
 use Rattle.store_layout.proofs.Store.{length-layout}
 use Rattle.store_layout.proofs.Claimed.{fresh-in-order}
@@ -41,15 +41,11 @@ fed-on {c} {g} a b =
       leaves = run-on c g (b .feeds) (a .feeds) ∙ rw (a .leaves) (b .leaves);
     }
 
--- zeros with the used length of a fresh store
-started : (n m : ℕ) → engine (set (replicate (16 + n) 0) 4 16) (replicate m 0) ≡ fresh (replicate n 0) m
-unfolding fresh layout headerBytes bodyBytes entries firstPosition positionOf least usedBy flatten leBytes
-started n m = rw (← replicate-append-replicate {A = ℕ} 16 n 0) refl
-
--- feeds from zeros with that used length are feeds from a fresh store
+-- feeds from a fresh store and a table of zeros are feeds from the start
 pub fed-start : {c : Committee} {s s′ : Bytes} {t t′ : List ℕ} (n m : ℕ)
-    → s ≡ replicate (16 + n) 0 → t ≡ replicate m 0 → FedFrom c (engine (set s 4 16) t) s′ t′ → FedFrom c (fresh (replicate n 0) m) s′ t′
-fed-start n m d e a = rw (← started n m, ← d, ← e) a
+    → s ≡ layout [] ++ replicate n 0 → t ≡ replicate m 0 → FedFrom c (engine s t) s′ t′ → FedFrom c (fresh (replicate n 0) m) s′ t′
+unfolding fresh
+fed-start n m d e a = rw (← d, ← e) a
 
 -- ---- in order
 

@@ -46,16 +46,6 @@ fn accepted(out: &mut [u8], done: Fed, k: u64, events: &[u64]) -> Fed
     }
 }
 
-// The words of n events, or all that there are, if these are fewer.
-fn event_words(n: u64) -> usize
-    ensures { λ r. ⌜ r ≤ 8192 ⌝ }
-{
-    if 2730 < n {
-        return 8192;
-    }
-    3 * (n as usize)
-}
-
 // Feeds record k and prints its lines.
 fn feed_record(
     stakes: &[u64],
@@ -75,7 +65,7 @@ fn feed_record(
     let answer = feeding::feed(stakes, store, table, &mut work, &mut events, rec);
     match answer {
         FeedAnswer::Events(n) => {
-            let used = event_words(n);
+            let used = listing_lent::event_words(n);
             accepted(out, done, k, &events[..used])
         }
         FeedAnswer::Refused(number) => refused(out, done, k, number, false),
@@ -135,7 +125,7 @@ fn feed_all(fd: i32, stakes: &[u64], store: &mut [u8], table: &mut [u64], out: &
     fed
 }
 
-// The same from a fresh store, which only differs from zeros by its used length, and a table of zeros.
+// The same from a fresh store and a table of zeros.
 pub fn feed_from_start(
     fd: i32,
     stakes: &[u64],
@@ -147,6 +137,6 @@ pub fn feed_from_start(
     ensures { λ r. ⌜ (r .at ≤ length (now (out .entry))) × (length (now (out .exit)) ≡ length (now (out .entry))) ⌝ }
     ensures { λ _. ⌜ FedFrom (now (stakes .entry)) start (now (store .exit)) (now (table .exit)) ⌝ }
 {
-    store[4] = 16;
+    listing_lent::fresh_store(store);
     feed_all(fd, stakes, store, table, out)
 }
