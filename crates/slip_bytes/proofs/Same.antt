@@ -29,7 +29,8 @@ use Rattle.slip_distances.specs.Near.{away}
 use Rattle.slip_routes.specs.Reached.{voterAt, votersAt}
 use Rattle.slip_table.specs.Table.{placeIn, votersIn, Listed}
 use Rattle.slip_certifiers.specs.Ready.{certifierBytesAt, certifiersBytes}
-use Rattle.slip_bytes.specs.Listed.{Voted, headBytes, listedBytes, slipAt}
+use Rattle.slip_parts.specs.Listed.{Voted, headBytes, listedBytes}
+use Rattle.slip_bytes.specs.Listed.{slipAt}
 
 -- a list mapped, by its indexes
 map-count : {B : Type 0} (f : ℕ → B) (g : ℕ → B) (xs : List ℕ) (j : ℕ) → ((i : ℕ) → i < length xs → g (j + i) ≡ f (getD xs i 0)) → map g (countFrom j (length xs)) ≡ map f xs

@@ -1,38 +1,18 @@
--- Machinery for the contracts of inner functions: the slip of the certifying blocks of a table. Assumes nothing: these are definitions.
-use Prim.Native.Nat.{ℕ, _<_}
-use mathlib.Core.Path.{_≡_}
-use mathlib.Core.Bool.{true, false}
-use mathlib.Core.List.{List, _∷_, _++_, map}
+-- Machinery for the contracts of inner functions: the slip of the certifying blocks at some positions, and a slice with it in front. Assumes nothing:
+-- these are definitions.
+use Prim.Native.Nat.{ℕ}
+use mathlib.Core.List.{List, _++_, map}
 use lib.Dec.{ltb}
 use lib.ListN.{length, drop}
-use Rattle.base.specs.Lists.{pick, isNone}
-use Rattle.base.specs.Le.{Bytes, leBytes}
+use Rattle.base.specs.Lists.{pick}
+use Rattle.base.specs.Le.{Bytes}
 use Rattle.base.specs.Checks.{refused, answered}
-use Rattle.authority_set.specs.AuthoritySet.{member}
 use Rattle.blocks.specs.Reference.{TransactionLocator}
-use Rattle.blocks.specs.Record.{locatorBytes}
 use Rattle.store_layout.specs.Entry.{blockAt}
 use Rattle.finality.specs.Finality.{blocksOf}
 use Rattle.readings.specs.Readings.{Reading}
-use Rattle.block_votes.specs.Walk.{blockAtPlace}
 use Rattle.slips.specs.Slip.{Slip}
 use Rattle.slips.specs.Writing.{certifierOf, Written}
-use Rattle.slip_distances.specs.Near.{away}
-use Rattle.slip_table.specs.Table.{placeIn, votersIn}
-use Rattle.slip_certifiers.specs.Ready.{certifiersBytes}
-
--- each certifying block of a table stands at a place, and has a path to a vote of each of its voters
-unfoldable pub Voted : Bytes → List ℕ → TransactionLocator → List ℕ → ℕ → Type 0
-Voted s order l t n = (i : ℕ) → i < n
-    → (placeIn t i < length order)
-    × ((a : ℕ) → a < 128 → member (votersIn t i) a ≡ true → isNone (away s l a (blockAtPlace s order (placeIn t i) .reference)) ≡ false)
-
-unfoldable pub headBytes : ℕ → TransactionLocator → ℕ → Bytes
-headBytes first l n = first ∷ (locatorBytes l ++ leBytes 2 n)
-
--- the slip of the first n of a table
-unfoldable pub listedBytes : Bytes → List ℕ → TransactionLocator → ℕ → List ℕ → ℕ → Bytes
-listedBytes s order l first t n = headBytes first l n ++ certifiersBytes s order l t n
 
 -- the slip of the certifying blocks at some positions, in a reading
 unfoldable pub slipAt : Reading → Bytes → TransactionLocator → List ℕ → Slip

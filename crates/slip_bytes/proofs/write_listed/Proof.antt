@@ -1,4 +1,4 @@
-use Prim.Native.Nat.{ℕ, _+_, _≤_}
+use Prim.Native.Nat.{ℕ, _≤_}
 use mathlib.Core.Path.{ap, _∙_}
 use native.Mathlib.Omega.{arith}
 use lib.ListN.{length, length-replicate}
@@ -10,8 +10,9 @@ use Rattle.slips.specs.Writing.{Written}
 use Rattle.slip_distances.proofs.Reading.{fresh-tables}
 use Rattle.slip_table.specs.Table.{placeIn}
 use Rattle.slip_bytes.specs.Answers.{asSlipAnswer}
-use Rattle.slip_bytes.specs.Listed.{Voted, listedBytes}
-use Rattle.slip_bytes.proofs.Over.{over-short, over-long, listed-length}
+use Rattle.slip_parts.specs.Listed.{Voted, listedBytes}
+use Rattle.slip_parts.proofs.Over.{listed-length}
+use Rattle.slip_bytes.proofs.Fitting.{over-short, over-long}
 use borrow.Author.Needs.{needs}
 use Rattle.slip_bytes.proofs.write_listed.Statement.{statement}
 use Rattle.slip_bytes.proofs.write_listed.Tie as tie
@@ -27,17 +28,14 @@ find-distances-requires c κs = let a = c .before .before .before .before .befor
     let q = c .before .before .before .before .before .before .pre in
     ((q .0 .0, q .0 .1), fresh-tables (a .store .now) (a .order .now) (asLocator (a .locator)) _ _ (length-replicate {A = ℕ} 131072 0) (length-replicate {A = ℕ} 131072 0) (zeros-at 131072))
 
-slice-aggregate-certifiers-size : tie.Need-slice-aggregate-certifiers-size
-slice-aggregate-certifiers-size c = search needs
+slice-aggregate-parts-size : tie.Need-slice-aggregate-parts-size
+slice-aggregate-parts-size c = search needs
 
-certifiers-size-requires : tie.Need-certifiers-size-requires
+parts-size-requires : tie.Need-parts-size-requires
 unfolding Voted placeIn
-certifiers-size-requires c κs = let q = c .before .before .before .before .before .before .before .before .before .before .pre in
+parts-size-requires c κs = let q = c .before .before .before .before .before .before .before .before .before .before .pre in
     let d = c .before .before .before .find-distances .ensures in
     ((d .long, q .1 .0 .0), (q .1 .0 .1, λ i h. omega (arith, q .1 .1 i h .0, q .0 .1)))
-
-add-size : tie.Need-add-size
-add-size c = search needs
 
 returns : tie.Need-returns
 unfolding asSlipAnswer
@@ -49,7 +47,7 @@ returns c = let a = c .before .before .before .before .before .before .before .b
     let d = c .before .before .before .before .before .find-distances .ensures in
     let bytes = bytes-of s (λ j h. omega (arith, c .before .before .before .before .before .before .before .before .before .before .before .shared-slice-known .given j)) in
     let size = listed-length s o l _ _ d (a .certifiers .now) (a .n) (q .1 .1) (q .0 .0) bytes (length-locatorBytes (a .locator)) (a .first) in
-    let e = over-short (listedBytes s o l (a .first) (a .certifiers .now) (a .n)) (a .out .now) (omega (arith, size, c .before .certifiers-size .ensures .0, c .if1 .taken)) in
+    let e = over-short (listedBytes s o l (a .first) (a .certifiers .now) (a .n)) (a .out .now) (omega (arith, size, c .before .parts-size .ensures, c .if1 .taken)) in
     (ap (λ (w : Written). w .answer) e, ap (λ (w : Written). w .out) e)
 
 slice-aggregate-write-parts : tie.Need-slice-aggregate-write-parts
@@ -60,7 +58,7 @@ slice-aggregate-write-parts-2 c = search needs
 
 write-parts-requires : tie.Need-write-parts-requires
 write-parts-requires c κs = let q = c .before .before .before .before .before .before .before .before .before .before .before .before .before .before .before .pre in
-    ((q .0, c .before .before .before .before .before .before .before .before .find-distances .ensures), (q .1, omega (arith, c .before .before .before .before .certifiers-size .ensures .0, c .before .before .before .if1 .left)))
+    ((q .0, c .before .before .before .before .before .before .before .before .find-distances .ensures), (q .1, omega (arith, c .before .before .before .before .parts-size .ensures, c .before .before .before .if1 .left)))
 
 same-length : tie.Need-same-length
 same-length c = search needs
@@ -75,9 +73,9 @@ returns-2 c = let a = c .before .before .before .before .before .before .before 
     let d = c .before .before .before .before .before .before .before .before .before .before .before .find-distances .ensures in
     let bytes = bytes-of s (λ j h. omega (arith, c .before .before .before .before .before .before .before .before .before .before .before .before .before .before .before .before .before .shared-slice-known .given j)) in
     let size = listed-length s o l _ _ d (a .certifiers .now) (a .n) (q .1 .1) (q .0 .0) bytes (length-locatorBytes (a .locator)) (a .first) in
-    let r = c .before .before .before .before .before .before .before .certifiers-size .ensures .0 in
+    let r = c .before .before .before .before .before .before .before .parts-size .ensures in
     let h : length (listedBytes s o l (a .first) (a .certifiers .now) (a .n)) ≤ length (a .out .now) = omega (arith, size, r, c .before .before .before .before .before .before .if1 .left) in
-    let e = over-long (listedBytes s o l (a .first) (a .certifiers .now) (a .n)) (a .out .now) h (59 + c .before .before .before .before .before .before .before .certifiers-size .result) (omega (arith, size, r)) in
+    let e = over-long (listedBytes s o l (a .first) (a .certifiers .now) (a .n)) (a .out .now) h (c .before .before .before .before .before .before .before .parts-size .result) (omega (arith, size, r)) in
     (ap (λ (x : Written). x .answer) e, c .before .before .write-parts .ensures ∙ ap (λ (x : Written). x .out) e)
 
 pub write-listed-spec : {M : Type 1} → statement M
@@ -87,9 +85,8 @@ write-listed-spec =
     slice-aggregate-find-distances
     slice-aggregate-find-distances-2
     find-distances-requires
-    slice-aggregate-certifiers-size
-    certifiers-size-requires
-    add-size
+    slice-aggregate-parts-size
+    parts-size-requires
     returns
     slice-aggregate-write-parts
     slice-aggregate-write-parts-2

@@ -8,10 +8,10 @@ use Rattle.types.specs.Values.{asLocator}
 use Rattle.reference_bytes.proofs.Written.{length-locatorBytes}
 use Rattle.slip_routes.specs.Reached.{Found}
 use Rattle.slip_certifiers.specs.Ready.{certifiersBytes}
-use Rattle.slip_bytes.proofs.Over.{voted-ready, listed-length, listed-written}
+use Rattle.slip_parts.proofs.Over.{voted-ready, listed-length, listed-written}
 use borrow.Author.Needs.{needs}
-use Rattle.slip_bytes.proofs.write_parts.Statement.{statement}
-use Rattle.slip_bytes.proofs.write_parts.Tie as tie
+use Rattle.slip_parts.proofs.write_parts.Statement.{statement}
+use Rattle.slip_parts.proofs.write_parts.Tie as tie
 
 cast-write-head : tie.Need-cast-write-head
 cast-write-head c = search needs

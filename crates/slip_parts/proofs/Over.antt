@@ -8,10 +8,8 @@ use native.Mathlib.Nat.{zero-add}
 use native.Mathlib.Omega.{arith}
 use lib.ListN.{length, drop, set, length-append}
 use lib.Seq.{sets, sets-eq}
-use borrow.Author.Tests.{lt-ltb, le-ltb}
 use Rattle.base.specs.Lists.{isNone}
 use Rattle.base.specs.Le.{Bytes, leBytes}
-use Rattle.base.specs.Checks.{refused, answered}
 use Rattle.base.proofs.Le.{AllBytes, length-leBytes, sets-append}
 use Rattle.base.proofs.Tests.{not-both}
 use Rattle.blocks.specs.Reference.{TransactionLocator}
@@ -22,7 +20,7 @@ use Rattle.slip_routes.specs.Reached.{Reached}
 use Rattle.slip_table.specs.Table.{placeIn}
 use Rattle.slip_certifiers.specs.Ready.{Ready, certifiersBytes, certifiersSize}
 use Rattle.slip_certifiers.proofs.Written.{certifiers-length}
-use Rattle.slip_bytes.specs.Listed.{Voted, headBytes, listedBytes, writtenOver}
+use Rattle.slip_parts.specs.Listed.{Voted, headBytes, listedBytes}
 
 -- ---- the head
 
@@ -35,17 +33,6 @@ head-written l h out first n =
 head-length : (l : TransactionLocator) → length (locatorBytes l) ≡ 56 → (first n : ℕ) → length (headBytes first l n) ≡ 59
 unfolding headBytes
 head-length l h first n = omega (arith, length-append (locatorBytes l) (leBytes 2 n), length-leBytes 2 n, h)
-
--- ---- the slice
-
-module _ (bytes out : Bytes) where
-  pub over-short : length out < length bytes → record { answer = refused 50; out = out } ≡ writtenOver bytes out
-  unfolding writtenOver
-  over-short h = rw (lt-ltb (length out) (length bytes) h)
-
-  pub over-long : length bytes ≤ length out → (n : ℕ) → n ≡ length bytes → record { answer = answered n; out = bytes ++ drop (length bytes) out } ≡ writtenOver bytes out
-  unfolding writtenOver
-  over-long h n e = rw (e, le-ltb (length out) (length bytes) h)
 
 -- ---- the table
 
