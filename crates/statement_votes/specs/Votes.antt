@@ -1,0 +1,24 @@
+-- What a statement votes for, as the code has it. Assumes nothing: these are definitions.
+use Prim.Native.Nat.{_≤_}
+use mathlib.Core.Path.{_≡_}
+use mathlib.Core.Option.{Option, none, some}
+use Rattle.blocks.specs.Reference.{TransactionLocatorRange, oneRange}
+use Rattle.blocks.specs.Block.{Statement, votedRange}
+use Rattle.types.specs.Values.{asLocator, asRange}
+use Rattle.statement_votes.specs.declared.Vote as votes
+use Rattle.statement_votes.specs.declared.Vote.the-variants as variants
+use Rattle.statement_votes.specs.declared.VotedRange.{VotedRange}
+use Rattle.statement_votes.specs.declared.VotedRange.the-variants.{Range, Nothing}
+
+unfoldable pub asVote : votes.Vote → Option TransactionLocatorRange
+asVote (variants.Locator l) = some (oneRange (asLocator l))
+asVote (variants.Range r) = some (asRange r)
+asVote variants.Nothing = none
+
+unfoldable pub asVoted : VotedRange → Option TransactionLocatorRange
+asVoted (Range r) = some (asRange r)
+asVoted Nothing = none
+
+-- the end of what it votes for is a number of the code, as 27 and 28 have it
+unfoldable pub VoteFits : Statement → Type 0
+VoteFits s = (q : TransactionLocatorRange) → votedRange s ≡ some q → q .end ≤ 18446744073709551615

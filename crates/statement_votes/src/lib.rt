@@ -1,0 +1,47 @@
+// What a statement votes for, beside its own share. Follows types.rs.
+use statement_reader::BaseStatement;
+use types::TransactionLocator;
+use types::TransactionLocatorRange;
+ghost use mathlib.Core.Path.{_≡_};
+ghost use mathlib.Core.List.{[]};
+ghost use Rattle.base.specs.Le.{Bytes};
+ghost use Rattle.blocks.specs.Block.{votedRange};
+ghost use Rattle.statement_reader.specs.Values.{asStatement};
+ghost use Rattle.statement_votes.specs.Votes.{asVote, asVoted, VoteFits};
+
+// The locator of an accept, or a range, or nothing.
+pub enum Vote {
+    Locator(TransactionLocator),
+    Range(TransactionLocatorRange),
+    Nothing,
+}
+
+// The same as a range, or nothing.
+pub enum VotedRange {
+    Range(TransactionLocatorRange),
+    Nothing,
+}
+
+pub fn vote_of(statement: BaseStatement) -> Vote
+    ensures { λ r. ⌜ ((s : Bytes) → asVote r ≡ votedRange (asStatement s statement)) ⌝ }
+{
+    match statement {
+        BaseStatement::Share(_, _) => Vote::Nothing,
+        BaseStatement::Accept(locator) => Vote::Locator(locator),
+        BaseStatement::Reject(_) => Vote::Nothing,
+        BaseStatement::RejectFor(_, _) => Vote::Nothing,
+        BaseStatement::VoteRange(range) => Vote::Range(range),
+    }
+}
+
+pub fn voted_range(statement: BaseStatement) -> VotedRange
+    requires { ⌜ VoteFits (asStatement [] statement) ⌝ }
+    ensures { λ r. ⌜ ((s : Bytes) → asVoted r ≡ votedRange (asStatement s statement)) ⌝ }
+{
+    let vote = vote_of(statement);
+    match vote {
+        Vote::Locator(locator) => VotedRange::Range(TransactionLocatorRange::one(locator)),
+        Vote::Range(range) => VotedRange::Range(range),
+        Vote::Nothing => VotedRange::Nothing,
+    }
+}
