@@ -6,21 +6,13 @@ use mathlib.Core.Option.{Option, none, some}
 use Prim.Native.Nat.{ℕ, _-_, _≤_, _<_}
 use native.Mathlib.Omega.{arith}
 use lib.ListN.{length}
-use borrow.Author.Tests.{le-leb, lt-leb, eq-eqb}
+use borrow.Author.Tests.{le-leb, lt-leb}
 use Rattle.base.specs.Lists.{keep, countFrom}
 use Rattle.base.specs.Le.{Bytes}
 use Rattle.base.proofs.Tests.{and-left, not-both}
 use Rattle.base.proofs.Lists.{every}
 use Rattle.committee.specs.Committee.{AuthorityIndex, Committee, Stake, totalStake}
-use Rattle.base.specs.Checks.{passes}
-use Rattle.base.proofs.Checks.{passes-first}
-use Rattle.blocks.specs.Reference.{TransactionLocatorRange, locator, offsets}
-use Rattle.blocks.specs.Verify.{statementChecks}
-use Rattle.types.specs.Values.{asLocator}
-use Rattle.statement_reader.specs.Values.{asStatement}
-use Rattle.types.specs.declared.TransactionLocator.{TransactionLocator}
-use Rattle.statement_reader.specs.declared.BaseStatement.{BaseStatement}
-use Rattle.statement_reader.specs.declared.BaseStatement.the-variants.{Accept}
+use Rattle.blocks.specs.Reference.{TransactionLocatorRange, offsets}
 use Rattle.blocks.specs.Block.{author}
 use Rattle.blocks.specs.Record.{blockIn}
 use Rattle.store_layout.specs.Layout.{Entry, positionOf, lookup}
@@ -42,11 +34,6 @@ order-formed c es t h = and-left _ _ (sym (order-parts c es t) ∙ h)
 
 pub order-holds : (c : Committee) (es : List Entry) (t : List ℕ) → tableInOrder c es t ≡ true → HoldsItems t
 order-holds c es t h = formed c t (order-formed c es t h) .holds
-
--- an accept that passes its check has a next offset
-pub accept-low : (l : TransactionLocator) (st : BaseStatement) → st ≡ Accept l → passes (statementChecks (asStatement [] st)) ≡ true → l .offset ≡ 18446744073709551615 → ⊥
-unfolding asStatement asLocator locator statementChecks
-accept-low l st e h q = not-both (eq-eqb (l .offset) 18446744073709551615 q) (passes-first _ _ (rw e at h))
 
 silent-stated : (telling : Bool) (n k : ℕ) (vs : List Event) (ev after : List ℕ) → StatedAt n (told telling vs) ev k after → telling ≡ false → after ≡ ev
 unfolding wordsOf flatten

@@ -3,15 +3,12 @@ use Prim.Native.Nat.{ℕ}
 use mathlib.Core.Path.{_≡_}
 use mathlib.Core.Bool.{Bool, true, false}
 use mathlib.Core.List.{List, []}
-use mathlib.Core.Option.{Option, none, some}
 use lib.Dec.{leb}
 use lib.ListN.{length}
 use Rattle.base.specs.Le.{Bytes}
 use Rattle.committee.specs.Committee.{Committee, Stake, totalStake, broken, known}
-use Rattle.blocks.specs.Reference.{TransactionLocatorRange}
 use Rattle.blocks.specs.Block.{author}
 use Rattle.blocks.specs.Record.{wellFormed, blockIn}
-use Rattle.types.specs.Values.{asRange}
 use Rattle.store_layout.specs.Store.{recordsOf}
 use Rattle.store_layout.specs.Accept.{isStored}
 use Rattle.store_layout.specs.Entry.{laidOut}
@@ -19,15 +16,8 @@ use Rattle.pending_items.specs.Items.{Item}
 use Rattle.pending_items.specs.Table.{tableOf, room, tableInOrder}
 use Rattle.feeds.specs.ProcessBlock.{Processing}
 use Rattle.counted_vote.specs.declared.Processed.{Processed}
-use Rattle.counted_vote.specs.declared.VotedRange.{VotedRange}
-use Rattle.counted_vote.specs.declared.VotedRange.the-variants.{Over, Nothing}
 use Rattle.events.specs.Step.{StatedAt, told}
 use Rattle.missed_events.specs.Kinds.{withNew}
-
--- the range of a statement that votes
-unfoldable pub asVoted : VotedRange → Option TransactionLocatorRange
-asVoted (Over r) = some (asRange r)
-asVoted Nothing = none
 
 -- items before any vote is counted
 abbrev pub startingWith : List Item → Processing

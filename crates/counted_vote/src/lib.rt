@@ -1,69 +1,35 @@
 // One vote counted on a lent table: the cuts, the vote, its events, and items with quorum leave. Follows committee.rs (`TransactionAggregator`).
 use committee::Stake;
 use statement_reader::BaseStatement;
+use statement_votes::VotedRange;
 use types::BlockReference;
-use types::TransactionLocator;
 use types::TransactionLocatorRange;
 ghost use mathlib.Core.Path.{_≡_};
 ghost use mathlib.Core.Bool.{true, false};
 ghost use mathlib.Core.Option.{some};
 ghost use mathlib.Core.List.{[]};
 ghost use lib.ListN.{length};
-ghost use Rattle.base.specs.Le.{Bytes};
 ghost use Rattle.base.specs.Checks.{passes};
-ghost use Rattle.blocks.specs.Reference.{oneRange};
 ghost use Rattle.blocks.specs.Block.{author, votedRange, countedOffsets};
 ghost use Rattle.blocks.specs.Record.{blockIn, wellFormed};
-ghost use Rattle.types.specs.Values.{asReference, asLocator, asRange};
+ghost use Rattle.types.specs.Values.{asReference, asRange};
 ghost use Rattle.statement_reader.specs.Values.{asStatement};
 ghost use Rattle.blocks.specs.Verify.{statementChecks};
 ghost use Rattle.pending_items.specs.Table.{itemsOf, HoldsItems};
 ghost use Rattle.feeds.specs.ProcessBlock.{vote};
 ghost use Rattle.events.specs.Step.{eventsBetween, StatedAt, told};
 ghost use Rattle.missed_events.specs.Kinds.{withNew};
-ghost use Rattle.counted_vote.specs.Vote.{asVoted, startingWith, VotesCounted, Voting};
+ghost use Rattle.counted_vote.specs.Vote.{startingWith, VotesCounted, Voting};
 ghost use Prim.Native.Nat.{_+_, _-_, _*_, _≤_};
 ghost use Rattle.store_layout.specs.Layout.{positionOf, lookup};
 ghost use Rattle.store_layout.specs.Accept.{isStored};
 ghost use Rattle.store_layout.specs.Store.{recordsOf};
 ghost use Rattle.store_layout.specs.Entry.{laidOut};
 
-// The locators for which a statement votes, if it does.
-enum VotedRange {
-    Over(TransactionLocatorRange),
-    Nothing,
-}
-
 // Whether the items fit the table (14), and the number of events that are written then.
 pub struct Processed {
     pub fits: bool,
     pub events: usize,
-}
-
-// The range of an accept that passes its check (28).
-fn accept_range(locator: TransactionLocator) -> TransactionLocatorRange
-    requires { ⌜ (locator .offset ≡ 18446744073709551615 → ⊥) ⌝ }
-    ensures { λ r. ⌜ asRange r ≡ oneRange (asLocator locator) ⌝ }
-{
-    let block = locator.block;
-    let offset = locator.offset;
-    TransactionLocatorRange::one(TransactionLocator { block, offset })
-}
-
-fn voted_range(statement: BaseStatement) -> VotedRange
-    requires { ⌜ passes (statementChecks (asStatement [] statement)) ≡ true ⌝ }
-    ensures { λ r. ⌜ ((rec : Bytes) → asVoted r ≡ votedRange (asStatement rec statement)) ⌝ }
-{
-    match statement {
-        BaseStatement::Share(_, _) => VotedRange::Nothing,
-        BaseStatement::Accept(locator) => {
-            let range = accept_range(locator);
-            VotedRange::Over(range)
-        }
-        BaseStatement::Reject(_) => VotedRange::Nothing,
-        BaseStatement::RejectFor(_, _) => VotedRange::Nothing,
-        BaseStatement::VoteRange(range) => VotedRange::Over(range),
-    }
 }
 
 // The events of a vote, unless it is only tried.
@@ -173,7 +139,7 @@ pub fn vote_statement(
     requires room { ⌜ (telling ≡ true → 3 * (n + countedOffsets (votedRange (asStatement (now rec) statement))) ≤ length (now events)) ⌝ }
     ensures { λ r. ⌜ VotesCounted (vote (now (stakes .entry)) (withNew (now (store .entry)) (now (rec .entry))) (author (blockIn (now (rec .entry)))) index (votedRange (asStatement (now (rec .entry)) statement)) (startingWith (itemsOf (now (table .entry))))) telling n (now (table .entry)) (now (events .entry)) r (now (table .exit)) (now (events .exit)) ⌝ }
 {
-    let VotedRange::Over(range) = voted_range(statement) else {
+    let VotedRange::Range(range) = statement_votes::voted_range(statement) else {
         return Processed {
             fits: true,
             events: n,

@@ -1,5 +1,4 @@
 -- What a statement votes for, as the code has it. Assumes nothing: these are definitions.
-use Prim.Native.Nat.{_≤_}
 use mathlib.Core.Path.{_≡_}
 use mathlib.Core.Option.{Option, none, some}
 use Rattle.blocks.specs.Reference.{TransactionLocatorRange, oneRange}
@@ -19,6 +18,6 @@ unfoldable pub asVoted : VotedRange → Option TransactionLocatorRange
 asVoted (Range r) = some (asRange r)
 asVoted Nothing = none
 
--- the end of what it votes for is a number of the code, as 27 and 28 have it
-unfoldable pub VoteFits : Statement → Type 0
-VoteFits s = (q : TransactionLocatorRange) → votedRange s ≡ some q → q .end ≤ 18446744073709551615
+-- 28 refuses an accept of the last offset, so that the end of what a statement votes for is a number of the code
+unfoldable pub EndsInside : Statement → Type 0
+EndsInside s = (q : TransactionLocatorRange) → votedRange s ≡ some q → q .end ≡ 18446744073709551616 → ⊥

@@ -7,7 +7,7 @@ ghost use mathlib.Core.List.{[]};
 ghost use Rattle.base.specs.Le.{Bytes};
 ghost use Rattle.blocks.specs.Block.{votedRange};
 ghost use Rattle.statement_reader.specs.Values.{asStatement};
-ghost use Rattle.statement_votes.specs.Votes.{asVote, asVoted, VoteFits};
+ghost use Rattle.statement_votes.specs.Votes.{asVote, asVoted, EndsInside};
 
 // The locator of an accept, or a range, or nothing.
 pub enum Vote {
@@ -35,12 +35,16 @@ pub fn vote_of(statement: BaseStatement) -> Vote
 }
 
 pub fn voted_range(statement: BaseStatement) -> VotedRange
-    requires { ⌜ VoteFits (asStatement [] statement) ⌝ }
+    requires { ⌜ EndsInside (asStatement [] statement) ⌝ }
     ensures { λ r. ⌜ ((s : Bytes) → asVoted r ≡ votedRange (asStatement s statement)) ⌝ }
 {
     let vote = vote_of(statement);
     match vote {
-        Vote::Locator(locator) => VotedRange::Range(TransactionLocatorRange::one(locator)),
+        Vote::Locator(locator) => {
+            let block = locator.block;
+            let offset = locator.offset;
+            VotedRange::Range(TransactionLocatorRange::one(TransactionLocator { block, offset }))
+        }
         Vote::Range(range) => VotedRange::Range(range),
         Vote::Nothing => VotedRange::Nothing,
     }

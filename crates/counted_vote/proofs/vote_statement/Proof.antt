@@ -2,14 +2,15 @@ use mathlib.Core.Path.{refl, sym, ap, _∙_}
 use Rattle.blocks.specs.Reference.{newRange}
 use Rattle.blocks.specs.Block.{countedOffsets}
 use Rattle.types.specs.Values.{asRange}
-use Rattle.counted_vote.specs.Vote.{asVoted}
+use Rattle.statement_votes.specs.Votes.{asVoted}
+use Rattle.statement_votes.proofs.Ends.{checked-inside}
 use Rattle.counted_vote.proofs.Votes.{order-holds, vote-nothing}
 use borrow.Author.Needs.{needs}
 use Rattle.counted_vote.proofs.vote_statement.Statement.{statement}
 use Rattle.counted_vote.proofs.vote_statement.Tie as tie
 
 voted-range-requires : tie.Need-voted-range-requires
-voted-range-requires c κs = search needs
+voted-range-requires c κs = checked-inside _ (c .before .before .before .before .before .pre .1 .0)
 
 enum-known-range : tie.Need-enum-known-range
 enum-known-range c = search needs

@@ -4,7 +4,7 @@ use mathlib.Core.Option.{some}
 use native.Mathlib.Omega.{arith}
 use Rattle.blocks.specs.Reference.{locator, newRange, oneRange}
 use Rattle.types.specs.Values.{asLocator}
-use Rattle.statement_votes.specs.Votes.{asVote, asVoted, VoteFits}
+use Rattle.statement_votes.specs.Votes.{asVote, asVoted, EndsInside}
 use borrow.Author.Needs.{needs}
 use Rattle.statement_votes.proofs.voted_range.Statement.{statement}
 use Rattle.statement_votes.proofs.voted_range.Tie as tie
@@ -16,10 +16,11 @@ enum-known-vote : tie.Need-enum-known-vote
 enum-known-vote c = search needs
 
 one-requires : tie.Need-one-requires
-unfolding VoteFits asVote asLocator oneRange newRange locator
+unfolding EndsInside asVote asLocator oneRange newRange locator
 one-requires c κs =
-    let e = rw (c .before .vote .given .1) at (c .before .before .before .vote-of .ensures []) in
-    omega (arith, c .before .before .before .before .pre _ (sym e))
+    let e = rw (c .before .before .vote .given .1) at (c .before .before .before .before .vote-of .ensures []) in
+    let inside = c .before .before .before .before .before .pre _ (sym e) in
+    omega (arith, inside)
 
 enum-known-vote-2 : tie.Need-enum-known-vote-2
 enum-known-vote-2 c = search needs
@@ -29,7 +30,7 @@ enum-told c = search needs
 
 returns : tie.Need-returns
 unfolding asVote asVoted
-returns c = λ s. ap some (c .one .ensures) ∙ (rw (c .before .before .vote .given .1) at (c .before .before .before .before .vote-of .ensures s))
+returns c = λ s. ap some (c .one .ensures) ∙ (rw (c .before .before .before .vote .given .1) at (c .before .before .before .before .before .vote-of .ensures s))
 
 returns-2 : tie.Need-returns-2
 unfolding asVote asVoted
