@@ -20,6 +20,7 @@ use Rattle.statement_reader.specs.declared.BaseStatement.{BaseStatement}
 use Rattle.statement_reader.specs.declared.BaseStatement.the-variants.{Share, Accept, Reject, RejectFor, VoteRange}
 use Rattle.finality.proofs.Fits.{block-fits}
 use Rattle.store_layout.proofs.Ends.{AcceptsLower, accepts-lower, vote-end, span-end}
+use Rattle.statement_votes.specs.Votes.{EndsInside}
 use Rattle.block_spans.specs.Joined.{VoteFits, VotesFit}
 
 -- ---- the ends of votes
@@ -51,6 +52,6 @@ voted-free s t (Reject l) = refl
 voted-free s t (RejectFor l m) = refl
 voted-free s t (VoteRange q) = refl
 
-pub vote-fits : (b : Block) → VotesFit b → (s t : Bytes) (x : BaseStatement) → asStatement s x ∈ b .statements → VoteFits (asStatement t x)
-unfolding VotesFit VoteFits
-vote-fits b f s t x m q e = f (asStatement s x) m q (voted-free s t x ∙ e)
+pub vote-inside : (b : Block) → VotesFit b → (s t : Bytes) (x : BaseStatement) → asStatement s x ∈ b .statements → EndsInside (asStatement t x)
+unfolding VotesFit VoteFits EndsInside
+vote-inside b f s t x m q e h = omega (arith, f (asStatement s x) m q (voted-free s t x ∙ e), h)

@@ -22,9 +22,17 @@ use Rattle.base.specs.Le.{Bytes}
 use Rattle.statement_cursor.specs.Cursor.{cursorAt}
 use Rattle.statement_cursor.specs.declared.StatementCursor.{StatementCursor}
 use Rattle.base.proofs.Lists.{any-append}
-use Rattle.block_spans.specs.declared.Vote.{Vote}
+use Rattle.statement_votes.specs.declared.VotedRange.{VotedRange}
 use Rattle.block_spans.specs.Answers.{votedBy, OnwardIn}
 use Rattle.block_spans.specs.Joined.{beginsShare, lengthened, joinedFrom, joinedAt, joinedSpans}
+use Rattle.statement_votes.specs.declared.VotedRange.the-variants.{Range, Nothing}
+use Rattle.statement_votes.specs.Votes.{asVoted}
+
+-- a vote as a list
+pub voted-ranges : (v : VotedRange) → votedBy v ≡ Option·toList (asVoted v)
+unfolding votedBy asVoted Option·toList
+voted-ranges (Range q) = refl
+voted-ranges Nothing = refl
 
 -- ---- a run in front
 
@@ -155,7 +163,7 @@ module _ (b : Block) (i : ℕ) where
     run-told e r next q = rw q (joined-shares e, (omega (arith, leading-some e), (leading-inside, refl)))
 
     -- a vote told, or none
-    pub vote-told : isShare (getD (b .statements) i noStatement) ≡ false → (vote : Vote) → votedBy vote ≡ Option·toList (votedRange (getD (b .statements) i noStatement))
+    pub vote-told : isShare (getD (b .statements) i noStatement) ≡ false → (vote : VotedRange) → votedBy vote ≡ Option·toList (votedRange (getD (b .statements) i noStatement))
         → (r : Bytes) (next : StatementCursor) → next ≡ cursorAt r (i + 1) → (joinedAt b i ≡ votedBy vote ++ joinedAt b (next .index)) × OnwardIn b r i next
     unfolding OnwardIn cursorAt
     vote-told e vote v r next q = rw (q, v) (joined-vote e, (omega arith, (omega arith, refl)))

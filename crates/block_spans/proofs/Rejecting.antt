@@ -23,7 +23,7 @@ use Rattle.statement_cursor.specs.Cursor.{cursorAt}
 use Rattle.statement_cursor.specs.declared.StatementCursor.{StatementCursor}
 use Rattle.readings.specs.Rejecting.{rejectedIn, rejections, rejects}
 use Rattle.readings.proofs.Rejecting.{listed}
-use Rattle.block_spans.specs.declared.Vote.{Vote}
+use Rattle.statement_votes.specs.declared.VotedRange.{VotedRange}
 use Rattle.block_spans.specs.Answers.{votedBy, OnwardIn}
 use Rattle.block_spans.specs.Ranges.{rejectedRange, rejectRanges, rangesAt, rangesOf}
 use Rattle.block_spans.proofs.Joining.{joined-end}
@@ -36,7 +36,7 @@ ranges-end true b i h = rw (drop-of-length-le (b .statements) h)
 ranges-end false b i h = joined-end b i h
 
 -- what one statement rejects, or nothing
-pub reject-told : (b : Block) (i : ℕ) → i < length (b .statements) → (vote : Vote) → votedBy vote ≡ rejectRanges (getD (b .statements) i noStatement)
+pub reject-told : (b : Block) (i : ℕ) → i < length (b .statements) → (vote : VotedRange) → votedBy vote ≡ rejectRanges (getD (b .statements) i noStatement)
     → (r : Bytes) (next : StatementCursor) → next ≡ cursorAt r (i + 1) → (rangesAt true b i ≡ votedBy vote ++ rangesAt true b (next .index)) × OnwardIn b r i next
 unfolding rangesAt flatten OnwardIn cursorAt
 reject-told b i h vote v r next q = rw (q, v) (rw (drop-cons (b .statements) i noStatement h, add-one i), (omega arith, (omega arith, refl)))

@@ -9,11 +9,11 @@ use Rattle.blocks.specs.Block.{Block}
 use Rattle.types.specs.Values.{asRange}
 use Rattle.statement_cursor.specs.Cursor.{cursorAt}
 use Rattle.statement_cursor.specs.declared.StatementCursor.{StatementCursor}
-use Rattle.block_spans.specs.declared.Vote.{Vote}
-use Rattle.block_spans.specs.declared.Vote.the-variants.{Range, Nothing}
+use Rattle.statement_votes.specs.declared.VotedRange.{VotedRange}
+use Rattle.statement_votes.specs.declared.VotedRange.the-variants.{Range, Nothing}
 
--- the ranges voted for
-unfoldable pub votedBy : Vote → List TransactionLocatorRange
+-- the range voted for, or rejected, in a list
+unfoldable pub votedBy : VotedRange → List TransactionLocatorRange
 votedBy (Range q) = asRange q ∷ []
 votedBy Nothing = []
 

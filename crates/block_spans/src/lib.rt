@@ -2,70 +2,50 @@
 // Rust asks for votes alone.
 use statement_cursor::StatementCursor;
 use statement_reader::BaseStatement;
+use statement_votes::VotedRange;
 use types::BlockReference;
 use types::TransactionLocator;
 use types::TransactionLocatorRange;
 ghost use mathlib.Core.Path.{_≡_};
 ghost use mathlib.Core.Bool.{true};
-ghost use mathlib.Core.List.{[], _++_, Option·toList};
+ghost use mathlib.Core.List.{_++_};
 ghost use Prim.Native.Nat.{_<_};
 ghost use lib.ListN.{length};
 ghost use Rattle.base.specs.Le.{Bytes};
-ghost use Rattle.blocks.specs.Block.{votedRange};
 ghost use Rattle.blocks.specs.Record.{wellFormed, blockIn};
 ghost use Rattle.types.specs.Values.{asReference, asLocator};
 ghost use Rattle.statement_reader.specs.Values.{asStatement};
 ghost use Rattle.statement_cursor.specs.Cursor.{cursorAt};
-ghost use Rattle.block_spans.specs.Joined.{VoteFits, VotesFit};
+ghost use Rattle.block_spans.specs.Joined.{VotesFit};
 ghost use Rattle.block_spans.specs.Ranges.{rejectedRange, rejectRanges, rangesAt};
 ghost use Rattle.block_spans.specs.Answers.{votedBy, OnwardIn};
 
-// A range that is voted for, or rejected, or none.
-pub enum Vote {
-    Range(TransactionLocatorRange),
-    Nothing,
-}
-
 // What the statements at a place vote for, or reject, and the place after them.
 pub struct NextSpan {
-    pub vote: Vote,
+    pub vote: VotedRange,
     pub next: StatementCursor,
 }
 
-// What an accept or a range votes for; nothing else does here.
-fn voted(statement: BaseStatement) -> Vote
-    requires { ⌜ VoteFits (asStatement [] statement) ⌝ }
-    ensures { λ r. ⌜ ((s : Bytes) → votedBy r ≡ Option·toList (votedRange (asStatement s statement))) ⌝ }
-{
-    match statement {
-        BaseStatement::Share(_, _) => Vote::Nothing,
-        BaseStatement::Accept(l) => Vote::Range(TransactionLocatorRange::one(l)),
-        BaseStatement::Reject(_) => Vote::Nothing,
-        BaseStatement::RejectFor(_, _) => Vote::Nothing,
-        BaseStatement::VoteRange(r) => Vote::Range(r),
-    }
-}
-
 // A rejected locator as a range. No vote reaches the last offset, so a reject of it counts for nothing.
-fn rejected_range(locator: TransactionLocator) -> Vote
+fn rejected_range(locator: TransactionLocator) -> VotedRange
     ensures { λ r. ⌜ votedBy r ≡ rejectedRange (asLocator locator) ⌝ }
 {
     if locator.offset == types::LAST_OFFSET {
-        return Vote::Nothing;
+        return VotedRange::Nothing;
     }
-    Vote::Range(TransactionLocatorRange::one(locator))
+    VotedRange::Range(TransactionLocatorRange::one(locator))
 }
 
 // What a reject rejects: its first locator. Nothing else does.
-fn rejected(statement: BaseStatement) -> Vote
+fn rejected(statement: BaseStatement) -> VotedRange
     ensures { λ r. ⌜ ((s : Bytes) → votedBy r ≡ rejectRanges (asStatement s statement)) ⌝ }
 {
     match statement {
-        BaseStatement::Share(_, _) => Vote::Nothing,
-        BaseStatement::Accept(_) => Vote::Nothing,
+        BaseStatement::Share(_, _) => VotedRange::Nothing,
+        BaseStatement::Accept(_) => VotedRange::Nothing,
         BaseStatement::Reject(l) => rejected_range(l),
         BaseStatement::RejectFor(l, _) => rejected_range(l),
-        BaseStatement::VoteRange(_) => Vote::Nothing,
+        BaseStatement::VoteRange(_) => VotedRange::Nothing,
     }
 }
 
@@ -94,10 +74,10 @@ pub fn next_span(
             offset_start_inclusive: cursor.index as u64,
             offset_end_exclusive: next.index as u64,
         };
-        let vote = Vote::Range(range);
+        let vote = VotedRange::Range(range);
         return NextSpan { vote, next };
     }
-    let vote = voted(statement);
+    let vote = statement_votes::voted_range(statement);
     let next = found.next;
     NextSpan { vote, next }
 }

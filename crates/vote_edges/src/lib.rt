@@ -1,5 +1,5 @@
 // Where votes, or rejects, begin and end: the least offset of a block above a given one at which one of some stored blocks does.
-use block_spans::Vote;
+use statement_votes::VotedRange;
 use types::BlockReference;
 use types::TransactionLocatorRange;
 ghost use mathlib.Core.Path.{_≡_};
@@ -59,7 +59,7 @@ fn record_edges(rec: &[u8], block: BlockReference, offset: u64, best: u64, rejec
         let found = block_spans::next_span(rec, of, cursor, rejecting);
         let vote = found.vote;
         cursor = found.next;
-        let Vote::Range(range) = vote else {
+        let VotedRange::Range(range) = vote else {
             continue;
         };
         near = range_edges(block, offset, near, range);

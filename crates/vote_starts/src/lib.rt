@@ -1,6 +1,6 @@
 // Where votes begin, or rejects end: the least locator after a given one at which a vote of some stored blocks begins, or just after one that they reject.
 // Follows finalization_interpreter.rs; the Rust asks for votes alone.
-use block_spans::Vote;
+use statement_votes::VotedRange;
 use types::TransactionLocator;
 use types::TransactionLocatorRange;
 ghost use mathlib.Core.Path.{_≡_};
@@ -87,7 +87,7 @@ fn least_start_in(
         let found = block_spans::next_span(rec, block, cursor, rejecting);
         let vote = found.vote;
         cursor = found.next;
-        let Vote::Range(range) = vote else {
+        let VotedRange::Range(range) = vote else {
             continue;
         };
         least = lesser(least, last, start_of(range, rejecting));

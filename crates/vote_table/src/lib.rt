@@ -1,5 +1,5 @@
 // The votes of the stored blocks in a table of four words each, and their rejects behind them, as far as it reaches.
-use block_spans::Vote;
+use statement_votes::VotedRange;
 use types::BlockReference;
 use types::TransactionLocator;
 use vote_starts::MaybeLocator;
@@ -77,7 +77,7 @@ fn table_record(
         let vote = found.vote;
         let here = cursor.at;
         cursor = found.next;
-        let Vote::Range(range) = vote else {
+        let VotedRange::Range(range) = vote else {
             continue;
         };
         if votes.len() - vote_rows::ROW_WORDS * n < vote_rows::ROW_WORDS {

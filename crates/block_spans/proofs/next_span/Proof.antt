@@ -3,15 +3,15 @@ use mathlib.Core.Bool.{true, false}
 use mathlib.Core.List.{[], Option·toList}
 use lib.ListN.{getD}
 use Rattle.blocks.specs.Reference.{newRange}
-use Rattle.blocks.specs.Block.{Statement, isShare, votedRange}
+use Rattle.blocks.specs.Block.{isShare, votedRange}
 use Rattle.blocks.specs.Record.{blockIn, noStatement}
 use Rattle.types.specs.Values.{asRange}
 use Rattle.base.proofs.Places.{in-place}
 use Rattle.block_spans.specs.Answers.{votedBy}
 use Rattle.block_spans.specs.Ranges.{rejectRanges, rangesAt}
-use Rattle.block_spans.proofs.Joining.{run-told, vote-told}
+use Rattle.block_spans.proofs.Joining.{voted-ranges, run-told, vote-told}
 use Rattle.block_spans.proofs.Rejecting.{reject-told}
-use Rattle.block_spans.proofs.Fits.{vote-fits}
+use Rattle.block_spans.proofs.Fits.{vote-inside}
 use borrow.Author.Needs.{needs}
 use Rattle.block_spans.proofs.next_span.Statement.{statement}
 use Rattle.block_spans.proofs.next_span.Tie as tie
@@ -43,11 +43,11 @@ returns-2 c = let a = c .before .before .before .before .before .before .args in
     let e : isShare (getD (b .statements) (a .cursor .index) noStatement) ≡ true = rw (← c .before .before .before .before .next-statement .ensures .0) (sym (c .before .before .is-share .ensures (a .rec .now)) ∙ c .before .if2 .taken) in
     rw (p .1 .0, c .before .before .before .if1 .left) (run-told b (a .cursor .index) (p .1 .1 .1) e (a .rec .now) (c .skip-statements .result) (c .skip-statements .ensures))
 
-voted-requires : tie.Need-voted-requires
-voted-requires c κs = let a = c .before .before .before .before .before .args in
+voted-range-requires : tie.Need-voted-range-requires
+voted-range-requires c κs = let a = c .before .before .before .before .before .args in
     let b = blockIn (a .rec .now) in
     let p = c .before .before .before .before .before .pre in
-    vote-fits b (p .0 .1) (a .rec .now) [] _ (rw (c .before .before .before .next-statement .ensures .0) (in-place noStatement (b .statements) (a .cursor .index) (p .1 .1 .1)))
+    vote-inside b (p .0 .1) (a .rec .now) [] _ (rw (c .before .before .before .next-statement .ensures .0) (in-place noStatement (b .statements) (a .cursor .index) (p .1 .1 .1)))
 
 returns-3 : tie.Need-returns-3
 unfolding rangesAt
@@ -56,7 +56,7 @@ returns-3 c = let a = c .before .before .before .before .before .before .before 
     let p = c .before .before .before .before .before .before .before .pre in
     let s = c .before .before .before .before .before .next-statement .ensures in
     let e : isShare (getD (b .statements) (a .cursor .index) noStatement) ≡ false = rw (← s .0) (sym (c .before .before .before .is-share .ensures (a .rec .now)) ∙ c .before .before .if2 .left) in
-    rw (c .before .before .before .before .if1 .left) (vote-told b (a .cursor .index) (p .1 .1 .1) e (c .before .voted .result) (c .before .voted .ensures (a .rec .now) ∙ ap (λ (x : Statement). Option·toList (votedRange x)) (s .0)) (a .rec .now) (c .before .before .before .before .before .next-statement .result .next) (s .1 .0))
+    rw (c .before .before .before .before .if1 .left) (vote-told b (a .cursor .index) (p .1 .1 .1) e (c .before .voted-range .result) (voted-ranges (c .before .voted-range .result) ∙ ap Option·toList (c .before .voted-range .ensures (a .rec .now) ∙ ap votedRange (s .0))) (a .rec .now) (c .before .before .before .before .before .next-statement .result .next) (s .1 .0))
 
 pub next-span-spec : {M : Type 1} → statement M
 next-span-spec =
@@ -68,5 +68,5 @@ next-span-spec =
     is-share-requires
     skip-statements-requires
     returns-2
-    voted-requires
+    voted-range-requires
     returns-3)

@@ -1,7 +1,7 @@
 use Rattle.vote_edges.proofs.Scanning.{edges-one, edges-start, edges-end, edges-on, edges-none}
 use Rattle.vote_edges.specs.Edges.{edgesIn}
 use Rattle.stretches.specs.Stretches.{nearest}
-use Rattle.block_spans.specs.declared.Vote.{Vote}
+use Rattle.statement_votes.specs.declared.VotedRange.{VotedRange}
 use Rattle.block_spans.specs.Ranges.{rangesAt, rangesOf}
 use Rattle.block_spans.specs.Answers.{votedBy, OnwardIn}
 use Rattle.statement_cursor.specs.Cursor.{cursorAt}
@@ -57,7 +57,7 @@ loop-again c = let a = c .before .before .before .before .before .before .before
     let g = c .before .before .before .before .before .before .loop in
     let i = g .cursor .index in
     let n = c .before .before .before .next-span .result .next .index in
-    let e : rangesAt (a .rejecting) b i ≡ [] ++ rangesAt (a .rejecting) b n = c .before .before .before .next-span .ensures .0 ∙ ap (λ (v : Vote). votedBy v ++ rangesAt (a .rejecting) b n) (c .enum-told .given .1) in
+    let e : rangesAt (a .rejecting) b i ≡ [] ++ rangesAt (a .rejecting) b n = c .before .before .before .next-span .ensures .0 ∙ ap (λ (v : VotedRange). votedBy v ++ rangesAt (a .rejecting) b n) (c .enum-told .given .1) in
     (c .before .before .before .next-span .ensures .1 .1 .1, (c .before .before .before .next-span .ensures .1 .1 .0, g .inv .1 .1 ∙ edges-on (a .rejecting) r (a .offset) b i n [] (g .near) (g .near) e (edges-none (a .rejecting) r (a .offset) b (g .near))))
 
 range-edges-requires : tie.Need-range-edges-requires Inv-loop μ-loop
@@ -76,7 +76,7 @@ loop-again-2 c = let a = c .before .before .before .before .before .before .befo
     let i = g .cursor .index in
     let n = c .before .before .before .before .before .next-span .result .next .index in
     let q = c .before .before .vote .given .0 .0 in
-    let e : rangesAt (a .rejecting) b i ≡ (asRange q ∷ []) ++ rangesAt (a .rejecting) b n = c .before .before .before .before .before .next-span .ensures .0 ∙ ap (λ (v : Vote). votedBy v ++ rangesAt (a .rejecting) b n) (c .before .before .vote .given .1) in
+    let e : rangesAt (a .rejecting) b i ≡ (asRange q ∷ []) ++ rangesAt (a .rejecting) b n = c .before .before .before .before .before .next-span .ensures .0 ∙ ap (λ (v : VotedRange). votedBy v ++ rangesAt (a .rejecting) b n) (c .before .before .vote .given .1) in
     (c .before .before .before .before .before .next-span .ensures .1 .1 .1, (c .before .before .before .before .before .next-span .ensures .1 .1 .0, g .inv .1 .1 ∙ edges-on (a .rejecting) r (a .offset) b i n (asRange q ∷ []) (g .near) (c .range-edges .result) e (c .range-edges .ensures ∙ edges-one r (asRange q) (a .offset) (g .near))))
 
 returns : tie.Need-returns Inv-loop μ-loop

@@ -1,7 +1,7 @@
 use Rattle.vote_starts.proofs.Minimum.{lesser-none, leastFrom, least-start, least-end, least-on}
 use Rattle.vote_starts.specs.Walk.{startOf, lesserOf}
 use Rattle.vote_starts.specs.Answers.{asMaybe}
-use Rattle.block_spans.specs.declared.Vote.{Vote}
+use Rattle.statement_votes.specs.declared.VotedRange.{VotedRange}
 use Rattle.block_spans.specs.Ranges.{rangesAt, rangesOf}
 use Rattle.block_spans.specs.Answers.{votedBy, OnwardIn}
 use Rattle.finality.specs.NextFinal.{isAfter, leastLocator}
@@ -60,7 +60,7 @@ loop-again c = let a = c .before .before .before .before .before .before .before
     let g = c .before .before .before .before .before .before .loop in
     let i = g .cursor .index in
     let n = c .before .before .before .next-span .result .next .index in
-    let e : rangesAt (a .rejecting) b i ≡ [] ++ rangesAt (a .rejecting) b n = c .before .before .before .next-span .ensures .0 ∙ ap (λ (v : Vote). votedBy v ++ rangesAt (a .rejecting) b n) (c .enum-told .given .1) in
+    let e : rangesAt (a .rejecting) b i ≡ [] ++ rangesAt (a .rejecting) b n = c .before .before .before .next-span .ensures .0 ∙ ap (λ (v : VotedRange). votedBy v ++ rangesAt (a .rejecting) b n) (c .enum-told .given .1) in
     (c .before .before .before .next-span .ensures .1 .1 .1, (c .before .before .before .next-span .ensures .1 .1 .0, g .inv .1 .1 ∙ least-on (a .rejecting) b p i n [] (asMaybe (g .least)) (asMaybe (g .least)) e (sym (lesser-none (asMaybe (g .least))))))
 
 start-of-requires : tie.Need-start-of-requires Inv-loop μ-loop
@@ -82,7 +82,7 @@ loop-again-2 c = let a = c .before .before .before .before .before .before .befo
     let i = g .cursor .index in
     let n = c .before .before .before .before .before .before .next-span .result .next .index in
     let q = c .before .before .before .vote .given .0 .0 in
-    let e : rangesAt (a .rejecting) b i ≡ (asRange q ∷ []) ++ rangesAt (a .rejecting) b n = c .before .before .before .before .before .before .next-span .ensures .0 ∙ ap (λ (v : Vote). votedBy v ++ rangesAt (a .rejecting) b n) (c .before .before .before .vote .given .1) in
+    let e : rangesAt (a .rejecting) b i ≡ (asRange q ∷ []) ++ rangesAt (a .rejecting) b n = c .before .before .before .before .before .before .next-span .ensures .0 ∙ ap (λ (v : VotedRange). votedBy v ++ rangesAt (a .rejecting) b n) (c .before .before .before .vote .given .1) in
     let f = c .lesser .ensures ∙ ap (λ (l : TransactionLocator). lesserOf (asMaybe (g .least)) (leastLocator (keep p (l ∷ [])))) (c .before .start-of .ensures) in
     (c .before .before .before .before .before .before .next-span .ensures .1 .1 .1, (c .before .before .before .before .before .before .next-span .ensures .1 .1 .0, g .inv .1 .1 ∙ least-on (a .rejecting) b p i n (asRange q ∷ []) (asMaybe (g .least)) (asMaybe (c .lesser .result)) e f))
 

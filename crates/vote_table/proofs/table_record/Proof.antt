@@ -1,6 +1,6 @@
 use Rattle.vote_table.proofs.Table.{record-start, record-none, record-one}
 use Rattle.vote_table.specs.Table.{Recorded, RecordedBy}
-use Rattle.block_spans.specs.declared.Vote.{Vote}
+use Rattle.statement_votes.specs.declared.VotedRange.{VotedRange}
 use Rattle.block_spans.specs.Ranges.{rangesAt}
 use Rattle.block_spans.specs.Answers.{votedBy, OnwardIn}
 use Rattle.statement_cursor.specs.Cursor.{cursorAt}
@@ -57,7 +57,7 @@ loop-again c = let a = (c .before .before .before .before .before .before .befor
     let g = (c .before .before .before .before .before .before .loop) in
     let i = g .cursor .index in
     let n = (c .before .before .before .next-span) .result .next .index in
-    let e : rangesAt (a .rejecting) b i ≡ [] ++ rangesAt (a .rejecting) b n = (c .before .before .before .next-span) .ensures .0 ∙ ap (λ (v : Vote). votedBy v ++ rangesAt (a .rejecting) b n) ((c .enum-told) .given .1) in
+    let e : rangesAt (a .rejecting) b i ≡ [] ++ rangesAt (a .rejecting) b n = (c .before .before .before .next-span) .ensures .0 ∙ ap (λ (v : VotedRange). votedBy v ++ rangesAt (a .rejecting) b n) ((c .enum-told) .given .1) in
     ((c .before .before .before .next-span) .ensures .1 .1 .1, ((c .before .before .before .next-span) .ensures .1 .1 .0, record-none (a .rejecting) (a .store .now) b (a .k) (a .votes .now) (a .m) (g .votes) (g .n) i n (g .inv .1 .1) e))
 
 mul-if2 : tie.Need-mul-if2 Inv-loop μ-loop
@@ -104,7 +104,7 @@ loop-again-2 c = let a = (c .before .before .before .before .before .before .bef
     let i = g .cursor .index in
     let n = (c .before .before .before .before .before .before .before .before .before .before .before .before .next-span) .result .next .index in
     let q = (c .before .before .before .before .before .before .before .before .before .vote) .given .0 .0 in
-    let e : rangesAt (a .rejecting) b i ≡ (asRange q ∷ []) ++ rangesAt (a .rejecting) b n = (c .before .before .before .before .before .before .before .before .before .before .before .before .next-span) .ensures .0 ∙ ap (λ (v : Vote). votedBy v ++ rangesAt (a .rejecting) b n) ((c .before .before .before .before .before .before .before .before .before .vote) .given .1) in
+    let e : rangesAt (a .rejecting) b i ≡ (asRange q ∷ []) ++ rangesAt (a .rejecting) b n = (c .before .before .before .before .before .before .before .before .before .before .before .before .next-span) .ensures .0 ∙ ap (λ (v : VotedRange). votedBy v ++ rangesAt (a .rejecting) b n) ((c .before .before .before .before .before .before .before .before .before .vote) .given .1) in
     rw ((c .before .before .write-row) .ensures) ((c .before .before .before .before .before .before .before .before .before .before .before .before .next-span) .ensures .1 .1 .1, ((c .before .before .before .before .before .before .before .before .before .before .before .before .next-span) .ensures .1 .1 .0, record-one (a .rejecting) (a .store .now) b (a .k) (a .votes .now) (a .m) (g .votes) (g .n) i n (g .inv .1 .1) (asRange q) ((c .before .before .before .before .before .before .reference-position) .result) e ((c .before .before .before .before .before .stands-at) .ensures (not-false _ ((c .before .before .before .before .if3) .left))) (omega (arith, (c .before .before .before .before .before .before .before .if2) .left, g .inv .1 .1 .room))))
 
 same-length-3 : tie.Need-same-length-3 Inv-loop μ-loop
