@@ -1,6 +1,7 @@
 -- Walking the statements of a block by index: runs of shares, and the offsets that votes count. Assumes nothing.
 use mathlib.Core.Path.{_≡_, refl, sym, ap, _∙_}
 use mathlib.Core.List.{List, [], _∷_, map, flatten}
+use mathlib.Core.Option.{some, Option·some-injective, Option·none-ne-some}
 use mathlib.Core.Bool.{Bool, true, false, not, Bool·beq}
 use Prim.Native.Nat.{ℕ, zero, suc, _+_, _≤_, _<_}
 use native.Mathlib.Numerals.{add-one}
@@ -206,9 +207,17 @@ checks-any rec (RejectFor l m) = refl
 checks-any rec (VoteRange r) = refl
 
 -- a range that passes does not end before its start, and ends below the limit
-pub range-passes : (r : TransactionLocatorRange) → passes (statementChecks (voteRange r)) ≡ true → (r .start ≤ r .end) × (r .end < 1048576)
+range-passes : (r : TransactionLocatorRange) → passes (statementChecks (voteRange r)) ≡ true → (r .start ≤ r .end) × (r .end < 1048576)
 unfolding statementChecks
 range-passes r h = (ltb-false (r .end) (r .start) (passes-first _ _ h), leb-false 1048576 (r .end) (passes-first _ _ (passes-others _ _ h)))
+
+-- what a statement that passes votes for does not end before its start
+pub voted-passes : (s : Statement) → passes (statementChecks s) ≡ true → (q : TransactionLocatorRange) → votedRange s ≡ some q → q .start ≤ q .end
+unfolding votedRange oneRange newRange
+voted-passes (share v) h q e = absurd (Option·none-ne-some q e)
+voted-passes (accept l) h q e = rw (← Option·some-injective _ _ e) (omega arith)
+voted-passes (reject l o) h q e = absurd (Option·none-ne-some q e)
+voted-passes (voteRange r) h q e = rw (← Option·some-injective _ _ e) (range-passes r h .0)
 
 pub counted-most : (s : Statement) → passes (statementChecks s) ≡ true → countedOffsets (votedRange s) ≤ 1048575
 unfolding votedRange countedOffsets oneRange newRange

@@ -1,6 +1,7 @@
 // Runs of neighbouring shares of a record, and the room that its events need. Follows types.rs.
 use statement_cursor::StatementCursor;
 use statement_reader::BaseStatement;
+use statement_votes::Vote;
 ghost use mathlib.Core.Path.{_≡_};
 ghost use Prim.Native.Nat.{_+_, _≤_};
 ghost use lib.ListN.{length, drop};
@@ -76,13 +77,11 @@ fn counted_offsets(statement: BaseStatement) -> u64
     requires { ⌜ passes (statementChecks (asStatement [] statement)) ≡ true ⌝ }
     ensures { λ r. ⌜ ((rec : Bytes) → r ≡ countedOffsets (votedRange (asStatement rec statement))) ⌝ }
 {
-    match statement {
-        BaseStatement::Share(_, _) => 0,
-        BaseStatement::Accept(_) => 1,
-        BaseStatement::Reject(_) => 0,
-        BaseStatement::RejectFor(_, _) => 0,
-        BaseStatement::VoteRange(range) => range.offset_end_exclusive
-            - range.offset_start_inclusive,
+    let vote = statement_votes::vote_of(statement);
+    match vote {
+        Vote::Locator(_) => 1,
+        Vote::Range(range) => range.offset_end_exclusive - range.offset_start_inclusive,
+        Vote::Nothing => 0,
     }
 }
 
