@@ -1,8 +1,8 @@
 -- Reading the votes of a block, statement by statement. Assumes nothing.
 use mathlib.Core.Path.{_≡_, refl, sym, ap, _∙_}
 use mathlib.Core.Bool.{Bool, true, false, _||_, and-false, or-false}
-use mathlib.Core.List.{List, [], _++_, Option·toList}
-use mathlib.Core.Option.{Option}
+use mathlib.Core.List.{List, [], _∷_, _++_, Option·toList}
+use mathlib.Core.Option.{Option, none, some}
 use Prim.Native.Nat.{ℕ, _+_, _≤_, _<_}
 use native.Mathlib.Omega.{arith}
 use native.Mathlib.Numerals.{add-one}
@@ -10,10 +10,10 @@ use lib.Dec.{ltb, leb, eqb}
 use lib.ListN.{length, getD, drop, drop-of-length-le}
 use lib.Seq.{drop-cons}
 use borrow.Author.Tests.{le-leb, lt-leb, leb-true, lt-ltb, ltb-true, eqb-true, eq-eqb}
-use Rattle.base.specs.Lists.{anyOf}
+use Rattle.base.specs.Lists.{anyOf, holds}
 use Rattle.base.proofs.Tests.{same-test, and-both, and-left, and-right}
 use Rattle.blocks.specs.Reference.{BlockReference, TransactionLocator, TransactionLocatorRange, locator, newRange, oneRange, within, sameReference, covers}
-use Rattle.blocks.specs.Block.{Statement, share, accept, reject, voteRange, Block, isShare, votedRange, spansFrom, spans}
+use Rattle.blocks.specs.Block.{Statement, Block, isShare, votedRange, spansFrom, spans}
 use Rattle.blocks.specs.Record.{noStatement}
 use Rattle.finality.specs.Voters.{votesFor}
 use Rattle.base.proofs.Lists.{any-append}
@@ -46,22 +46,25 @@ covers-from q l e h = rw (e, le-leb (q .start) (l .offset) h)
 
 -- ---- one statement
 
-module _ (r : BlockReference) (o : ℕ) (l : TransactionLocator) where
-  pub votes-share : (p : List ℕ) → statementVotes r o (share p) l ≡ covers (oneRange (locator r o)) l
-  unfolding statementVotes spanOf isShare anyOf
-  votes-share p = or-false _
+-- a share votes for its own place, another statement for what it names
+module _ (r : BlockReference) (o : ℕ) (s : Statement) where
+  pub span-share : isShare s ≡ true → spanOf r o s ≡ oneRange (locator r o) ∷ []
+  unfolding spanOf
+  span-share h = rw h
 
-  pub votes-accept : (m : TransactionLocator) → statementVotes r o (accept m) l ≡ covers (oneRange m) l
-  unfolding statementVotes spanOf isShare votedRange Option·toList anyOf
-  votes-accept m = or-false _
+  pub span-named : isShare s ≡ false → spanOf r o s ≡ Option·toList (votedRange s)
+  unfolding spanOf
+  span-named h = rw h
 
-  pub votes-reject : (m : TransactionLocator) (other : Option TransactionLocator) → statementVotes r o (reject m other) l ≡ false
-  unfolding statementVotes spanOf isShare votedRange Option·toList anyOf
-  votes-reject m other = refl
+  module _ (l : TransactionLocator) where
+    pub votes-share : isShare s ≡ true → covers (oneRange (locator r o)) l ≡ statementVotes r o s l
+    unfolding statementVotes anyOf
+    votes-share h = rw (span-share h) (sym (or-false _))
 
-  pub votes-range : (q : TransactionLocatorRange) → statementVotes r o (voteRange q) l ≡ covers q l
-  unfolding statementVotes spanOf isShare votedRange Option·toList anyOf
-  votes-range q = or-false _
+    pub votes-named : isShare s ≡ false → (v : Option TransactionLocatorRange) → v ≡ votedRange s → holds (λ q. covers q l) v ≡ statementVotes r o s l
+    unfolding statementVotes holds anyOf Option·toList
+    votes-named h none e = rw (span-named h, ← e)
+    votes-named h (some q) e = rw (span-named h, ← e) (sym (or-false _))
 
 -- ---- the statements from one on
 

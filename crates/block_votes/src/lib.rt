@@ -2,6 +2,7 @@
 use authority_set::AuthoritySet;
 use reference_search::FoundPlace;
 use statement_reader::BaseStatement;
+use statement_votes::Vote;
 use types::BlockReference;
 use types::Ordering;
 use types::TransactionLocator;
@@ -58,8 +59,8 @@ pub fn covers(range: TransactionLocatorRange, locator: TransactionLocator) -> bo
     locator.offset < range.offset_end_exclusive
 }
 
-// Whether the statement at an offset of a block votes for the locator: the share, an accept or a range covering it.
-fn statement_votes(
+// Whether the statement at an offset of a block votes for the locator: a share for its own place, an accept or a range for what it covers.
+fn statement_votes_for(
     block: BlockReference,
     offset: u64,
     statement: BaseStatement,
@@ -67,12 +68,14 @@ fn statement_votes(
 ) -> bool
     ensures { λ r. ⌜ ((s : Bytes) → r ≡ statementVotes (asReference block) offset (asStatement s statement) (asLocator locator)) ⌝ }
 {
-    match statement {
-        BaseStatement::Share(_, _) => is_at(block, offset, locator),
-        BaseStatement::Accept(l) => is_at(l.block, l.offset, locator),
-        BaseStatement::Reject(_) => false,
-        BaseStatement::RejectFor(_, _) => false,
-        BaseStatement::VoteRange(r) => covers(r, locator),
+    if shared_ranges::is_share(statement) {
+        return is_at(block, offset, locator);
+    }
+    let vote = statement_votes::vote_of(statement);
+    match vote {
+        Vote::Locator(l) => is_at(l.block, l.offset, locator),
+        Vote::Range(r) => covers(r, locator),
+        Vote::Nothing => false,
     }
 }
 
@@ -87,7 +90,7 @@ pub fn votes_for(rec: &[u8], locator: TransactionLocator) -> bool
     while cursor.index < count {
         let next = statement_cursor::next_statement(rec, cursor);
         let statement = next.statement;
-        if statement_votes(block, cursor.index as u64, statement, locator) {
+        if statement_votes_for(block, cursor.index as u64, statement, locator) {
             return true;
         }
         cursor = next.next;

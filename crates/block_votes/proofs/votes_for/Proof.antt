@@ -37,8 +37,8 @@ loop-holds c = let a = c .before .before .before .before .args in
 next-statement-requires : tie.Need-next-statement-requires Inv-loop μ-loop
 next-statement-requires c κs = (c .before .before .before .before .before .before .before .pre, (c .before .before .loop .inv .0, omega (arith, c .if1 .taken, c .before .before .before .before .before .statement-count .ensures)))
 
-statement-votes-requires : tie.Need-statement-votes-requires Inv-loop μ-loop
-statement-votes-requires c κs = search needs
+statement-votes-for-requires : tie.Need-statement-votes-for-requires Inv-loop μ-loop
+statement-votes-for-requires c κs = search needs
 
 returns : tie.Need-returns Inv-loop μ-loop
 returns c = let a = c .before .before .before .before .before .before .before .before .before .before .args in
@@ -47,7 +47,7 @@ returns c = let a = c .before .before .before .before .before .before .before .b
     let st = c .before .before .next-statement .result .statement in
     let h : i < length (b .statements) = omega (arith, c .before .before .before .if1 .taken, c .before .before .before .before .before .before .before .before .statement-count .ensures) in
     let e : statementVotes (b .reference) i (getD (b .statements) i noStatement) (asLocator (a .locator)) ≡ true =
-    rw (← c .before .before .before .before .before .before .before .reference .ensures, ← c .before .before .next-statement .ensures .0) (sym (c .before .statement-votes .ensures (a .rec .now)) ∙ c .if2 .taken) in
+    rw (← c .before .before .before .before .before .before .before .reference .ensures, ← c .before .before .next-statement .ensures .0) (sym (c .before .statement-votes-for .ensures (a .rec .now)) ∙ c .if2 .taken) in
     votes-found b (asLocator (a .locator)) i h e ∙ sym (c .before .before .before .before .before .loop .inv .1 .1)
 
 loop-less : tie.Need-loop-less Inv-loop μ-loop
@@ -63,7 +63,7 @@ loop-again c = let a = c .before .before .before .before .before .before .before
     let i = c .before .before .before .before .before .before .loop .cursor .index in
     let h : i < length (b .statements) = omega (arith, c .before .before .before .before .if1 .taken, c .before .before .before .before .before .before .before .before .before .statement-count .ensures) in
     let e : statementVotes (b .reference) i (getD (b .statements) i noStatement) (asLocator (a .locator)) ≡ false =
-    rw (← c .before .before .before .before .before .before .before .before .reference .ensures, ← c .before .before .before .next-statement .ensures .0) (sym (c .before .before .statement-votes .ensures (a .rec .now)) ∙ c .before .if2 .left) in
+    rw (← c .before .before .before .before .before .before .before .before .reference .ensures, ← c .before .before .before .next-statement .ensures .0) (sym (c .before .before .statement-votes-for .ensures (a .rec .now)) ∙ c .before .if2 .left) in
     rw (c .before .before .before .next-statement .ensures .1 .0) (refl, (omega arith, c .before .before .before .before .before .before .loop .inv .1 .1 ∙ votes-passed b (asLocator (a .locator)) i h e))
 
 returns-2 : tie.Need-returns-2 Inv-loop μ-loop
@@ -83,7 +83,7 @@ votes-for-spec =
     first-statement-requires
     loop-holds
     next-statement-requires
-    statement-votes-requires
+    statement-votes-for-requires
     returns
     loop-less
     loop-again
