@@ -4,6 +4,7 @@ use index_runs::MaybeRun;
 use index_runs::Place;
 use index_runs::Run;
 use statement_reader::BaseStatement;
+use statement_votes::VotedRange;
 use types::BlockReference;
 ghost use mathlib.Core.Path.{_≡_};
 ghost use mathlib.Core.List.{map, Option·toList};
@@ -95,7 +96,7 @@ fn sources_piece(
 
 // ---- the block's own votes
 
-// What the statement at an offset of a block votes for, as a run of these voters.
+// What the statement at an offset of a block votes for, as a run of these voters; a share votes for its own place.
 fn vote_run(
     block: BlockReference,
     offset: u64,
@@ -105,34 +106,25 @@ fn vote_run(
     requires { ⌜ ((s : Bytes) → EndsFit (spanOf (asReference block) offset (asStatement s statement))) ⌝ }
     ensures { λ r. ⌜ ((s : Bytes) → Option·toList (asMaybe r) ≡ map (spanRun votes) (spanOf (asReference block) offset (asStatement s statement))) ⌝ }
 {
-    match statement {
-        BaseStatement::Share(_, _) => MaybeRun::Here(Run {
+    if shared_ranges::is_share(statement) {
+        return MaybeRun::Here(Run {
             block,
             start: offset,
             end: offset + 1,
             votes,
-        }),
-        BaseStatement::Accept(l) => {
-            let of = l.block;
-            MaybeRun::Here(Run {
-                block: of,
-                start: l.offset,
-                end: l.offset + 1,
-                votes,
-            })
-        }
-        BaseStatement::Reject(_) => MaybeRun::Nothing,
-        BaseStatement::RejectFor(_, _) => MaybeRun::Nothing,
-        BaseStatement::VoteRange(r) => {
-            let of = r.block;
-            MaybeRun::Here(Run {
-                block: of,
-                start: r.offset_start_inclusive,
-                end: r.offset_end_exclusive,
-                votes,
-            })
-        }
+        });
     }
+    let vote = statement_votes::voted_range(statement);
+    let VotedRange::Range(range) = vote else {
+        return MaybeRun::Nothing;
+    };
+    let of = range.block;
+    MaybeRun::Here(Run {
+        block: of,
+        start: range.offset_start_inclusive,
+        end: range.offset_end_exclusive,
+        votes,
+    })
 }
 
 // What is left of a vote from a place on; a range may be empty.
