@@ -17,9 +17,9 @@ use Rattle.statement_reader.specs.Values.{asStatement}
 use Rattle.statement_reader.specs.declared.BaseStatement.{BaseStatement}
 use Rattle.statement_reader.specs.declared.BaseStatement.the-variants.{Share, Accept, Reject, RejectFor, VoteRange}
 use Rattle.statement_cursor.proofs.Statements.{start-inside}
+use Rattle.payload.specs.Answers.{sharedBy}
 use Rattle.payload.specs.declared.SharePlace.the-variants.{Payload, NoShare}
 use Rattle.base.proofs.Lists.{element-at}
-use Rattle.loadable_pass.specs.Answers.{sharedBy}
 
 pub payload-here : (b : Block) (i : ℕ) (p : List ℕ) → i < length (b .statements) → share p ≡ getD (b .statements) i noStatement → getElem? (b .statements) i ≡ some (share p)
 payload-here b i p h e = element-at (b .statements) i noStatement h ∙ ap some (sym e)

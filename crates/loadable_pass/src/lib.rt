@@ -2,7 +2,6 @@
 use committee::Stake;
 use loadable_runs::FinalRun;
 use payload::SharePlace;
-use statement_reader::BaseStatement;
 use types::TransactionLocator;
 use vote_table::TableSizes;
 ghost use mathlib.Core.Path.{_≡_};
@@ -13,21 +12,7 @@ ghost use Rattle.finality.specs.Finality.{blocksOf};
 ghost use Rattle.stored_finals.specs.Shares.{storedShares};
 ghost use Rattle.final_search.specs.Search.{Ready, Tables};
 ghost use Rattle.share_count.specs.Through.{sharesThrough};
-ghost use Rattle.loadable_pass.specs.Answers.{sharedBy};
 ghost use Rattle.loadable_pass.specs.Holding.{Holding, Past};
-
-// Where a record has the payload of a statement that is a share.
-fn shared(statement: BaseStatement) -> SharePlace
-    ensures { λ r. ⌜ r ≡ sharedBy statement ⌝ }
-{
-    match statement {
-        BaseStatement::Share(start, len) => SharePlace::Payload(start, len),
-        BaseStatement::Accept(_) => SharePlace::NoShare,
-        BaseStatement::Reject(_) => SharePlace::NoShare,
-        BaseStatement::RejectFor(_, _) => SharePlace::NoShare,
-        BaseStatement::VoteRange(_) => SharePlace::NoShare,
-    }
-}
 
 // Puts the loadable shares of the block of a record, which stands at a place of the order, after the first n places; the answer is how many
 // there are then.
@@ -62,7 +47,7 @@ fn list_record(
         let next = statement_cursor::next_statement(rec, cursor);
         cursor = next.next;
         let statement = next.statement;
-        let SharePlace::Payload(start, len) = shared(statement) else {
+        let SharePlace::Payload(start, len) = payload::share_place(statement) else {
             continue;
         };
         let share = TransactionLocator { block, offset };

@@ -33,9 +33,8 @@ use Rattle.store_layout.specs.Store.{recordsOf, storeInOrder}
 use Rattle.store_layout.specs.Entry.{recordAt, blockAt, laidOut, isEntry}
 use Rattle.store_layout.specs.Payload.{StoreStretch, shareStretch, payloadOf, payloadAt, payloadChecks, stretchOf, payload, payloadLength}
 use Rattle.base.proofs.Lists.{element-at}
-use Rattle.payload.specs.Answers.{asShare, shareWithin, payloadPlace}
-use Rattle.payload.specs.declared.SharePlace.{SharePlace}
-use Rattle.payload.specs.declared.SharePlace.the-variants.{Payload as PayloadOf, NoShare}
+use Rattle.payload.specs.Answers.{sharedBy, asShare, shareWithin, payloadPlace}
+use Rattle.payload.specs.declared.SharePlace.the-variants.{NoShare}
 use Rattle.store_layout.proofs.Loops.{block-of-entry}
 use Rattle.store_layout.proofs.Shares.{share-has-payload}
 use Rattle.store_layout.proofs.Search.{laid-out}
@@ -52,25 +51,17 @@ pub share-past : (rec : Bytes) (o : ℕ) → length (blockIn rec .statements) �
 unfolding asShare shareStretch
 share-past rec o h = rw (element-past (blockIn rec .statements) o h)
 
--- what is answered for a statement
-unfoldable pub shareTold : BaseStatement → SharePlace
-shareTold (Share start len) = PayloadOf start len
-shareTold (Accept l) = NoShare
-shareTold (Reject l) = NoShare
-shareTold (RejectFor l other) = NoShare
-shareTold (VoteRange r) = NoShare
-
 share-told : (rec : Bytes) → AllBytes rec → wellFormed rec ≡ true → (o next : ℕ) (st : BaseStatement) → o < length (blockIn rec .statements)
     → asStatement rec st ≡ getD (blockIn rec .statements) o noStatement → payloadBetween (statementStart rec o) next st ≡ true → next ≡ statementStart rec (o + 1)
-    → (asShare (shareTold st) ≡ shareStretch (statementStart rec o) (getElem? (blockIn rec .statements) o)) × (shareWithin (length rec) (shareTold st) ≡ true)
-unfolding asShare shareStretch shareWithin shareTold asStatement payloadBetween
+    → (asShare (sharedBy st) ≡ shareStretch (statementStart rec o) (getElem? (blockIn rec .statements) o)) × (shareWithin (length rec) (sharedBy st) ≡ true)
+unfolding asShare shareStretch shareWithin sharedBy asStatement payloadBetween
 share-told rec bs w o next st h e p q = go st e p
   where
     at-is : getElem? (blockIn rec .statements) o ≡ some (getD (blockIn rec .statements) o noStatement)
     at-is = element-at (blockIn rec .statements) o noStatement h
 
     go : (t : BaseStatement) → asStatement rec t ≡ getD (blockIn rec .statements) o noStatement → payloadBetween (statementStart rec o) next t ≡ true
-        → (asShare (shareTold t) ≡ shareStretch (statementStart rec o) (getElem? (blockIn rec .statements) o)) × (shareWithin (length rec) (shareTold t) ≡ true)
+        → (asShare (sharedBy t) ≡ shareStretch (statementStart rec o) (getElem? (blockIn rec .statements) o)) × (shareWithin (length rec) (sharedBy t) ≡ true)
     go (Share start len) e p =
         let k : ℕ = statementStart rec o in
         let begins : start ≡ k + 3 = eqb-true start (k + 3) (and-left (eqb start (k + 3)) _ p) in
@@ -86,16 +77,15 @@ share-told rec bs w o next st h e p q = go st e p
 -- the statement that stands at a place, as next_statement tells it
 pub share-found : (rec : Bytes) → AllBytes rec → wellFormed rec ≡ true → (o : ℕ) (k : StatementCursor) (r : NextStatement) → k ≡ cursorAt rec o → o < length (blockIn rec .statements)
     → (asStatement rec (r .statement) ≡ getD (blockIn rec .statements) (k .index) noStatement) × ((r .next ≡ cursorAt rec (k .index + 1)) × (payloadBetween (k .at) (r .next .at) (r .statement) ≡ true))
-    → (st : BaseStatement) → r .statement ≡ st
-    → (asShare (shareTold st) ≡ shareStretch (statementStart rec o) (getElem? (blockIn rec .statements) o)) × (shareWithin (length rec) (shareTold st) ≡ true)
+    → (asShare (sharedBy (r .statement)) ≡ shareStretch (statementStart rec o) (getElem? (blockIn rec .statements) o)) × (shareWithin (length rec) (sharedBy (r .statement)) ≡ true)
 unfolding cursorAt
-share-found rec bs w o k r q h f st e =
+share-found rec bs w o k r q h f =
     let i : k .index ≡ o = ap (λ (x : StatementCursor). x .index) q in
     let p : k .at ≡ statementStart rec o = ap (λ (x : StatementCursor). x .at) q in
     let n : r .next .at ≡ statementStart rec (o + 1) = ap (λ (x : StatementCursor). x .at) (f .1 .0) ∙ ap (λ (x : ℕ). statementStart rec (x + 1)) i in
-    share-told rec bs w o (r .next .at) st h
-    (ap (asStatement rec) (sym e) ∙ f .0 ∙ ap (λ (x : ℕ). getD (blockIn rec .statements) x noStatement) i)
-    (ap (λ (x : ℕ). payloadBetween x (r .next .at) st) (sym p) ∙ ap (λ (x : BaseStatement). payloadBetween (k .at) (r .next .at) x) (sym e) ∙ f .1 .1) n
+    share-told rec bs w o (r .next .at) (r .statement) h
+    (f .0 ∙ ap (λ (x : ℕ). getD (blockIn rec .statements) x noStatement) i)
+    (ap (λ (x : ℕ). payloadBetween x (r .next .at) (r .statement)) (sym p) ∙ f .1 .1) n
 
 -- ---- the answer, refusal by refusal
 

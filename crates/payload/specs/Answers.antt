@@ -7,6 +7,8 @@ use Rattle.base.specs.Le.{Bytes}
 use Rattle.base.specs.Checks.{Answer, refused, answered, checked}
 use Rattle.committee.specs.Committee.{Committee}
 use Rattle.blocks.specs.Reference.{TransactionLocator}
+use Rattle.statement_reader.specs.declared.BaseStatement.{BaseStatement}
+use Rattle.statement_reader.specs.declared.BaseStatement.the-variants.{Share, Accept, Reject, RejectFor, VoteRange}
 use Rattle.store_layout.specs.Payload.{StoreStretch, payloadAt, payloadChecks}
 use Rattle.payload.specs.declared.SharePlace.{SharePlace}
 use Rattle.payload.specs.declared.SharePlace.the-variants.{Payload, NoShare}
@@ -20,7 +22,15 @@ unfoldable pub asPayloadLength : PayloadLength → Answer ℕ
 asPayloadLength (Counted n) = answered n
 asPayloadLength (Unanswered k) = refused k
 
--- ---- machinery for the contracts of private functions
+-- ---- machinery for the contracts of inner functions
+
+-- the payload of a statement that is a share
+unfoldable pub sharedBy : BaseStatement → SharePlace
+sharedBy (Share start len) = Payload start len
+sharedBy (Accept l) = NoShare
+sharedBy (Reject l) = NoShare
+sharedBy (RejectFor l other) = NoShare
+sharedBy (VoteRange r) = NoShare
 
 -- where a record has a share's payload
 unfoldable pub asShare : SharePlace → Option StoreStretch

@@ -9,7 +9,7 @@ ghost use Rattle.blocks.specs.Record.{wellFormed, blockIn, statementStart};
 ghost use Rattle.types.specs.Values.{asLocator};
 ghost use Rattle.store_layout.specs.Entry.{laidOut};
 ghost use Rattle.store_layout.specs.Payload.{shareStretch, payloadAt, payload, payloadLength};
-ghost use Rattle.payload.specs.Answers.{asShare, shareWithin, asPlace, placeWithin, payloadPlace, asPayloadLength};
+ghost use Rattle.payload.specs.Answers.{sharedBy, asShare, shareWithin, asPlace, placeWithin, payloadPlace, asPayloadLength};
 
 // Where a record or the store has a share's payload, its start and its length; or there is no such share.
 pub enum SharePlace {
@@ -27,6 +27,19 @@ pub enum PayloadPlace {
 pub enum PayloadLength {
     Bytes(u64),
     Refused(u64),
+}
+
+// Where a record has the payload of a statement that is a share.
+pub fn share_place(statement: BaseStatement) -> SharePlace
+    ensures { λ r. ⌜ r ≡ sharedBy statement ⌝ }
+{
+    match statement {
+        BaseStatement::Share(start, len) => SharePlace::Payload(start, len),
+        BaseStatement::Accept(_) => SharePlace::NoShare,
+        BaseStatement::Reject(_) => SharePlace::NoShare,
+        BaseStatement::RejectFor(_, _) => SharePlace::NoShare,
+        BaseStatement::VoteRange(_) => SharePlace::NoShare,
+    }
 }
 
 // The payload of the share of that offset in a well-formed record.
@@ -47,13 +60,7 @@ fn find_share(rec: &[u8], offset: u64) -> SharePlace
     }
     let found = statement_cursor::next_statement(rec, cursor);
     let statement = found.statement;
-    match statement {
-        BaseStatement::Share(start, len) => SharePlace::Payload(start, len),
-        BaseStatement::Accept(_) => SharePlace::NoShare,
-        BaseStatement::Reject(_) => SharePlace::NoShare,
-        BaseStatement::RejectFor(_, _) => SharePlace::NoShare,
-        BaseStatement::VoteRange(_) => SharePlace::NoShare,
-    }
+    share_place(statement)
 }
 
 // The payload that a locator names, in a store that is laid out as one.

@@ -75,8 +75,8 @@ next-statement-requires c κs =
     let l = c .before .before .loop in
     (formed-there (a .stakes .now) (a .store .now) (a .order .now) (q .0 .0 .0 .0) (a .k) (q .1 .0) (a .rec .now) (q .1 .1), (l .inv .there, omega (arith, c .if1 .taken, c .before .before .before .before .statement-count .ensures)))
 
-shared-requires : tie.Need-shared-requires Inv-loop μ-loop
-shared-requires c κs = search needs
+share-place-requires : tie.Need-share-place-requires Inv-loop μ-loop
+share-place-requires c κs = search needs
 
 enum-known-start : tie.Need-enum-known-start Inv-loop μ-loop
 enum-known-start c = search needs
@@ -98,7 +98,7 @@ loop-again c =
     let rec = a .rec .now in
     let few : i < length (blockIn rec .statements) = omega (arith, c .before .before .before .before .before .if1 .taken, c .before .before .before .before .before .before .before .before .before .statement-count .ensures) in
     let other : isShareAt (blockIn rec) i ≡ false =
-    share-here (blockIn rec) i (asStatement rec (next .result .statement)) few (next .ensures .0) ∙ told-other rec (next .result .statement) (sym (c .before .before .shared .ensures) ∙ c .enum-told .given .1) in
+    share-here (blockIn rec) i (asStatement rec (next .result .statement)) few (next .ensures .0) ∙ told-other rec (next .result .statement) (sym (c .before .before .share-place .ensures) ∙ c .enum-told .given .1) in
     going-other (a .stakes .now) (a .store .now) (a .order .now) (q .0 .0 .0 .0) (a .k) (q .1 .0) rec (q .1 .1) (a .places .now) (a .n) (l .places) (l .cursor) (l .run) (l .found) (l .inv) few (next .result .next) (next .ensures .1 .0) other
 
 run-at-requires : tie.Need-run-at-requires Inv-loop μ-loop
@@ -125,7 +125,7 @@ loop-again-2 c =
     let i = l .cursor .index in
     let rec = a .rec .now in
     let few : i < length (blockIn rec .statements) = omega (arith, c .before .before .before .before .before .before .before .before .before .if1 .taken, c .before .before .before .before .before .before .before .before .before .before .before .before .before .statement-count .ensures) in
-    let st = told-share (next .result .statement) (c .before .before .before .before .start .given .0 .0) (c .before .before .before .before .start .given .0 .1 .0) (sym (c .before .before .before .before .before .before .shared .ensures) ∙ c .before .before .before .before .start .given .1) in
+    let st = told-share (next .result .statement) (c .before .before .before .before .start .given .0 .0) (c .before .before .before .before .start .given .0 .1 .0) (sym (c .before .before .before .before .before .before .share-place .ensures) ∙ c .before .before .before .before .start .given .1) in
     let is : isShareAt (blockIn rec) i ≡ true = share-here (blockIn rec) i (asStatement rec (next .result .statement)) few (next .ensures .0) ∙ ap (λ (x : BaseStatement). isShare (asStatement rec x)) st in
     let run = c .before .before .run-at .result in
     let told = subst (λ (r : BlockReference). Told (a .stakes .now) (a .store .now) r i run) (c .before .before .before .before .before .before .before .before .before .before .before .before .before .before .reference .ensures) (c .before .before .run-at .ensures .1) in
@@ -142,7 +142,7 @@ add-end c =
     let next = c .before .before .before .before .before .before .before .before .next-statement in
     let rec = a .rec .now in
     let found = c .before .before .before .before .start .given in
-    let st = told-share (next .result .statement) (found .0 .0) (found .0 .1 .0) (sym (c .before .before .before .before .before .before .shared .ensures) ∙ found .1) in
+    let st = told-share (next .result .statement) (found .0 .0) (found .0 .1 .0) (sym (c .before .before .before .before .before .before .share-place .ensures) ∙ found .1) in
     let between : payloadBetween (l .cursor .at) (next .result .next .at) (Share (found .0 .0) (found .0 .1 .0)) ≡ true = sym (ap (payloadBetween (l .cursor .at) (next .result .next .at)) st) ∙ next .ensures .1 .1 in
     let formed = formed-there (a .stakes .now) (a .store .now) (a .order .now) (q .0 .0 .0 .0) (a .k) (q .1 .0) rec (q .1 .1) in
     omega (arith, c .before .before .before .before .before .before .before .before .before .before .before .before .before .before .before .before .before .before .before .before .before .before .before .good .1 .1 .1 .1 .1 .1 .1 .1 .1 .1 .1 .0, payload-inside rec (bytes-of rec (λ j h. omega (arith, c .before .before .before .before .before .before .before .before .before .before .before .before .before .before .before .before .shared-slice-known6 .given j))) formed (l .cursor .index) (l .cursor .at) (next .result .next .at) (found .0 .0) (found .0 .1 .0) between (ap (λ (x : StatementCursor). x .at) (next .ensures .1 .0)))
@@ -162,7 +162,7 @@ part-list-share-end c =
     let next = c .before .before .before .before .before .before .before .before .before .next-statement in
     let rec = a .rec .now in
     let found = c .before .before .before .before .before .start .given in
-    let st = told-share (next .result .statement) (found .0 .0) (found .0 .1 .0) (sym (c .before .before .before .before .before .before .before .shared .ensures) ∙ found .1) in
+    let st = told-share (next .result .statement) (found .0 .0) (found .0 .1 .0) (sym (c .before .before .before .before .before .before .before .share-place .ensures) ∙ found .1) in
     let between : payloadBetween (l .cursor .at) (next .result .next .at) (Share (found .0 .0) (found .0 .1 .0)) ≡ true = sym (ap (payloadBetween (l .cursor .at) (next .result .next .at)) st) ∙ next .ensures .1 .1 in
     let formed = formed-there (a .stakes .now) (a .store .now) (a .order .now) (q .0 .0 .0 .0) (a .k) (q .1 .0) rec (q .1 .1) in
     omega (arith, payload-inside rec (bytes-of rec (λ j h. omega (arith, c .before .before .before .before .before .before .before .before .before .before .before .before .before .before .before .before .before .shared-slice-known6 .given j))) formed (l .cursor .index) (l .cursor .at) (next .result .next .at) (found .0 .0) (found .0 .1 .0) between (ap (λ (x : StatementCursor). x .at) (next .ensures .1 .0)))
@@ -178,7 +178,7 @@ list-share-requires c κs =
     let rec = a .rec .now in
     let few : i < length (blockIn rec .statements) = omega (arith, c .before .before .before .before .before .before .before .before .before .before .before .if1 .taken, c .before .before .before .before .before .before .before .before .before .before .before .before .before .before .before .statement-count .ensures) in
     let found = c .before .before .before .before .before .before .start .given in
-    let st = told-share (next .result .statement) (found .0 .0) (found .0 .1 .0) (sym (c .before .before .before .before .before .before .before .before .shared .ensures) ∙ found .1) in
+    let st = told-share (next .result .statement) (found .0 .0) (found .0 .1 .0) (sym (c .before .before .before .before .before .before .before .before .share-place .ensures) ∙ found .1) in
     let is : isShareAt (blockIn rec) i ≡ true = share-here (blockIn rec) i (asStatement rec (next .result .statement)) few (next .ensures .0) ∙ ap (λ (x : BaseStatement). isShare (asStatement rec x)) st in
     let ran = c .before .before .before .before .run-at in
     let ref = c .before .before .before .before .before .before .before .before .before .before .before .before .before .before .before .before .reference .ensures in
@@ -202,7 +202,7 @@ loop-again-3 c =
     let rec = a .rec .now in
     let few : i < length (blockIn rec .statements) = omega (arith, c .before .before .before .before .before .before .before .before .before .before .before .before .before .before .if1 .taken, c .before .before .before .before .before .before .before .before .before .before .before .before .before .before .before .before .before .before .statement-count .ensures) in
     let found = c .before .before .before .before .before .before .before .before .before .start .given in
-    let st = told-share (next .result .statement) (found .0 .0) (found .0 .1 .0) (sym (c .before .before .before .before .before .before .before .before .before .before .before .shared .ensures) ∙ found .1) in
+    let st = told-share (next .result .statement) (found .0 .0) (found .0 .1 .0) (sym (c .before .before .before .before .before .before .before .before .before .before .before .share-place .ensures) ∙ found .1) in
     let is : isShareAt (blockIn rec) i ≡ true = share-here (blockIn rec) i (asStatement rec (next .result .statement)) few (next .ensures .0) ∙ ap (λ (x : BaseStatement). isShare (asStatement rec x)) st in
     let ran = c .before .before .before .before .before .before .before .run-at in
     let ref = c .before .before .before .before .before .before .before .before .before .before .before .before .before .before .before .before .before .before .before .reference .ensures in
@@ -244,7 +244,7 @@ list-record-spec =
     first-statement-requires
     loop-holds
     next-statement-requires
-    shared-requires
+    share-place-requires
     enum-known-start
     enum-told
     loop-less

@@ -6,7 +6,7 @@ use Rattle.base.proofs.Le.{bytes-of}
 use Rattle.statement_cursor.specs.Cursor.{cursorAt}
 use Rattle.statement_cursor.specs.declared.StatementCursor.{StatementCursor}
 use Rattle.payload.specs.Answers.{shareWithin}
-use Rattle.payload.proofs.Located.{share-past, shareTold, share-found}
+use Rattle.payload.proofs.Located.{share-past, share-found}
 use Rattle.payload.proofs.find_share.Statement.{statement}
 use Rattle.payload.proofs.find_share.Tie as tie
 
@@ -55,60 +55,15 @@ next-statement-requires-2 c κs =
     let i : c .before .loop .cursor .index ≡ c .before .loop .i = ap (λ (x : StatementCursor). x .index) q in
     (c .before .before .before .before .before .before .pre, (q ∙ ap (cursorAt (c .before .before .before .before .before .before .args .rec .now)) (sym i), omega arith))
 
-enum-known-statement : tie.Need-enum-known-statement Inv-loop μ-loop
-enum-known-statement c = search needs
-
-enum-told : tie.Need-enum-told Inv-loop μ-loop
-enum-told c = search needs
-
-enum-told-2 : tie.Need-enum-told-2 Inv-loop μ-loop
-enum-told-2 c = search needs
-
-enum-told-3 : tie.Need-enum-told-3 Inv-loop μ-loop
-enum-told-3 c = search needs
-
-enum-told-4 : tie.Need-enum-told-4 Inv-loop μ-loop
-enum-told-4 c = search needs
+share-place-requires : tie.Need-share-place-requires Inv-loop μ-loop
+share-place-requires c κs = search needs
 
 returns-2 : tie.Need-returns-2 Inv-loop μ-loop
-unfolding shareTold
 returns-2 c =
-    let a = c .before .before .before .before .before .before .before .before .before .before .args in
-    let l = c .before .before .before .before .before .loop in
+    let a = c .before .before .before .before .before .before .before .before .args in
+    let l = c .before .before .before .loop in
     let last : l .i ≡ a .offset = omega arith in
-    share-found (a .rec .now) (bytes-of (c .before .before .before .before .before .before .before .before .before .before .args .rec .now) (λ j h. omega (arith, c .before .before .before .before .before .before .before .before .before .shared-slice-known .given j))) (c .before .before .before .before .before .before .before .before .before .before .pre) (a .offset) (l .cursor) (c .before .before .before .next-statement2 .result) (l .inv .0 ∙ ap (cursorAt (a .rec .now)) last) (omega arith) (c .before .before .before .next-statement2 .ensures) _ (c .before .statement .given .1)
-
-returns-3 : tie.Need-returns-3 Inv-loop μ-loop
-unfolding shareTold
-returns-3 c =
-    let a = c .before .before .before .before .before .before .before .before .before .args in
-    let l = c .before .before .before .before .loop in
-    let last : l .i ≡ a .offset = omega arith in
-    share-found (a .rec .now) (bytes-of (c .before .before .before .before .before .before .before .before .before .args .rec .now) (λ j h. omega (arith, c .before .before .before .before .before .before .before .before .shared-slice-known .given j))) (c .before .before .before .before .before .before .before .before .before .pre) (a .offset) (l .cursor) (c .before .before .next-statement2 .result) (l .inv .0 ∙ ap (cursorAt (a .rec .now)) last) (omega arith) (c .before .before .next-statement2 .ensures) _ (c .enum-told .given .1)
-
-returns-4 : tie.Need-returns-4 Inv-loop μ-loop
-unfolding shareTold
-returns-4 c =
-    let a = c .before .before .before .before .before .before .before .before .before .args in
-    let l = c .before .before .before .before .loop in
-    let last : l .i ≡ a .offset = omega arith in
-    share-found (a .rec .now) (bytes-of (c .before .before .before .before .before .before .before .before .before .args .rec .now) (λ j h. omega (arith, c .before .before .before .before .before .before .before .before .shared-slice-known .given j))) (c .before .before .before .before .before .before .before .before .before .pre) (a .offset) (l .cursor) (c .before .before .next-statement2 .result) (l .inv .0 ∙ ap (cursorAt (a .rec .now)) last) (omega arith) (c .before .before .next-statement2 .ensures) _ (c .enum-told2 .given .1)
-
-returns-5 : tie.Need-returns-5 Inv-loop μ-loop
-unfolding shareTold
-returns-5 c =
-    let a = c .before .before .before .before .before .before .before .before .before .args in
-    let l = c .before .before .before .before .loop in
-    let last : l .i ≡ a .offset = omega arith in
-    share-found (a .rec .now) (bytes-of (c .before .before .before .before .before .before .before .before .before .args .rec .now) (λ j h. omega (arith, c .before .before .before .before .before .before .before .before .shared-slice-known .given j))) (c .before .before .before .before .before .before .before .before .before .pre) (a .offset) (l .cursor) (c .before .before .next-statement2 .result) (l .inv .0 ∙ ap (cursorAt (a .rec .now)) last) (omega arith) (c .before .before .next-statement2 .ensures) _ (c .enum-told3 .given .1)
-
-returns-6 : tie.Need-returns-6 Inv-loop μ-loop
-unfolding shareTold
-returns-6 c =
-    let a = c .before .before .before .before .before .before .before .before .before .args in
-    let l = c .before .before .before .before .loop in
-    let last : l .i ≡ a .offset = omega arith in
-    share-found (a .rec .now) (bytes-of (c .before .before .before .before .before .before .before .before .before .args .rec .now) (λ j h. omega (arith, c .before .before .before .before .before .before .before .before .shared-slice-known .given j))) (c .before .before .before .before .before .before .before .before .before .pre) (a .offset) (l .cursor) (c .before .before .next-statement2 .result) (l .inv .0 ∙ ap (cursorAt (a .rec .now)) last) (omega arith) (c .before .before .next-statement2 .ensures) _ (c .enum-told4 .given .1)
+    rw (c .share-place .ensures) (share-found (a .rec .now) (bytes-of (a .rec .now) (λ j h. omega (arith, c .before .before .before .before .before .before .before .shared-slice-known .given j))) (c .before .before .before .before .before .before .before .before .pre) (a .offset) (l .cursor) (c .before .next-statement2 .result) (l .inv .0 ∙ ap (cursorAt (a .rec .now)) last) (omega arith) (c .before .next-statement2 .ensures))
 
 pub find-share-spec : {M : Type 1} → statement M
 find-share-spec =
@@ -125,13 +80,5 @@ find-share-spec =
     loop-less
     loop-again
     next-statement-requires-2
-    enum-known-statement
-    enum-told
-    enum-told-2
-    enum-told-3
-    enum-told-4
-    returns-2
-    returns-3
-    returns-4
-    returns-5
-    returns-6)
+    share-place-requires
+    returns-2)

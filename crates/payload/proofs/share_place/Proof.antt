@@ -1,7 +1,7 @@
-use Rattle.loadable_pass.specs.Answers.{sharedBy}
+use Rattle.payload.specs.Answers.{sharedBy}
 use borrow.Author.Needs.{needs}
-use Rattle.loadable_pass.proofs.shared.Statement.{statement}
-use Rattle.loadable_pass.proofs.shared.Tie as tie
+use Rattle.payload.proofs.share_place.Statement.{statement}
+use Rattle.payload.proofs.share_place.Tie as tie
 
 enum-known-statement : tie.Need-enum-known-statement
 enum-known-statement c = search needs
@@ -38,8 +38,8 @@ returns-5 : tie.Need-returns-5
 unfolding sharedBy
 returns-5 c = rw (c .enum-told4 .given .1)
 
-pub shared-spec : {M : Type 1} → statement M
-shared-spec =
+pub share-place-spec : {M : Type 1} → statement M
+share-place-spec =
     tie.close
     (tie.spec
     enum-known-statement
