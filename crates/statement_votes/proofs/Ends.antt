@@ -1,5 +1,5 @@
 -- Where what a statement votes for ends. Assumes nothing.
-use mathlib.Core.Path.{_≡_, sym, ap, _∙_}
+use mathlib.Core.Path.{_≡_, ap}
 use mathlib.Core.Bool.{true}
 use mathlib.Core.Option.{Option·none-ne-some, Option·some-injective}
 use native.Mathlib.Omega.{arith}
