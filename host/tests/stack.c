@@ -64,6 +64,10 @@ static void whom_to_ring(void) {
                                     sizeof locator, ring, sizeof ring);
 }
 
+static void fewest_owners(void) {
+    answer = lomkhvide_fewest_owners(owners, sizeof owners, 1, 0, UINT64_MAX, UINT64_MAX, ring, sizeof ring);
+}
+
 /* Feeds a block of each owner and one of round 1 that includes them all and shares. */
 static void share(void) {
     static uint8_t record[8192];
@@ -188,6 +192,15 @@ static void feed_indexed(void) {
     answer = lomkhvide_feed_indexed(one, sizeof one, chain, sizeof chain, table, sizeof table, voters, sizeof voters / 8, events, sizeof events, last, sizeof last);
 }
 
+/* all of them in one call */
+static uint8_t framed[1024 * 108];
+static uint64_t told[1024];
+static size_t framed_len;
+
+static void feed_records(void) {
+    answer = lomkhvide_feed_records(one, sizeof one, chain, sizeof chain, table, sizeof table, told, 0, told, 1024, framed, framed_len);
+}
+
 static void final_stretches_indexed(void) {
     answer = lomkhvide_final_stretches_indexed(one, sizeof one, chain, sizeof chain, voters, sizeof voters / 8, next, 0, stretches, sizeof stretches);
 }
@@ -224,6 +237,9 @@ static void grow(void) {
         record[51] = round == 1;
         memcpy(record + 104, "\0\1\0g", 4);
         size_t n = round == 0 ? 56 : round == 1 ? 108 : 104;
+        framed[framed_len] = (uint8_t)n;
+        memcpy(framed + framed_len + 4, record, n);
+        framed_len += 4 + n;
         if (round < 1023) {
             lomkhvide_feed_indexed(one, sizeof one, chain, sizeof chain, table, sizeof table, voters, sizeof voters / 8, events, sizeof events, record, n);
             memcpy(record + 56, record, 48);
@@ -264,6 +280,7 @@ int main(void) {
     at_most("load_stakes", load_stakes, 1, 32768);
     share();
     at_most("whom_to_ring", whom_to_ring, 85, 98304);
+    at_most("fewest_owners", fewest_owners, 85, 4096);
     at_most("answer_sorted", answer_sorted, 1, 49152);
     at_most("write_timed_record", write_timed_record, 72, 2048);
     at_most("creation_time", creation_time, 0, 24576);
@@ -290,6 +307,10 @@ int main(void) {
     at_most("next_wide_withdrawing", next_wide_withdrawing, 1, 98304);
     at_most("final_stretches_withdrawing", final_stretches_withdrawing, 2, 491520);
     at_most("wide_stretches_withdrawing", wide_stretches_withdrawing, 2, 491520);
-    printf("%d passed, %d failed\n", 26 - failed, failed);
+    memset(chain, 0, 16);
+    chain[4] = 16;
+    memset(table, 0, sizeof table);
+    at_most("feed_records", feed_records, 1024, 131072);
+    printf("%d passed, %d failed\n", 28 - failed, failed);
     return failed != 0;
 }
