@@ -1,8 +1,8 @@
 /* The engine's calls for a host in C or C++. host/examples/host.c is a small one:
  *
  *     host/archive
- *     cc -std=c11 -Ihost/include host/examples/host.c target/staticlib/libhost.a -o target/host/example
- *     c++ -std=c++11 -Ihost/include -x c++ host/examples/host.c -x none target/staticlib/libhost.a -o target/host/example
+ *     cc -std=c11 -Ihost/include host/examples/host.c target/staticlib/libhost.a -o target/example
+ *     c++ -std=c++11 -Ihost/include -x c++ host/examples/host.c -x none target/staticlib/libhost.a -o target/example
  *
  * A slice is lent as a pointer and a length in bytes; one of words (uint64_t, aligned) as a pointer and the number of words. A pointer may
  * be anything but null, also where the length is 0. No two slices of one call may overlap where one of them is not const.

@@ -128,6 +128,8 @@ macro_rules! declared {
     };
     ($name:ident $symbol:ident $kb:literal [$($lent:tt)*] [$($parameters:tt)*] [$($values:tt)*] $(,)?) => {
         #[doc = concat!("`", stringify!($symbol), "`: see `lomkhvide.h`. It needs at most ", $kb, " KB of stack.")]
+        // As many as the header has.
+        #[allow(clippy::too_many_arguments)]
         pub fn $name($($lent)*) -> Result<u64, Refusal> {
             unsafe extern "C" {
                 fn $symbol($($parameters)*) -> u64;

@@ -17,13 +17,10 @@ fn sorted_lists() {
     let (yes, no) = (Reply { is_final: true, authors: Owners(1) }, Reply { is_final: false, authors: Owners(0) });
     let ask = |locators: &[Locator]| committee.answer_sorted(&store, &index, locators);
     assert_eq!(ask(&[]), Ok(vec![]));
-    assert_eq!(ask(&[share.clone(), share.clone(), past.clone()]), Ok(vec![yes, yes, no]));
-    assert_eq!(ask(&[past.clone(), share.clone()]), Err(Refusal::LocatorsNotSorted));
+    assert_eq!(ask(&[share, share, past]), Ok(vec![yes, yes, no]));
+    assert_eq!(ask(&[past, share]), Err(Refusal::LocatorsNotSorted));
     for words in 0..13 {
-        assert_eq!(
-            committee.answer_sorted(&store, &index[..words], &[past.clone(), share.clone()]),
-            Err(Refusal::IndexDisagrees)
-        );
+        assert_eq!(committee.answer_sorted(&store, &index[..words], &[past, share]), Err(Refusal::IndexDisagrees));
     }
     assert_eq!(committee.answer_sorted(&store[..15], &index, &[share]), Err(Refusal::StoreNotInOrder));
 }
