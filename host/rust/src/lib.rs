@@ -735,7 +735,7 @@ fn stretches_in(number: u64, bytes: &[u8]) -> Stretches {
     let stretch = |words: &[u64]| {
         let mut digest = [0; 32];
         for (bytes, word) in digest.chunks_exact_mut(8).zip(&words[2..6]) {
-            bytes.copy_from_slice(&word.to_be_bytes());
+            bytes.copy_from_slice(&word.to_le_bytes());
         }
         let first = Locator::new(words[0], words[1], digest, words[6]);
         Stretch { first, end: words[7], blocks: words[8], stake: words[9] }
