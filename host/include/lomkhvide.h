@@ -193,12 +193,12 @@ uint64_t lomkhvide_next_wide_withdrawing(const uint8_t *stakes, size_t stakes_le
                                          const uint8_t *after, size_t after_len, uint8_t *found, size_t found_len);
 
 /* The ordinary list after a given locator, or from the start where `after` has no bytes, in stretches of neighbouring locators of one
- * block that have the same certifying blocks, each as long as can be: 2 * number of stretches, at most 128, and 1 more where locators of
- * the list follow them. Each is ten words: author, round, the digest in four words (each eight of its bytes, the first one highest), first offset, end offset
+ * block that have the same certifying blocks, each as long as can be: 2 * number of stretches, as many as the slice holds, and 1 more where
+ * locators of the list follow them. Each is 80 bytes: its first locator, the 56 bytes that it has in a record, and three words, end offset
  * (excluded), number of certifying blocks, their authors' stake. The bytes after them keep their content. Asked on after the last locator
  * of the last stretch, until none follow, it gives the list in ascending order.
- * Refused last: 40 `stretches` not of 1,280 words. */
-#define LOMKHVIDE_STRETCHES_LEN ((size_t)10240)
+ * Refused last: 40 `stretches` that are no whole number of stretches, at least one. */
+#define LOMKHVIDE_STRETCH_LEN ((size_t)80)
 uint64_t lomkhvide_final_stretches(const uint8_t *stakes, size_t stakes_len, const uint8_t *store, size_t store_len, const uint8_t *after,
                                    size_t after_len, uint8_t *stretches, size_t stretches_len);
 
