@@ -112,13 +112,13 @@ fn a_thousand_blocks() {
     let file = folder.join("thousand.bin");
     fs::write(&file, input(10, &graph(10, 100))).unwrap();
     let file = file.to_str().unwrap();
-    let page = told(&["draw", "--store", "2000000", file]);
+    let page = told(&["draw", file]);
     assert_eq!(page.matches("<g id=\"b").count(), 1000);
     let path = folder.join("thousand.html");
     fs::write(&path, &page).unwrap();
     let address = addresses(&page)[500];
     let Some(shown) = in_browser(&folder, &path, address) else { return };
-    let drawing = told(&["draw", "--store", "2000000", "--svg", file, address]);
+    let drawing = told(&["draw", "--svg", file, address]);
     assert_eq!(part(&shown, "svg", "graph"), part(&drawing, "g", "graph"));
     assert_eq!(part(&shown, "svg", "bars"), part(&drawing, "g", "bars"));
 }

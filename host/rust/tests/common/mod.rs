@@ -68,3 +68,46 @@ pub fn folder(name: &str) -> PathBuf {
 pub fn runs() -> PathBuf {
     Path::new(env!("CARGO_MANIFEST_DIR")).join("../../crates/listing_runs")
 }
+
+/// Whether a text is one value of JSON.
+pub fn is_json(text: &str) -> bool {
+    value(text.as_bytes()).is_some_and(<[u8]>::is_empty)
+}
+
+/// What follows the value of JSON at the front.
+fn value(text: &[u8]) -> Option<&[u8]> {
+    match text.first()? {
+        b'{' => entries(text, b'}', |text| value(string(text)?.strip_prefix(b":")?)),
+        b'[' => entries(text, b']', value),
+        b'"' => string(text),
+        b'0'..=b'9' => Some(&text[text.iter().take_while(|byte| byte.is_ascii_digit()).count()..]),
+        _ => ["true", "false", "null"].iter().find_map(|word| text.strip_prefix(word.as_bytes())),
+    }
+}
+
+fn entries(text: &[u8], end: u8, entry: impl Fn(&[u8]) -> Option<&[u8]>) -> Option<&[u8]> {
+    let mut rest = &text[1..];
+    if rest.first() == Some(&end) {
+        return Some(&rest[1..]);
+    }
+    loop {
+        rest = entry(rest)?;
+        match rest.split_first()? {
+            (b',', after) => rest = after,
+            (byte, after) if *byte == end => return Some(after),
+            _ => return None,
+        }
+    }
+}
+
+fn string(text: &[u8]) -> Option<&[u8]> {
+    let mut rest = text.strip_prefix(b"\"")?;
+    loop {
+        match rest {
+            [b'"', after @ ..] => return Some(after),
+            [b'\\', b'u', after @ ..] if after.len() >= 4 && after[..4].iter().all(u8::is_ascii_hexdigit) => rest = &after[4..],
+            [b'\\', ..] | [0..=31, ..] | [] => return None,
+            [_, after @ ..] => rest = after,
+        }
+    }
+}

@@ -11,8 +11,9 @@ use lomkhvide::{Locator, Owners};
 
 use super::Fault;
 use super::account::{Account, blocks_certify};
-use super::explain::explain;
-use super::run::{Run, Tally, Voice, Vote, refused};
+use super::explain::{Manner, explain};
+use super::members::Tally;
+use super::run::{Run, Voice, Vote};
 use scene::Scene;
 
 /// The most blocks of a drawing that shows the ways from certificates to votes, and of a page that explains them: beyond these they
@@ -92,8 +93,7 @@ fn choices(run: &Run) -> Result<(Vec<Locator>, usize), Fault> {
     }
     let mut left_out = all.len().saturating_sub(MOST_CHOICES);
     all = all.into_iter().take(MOST_CHOICES).collect();
-    for stretch in run.engine.finals_wide() {
-        let stretch = stretch.map_err(refused)?;
+    for stretch in run.finals_wide()? {
         let (block, mut offsets) = (stretch.first.reference(), stretch.first.offset()..stretch.end);
         while all.len() < MOST_CHOICES {
             let Some(offset) = offsets.next() else { break };
@@ -110,9 +110,9 @@ fn choices(run: &Run) -> Result<(Vec<Locator>, usize), Fault> {
 impl View {
     fn new(run: &Run, scene: &Scene, locator: &Locator) -> Result<View, Fault> {
         let account = Account::new(run, locator)?;
-        let total = run.committee().total_stake();
+        let total = run.members.total();
         let words = |(block, voice): &(usize, Voice)| {
-            let stake = run.stake(run.blocks[*block].record.author());
+            let stake = run.members.stake(run.blocks[*block].owner);
             let words = match (voice.vote, voice.rejects) {
                 (Some(Vote::Shares), false) => format!("shares +{stake}"),
                 (Some(Vote::Accepts), false) => format!("accepts +{stake}"),
@@ -149,7 +149,7 @@ impl View {
 
 /// Why, in a line.
 fn says(run: &Run, account: &Account) -> String {
-    let quorum = run.committee().quorum();
+    let quorum = run.members.quorum();
     let mut count = blocks_certify(account.certifying.len());
     count[..1].make_ascii_uppercase();
     let certified = match account.certifying.len() {
@@ -161,14 +161,14 @@ fn says(run: &Run, account: &Account) -> String {
         Some(item) if !account.is_final => format!("; its counted votes hold stake {}", item.stake),
         _ => String::new(),
     };
-    format!("{certified}{so_far}; quorum begins at {quorum} of {}", run.committee().total_stake())
+    format!("{certified}{so_far}; quorum begins at {quorum} of {}", run.members.total())
 }
 
 /// What `explain` says.
 fn why(run: &Run, locator: &Locator) -> Result<String, Fault> {
     let mut out = Vec::new();
     if run.blocks.len() <= MOST_WITH_WAYS {
-        explain(run, locator, Owners::ALL, &mut out)?;
+        explain(run, locator, &Manner::EVERYBODY, &mut out)?;
     }
     Ok(String::from_utf8_lossy(&out).into_owned())
 }
@@ -179,7 +179,7 @@ fn ways(run: &Run, scene: &Scene, account: &Account) -> Result<String, Fault> {
         return Ok(String::new());
     }
     let mut steps = BTreeSet::new();
-    if let Some(slip) = account.slip(run)? {
+    if let Some(slip) = run.slip(&account.locator)? {
         for certifier in slip.certifiers() {
             let Some(from) = run.place(&certifier.block) else { continue };
             for voter in &certifier.voters {

@@ -19,12 +19,14 @@ pub fn page(run: &Run, scene: &Scene, views: &[View], shown: Option<usize>, left
         0 => String::new(),
         number => format!("<span id=\"left-out\">{number} more are left out</span>"),
     };
+    let refused = run.refused_line().map_or(String::new(), |line| format!("<p id=\"refused\">{}</p>\n", svg::text(&line)));
+    let committee = svg::text(&run.members.line());
     let (width, height, labels) = (scene.width, scene.height - AXIS, LABELS);
     format!(
         "<!DOCTYPE html>\n<html lang=\"en\">\n<head>\n<meta charset=\"utf-8\">\n\
          <meta name=\"viewport\" content=\"width=device-width\">\n<title>{title}</title>\n\
          <style>\n{}{PAGE_STYLE}</style>\n</head>\n<body>\n<header>\n\
-         <h1 id=\"title\" aria-live=\"polite\">{title}</h1>\n<p id=\"says\">{says}</p>\n\
+         {refused}<h1 id=\"title\" aria-live=\"polite\">{title}</h1>\n<p id=\"says\">{says}</p>\n<p id=\"committee\">{committee}</p>\n\
          <nav><label>Change <select id=\"choice\">\n{}</select></label>\n\
          <button id=\"before\" title=\"the change before\">&lt;</button><button id=\"next\" title=\"the next change\">&gt;</button>\n\
          <button id=\"smaller\" title=\"smaller\">&minus;</button><button id=\"larger\" title=\"larger\">+</button>\

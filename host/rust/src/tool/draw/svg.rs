@@ -29,7 +29,9 @@ pub const LEGEND_HEIGHT: usize = 44;
 /// The whole drawing.
 pub fn drawing(run: &Run, scene: &Scene, view: Option<&View>) -> String {
     let width = (LABELS + scene.width).max(LABELS + LEGEND_WIDTH - 60) + 16;
-    let (graph, bars) = (72, 72 + scene.height + 12);
+    let refused = run.refused_line().map(|line| format!("<text class=\"refused\" x=\"12\" y=\"20\">{}</text>\n", text(&line)));
+    let top = if refused.is_some() { 24 } else { 0 };
+    let (graph, bars) = (top + 92, top + 92 + scene.height + 12);
     let legend = bars + BARS_HEIGHT;
     let height = legend + LEGEND_HEIGHT;
     let (title, says) = view.map_or(("No share is stored".into(), String::new()), |view| (view.title(), view.says.clone()));
@@ -39,12 +41,18 @@ pub fn drawing(run: &Run, scene: &Scene, view: Option<&View>) -> String {
         "<svg xmlns=\"http://www.w3.org/2000/svg\" viewBox=\"0 0 {width} {height}\" width=\"{width}\" height=\"{height}\" role=\"img\">\n\
          <title>{title}</title>\n<style>\n{STYLE}</style>\n\
          <rect width=\"{width}\" height=\"{height}\" fill=\"#fff\"/>\n\
-         <text class=\"title\" x=\"12\" y=\"32\">{title}</text>\n<text class=\"says\" x=\"12\" y=\"56\">{says}</text>\n\
+         {}<text class=\"title\" x=\"12\" y=\"{}\">{title}</text>\n<text class=\"says\" x=\"12\" y=\"{}\">{says}</text>\n\
+         <text class=\"sum\" x=\"12\" y=\"{}\">{}</text>\n\
          <g id=\"labels\" transform=\"translate(0,{graph})\">\n{}</g>\n\
          <g id=\"axis\" transform=\"translate({LABELS},{graph})\">\n{}</g>\n\
          <g id=\"graph\" transform=\"translate({LABELS},{graph})\">\n{}</g>\n\
          <g id=\"bars\" transform=\"translate(0,{bars})\">\n{}</g>\n\
          <g id=\"legend\" transform=\"translate(12,{legend})\">\n{}</g>\n</svg>\n",
+        refused.unwrap_or_default(),
+        top + 32,
+        top + 56,
+        top + 78,
+        text(&run.members.line()),
         labels_of(run, scene),
         axis_of(scene),
         graph_of(run, scene, view),
@@ -58,7 +66,7 @@ pub fn drawing(run: &Run, scene: &Scene, view: Option<&View>) -> String {
 pub fn labels_of(run: &Run, scene: &Scene) -> String {
     let mut out = String::new();
     for lane in &scene.lanes {
-        let name = run.name(lane.owner).map(shortened);
+        let name = run.members.name(lane.owner).map(shortened);
         let middle = lane.top + lane.height / 2 - if name.is_some() { 7 } else { 0 };
         let _ = write!(
             out,
@@ -66,7 +74,7 @@ pub fn labels_of(run: &Run, scene: &Scene) -> String {
             middle - 3,
             lane.owner,
             middle + 13,
-            run.stake(lane.owner)
+            run.members.stake(lane.owner)
         );
         if let Some(name) = name {
             let _ = write!(out, "<text class=\"name\" x=\"12\" y=\"{}\">{name}</text>", middle + 27);
@@ -218,7 +226,7 @@ fn about(run: &Run, block: &Block) -> String {
 
 /// The owners who vote and those who certify, by stake, and where quorum begins.
 pub fn bars_of(run: &Run, view: Option<&View>) -> String {
-    let (total, quorum) = (run.committee().total_stake(), run.committee().quorum());
+    let (total, quorum) = (run.members.total(), run.members.quorum());
     let none = || Bar { owners: Owners::default(), says: format!("0 of {total}") };
     let empty = (none(), none());
     let (votes, certificates) = view.map_or((&empty.0, &empty.1), |view| (&view.votes, &view.certificates));
@@ -271,13 +279,13 @@ fn parts(run: &Run, id: &str, y: usize, bar: &Bar) -> String {
 
 /// The width of each owner's part of a bar, in hundredths.
 pub fn widths(run: &Run) -> Vec<usize> {
-    let total = run.committee().total_stake();
+    let total = run.members.total();
     let mut before = 0;
-    let members = 0..run.committee().members() as u64;
+    let members = 0..run.members.count() as u64;
     members
         .map(|owner| {
             let start = along(total, before);
-            before += run.stake(owner);
+            before += run.members.stake(owner);
             along(total, before) - start
         })
         .collect()

@@ -1,0 +1,105 @@
+//! The questions to the engine, in the reading that was asked for. What a question cannot be asked about is said to be unknown.
+
+use std::collections::BTreeSet;
+
+use lomkhvide::{Finality, Locator, Owners, Refusal, Slip, Stretch};
+
+use super::Fault;
+use super::members::Members;
+use super::run::Run;
+
+/// A refusal of a question that the engine cannot refuse over its own memory.
+pub fn refused(refusal: Refusal) -> Fault {
+    Fault::Unreadable(format!("the engine refused a question: {refusal}"))
+}
+
+/// An answer that there may be no call for.
+#[derive(Clone, Copy, Debug, PartialEq, Eq)]
+pub enum Known<T> {
+    Told(T),
+    Unknown,
+}
+
+/// The fewest owners who bring voters to quorum.
+#[derive(Clone, Copy, Debug, PartialEq, Eq)]
+pub enum Fewest {
+    /// Whom to ring, and their stake.
+    Owners(Owners, u64),
+    /// All who can be reached, and have not spoken, are too few.
+    OutOfReach,
+    /// The engine at hand has no call for it.
+    Unknown,
+}
+
+/// The fewest of those who can be reached whose votes bring voters to quorum.
+pub fn fewest(_members: &Members, _voters: Owners, _reachable: Owners) -> Fewest {
+    Fewest::Unknown
+}
+
+impl Run<'_> {
+    /// Whether a locator is final, and by which blocks.
+    pub fn finality(&self, locator: &Locator) -> Result<(bool, Vec<usize>), Fault> {
+        let answer = match self.withdrawing {
+            false => self.engine.finality(locator),
+            true => self.engine.finality_withdrawing(locator),
+        };
+        let Finality { is_final, certifying } = answer.map_err(refused)?;
+        Ok((is_final, certifying.iter().filter_map(|position| self.at_position(*position)).collect()))
+    }
+
+    /// The slip of a final locator.
+    pub fn slip(&self, locator: &Locator) -> Result<Option<Slip>, Fault> {
+        let answer = match self.withdrawing {
+            false => self.engine.slip(locator),
+            true => self.engine.slip_withdrawing(locator),
+        };
+        match answer {
+            Ok(slip) => Ok(Some(slip)),
+            Err(Refusal::SlipNotHeld) => Ok(None),
+            Err(refusal) => Err(refused(refusal)),
+        }
+    }
+
+    /// Whether a station may load a change.
+    pub fn loadable(&self, locator: &Locator) -> Result<Known<bool>, Fault> {
+        match self.withdrawing {
+            false => Ok(Known::Told(self.engine.is_loadable(locator).map_err(refused)?)),
+            true => Ok(Known::Unknown),
+        }
+    }
+
+    /// All changes that a station may load.
+    pub fn loadable_list(&self) -> Result<Known<BTreeSet<Locator>>, Fault> {
+        match self.withdrawing {
+            false => Ok(Known::Told(self.engine.loadable().map_err(refused)?.into_iter().collect())),
+            true => Ok(Known::Unknown),
+        }
+    }
+
+    /// The fewest of those who can be reached whose votes bring a pending locator to quorum, by the pending table.
+    pub fn ring(&self, locator: &Locator, reachable: Owners) -> Result<Fewest, Fault> {
+        match self.engine.ring(locator, reachable) {
+            Ok(ring) => Ok(Fewest::Owners(ring.owners, ring.stake)),
+            Err(Refusal::QuorumOutOfReach) => Ok(Fewest::OutOfReach),
+            Err(Refusal::NotPending) => Ok(Fewest::Unknown),
+            Err(refusal) => Err(refused(refusal)),
+        }
+    }
+
+    /// Every final locator, also where nobody sent its block.
+    pub fn finals_wide(&self) -> Result<Vec<Stretch>, Fault> {
+        if !self.withdrawing {
+            return self.engine.finals_wide().collect::<Result<_, _>>().map_err(refused);
+        }
+        let mut list: Vec<Stretch> = Vec::new();
+        loop {
+            let after = list.last().map(|last| last.first.reference().at(last.end - 1));
+            let part = self.members.committee.wide_stretches_withdrawing(self.engine.store(), after.as_ref());
+            let part = part.map_err(|number| refused(number.into()))?;
+            list.extend(part.stretches);
+            if !part.more {
+                return Ok(list);
+            }
+        }
+    }
+}
