@@ -17,7 +17,7 @@ use std::io::{self, BufRead, BufReader, Read, Write};
 use std::path::{Path, PathBuf};
 use std::process::ExitCode;
 
-use lomkhvide::{Committee, Engine, Parts, Refusal, bytes_of};
+use lomkhvide::{Committee, Engine, Listed, Parts, Reading, Refusal, bytes_of, words_of};
 
 /// The bytes of the store that the engine is lent.
 const ROOM: usize = 16 << 20;
@@ -89,11 +89,6 @@ impl Files {
         }
         Ok(())
     }
-}
-
-/// Words from a file, 8 bytes each, lowest first; bytes that are left over are none.
-fn words_of(bytes: &[u8]) -> Vec<u64> {
-    bytes.as_chunks().0.iter().map(|word| u64::from_le_bytes(*word)).collect()
 }
 
 fn write_synced(path: &Path, bytes: &[u8]) -> io::Result<()> {
@@ -220,7 +215,7 @@ fn run() -> Result<(), Box<dyn Error>> {
         read => read?,
     };
     let files = Files::open(state)?;
-    let engine = files.engine(Committee::load(&stakes).map_err(Refusal::from)?)?;
+    let engine = files.engine(Committee::load(&stakes)?)?;
     println!("opened {} blocks", engine.records().count());
     let mut node = Node { engine, files, count: Count::default(), waiting: Vec::new(), unkept: 0 };
     match records {
@@ -229,7 +224,7 @@ fn run() -> Result<(), Box<dyn Error>> {
     }
     node.feed_waiting();
     node.keep()?;
-    for stretch in node.engine.finals() {
+    for stretch in node.engine.finals(Listed::Ordinary, Reading::Old) {
         let stretch = stretch?;
         println!("final {:#}..{} by {} blocks, stake {}", stretch.first, stretch.end, stretch.blocks, stretch.stake);
     }

@@ -10,7 +10,7 @@ use std::thread::sleep;
 use std::time::Duration;
 
 use common::{Chance, folder, graph, input};
-use lomkhvide::{Committee, Engine, Record};
+use lomkhvide::{Committee, Engine, Listed, Reading, Record};
 
 const OWNERS: u64 = 7;
 const ROUNDS: u64 = 30;
@@ -87,7 +87,7 @@ fn finals_of(records: &[Record]) -> Vec<String> {
     let line = |stretch: lomkhvide::Stretch| {
         format!("final {:#}..{} by {} blocks, stake {}", stretch.first, stretch.end, stretch.blocks, stretch.stake)
     };
-    engine.finals().map(|stretch| line(stretch.unwrap())).collect()
+    engine.finals(Listed::Ordinary, Reading::Old).map(|stretch| line(stretch.unwrap())).collect()
 }
 
 /// Records from standard input, in an order in which includes come late.

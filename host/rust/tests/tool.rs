@@ -9,7 +9,7 @@ use std::process::{Command, Output, Stdio};
 use std::time::{Duration, Instant};
 
 use common::{folder, graph, input, is_json, runs};
-use lomkhvide::{Record, Reference};
+use lomkhvide::{AuthorityIndex, Record, Reference, RoundNumber};
 
 fn tool(words: &[&str]) -> Output {
     Command::new(env!("CARGO_BIN_EXE_lomkhvide")).args(words).output().unwrap()
@@ -132,15 +132,17 @@ An unmarked block certifies that has quorum votes at or below it.
 
 /// A block of round 1 over all of round 0, four owners.
 fn first_round(author: u64, number: u8) -> lomkhvide::RecordBuilder {
-    let block = |author: u64| Reference { round: 0, author, digest: [1 + author as u8; 32] };
-    (0..4).fold(Record::builder(author, 1, [number; 32]), |record, author| record.include(block(author)))
+    let block = |author: u64| Reference::new(RoundNumber(0), AuthorityIndex(author), [1 + author as u8; 32]);
+    let record = Record::builder(RoundNumber(1), AuthorityIndex(author), [number; 32]);
+    (0..4).fold(record, |record, author| record.include(block(author)))
 }
 
 /// Owners whose vote came before the share was stored are not rung again.
 #[test]
 fn votes_before_the_share() {
     let path = folder("before").join("before.bin");
-    let mut records: Vec<Record> = (0..4).map(|i| Record::builder(i, 0, [1 + i as u8; 32]).finish().unwrap()).collect();
+    let mut records: Vec<Record> =
+        (0..4).map(|i| Record::builder(RoundNumber(0), AuthorityIndex(i), [1 + i as u8; 32]).finish().unwrap()).collect();
     let share = first_round(0, 6).share(b"gain").finish().unwrap();
     records.push(first_round(1, 5).accept(share.reference().at(0)).finish().unwrap());
     records.push(share.clone());
@@ -164,7 +166,8 @@ const FEWEST_BEFORE: &str = "Whom to ring is not known here: the engine at hand 
 #[test]
 fn withdrawn_votes() {
     let path = folder("withdrawn").join("withdrawn.bin");
-    let mut records: Vec<Record> = (0..4).map(|i| Record::builder(i, 0, [1 + i as u8; 32]).finish().unwrap()).collect();
+    let mut records: Vec<Record> =
+        (0..4).map(|i| Record::builder(RoundNumber(0), AuthorityIndex(i), [1 + i as u8; 32]).finish().unwrap()).collect();
     let share = first_round(0, 6).share(b"gain").finish().unwrap();
     let locator = share.reference().at(0);
     records.push(share.clone());

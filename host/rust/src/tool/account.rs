@@ -1,6 +1,6 @@
 //! What the engine says of a locator, and what it lacks.
 
-use lomkhvide::{Locator, Owners, PendingItem};
+use lomkhvide::{Locator, Owners, PendingItem, Stake};
 
 use super::Fault;
 use super::ask::{Fewest, Known, fewest};
@@ -45,7 +45,7 @@ impl Account {
         let (is_final, certifying) = run.finality(locator)?;
         let voices = run.voices(locator);
         let owner = |block: usize| run.blocks[block].owner;
-        let rejecting: Owners = match run.withdrawing {
+        let rejecting: Owners = match run.withdrawing() {
             true => voices.iter().filter(|(_, voice)| voice.rejects).map(|(block, _)| owner(*block)).collect(),
             false => Owners::default(),
         };
@@ -77,7 +77,7 @@ impl Account {
     /// Whom to ring: for votes the fewest of those who have not spoken, for certificates the fewest of those whose blocks do not certify.
     pub fn fewest(&self, run: &Run, reachable: Owners) -> Result<Fewest, Fault> {
         match self.stage() {
-            Stage::Final | Stage::Nothing => Ok(Fewest::Owners(Owners::default(), 0)),
+            Stage::Final | Stage::Nothing => Ok(Fewest::Owners(Owners::default(), Stake::default())),
             Stage::Certificates => Ok(fewest(run.members, self.certified.owners, reachable)),
             Stage::Votes => {
                 let silent = Owners(reachable.0 & !self.spoken.0);
@@ -99,7 +99,7 @@ impl Account {
 
     /// Final or not, and in which reading where it is not the old one.
     pub fn verdict(&self, run: &Run) -> &'static str {
-        match (self.is_final, run.withdrawing) {
+        match (self.is_final, run.withdrawing()) {
             (true, false) => "final",
             (false, false) => "not final",
             (true, true) => "final, where owners may withdraw",

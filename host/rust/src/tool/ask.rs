@@ -2,7 +2,7 @@
 
 use std::collections::BTreeSet;
 
-use lomkhvide::{Finality, Locator, Owners, Refusal, Slip, Stretch};
+use lomkhvide::{Finality, Listed, Locator, Owners, Refusal, Slip, Stake, Stretch};
 
 use super::Fault;
 use super::members::Members;
@@ -24,7 +24,7 @@ pub enum Known<T> {
 #[derive(Clone, Copy, Debug, PartialEq, Eq)]
 pub enum Fewest {
     /// Whom to ring, and their stake.
-    Owners(Owners, u64),
+    Owners(Owners, Stake),
     /// All who can be reached, and have not spoken, are too few.
     OutOfReach,
     /// The engine at hand has no call for it.
@@ -39,21 +39,13 @@ pub fn fewest(_members: &Members, _voters: Owners, _reachable: Owners) -> Fewest
 impl Run<'_> {
     /// Whether a locator is final, and by which blocks.
     pub fn finality(&self, locator: &Locator) -> Result<(bool, Vec<usize>), Fault> {
-        let answer = match self.withdrawing {
-            false => self.engine.finality(locator),
-            true => self.engine.finality_withdrawing(locator),
-        };
-        let Finality { is_final, certifying } = answer.map_err(refused)?;
+        let Finality { is_final, certifying } = self.engine.finality(locator, self.reading).map_err(refused)?;
         Ok((is_final, certifying.iter().filter_map(|position| self.at_position(*position)).collect()))
     }
 
     /// The slip of a final locator.
     pub fn slip(&self, locator: &Locator) -> Result<Option<Slip>, Fault> {
-        let answer = match self.withdrawing {
-            false => self.engine.slip(locator),
-            true => self.engine.slip_withdrawing(locator),
-        };
-        match answer {
+        match self.engine.slip(locator, self.reading) {
             Ok(slip) => Ok(Some(slip)),
             Err(Refusal::SlipNotHeld) => Ok(None),
             Err(refusal) => Err(refused(refusal)),
@@ -62,7 +54,7 @@ impl Run<'_> {
 
     /// Whether a station may load a change.
     pub fn loadable(&self, locator: &Locator) -> Result<Known<bool>, Fault> {
-        match self.withdrawing {
+        match self.withdrawing() {
             false => Ok(Known::Told(self.engine.is_loadable(locator).map_err(refused)?)),
             true => Ok(Known::Unknown),
         }
@@ -70,7 +62,7 @@ impl Run<'_> {
 
     /// All changes that a station may load.
     pub fn loadable_list(&self) -> Result<Known<BTreeSet<Locator>>, Fault> {
-        match self.withdrawing {
+        match self.withdrawing() {
             false => Ok(Known::Told(self.engine.loadable().map_err(refused)?.into_iter().collect())),
             true => Ok(Known::Unknown),
         }
@@ -88,18 +80,6 @@ impl Run<'_> {
 
     /// Every final locator, also where nobody sent its block.
     pub fn finals_wide(&self) -> Result<Vec<Stretch>, Fault> {
-        if !self.withdrawing {
-            return self.engine.finals_wide().collect::<Result<_, _>>().map_err(refused);
-        }
-        let mut list: Vec<Stretch> = Vec::new();
-        loop {
-            let after = list.last().map(|last| last.first.reference().at(last.end - 1));
-            let part = self.members.committee.wide_stretches_withdrawing(self.engine.store(), after.as_ref());
-            let part = part.map_err(|number| refused(number.into()))?;
-            list.extend(part.stretches);
-            if !part.more {
-                return Ok(list);
-            }
-        }
+        self.engine.finals(Listed::Wide, self.reading).collect::<Result<_, _>>().map_err(refused)
     }
 }

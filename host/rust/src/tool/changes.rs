@@ -253,7 +253,7 @@ fn sorts(run: &Run, changes: &Changes, manner: &Manner) -> Result<[Sort; 3], Fau
 pub fn every_change(run: &Run, manner: &Manner, out: &mut dyn Write) -> Result<(), Fault> {
     let changes = Changes::new(run)?;
     let [finals, open, never_sent] = changes.counts();
-    let reading = if run.withdrawing { ", where owners may withdraw" } else { "" };
+    let reading = if run.withdrawing() { ", where owners may withdraw" } else { "" };
     writeln!(out, "{finals} final, {open} not yet final, {never_sent} voted for and never sent{reading}.")?;
     writeln!(out, "{}", run.members.line())?;
     for (heading, _, told, count) in sorts(run, &changes, manner)? {

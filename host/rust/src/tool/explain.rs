@@ -3,7 +3,7 @@
 use std::collections::BTreeMap;
 use std::io::Write;
 
-use lomkhvide::{Certifier, Locator, Owners, Voter};
+use lomkhvide::{AuthorityIndex, Certifier, Locator, Owners, Voter};
 
 use super::Fault;
 use super::account::{Account, Stage, blocks_certify};
@@ -74,7 +74,7 @@ pub fn certified(run: &Run, account: &Account) -> String {
 /// The certifying blocks with their voters: of each owner the first one, and of so many owners, where not all are asked for.
 fn certificates(run: &Run, account: &Account, manner: &Manner, out: &mut dyn Write) -> Result<(), Fault> {
     let Some(slip) = run.slip(&account.locator)? else { return Ok(()) };
-    let mut of_owner: BTreeMap<u64, usize> = BTreeMap::new();
+    let mut of_owner: BTreeMap<AuthorityIndex, usize> = BTreeMap::new();
     let (mut shown, mut hidden) = (0, 0);
     for certifier in slip.certifiers() {
         let Some(from) = run.place(&certifier.block) else { continue };
@@ -173,14 +173,14 @@ pub fn lacking(run: &Run, account: &Account) -> Result<Vec<String>, Fault> {
     } else if let Some(number) = account.processed_by {
         lines.push(format!("Record {number} brought the votes to quorum."));
     }
-    let standing = if run.withdrawing { "Votes that stand" } else { "By their owners" };
-    if run.withdrawing
+    let standing = if run.withdrawing() { "Votes that stand" } else { "By their owners" };
+    if run.withdrawing()
         || account.pending.is_none_or(|item| item.voters != account.voted.owners) && account.processed_by.is_none()
     {
         lines.push(format!("{standing}: {}.", run.members.sum(&account.voted)));
     }
     if account.stage() == Stage::Certificates {
-        let less = if run.withdrawing { ", less those who reject there" } else { "" };
+        let less = if run.withdrawing() { ", less those who reject there" } else { "" };
         lines.push(format!("An unmarked block certifies that has quorum votes at or below it{less}."));
     }
     Ok(lines)

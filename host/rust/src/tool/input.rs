@@ -140,8 +140,7 @@ impl<'a> Input<'a> {
 fn in_input(stakes: Vec<u8>, is_empty: bool) -> Result<Members, NoCommittee> {
     match Committee::from_bytes(stakes) {
         Ok(committee) => Ok(Members::new(committee, Vec::new(), Source::Input)),
-        Err(refused) => {
-            let refusal = lomkhvide::Refusal::from(refused);
+        Err(refusal) => {
             let empty = if is_empty { "; the file is empty" } else { "" };
             Err(NoCommittee { number: refusal.number(), reason: format!("{}{empty}", refusal.sentence()) })
         }
@@ -173,8 +172,7 @@ pub fn loaded(name: &str, bytes: &[u8], absent: bool) -> Result<Members, NoCommi
     };
     match Committee::load(bytes) {
         Ok(committee) => Ok(Members::new(committee, names(bytes), source)),
-        Err(refused) => {
-            let refusal = lomkhvide::Refusal::from(refused);
+        Err(refusal) => {
             let place = stakes::place(bytes).map_or(String::new(), |place| format!(": {place}"));
             Err(NoCommittee { number: refusal.number(), reason: format!("{}, file {name}{place}", refusal.sentence()) })
         }

@@ -2,6 +2,8 @@
 
 use std::fmt::{self, Write};
 
+use lomkhvide::{AuthorityIndex, RoundNumber, Stake};
+
 #[derive(Clone, Debug, PartialEq, Eq)]
 pub enum Json {
     Null,
@@ -27,6 +29,19 @@ impl From<u64> for Json {
         Json::Number(number)
     }
 }
+
+/// Owners, rounds and stakes are numbers.
+macro_rules! numbers {
+    ($($name:ty),*) => {
+        $(impl From<$name> for Json {
+            fn from(number: $name) -> Json {
+                Json::Number(number.0)
+            }
+        })*
+    };
+}
+
+numbers!(AuthorityIndex, RoundNumber, Stake);
 
 impl From<usize> for Json {
     fn from(number: usize) -> Json {

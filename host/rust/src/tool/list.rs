@@ -2,7 +2,7 @@
 
 use std::io::Write;
 
-use lomkhvide::{Event, Outcome};
+use lomkhvide::{Event, Listed, Outcome};
 
 use super::Fault;
 use super::ask::refused;
@@ -34,14 +34,14 @@ pub fn list(run: &Run, out: &mut dyn Write) -> Result<(), Fault> {
         }
         for event in &block.events {
             processed += (event.outcome == Outcome::Processed) as u64;
-            writeln!(out, "{} {} {} {}", word(event), block.number, event.statement, event.offset)?;
+            writeln!(out, "{} {} {} {}", word(event), block.number, event.statement, event.locator.offset())?;
         }
     }
     for trouble in refusals {
         writeln!(out, "refused {} {}", trouble.number, trouble.refusal.number())?;
     }
     let mut finals = 0;
-    for stretch in run.engine.finals() {
+    for stretch in run.engine.finals(Listed::Ordinary, run.reading) {
         let stretch = stretch.map_err(refused)?;
         let block = stretch.first.reference();
         for offset in stretch.first.offset()..stretch.end {
@@ -67,12 +67,12 @@ pub fn json(run: &Run) -> Result<Json, Fault> {
                 ("event", word(event).into()),
                 ("record", block.number.into()),
                 ("statement", event.statement.into()),
-                ("offset", event.offset.into()),
+                ("locator", event.locator.to_string().into()),
             ]));
         }
     }
     let mut finals = Vec::new();
-    for stretch in run.engine.finals() {
+    for stretch in run.engine.finals(Listed::Ordinary, run.reading) {
         let stretch = stretch.map_err(refused)?;
         finals.push(object([
             ("locator", stretch.first.to_string().into()),

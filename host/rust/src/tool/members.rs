@@ -1,6 +1,6 @@
 //! The committee that is used: its owners, their names where they are known, and where it comes from.
 
-use lomkhvide::{Aggregator, Committee, Owners};
+use lomkhvide::{Aggregator, AuthorityIndex, Committee, Owners, Stake};
 
 use super::Fault;
 use super::json::{Json, object};
@@ -27,7 +27,7 @@ pub enum Source {
 #[derive(Clone, Copy, Debug, Default, PartialEq, Eq)]
 pub struct Tally {
     pub owners: Owners,
-    pub stake: u64,
+    pub stake: Stake,
     pub quorum: bool,
 }
 
@@ -40,24 +40,24 @@ impl Members {
         self.committee.members()
     }
 
-    pub fn total(&self) -> u64 {
+    pub fn total(&self) -> Stake {
         self.committee.total_stake()
     }
 
-    pub fn quorum(&self) -> u64 {
+    pub fn quorum(&self) -> Stake {
         self.committee.quorum()
     }
 
-    pub fn stake(&self, owner: u64) -> u64 {
-        self.committee.stake(owner).unwrap_or(0)
+    pub fn stake(&self, owner: AuthorityIndex) -> Stake {
+        self.committee.stake(owner).unwrap_or_default()
     }
 
-    pub fn name(&self, owner: u64) -> Option<&str> {
-        self.names.get(usize::try_from(owner).ok()?).map(String::as_str)
+    pub fn name(&self, owner: AuthorityIndex) -> Option<&str> {
+        self.names.get(usize::try_from(owner.0).ok()?).map(String::as_str)
     }
 
     /// "3", or with the name "3 (karst)".
-    pub fn short(&self, owner: u64) -> String {
+    pub fn short(&self, owner: AuthorityIndex) -> String {
         match self.name(owner) {
             Some(name) => format!("{owner} ({name})"),
             None => owner.to_string(),
@@ -65,7 +65,7 @@ impl Members {
     }
 
     /// "owner 3", or with the name "owner 3 (karst)".
-    pub fn owner(&self, owner: u64) -> String {
+    pub fn owner(&self, owner: AuthorityIndex) -> String {
         format!("owner {}", self.short(owner))
     }
 
@@ -86,7 +86,7 @@ impl Members {
     }
 
     /// Counts owners.
-    pub fn tally(&self, owners: impl Iterator<Item = u64>) -> Tally {
+    pub fn tally(&self, owners: impl Iterator<Item = AuthorityIndex>) -> Tally {
         let mut counting = Counting::default();
         owners.for_each(|owner| counting.add(self, owner));
         counting.tally()
@@ -123,7 +123,7 @@ impl Members {
             Source::File(_) => "stakes",
             Source::CourseForAbsent(_) | Source::CourseForEmpty(_) => "course",
         };
-        let member = |owner: u64| {
+        let member = |owner: AuthorityIndex| {
             object([("owner", owner.into()), ("name", self.name(owner).into()), ("stake", self.stake(owner).into())])
         };
         object([
@@ -131,7 +131,7 @@ impl Members {
             ("from", self.source().into()),
             ("total", self.total().into()),
             ("quorum", self.quorum().into()),
-            ("members", (0..self.count() as u64).map(member).collect()),
+            ("members", self.committee.authorities().map(member).collect()),
         ])
     }
 
@@ -140,9 +140,9 @@ impl Members {
         let mut owners = Vec::new();
         let mut nobody = Vec::new();
         for part in text.split(',').map(str::trim) {
-            let named = (0..self.count() as u64).find(|owner| self.name(*owner) == Some(part));
+            let named = self.committee.authorities().find(|owner| self.name(*owner) == Some(part));
             match (part.parse::<u64>().ok(), named) {
-                (Some(number), _) if (number as u128) < self.count() as u128 => owners.push(number),
+                (Some(number), _) if (number as u128) < self.count() as u128 => owners.push(AuthorityIndex(number)),
                 (_, Some(owner)) => owners.push(owner),
                 (Some(number), None) => nobody.push(number),
                 (None, None) if self.names.is_empty() => {
@@ -151,7 +151,7 @@ impl Members {
                 (None, None) => {
                     return Err(Fault::Usage(format!(
                         "--reach: '{part}' is no owner: {}",
-                        self.owners((0..self.count() as u64).collect())
+                        self.owners(self.committee.authorities().collect())
                     )));
                 }
             }
@@ -168,12 +168,11 @@ pub struct Counting {
 }
 
 impl Counting {
-    pub fn add(&mut self, members: &Members, owner: u64) {
+    pub fn add(&mut self, members: &Members, owner: AuthorityIndex) {
         self.quorum = members.committee.add(&mut self.aggregator, owner).is_ok_and(|vote| vote.has_quorum());
     }
 
     pub fn tally(&self) -> Tally {
-        let Aggregator { low, high, stake, .. } = self.aggregator;
-        Tally { owners: Owners::from_words(low, high), stake, quorum: self.quorum }
+        Tally { owners: self.aggregator.voters, stake: self.aggregator.stake, quorum: self.quorum }
     }
 }

@@ -2,7 +2,9 @@
 
 use std::collections::{BTreeSet, HashMap};
 
-use lomkhvide::{Engine, Event, Locator, Outcome, PendingItem, Record, Reference, Refusal, Statement};
+use lomkhvide::{
+    AuthorityIndex, Engine, Event, Locator, Outcome, PendingItem, Reading, Record, Reference, Refusal, RoundNumber, Statement,
+};
 
 use super::asked::Asked;
 use super::input::{Framed, Input};
@@ -12,8 +14,7 @@ use super::trouble::Trouble;
 pub struct Run<'a> {
     pub members: &'a Members,
     pub engine: Engine,
-    /// Whether an owner may withdraw.
-    pub withdrawing: bool,
+    pub reading: Reading,
     /// How many records there are, refused ones among them.
     pub count: usize,
     /// The stored blocks, in order of arrival.
@@ -31,8 +32,8 @@ pub struct Run<'a> {
 pub struct Block {
     /// The record's number in the file, from 1.
     pub number: usize,
-    pub owner: u64,
-    pub round: u64,
+    pub owner: AuthorityIndex,
+    pub round: RoundNumber,
     pub record: Record,
     /// The included blocks, by their index here.
     pub includes: Vec<usize>,
@@ -81,7 +82,7 @@ impl<'a> Run<'a> {
             members: &input.members,
             pending: Vec::new(),
             engine,
-            withdrawing: asked.withdrawing,
+            reading: if asked.withdrawing { Reading::Withdrawing } else { Reading::Old },
             count: input.count(),
             blocks: Vec::new(),
             refused: Vec::new(),
@@ -119,14 +120,16 @@ impl<'a> Run<'a> {
             self.speaking.entry(about(&statement).unwrap_or(reference)).or_default().insert(i);
         }
         for event in events.iter().filter(|event| event.outcome == Outcome::Processed) {
-            let voted = record.statements().nth(event.statement as usize);
-            if let Some(voted) = voted.as_ref().and_then(about) {
-                self.processed.insert(voted.at(event.offset), number);
-            }
+            self.processed.insert(event.locator, number);
         }
         let includes = record.includes().filter_map(|block| self.place(&block)).collect();
         let (owner, round) = (record.author(), record.round());
         self.blocks.push(Block { number, owner, round, record, includes, events });
+    }
+
+    /// Whether an owner may withdraw.
+    pub fn withdrawing(&self) -> bool {
+        self.reading == Reading::Withdrawing
     }
 
     /// The index of a stored block.

@@ -196,7 +196,7 @@ fn show(asked: &Asked, file: &[u8], out: &mut dyn Write) -> Result<Whole, Fault>
         writeln!(out, "{}", object([("committee", members.json())]))?;
         return Ok(Whole::All);
     }
-    for owner in 0..members.count() as u64 {
+    for owner in members.committee.authorities() {
         writeln!(out, "{} {}", members.name(owner).unwrap_or_default(), members.stake(owner))?;
     }
     Ok(Whole::All)

@@ -3,7 +3,7 @@
 use std::fs;
 use std::path::Path;
 
-use lomkhvide::{Record, Reference};
+use lomkhvide::{AuthorityIndex, Record, Reference, RoundNumber};
 
 use super::malformed::malformed;
 use super::{Asked, Fault, Whole, answer_bytes, asked};
@@ -132,8 +132,11 @@ fn noise() {
 /// A record has a malformed byte exactly where the engine finds it malformed.
 #[test]
 fn malformed_bytes() {
-    let block = Reference { round: 3, author: 2, digest: [3; 32] };
-    let record = Record::builder(1, 9, [4; 32]).include(block).share(b"gain").reject(block.at(1), Some(block.at(2)));
+    let block = Reference::new(RoundNumber(3), AuthorityIndex(2), [3; 32]);
+    let record = Record::builder(RoundNumber(9), AuthorityIndex(1), [4; 32])
+        .include(block)
+        .share(b"gain")
+        .reject(block.at(1), Some(block.at(2)));
     let plain = record.clone().accept(block.at(0)).range(block.at(2), 3).finish().unwrap();
     let timed = record.time(5).finish().unwrap();
     let mut found = 0;

@@ -110,7 +110,7 @@ impl<'a> Trouble<'a> {
             Refusal::StoredAlready => {
                 run.place(&record.reference()).map(|place| format!("record {} is it", run.blocks[place].number))
             }
-            Refusal::UnknownIncludeAuthor => include(&|block| block.author >= members as u64)
+            Refusal::UnknownIncludeAuthor => include(&|block| block.author.0 >= members as u64)
                 .map(|(_, _, name)| format!("{name}: the owners have the numbers 0 to {}", members - 1)),
             Refusal::IncludeRoundNotLower => include(&|block| block.round >= record.round())
                 .map(|(_, block, name)| format!("{name}, is of round {}", block.round)),
@@ -152,9 +152,9 @@ impl<'a> Trouble<'a> {
 
     /// What the authors of the includes of the round before hold.
     fn clock(&self, run: &Run, record: &Record) -> String {
-        let before = record.includes().filter(|block| block.round.checked_add(1) == Some(record.round()));
+        let before = record.includes().filter(|block| block.round.0.checked_add(1) == Some(record.round().0));
         let tally = run.members.tally(before.map(|block| block.author));
-        format!("of round {}, {}", record.round().saturating_sub(1), run.members.sum(&tally))
+        format!("of round {}, {}", record.round().0.saturating_sub(1), run.members.sum(&tally))
     }
 }
 

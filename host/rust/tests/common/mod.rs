@@ -5,7 +5,7 @@
 use std::fs;
 use std::path::{Path, PathBuf};
 
-use lomkhvide::Record;
+use lomkhvide::{AuthorityIndex, Record, RoundNumber};
 
 /// Numbers that look like chance and are the same in every run.
 pub struct Chance(pub u64);
@@ -27,7 +27,7 @@ pub fn graph(owners: u64, rounds: u64) -> Vec<Record> {
         for author in 0..owners {
             let mut digest = [0; 32];
             digest[..4].copy_from_slice(&(1 + records.len() as u32).to_be_bytes());
-            let mut builder = Record::builder(author, round, digest);
+            let mut builder = Record::builder(RoundNumber(round), AuthorityIndex(author), digest);
             for block in &before {
                 builder = builder.include(*block);
             }
@@ -35,7 +35,7 @@ pub fn graph(owners: u64, rounds: u64) -> Vec<Record> {
                 builder = builder.share(&[1, 2, 3]);
             }
             if round > 1 {
-                for block in before.iter().filter(|block| block.author != author) {
+                for block in before.iter().filter(|block| block.author.0 != author) {
                     builder = builder.accept(block.at(0));
                 }
             }
