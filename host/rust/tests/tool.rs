@@ -8,7 +8,7 @@ use std::path::Path;
 use std::process::{Command, Output, Stdio};
 use std::time::{Duration, Instant};
 
-use common::{folder, graph, input, is_json, runs};
+use common::{Json, folder, graph, input, runs};
 use lomkhvide::{AuthorityIndex, Record, Reference, RoundNumber};
 
 fn tool(words: &[&str]) -> Output {
@@ -677,7 +677,7 @@ fn json() {
     ] {
         let output = tool(&[&words[..], &["--json"]].concat());
         let told = text(&output.stdout);
-        assert!(told.lines().count() == 1 && is_json(told.trim()), "{words:?}: {told}");
+        assert!(told.lines().count() == 1 && Json::read(told.trim()).is_some(), "{words:?}: {told}");
         assert!(
             told.starts_with("{\"refused\":{\"count\":") && told.contains("\"committee\":{\"source\":\"file\""),
             "{words:?}"

@@ -29,6 +29,7 @@ Options, and the commands that they belong to:
   --withdrawing   in the reading in which an owner may withdraw a vote by a reject  explain, draw
   --all           leave nothing out of a long answer                             explain, records
   --svg           a drawing in place of a page                                   draw
+  --beside LINES  on the page, the lines of another count beside the engine's   draw
   --json          the same facts for a script                                    every command
   --help          this page
 
@@ -70,7 +71,7 @@ fn belongs(option: &str) -> Option<&'static [Command]> {
         "--reach" => &[Explain],
         "--withdrawing" => &[Explain, Draw],
         "--all" => &[Explain, Records],
-        "--svg" => &[Draw],
+        "--svg" | "--beside" => &[Draw],
         "--json" => &[List, Check, Records, Explain, Draw, Stakes],
         _ => return None,
     })
@@ -91,6 +92,8 @@ pub struct Asked {
     pub withdrawing: bool,
     pub all: bool,
     pub svg: bool,
+    /// A file of lines as `listing` prints them, by another count.
+    pub beside: Option<String>,
     pub json: bool,
 }
 
@@ -112,6 +115,7 @@ pub fn asked(words: &[String]) -> Result<Option<Asked>, Fault> {
         withdrawing: false,
         all: false,
         svg: false,
+        beside: None,
         json: false,
     };
     let mut plain = Vec::new();
@@ -136,6 +140,7 @@ pub fn asked(words: &[String]) -> Result<Option<Asked>, Fault> {
             "--store" => asked.store = Some(number(word, &value("a number")?)?),
             "--reach" => asked.reach = Some(value("owners, as 0,4,5")?),
             "--stakes" => asked.stakes = Some(value("a file of stakes")?),
+            "--beside" => asked.beside = Some(value("a file of lines")?),
             "--listing" => asked.listing = true,
             "--withdrawing" => asked.withdrawing = true,
             "--all" => asked.all = true,
@@ -186,7 +191,9 @@ fn agreeing(asked: &Asked, options: &[&str]) -> Result<(), Fault> {
     if asked.store.is_some_and(|store| !(16..1 << 32).contains(&(store as u64))) {
         return usage("--store: a store has 16 to 4294967295 bytes");
     }
-    for (one, other) in [("--listing", "--store"), ("--listing", "--json"), ("--svg", "--json")] {
+    for (one, other) in
+        [("--listing", "--store"), ("--listing", "--json"), ("--svg", "--json"), ("--svg", "--beside"), ("--beside", "--json")]
+    {
         if options.contains(&one) && options.contains(&other) {
             return usage(format!("{one} and {other} do not go together"));
         }

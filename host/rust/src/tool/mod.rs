@@ -163,7 +163,7 @@ fn text_answer(asked: &Asked, input: &Input, run: &Run, out: &mut dyn Write) -> 
         (Command::Records, _) => records::records(run, input, asked.all, out),
         (Command::Explain, Some(locator)) => explain::explain(run, &locator, &manner, out),
         (Command::Explain, None) => changes::every_change(run, &manner, out),
-        (Command::Draw, locator) => draw::draw(run, locator, asked.svg, out),
+        (Command::Draw, locator) => draw::draw(run, input, asked, locator, out),
         (Command::Stakes, _) => Ok(()),
     }
 }
@@ -177,7 +177,9 @@ fn json_answer(asked: &Asked, input: &Input, run: &Run, out: &mut dyn Write) -> 
         (Command::Records, _) => records::json(run, input),
         (Command::Explain, []) => changes::json(run, &manner)?,
         (Command::Explain, given) => explain::json(run, &locate::locate(run, given)?, &manner)?,
-        (Command::Draw | Command::Stakes, _) => Json::Null,
+        (Command::Draw, []) => draw::json(run, input, asked, None)?,
+        (Command::Draw, given) => draw::json(run, input, asked, Some(locate::locate(run, given)?))?,
+        (Command::Stakes, _) => Json::Null,
     };
     let first = run.refused.first().map(|trouble| trouble.json(run));
     let refused = json::object([("count", run.refused.len().into()), ("of", run.count.into()), ("first", first.into())]);
