@@ -2,10 +2,13 @@
 
 mod questions;
 
-pub use questions::{Finals, PendingItem};
+use std::panic::resume_unwind;
+use std::{fmt, io, thread};
 
+use crate::calls::stack;
 use crate::memory::word_at;
-use crate::{Committee, Event, Record, Refusal, fresh_index, fresh_store, fresh_table};
+use crate::{Committee, Event, Fed, Record, Refusal, calls, fresh_index, fresh_store, fresh_table};
+pub use questions::{Finals, PendingItem};
 
 /// The words of an item of the pending table: entry position, start, end, votes low and high, stake.
 const ITEM_WORDS: usize = 6;
@@ -14,14 +17,20 @@ const ITEM_WORDS: usize = 6;
 const STORE_HEADER: usize = 16;
 const ENTRY_HEADER: usize = 8;
 
+/// The stack of [`Engine::with_stack`] beside that of a call.
+const OWN_STACK: usize = 524_288;
+
 /// The words of a fresh index, before it grows.
 const FIRST_INDEX: usize = 1024;
 
 /// The engine with the memory that it is lent: the stored records, the pending table, and with [`Engine::with_index`] the voters of each
-/// stored block. Each method is one call.
+/// stored block. Each method is one call, or as few as it takes.
 ///
-/// Made by [`Engine::new`], [`Engine::with_index`] or [`Engine::open`] and changed by [`Engine::feed`] alone, its memory is in order: 5, 10, 11
+/// Made by [`Engine::new`], [`Engine::with_index`] or [`Engine::open`] and changed by [`Engine::feed`] and [`Engine::feed_all`] alone, its memory is in order: 5, 10, 11
 /// and 54 never come.
+///
+/// Nothing is kept outside of it, so threads may ask one engine at once. Each method says how much stack its call needs; on a small thread,
+/// [`Engine::with_stack`] runs it.
 ///
 /// ```
 /// use lomkhvide::{AuthorityIndex, Committee, Engine, Reading, Record, Refusal, RoundNumber, Stake};
@@ -39,7 +48,7 @@ const FIRST_INDEX: usize = 1024;
 /// assert_eq!(engine.payload(&change)?, b"gain");
 /// # Ok::<(), Refusal>(())
 /// ```
-#[derive(Clone, Debug, PartialEq, Eq)]
+#[derive(Clone, PartialEq, Eq)]
 pub struct Engine {
     committee: Committee,
     store: Vec<u8>,
@@ -96,6 +105,7 @@ impl Engine {
 
     /// An engine over parts that were kept, with room for a store of that many bytes. Refused where they are not in order under the
     /// committee: 10, 11, 54.
+    #[doc = stack!(feed_indexed)]
     ///
     /// ```
     /// use lomkhvide::{Committee, Engine, Parts, Refusal, Stake};
@@ -115,11 +125,20 @@ impl Engine {
         engine.store[..parts.store.len()].copy_from_slice(parts.store);
         engine.table[..parts.table.len()].copy_from_slice(parts.table);
         engine.index = parts.index.map(<[u64]>::to_vec);
+        engine.check()?;
+        Ok(engine)
+    }
+
+    /// Refused where the memory is not in order.
+    fn check(&mut self) -> Result<(), Refusal> {
+        let Some(index) = &mut self.index else {
+            // Feeding no records checks all that is lent.
+            return self.committee.feed_records(&mut self.store, &mut self.table, &[]).map(drop);
+        };
         // Feeding no bytes is refused as malformed once all that is lent was found in order.
-        match engine.feed([]) {
-            Err(Refusal::Malformed) => Ok(engine),
-            Err(refusal) => Err(refusal),
-            Ok(_) => Ok(engine),
+        match self.committee.feed_indexed(&mut self.store, &mut self.table, index, &[]) {
+            Err(Refusal::Malformed) => Ok(()),
+            told => told.map(drop),
         }
     }
 
@@ -166,6 +185,7 @@ impl Engine {
 
     /// Feeds a record: it is stored and counted, and its events come back; the index grows where it is too short. Refused with 20 to 30 where
     /// it breaks a rule, 15, 13 or 14 where memory is short.
+    #[doc = stack!(feed_indexed)]
     ///
     /// ```
     /// use lomkhvide::{AuthorityIndex, Committee, Engine, Record, Refusal, RoundNumber, Stake};
@@ -188,6 +208,47 @@ impl Engine {
                 told => return told,
             }
         }
+    }
+
+    /// Feeds records one after the other, as few calls as it takes: what became of each is what [`Engine::feed`] would tell, and so is the memory
+    /// afterwards. A record that is refused does not keep the others from being fed.
+    #[doc = stack!(feed_indexed)]
+    ///
+    /// ```
+    /// # use lomkhvide::*;
+    /// let mut engine = Engine::new(Committee::new(&[Stake(1)])?, 65_536);
+    /// let first = Record::builder(RoundNumber(0), AuthorityIndex(0), [1; 32]).finish()?;
+    /// let second = Record::builder(RoundNumber(1), AuthorityIndex(0), [2; 32]).include(first.reference()).finish()?;
+    /// let fed = engine.feed_all([&second, &first, &second])?;
+    /// assert_eq!(fed, [Err(Refusal::IncludeNotStored), Ok(vec![]), Ok(vec![])]);
+    /// # Ok::<(), Refusal>(())
+    /// ```
+    pub fn feed_all<R: AsRef<[u8]>>(&mut self, records: impl IntoIterator<Item = R>) -> Result<Vec<Fed>, Refusal> {
+        let records: Vec<R> = records.into_iter().collect();
+        if self.index.is_some() {
+            return Ok(records.iter().map(|record| self.feed(record)).collect());
+        }
+        let records: Vec<&[u8]> = records.iter().map(AsRef::as_ref).collect();
+        self.committee.feed_records(&mut self.store, &mut self.table, &records)
+    }
+
+    /// Runs something on a thread of its own that has stack enough for every call, and waits for it: for a host whose threads are small. It may
+    /// borrow; its panic is the caller's. Fails where no thread can be made.
+    ///
+    /// ```
+    /// # use lomkhvide::*;
+    /// // One owner, who has shared a change in round 1; and a thread on which a list has no room.
+    /// let Sample { engine, .. } = sample();
+    /// let small = std::thread::Builder::new().stack_size(65_536);
+    /// let list = small.spawn(move || Engine::with_stack(|| engine.finals(Listed::Ordinary, Reading::Old).count()))?;
+    /// assert_eq!(list.join().unwrap()?, 1);
+    /// # Ok::<(), std::io::Error>(())
+    /// ```
+    pub fn with_stack<T: Send>(run: impl FnOnce() -> T + Send) -> io::Result<T> {
+        thread::scope(|scope| {
+            let thread = thread::Builder::new().stack_size(calls::STACK + OWN_STACK).spawn_scoped(scope, run)?;
+            Ok(thread.join().unwrap_or_else(|panic| resume_unwind(panic)))
+        })
     }
 
     /// The stored records, in order of arrival, each with the position that the engine's answers name it by.
@@ -238,6 +299,15 @@ impl Engine {
         let used = &self.store[..self.used()];
         let start = at + ENTRY_HEADER;
         (start <= used.len()).then(|| &used[start..start + number_at(used, at + 4)])
+    }
+}
+
+/// How much it holds: its bytes would fill many screens.
+impl fmt::Debug for Engine {
+    fn fmt(&self, f: &mut fmt::Formatter) -> fmt::Result {
+        let (members, records) = (self.committee.members(), self.records().count());
+        let index = self.parts().index.map_or("no index".into(), |index| format!("an index of {} words", index.len()));
+        write!(f, "Engine({members} members, {records} records, {} of {} bytes, {index})", self.used(), self.store.len())
     }
 }
 

@@ -1,5 +1,7 @@
 //! Finality slips, taken apart.
 
+use crate::calls::stack;
+use crate::feeding::framed;
 use crate::memory::word_at;
 use crate::{AuthorityIndex, Committee, Locator, Reading, Record, Reference, Refusal, calls};
 
@@ -61,6 +63,7 @@ impl Slip {
     /// Reads a slip of either reading with the records that come with it, as a station does; more records than it names are welcome. Refused
     /// with 61 where its first byte names no reading, 52 where it does not hold, 53 where a record that it names is missing; a slip of the
     /// reading in which an owner may withdraw needs every record below its certifying blocks.
+    #[doc = stack!(read_slip)]
     ///
     /// ```
     /// use lomkhvide::{Committee, Refusal, Slip, Stake};
@@ -160,6 +163,7 @@ fn certifier(rest: &mut &[u8]) -> Certifier {
 
 impl Committee {
     /// Reads a finality slip of either reading with the records that come with it: the number of its certifying blocks; or 5, 61, 52, 53.
+    #[doc = stack!(read_slip)]
     ///
     /// ```
     /// # use lomkhvide::*;
@@ -171,16 +175,11 @@ impl Committee {
     /// # Ok::<(), Refusal>(())
     /// ```
     pub fn read_slip(&self, slip: &[u8], records: &[&[u8]]) -> Result<u64, Refusal> {
-        let mut framed = Vec::new();
-        for record in records {
-            // A length that 4 bytes do not hold is that of no record: the reader answers 52.
-            framed.extend(u32::try_from(record.len()).unwrap_or(u32::MAX).to_le_bytes());
-            framed.extend(*record);
-        }
-        calls::read_slip(self.stakes(), slip, &framed)
+        calls::read_slip(self.stakes(), slip, &framed(records))
     }
 
     /// Writes the finality slip of a final locator to the front of `out`: its length; or 5, 10, 52, 50, and nothing is written.
+    #[doc = stack!(write_slip_withdrawing)]
     ///
     /// ```
     /// # use lomkhvide::*;
