@@ -125,9 +125,13 @@ Votes:
   owner 3, stake 1: record 12 accepts it
 Record 12 brought the votes to quorum.
 An unmarked block certifies that has quorum votes at or below it.
+Ring for such a block: owner 1 holds stake 1, the fewest who bring its certificates to quorum.
 ";
     let told = tool(&["explain", &file("owner_twice.bin"), "1/2/00000007/0"]);
-    assert!(text(&told.stdout).starts_with(expected), "{}", text(&told.stdout));
+    assert_eq!(text(&told.stdout), expected);
+    let told = tool(&["explain", "--reach", "2,3", &file("owner_twice.bin"), "1/2/00000007/0"]);
+    let last = "Ring for such a block of those who can be reached: owner 2 holds stake 1, the fewest who bring its certificates to quorum.";
+    assert_eq!(text(&told.stdout).lines().last(), Some(last));
 }
 
 /// A block of round 1 over all of round 0, four owners.
@@ -157,10 +161,8 @@ fn votes_before_the_share() {
         "{told}"
     );
     assert!(told.contains("\nBy their owners: owners 0, 1 hold stake 2 of 4, quorum begins at 3, 1 more.\n"), "{told}");
-    assert!(told.ends_with(FEWEST_BEFORE), "{told}");
+    assert!(told.ends_with("\nRing: owner 2 holds stake 1, the fewest who bring it to quorum.\n"), "{told}");
 }
-
-const FEWEST_BEFORE: &str = "Whom to ring is not known here: the engine at hand has no call for it.\n";
 
 /// Where owners may withdraw, votes that were withdrawn are not counted, and loading is asked in that reading.
 #[test]
@@ -183,12 +185,11 @@ fn withdrawn_votes() {
     let new = tool(&["explain", "--withdrawing", path, &locator.to_string()]);
     let new = text(&new.stdout);
     assert!(new.contains("\nVotes that stand: owner 0 holds stake 1 of 4, quorum begins at 3, 2 more.\n"), "{new}");
-    assert!(new.ends_with(FEWEST_WITHDRAWN), "{new}");
+    assert!(new.ends_with("\nRing: owners 2, 3 hold stake 2, the fewest who bring it to quorum.\n"), "{new}");
     let course = tool(&["explain", "--withdrawing", &file("course_run.bin"), "1/0/00000005/0"]);
     assert!(text(&course.stdout).contains(LOADED_WITHDRAWING), "{}", text(&course.stdout));
 }
 
-const FEWEST_WITHDRAWN: &str = "Whom to ring is not known here: the engine at hand has no call for it.\n";
 const LOADED_WITHDRAWING: &str =
     "\nWhether a station may load it in this reading is not known here: the engine at hand has no call for it.\n";
 

@@ -18,8 +18,8 @@ pub struct Account {
     pub voices: Vec<(usize, Voice)>,
     /// The owners whose votes stand: where an owner may withdraw, without those who reject.
     pub voted: Tally,
-    /// The owners who have spoken: voted or, where an owner may withdraw, rejected.
-    spoken: Owners,
+    /// Who reject it, where an owner may withdraw: they are not rung.
+    rejecting: Owners,
     /// Whether it names a stored share.
     pub is_share: bool,
     /// Its item of the pending table, where it is pending.
@@ -57,7 +57,7 @@ impl Account {
             certified: run.members.tally(certifying.iter().map(|block| owner(*block))),
             certifying,
             voted: run.members.tally(votes.iter().filter(|owner| !rejecting.contains(*owner))),
-            spoken: Owners(votes.0 | rejecting.0),
+            rejecting,
             voices,
             is_share: run.is_share(locator),
             pending: run.pending_item(locator),
@@ -74,21 +74,14 @@ impl Account {
         }
     }
 
-    /// Whom to ring: for votes the fewest of those who have not spoken, for certificates the fewest of those whose blocks do not certify.
+    /// Whom to ring of those who can be reached and have not withdrawn: for votes the fewest who have not voted, for certificates the fewest
+    /// whose blocks do not certify.
     pub fn fewest(&self, run: &Run, reachable: Owners) -> Result<Fewest, Fault> {
+        let reachable = Owners(reachable.0 & !self.rejecting.0);
         match self.stage() {
-            Stage::Final | Stage::Nothing => Ok(Fewest::Owners(Owners::default(), Stake::default())),
-            Stage::Certificates => Ok(fewest(run.members, self.certified.owners, reachable)),
-            Stage::Votes => {
-                let silent = Owners(reachable.0 & !self.spoken.0);
-                match fewest(run.members, self.voted.owners, silent) {
-                    // Where the votes are those that the pending table counts, its own call answers the same.
-                    Fewest::Unknown if self.pending.is_some_and(|item| item.voters == self.voted.owners) => {
-                        run.ring(&self.locator, silent)
-                    }
-                    answer => Ok(answer),
-                }
-            }
+            Stage::Final | Stage::Nothing => Ok(Some((Owners::default(), Stake::default()))),
+            Stage::Certificates => fewest(run.members, self.certified.owners, reachable),
+            Stage::Votes => fewest(run.members, self.voted.owners, reachable),
         }
     }
 
@@ -127,9 +120,8 @@ impl Account {
             ])
         };
         let ring = match self.fewest(run, reachable)? {
-            Fewest::Owners(found, stake) => object([("owners", owners(found)), ("stake", stake.into())]),
-            Fewest::OutOfReach => "out of reach".into(),
-            Fewest::Unknown => "unknown".into(),
+            Some((found, stake)) => object([("owners", owners(found)), ("stake", stake.into())]),
+            None => "out of reach".into(),
         };
         let loadable = match (self.is_final, run.loadable(&self.locator)?) {
             (false, _) => Json::Bool(false),

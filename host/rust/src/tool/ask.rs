@@ -20,20 +20,16 @@ pub enum Known<T> {
     Unknown,
 }
 
-/// The fewest owners who bring voters to quorum.
-#[derive(Clone, Copy, Debug, PartialEq, Eq)]
-pub enum Fewest {
-    /// Whom to ring, and their stake.
-    Owners(Owners, Stake),
-    /// All who can be reached, and have not spoken, are too few.
-    OutOfReach,
-    /// The engine at hand has no call for it.
-    Unknown,
-}
+/// The fewest owners who bring voters to quorum, and their stake; none where all who can be reached and have not spoken are too few.
+pub type Fewest = Option<(Owners, Stake)>;
 
 /// The fewest of those who can be reached whose votes bring voters to quorum.
-pub fn fewest(_members: &Members, _voters: Owners, _reachable: Owners) -> Fewest {
-    Fewest::Unknown
+pub fn fewest(members: &Members, voters: Owners, reachable: Owners) -> Result<Fewest, Fault> {
+    match members.committee.fewest_owners(voters, reachable) {
+        Ok(ring) => Ok(Some((ring.owners, ring.stake))),
+        Err(Refusal::QuorumOutOfReach) => Ok(None),
+        Err(refusal) => Err(refused(refusal)),
+    }
 }
 
 impl Run<'_> {
@@ -65,16 +61,6 @@ impl Run<'_> {
         match self.withdrawing() {
             false => Ok(Known::Told(self.engine.loadable().map_err(refused)?.into_iter().collect())),
             true => Ok(Known::Unknown),
-        }
-    }
-
-    /// The fewest of those who can be reached whose votes bring a pending locator to quorum, by the pending table.
-    pub fn ring(&self, locator: &Locator, reachable: Owners) -> Result<Fewest, Fault> {
-        match self.engine.ring(locator, reachable) {
-            Ok(ring) => Ok(Fewest::Owners(ring.owners, ring.stake)),
-            Err(Refusal::QuorumOutOfReach) => Ok(Fewest::OutOfReach),
-            Err(Refusal::NotPending) => Ok(Fewest::Unknown),
-            Err(refusal) => Err(refused(refusal)),
         }
     }
 

@@ -7,7 +7,7 @@ use lomkhvide::{AuthorityIndex, Certifier, Locator, Owners, Voter};
 
 use super::Fault;
 use super::account::{Account, Stage, blocks_certify};
-use super::ask::{Fewest, Known};
+use super::ask::Known;
 use super::json::{Json, object};
 use super::run::{Run, voice};
 
@@ -202,12 +202,11 @@ pub fn ring_line(run: &Run, account: &Account, manner: &Manner) -> Result<String
         _ => ("", "it"),
     };
     Ok(match account.fewest(run, manner.reachable)? {
-        Fewest::Owners(owners, _) if owners.is_empty() => "Nobody has to be rung.".into(),
-        Fewest::Owners(owners, stake) => {
+        Some((owners, _)) if owners.is_empty() => "Nobody has to be rung.".into(),
+        Some((owners, stake)) => {
             format!("Ring{what}{reach}: {} stake {stake}, the fewest who bring {brings} to quorum.", run.members.hold(owners))
         }
-        Fewest::OutOfReach => format!("Nobody{reach} can bring {brings} to quorum: all together hold too little."),
-        Fewest::Unknown => format!("Whom to ring{what} is not known here: the engine at hand has no call for it."),
+        None => format!("Nobody{reach} can bring {brings} to quorum: all together hold too little."),
     })
 }
 

@@ -118,7 +118,7 @@ pub fn answer_bytes(asked: &Asked, bytes: &[u8], out: &mut dyn Write) -> Result<
         Ok(input) => input,
         Err(refused) => return no_committee(asked, &refused, out),
     };
-    let run = Run::new(&input, asked);
+    let run = Run::new(&input, asked)?;
     if asked.json {
         json_answer(asked, &input, &run, out)?;
     } else {

@@ -3,11 +3,13 @@
 use std::collections::{BTreeSet, HashMap};
 
 use lomkhvide::{
-    AuthorityIndex, Engine, Event, Locator, Outcome, PendingItem, Reading, Record, Reference, Refusal, RoundNumber, Statement,
+    AuthorityIndex, Engine, Event, Locator, Outcome, PendingItem, Reading, Record, Reference, RoundNumber, Statement,
 };
 
+use super::Fault;
+use super::ask::refused;
 use super::asked::Asked;
-use super::input::{Framed, Input};
+use super::input::Input;
 use super::members::Members;
 use super::trouble::Trouble;
 
@@ -69,15 +71,10 @@ impl Voice {
     }
 }
 
-/// Feeds records one after the other: the events of each, or why it was refused.
-pub fn feed(engine: &mut Engine, records: &[Framed]) -> Vec<Result<Vec<Event>, Refusal>> {
-    records.iter().map(|record| engine.feed(record.bytes)).collect()
-}
-
 impl<'a> Run<'a> {
-    pub fn new(input: &'a Input<'a>, asked: &Asked) -> Run<'a> {
+    pub fn new(input: &'a Input<'a>, asked: &Asked) -> Result<Run<'a>, Fault> {
         let mut engine = Engine::new(input.members.committee.clone(), input.store(asked));
-        let told = feed(&mut engine, &input.records);
+        let told = engine.feed_all(input.records.iter().map(|record| record.bytes)).map_err(refused)?;
         let mut run = Run {
             members: &input.members,
             pending: Vec::new(),
@@ -108,7 +105,7 @@ impl<'a> Run<'a> {
             run.refused.push(Trouble::broken(input.count(), broken));
         }
         run.pending = run.engine.pending_items().collect();
-        run
+        Ok(run)
     }
 
     /// A record that the engine has stored.

@@ -170,6 +170,7 @@ function list(title, items, most = 40) {
     return [element("h2", title), ...(items.length ? [made] : [])];
 }
 
+const count = (number) => (number === 1 ? "1 block" : `${number} blocks`);
 const verbHold = (count) => (count === 1 ? "holds" : "hold");
 const names = (numbers) => numbers.map((n) => owners[n].name.slice("owner ".length)).join(", ");
 const ownersText = (numbers) => (numbers.length === 1 ? owners[numbers[0]].name : `owners ${names(numbers)}`);
@@ -181,8 +182,7 @@ function ringText(change, isFinal) {
     if (!answer) return "Nobody has voted yet.";
     const [, forBlocks, found, stake] = answer;
     const what = forBlocks ? " for an unmarked block above the votes" : "";
-    if (found === "out") return "Nobody can bring it to quorum: all who have not spoken hold too little.";
-    if (found === "unknown") return "Whom to ring is not known here: the engine at hand has no call for it.";
+    if (found === "out") return "Nobody can bring it to quorum: all who can be rung hold too little.";
     const numbers = expand(found);
     const brings = forBlocks ? "its certificates" : "it";
     return `Ring${what}: ${ownersText(numbers)} ${verbHold(numbers.length)} stake ${stake}, the fewest who bring ${brings} to quorum.`;
@@ -209,7 +209,9 @@ function why(change, isFinal, voices, certifies) {
         const { number, owner } = blocks[block];
         return `${owners[owner].name}, stake ${owners[owner].stake}: record ${number} ${verb}`;
     });
-    panel.append(...list(`Votes, ${spoken.length === 1 ? "1 block" : `${spoken.length} blocks`}`, spoken));
+    const against = says.filter(([, verb]) => verb === "rejects it").length;
+    const rejects = against ? `, and ${against} that only ${against === 1 ? "rejects" : "reject"}` : "";
+    panel.append(...list(`Votes, ${count(spoken.length - against)}${rejects}`, spoken));
     const ways = new Map(change.ways);
     const certificates = [...certifies].sort((a, b) => a - b);
     const certified = certificates.map((block) => {
@@ -217,7 +219,7 @@ function why(change, isFinal, voices, certifies) {
         const paths = isFinal && ways.has(block) ? ways.get(block).map((path) => path.map((i) => blocks[i].number).join(" > ")) : [];
         return `record ${number} of ${owners[owner].name}${paths.length ? `, by ${paths.join("; ")}` : ""}`;
     });
-    panel.append(...list(`Certificates, ${certified.length === 1 ? "1 block" : `${certified.length} blocks`}`, certified));
+    panel.append(...list(`Certificates, ${count(certified.length)}`, certified));
 }
 
 // The lines of another count beside the engine's, as far as the records have come.

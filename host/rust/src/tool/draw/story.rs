@@ -115,7 +115,7 @@ impl Story {
         let moments: usize = changes.iter().map(|change| change.votes.len() + change.certified.len()).sum();
         let last_rings_only = moments > MOST_RINGS;
         for change in &mut changes {
-            change.ring(run, last_rings_only);
+            change.ring(run, last_rings_only)?;
         }
         Ok(Story { steps, changes, last_rings_only })
     }
@@ -297,7 +297,7 @@ impl Change {
     }
 
     /// Whom to ring after each record that changes it, or after the last one alone.
-    fn ring(&mut self, run: &Run, last_only: bool) {
+    fn ring(&mut self, run: &Run, last_only: bool) -> Result<(), Fault> {
         let mut steps: Vec<usize> = self.votes.iter().chain(&self.certified).map(|moment| moment.step).collect();
         steps.extend(self.voices.iter().map(|(block, _)| run.blocks[*block].number));
         steps.sort_unstable();
@@ -308,23 +308,23 @@ impl Change {
             steps = if self.final_from.is_none() { steps.pop().into_iter().collect() } else { Vec::new() };
         }
         for step in steps {
-            let (stage, answer) = self.fewest(run, step);
+            let (stage, answer) = self.fewest(run, step)?;
             self.rings.push((step, stage, answer));
         }
+        Ok(())
     }
 
-    fn fewest(&self, run: &Run, step: usize) -> (Stage, Fewest) {
+    fn fewest(&self, run: &Run, step: usize) -> Result<(Stage, Fewest), Fault> {
         let (votes, certified) = (owners_at(run, &self.votes, step), owners_at(run, &self.certified, step));
         let quorum = self.votes.iter().rfind(|moment| moment.step <= step).is_some_and(|moment| moment.quorum);
-        if !certified.is_empty() || quorum {
-            return (Stage::Certificates, fewest(run.members, certified, Owners::ALL));
-        }
-        let spoken = self
-            .voices
-            .iter()
-            .filter(|(block, voice)| run.blocks[*block].number <= step && (voice.vote.is_some() || run.withdrawing()));
-        let spoken: Owners = spoken.map(|(block, _)| run.blocks[*block].owner).collect();
-        (Stage::Votes, fewest(run.members, votes, Owners(!spoken.0)))
+        let rejecting =
+            self.voices.iter().filter(|(block, voice)| voice.rejects && run.withdrawing() && run.blocks[*block].number <= step);
+        let rejecting: Owners = rejecting.map(|(block, _)| run.blocks[*block].owner).collect();
+        let (stage, voters) = match !certified.is_empty() || quorum {
+            true => (Stage::Certificates, certified),
+            false => (Stage::Votes, votes),
+        };
+        Ok((stage, fewest(run.members, voters, Owners(!rejecting.0))?))
     }
 
     fn json(&self, run: &Run) -> Json {
@@ -337,11 +337,10 @@ impl Change {
         let ring = |(step, stage, answer): &(usize, Stage, Fewest)| {
             let for_blocks = Json::from((*stage == Stage::Certificates) as usize);
             let answer = match answer {
-                Fewest::Owners(owners, stake) => {
+                Some((owners, stake)) => {
                     vec![spans(&owners.iter().map(|owner| owner.0 as usize).collect::<Vec<_>>()), number(*stake)]
                 }
-                Fewest::OutOfReach => vec!["out".into()],
-                Fewest::Unknown => vec!["unknown".into()],
+                None => vec!["out".into()],
             };
             Json::List([vec![(*step).into(), for_blocks], answer].concat())
         };
