@@ -38,7 +38,6 @@ fn main() {
         Some("stakes") => tables(number(word(1), 100_000), number(word(2), 1)),
         Some("model") => model(word(1).expect("a file"), word(2)),
         Some("inputs") => inputs(word(1) == Some("check")),
-        Some("stakes-file") => stakes_file(word(1).expect("a list")),
         Some("stakes-list") => stakes_list(word(1).expect("a file of stakes")),
         #[cfg(has_rust)]
         Some("sample") => sample(word(1).expect("a folder"), word(2) == Some("check")),
@@ -310,14 +309,6 @@ fn model(input: &str, stakes: Option<&str>) {
     let input = std::fs::read(input).expect("the input");
     let stakes = stakes.map_or(vec![], |file| std::fs::read(file).expect("the file of stakes"));
     print!("{}", reference::model::listing::listing(&input, &stakes));
-}
-
-/// The file of stakes of a list, to standard output.
-fn stakes_file(list: &str) {
-    match members::from_list(&std::fs::read_to_string(list).expect("the list")) {
-        Ok(file) => std::io::stdout().write_all(&file).expect("the file of stakes is written"),
-        Err(text) => fail(&text),
-    }
 }
 
 /// The members of a file of stakes, as a list.

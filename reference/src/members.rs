@@ -1,5 +1,4 @@
-//! The file of stakes from a readable list and back. The list has a line for each member, in order of authority number: its name, of
-//! 1 to 16 bytes, and its stake.
+//! Files of stakes, and the readable list of one: a line for each member, in order of authority number, its name and its stake.
 
 use crate::model::record::number;
 use crate::model::stakes_file::chain;
@@ -21,23 +20,6 @@ pub fn file(members: &[(impl AsRef<[u8]>, u64)]) -> Vec<u8> {
     let next = |i: usize| if i + 1 < members.len() { i as u16 + 2 } else { 0 };
     let records = members.iter().enumerate().map(|(i, (name, stake))| record(next(i), name.as_ref(), *stake));
     in_file(!members.is_empty() as u16, &records.collect::<Vec<_>>())
-}
-
-/// The file of a list.
-pub fn from_list(list: &str) -> Result<Vec<u8>, String> {
-    let mut members: Vec<(&str, u64)> = Vec::new();
-    for line in list.lines().map(str::trim).filter(|line| !line.is_empty()) {
-        let (name, stake) = line.rsplit_once(char::is_whitespace).ok_or(format!("no name and stake: {line}"))?;
-        let name = name.trim_end();
-        if name.len() > 16 || name.contains('\0') || members.iter().any(|(other, _)| *other == name) {
-            return Err(format!("no name for a member: {name}"));
-        }
-        match stake.parse() {
-            Ok(stake) if stake > 0 => members.push((name, stake)),
-            _ => return Err(format!("no stake for a member: {stake}")),
-        }
-    }
-    Ok(file(&members))
 }
 
 /// The members along the chain of a file, as a list.

@@ -2,57 +2,90 @@
 
 use std::io::Write;
 
-use lomkhvide::{Engine, Listed, Outcome, Reading};
+use lomkhvide::{Event, Listed, Outcome};
 
 use super::Fault;
-use super::input::Input;
-use super::run::refused;
+use super::ask::refused;
+use super::input::NoCommittee;
+use super::json::{Json, object};
+use super::run::Run;
+use super::trouble::digits;
 
-pub fn list(input: &Input, store: usize, out: &mut dyn Write) -> Result<(), Fault> {
-    let committee = match &input.committee {
-        Ok(committee) => committee.clone(),
-        Err(refusal) => {
-            writeln!(out, "refused 0 {}\nend 0 0 0 0 0", refusal.number())?;
-            return Ok(());
+/// What `listing` prints where it takes no committee.
+pub fn no_committee(refused: &NoCommittee, out: &mut dyn Write) -> Result<(), Fault> {
+    writeln!(out, "refused 0 {}\nend 0 0 0 0 0", refused.number)?;
+    Ok(())
+}
+
+fn word(event: &Event) -> &'static str {
+    match event.outcome {
+        Outcome::Processed => "processed",
+        Outcome::Late => "late",
+        Outcome::Unknown => "unknown",
+    }
+}
+
+pub fn list(run: &Run, out: &mut dyn Write) -> Result<(), Fault> {
+    let mut refusals = run.refused.iter().peekable();
+    let mut processed = 0;
+    for block in &run.blocks {
+        while let Some(trouble) = refusals.next_if(|trouble| trouble.number < block.number) {
+            writeln!(out, "refused {} {}", trouble.number, trouble.refusal.number())?;
         }
-    };
-    let mut engine = Engine::new(committee, store);
-    let (mut accepted, mut not_taken, mut processed) = (0, 0, 0);
-    for (k, record) in (1..).zip(&input.records) {
-        match engine.feed(record.bytes) {
-            Ok(events) => {
-                accepted += 1;
-                for event in events {
-                    let name = match event.outcome {
-                        Outcome::Processed => "processed",
-                        Outcome::Late => "late",
-                        Outcome::Unknown => "unknown",
-                    };
-                    processed += (event.outcome == Outcome::Processed) as u64;
-                    writeln!(out, "{name} {k} {} {}", event.statement, event.locator.offset())?;
-                }
-            }
-            Err(refusal) => {
-                not_taken += 1;
-                writeln!(out, "refused {k} {}", refusal.number())?;
-            }
+        for event in &block.events {
+            processed += (event.outcome == Outcome::Processed) as u64;
+            writeln!(out, "{} {} {} {}", word(event), block.number, event.statement, event.locator.offset())?;
         }
     }
-    if input.broken.is_some() {
-        not_taken += 1;
-        writeln!(out, "refused {} 20", input.records.len() + 1)?;
+    for trouble in refusals {
+        writeln!(out, "refused {} {}", trouble.number, trouble.refusal.number())?;
     }
     let mut finals = 0;
-    for stretch in engine.finals(Listed::Ordinary, Reading::Old) {
+    for stretch in run.engine.finals(Listed::Ordinary, run.reading) {
         let stretch = stretch.map_err(refused)?;
         let block = stretch.first.reference();
-        let digest: String = block.digest[..4].iter().map(|byte| format!("{byte:02x}")).collect();
         for offset in stretch.first.offset()..stretch.end {
             finals += 1;
-            writeln!(out, "final {} {} {digest} {offset} {} {}", block.round, block.author, stretch.blocks, stretch.stake)?;
+            let (round, author, digits) = (block.round, block.author, digits(&block));
+            writeln!(out, "final {round} {author} {digits} {offset} {} {}", stretch.blocks, stretch.stake)?;
         }
     }
-    let pending: u64 = engine.pending_items().map(|item| item.end - item.first.offset()).sum();
-    writeln!(out, "end {accepted} {not_taken} {processed} {pending} {finals}")?;
+    writeln!(out, "end {} {} {processed} {} {finals}", run.blocks.len(), run.refused.len(), pending(run))?;
     Ok(())
+}
+
+/// How many offsets are pending.
+fn pending(run: &Run) -> u64 {
+    run.pending.iter().map(|item| item.end - item.first.offset()).sum()
+}
+
+pub fn json(run: &Run) -> Result<Json, Fault> {
+    let mut events = Vec::new();
+    for block in &run.blocks {
+        for event in &block.events {
+            events.push(object([
+                ("event", word(event).into()),
+                ("record", block.number.into()),
+                ("statement", event.statement.into()),
+                ("locator", event.locator.to_string().into()),
+            ]));
+        }
+    }
+    let mut finals = Vec::new();
+    for stretch in run.engine.finals(Listed::Ordinary, run.reading) {
+        let stretch = stretch.map_err(refused)?;
+        finals.push(object([
+            ("locator", stretch.first.to_string().into()),
+            ("end", stretch.end.into()),
+            ("blocks", stretch.blocks.into()),
+            ("stake", stretch.stake.into()),
+        ]));
+    }
+    Ok(object([
+        ("accepted", run.blocks.len().into()),
+        ("troubles", run.refused.iter().map(|trouble| trouble.json(run)).collect()),
+        ("events", Json::List(events)),
+        ("pending", pending(run).into()),
+        ("final", Json::List(finals)),
+    ]))
 }

@@ -1,74 +1,74 @@
 //! The program `lomkhvide`, for operators and students. Every answer comes from the engine's calls.
 
 mod account;
+mod ask;
+mod asked;
+mod changes;
 mod check;
 mod draw;
 mod explain;
 mod input;
+mod json;
 mod list;
 mod locate;
+mod malformed;
+mod members;
+mod records;
 mod run;
+mod stakes;
 #[cfg(test)]
 mod tests;
+mod trouble;
 
 use std::fmt;
 use std::io::{self, Write};
 
-use lomkhvide::{AuthorityIndex, Owners};
+pub use asked::{Asked, USAGE, asked};
 
-pub const USAGE: &str = "\
-lomkhvide: what became of the records of a file, by the engine
+use asked::Command;
+use explain::Manner;
+use input::{Input, NoCommittee};
+use json::Json;
+use run::Run;
 
-  lomkhvide list FILE               the lines of the program listing
-  lomkhvide check FILE              each refused record, with the reason in words; exit status 1 where there is one
-  lomkhvide explain FILE LOCATOR    whether a change is final, and why: certifying blocks, voters, paths, stake;
-                                    where it is not, what is missing and whom to ring
-  lomkhvide draw FILE [LOCATOR]     the graph as a page for a browser, on which another change can be chosen
-  lomkhvide draw --svg FILE [LOCATOR]  the same as a drawing, for a slide or a document
-
-FILE is an input of listing: the number of members (one byte; 255: the committee of the file 'stakes' here), the stakes
-(8 bytes each), then records, each after its length (4 bytes). '-' is standard input.
-LOCATOR is ROUND/AUTHOR/DIGEST/OFFSET, or these four as in a line 'final' of list; of the digest the first digits will do.
-
-Options:
-  --first N      feed the first N records only
-  --reach A,B,.. the owners who can be reached by telephone (explain; else all)
-  --withdrawing  explain and draw in the reading in which an owner may withdraw a vote by a reject
-  --store BYTES  lend a store of that size (else 65536, as listing does)
-  --help         this page
-
-Exit status: 0, or 1 where an input or an argument is bad; the reason is one line.
-";
-
-/// What is asked on the command line.
-#[derive(Debug, PartialEq, Eq)]
-pub struct Asked {
-    pub command: Command,
-    pub file: String,
-    /// The parts of the locator, where one is given.
-    pub locator: Vec<String>,
-    pub first: Option<usize>,
-    pub reach: Owners,
-    pub store: usize,
-    pub svg: bool,
-    pub withdrawing: bool,
-}
-
+/// Whether an answer was made from all records of the file.
 #[derive(Clone, Copy, Debug, PartialEq, Eq)]
-pub enum Command {
-    List,
-    Check,
-    Explain,
-    Draw,
+pub enum Whole {
+    All,
+    /// Some were refused.
+    Part,
+    /// The committee is refused, and that is the answer.
+    Nothing,
 }
 
-/// Why the program ends early.
+/// Why the program ends early: a line that says what is wrong, and where.
 #[derive(Debug)]
 pub enum Fault {
-    /// A line that says what is wrong, and where.
-    Bad(String),
+    /// The question is wrong.
+    Usage(String),
+    /// The file cannot be read.
+    Unreadable(String),
     /// The answer cannot be written.
     Output(io::Error),
+}
+
+impl Fault {
+    pub fn exit_status(&self) -> u8 {
+        match self {
+            Fault::Usage(_) => 1,
+            Fault::Unreadable(_) | Fault::Output(_) => 2,
+        }
+    }
+}
+
+impl Whole {
+    pub fn exit_status(self) -> u8 {
+        match self {
+            Whole::All => 0,
+            Whole::Part => 3,
+            Whole::Nothing => 2,
+        }
+    }
 }
 
 impl From<io::Error> for Fault {
@@ -81,106 +81,114 @@ impl From<io::Error> for Fault {
 impl fmt::Display for Fault {
     fn fmt(&self, f: &mut fmt::Formatter) -> fmt::Result {
         let text = match self {
-            Fault::Bad(text) => text.clone(),
+            Fault::Usage(text) | Fault::Unreadable(text) => text.clone(),
             Fault::Output(error) => format!("the answer cannot be written: {error}"),
         };
         text.chars().try_for_each(|c| if c.is_control() { write!(f, "{}", c.escape_default()) } else { write!(f, "{c}") })
     }
 }
 
-fn bad<T>(text: impl Into<String>) -> Result<T, Fault> {
-    Err(Fault::Bad(text.into()))
+fn unreadable<T>(text: impl Into<String>) -> Result<T, Fault> {
+    Err(Fault::Unreadable(text.into()))
 }
 
-/// Reads the words after the program's name; none where help is asked for.
-pub fn asked(words: &[String]) -> Result<Option<Asked>, Fault> {
-    let mut asked = Asked {
-        command: Command::List,
-        file: String::new(),
-        locator: Vec::new(),
-        first: None,
-        reach: Owners::ALL,
-        store: input::LISTING_STORE,
-        svg: false,
-        withdrawing: false,
+/// What follows the line about refused records.
+const CHECK_TELLS_MORE: &str = " 'lomkhvide check' tells more.";
+
+/// Does what is asked.
+pub fn answer(asked: &Asked, out: &mut dyn Write) -> Result<Whole, Fault> {
+    if asked.command == Command::Stakes {
+        return stakes::stakes(asked, out);
+    }
+    let whole = answer_bytes(asked, &input::read_file(&asked.file)?, out)?;
+    if asked.command == Command::Draw && whole == Whole::Part {
+        // A page mostly goes to a file: who makes it should know before it is opened.
+        let _ = writeln!(
+            io::stderr(),
+            "lomkhvide: {}: some records were refused, and the drawing says so;{CHECK_TELLS_MORE}",
+            asked.file
+        );
+    }
+    Ok(whole)
+}
+
+/// The same of the file's bytes.
+pub fn answer_bytes(asked: &Asked, bytes: &[u8], out: &mut dyn Write) -> Result<Whole, Fault> {
+    let input = match Input::read(asked, bytes)? {
+        Ok(input) => input,
+        Err(refused) => return no_committee(asked, &refused, out),
     };
-    let mut plain = Vec::new();
-    let mut words = words.iter();
-    while let Some(word) = words.next() {
-        let mut number = |name: &str| match words.next().map(|value| value.parse::<usize>()) {
-            Some(Ok(number)) => Ok(number),
-            _ => bad(format!("{name} is followed by a number")),
-        };
-        match word.as_str() {
-            "--help" | "-h" => return Ok(None),
-            "--svg" => asked.svg = true,
-            "--withdrawing" => asked.withdrawing = true,
-            "--first" => asked.first = Some(number("--first")?),
-            "--store" => asked.store = number("--store")?,
-            "--reach" => asked.reach = owners(words.next().map_or("", |value| value))?,
-            option if option.starts_with("--") => return bad(format!("{option}: no such option; lomkhvide --help names them")),
-            _ => plain.push(word.clone()),
+    let run = Run::new(&input, asked)?;
+    if asked.json {
+        json_answer(asked, &input, &run, out)?;
+    } else {
+        text_answer(asked, &input, &run, out)?;
+    }
+    Ok(if run.refused.is_empty() { Whole::All } else { Whole::Part })
+}
+
+/// Nothing can be answered; `listing` has lines for it.
+fn no_committee(asked: &Asked, refused: &NoCommittee, out: &mut dyn Write) -> Result<Whole, Fault> {
+    if asked.listing {
+        list::no_committee(refused, out)?;
+        return Ok(Whole::Nothing);
+    }
+    unreadable(format!("{}, byte 0: the committee is refused: {} ({})", asked.file, refused.reason, refused.number))
+}
+
+fn manner(asked: &Asked, run: &Run) -> Result<Manner, Fault> {
+    let everybody = Manner { all: asked.all, ..Manner::EVERYBODY };
+    let Some(reach) = &asked.reach else { return Ok(everybody) };
+    let (reachable, nobody) = run.members.reach(reach)?;
+    Ok(Manner { reachable, nobody, reach_given: true, ..everybody })
+}
+
+fn text_answer(asked: &Asked, input: &Input, run: &Run, out: &mut dyn Write) -> Result<(), Fault> {
+    let manner = manner(asked, run)?;
+    let locator = if asked.rest.is_empty() { None } else { Some(locate::locate(run, &asked.rest)?) };
+    if !asked.listing && asked.command != Command::Draw {
+        if let Some(line) = run.refused_line() {
+            let more = if asked.command == Command::Check { "" } else { CHECK_TELLS_MORE };
+            writeln!(out, "{line}{more}")?;
         }
     }
-    if !(16..1 << 32).contains(&(asked.store as u64)) {
-        return bad("--store: a store has 16 to 4294967295 bytes");
+    match (asked.command, locator) {
+        (Command::List, _) => {
+            if !asked.listing {
+                writeln!(out, "{}", run.members.line())?;
+            }
+            list::list(run, out)
+        }
+        (Command::Check, _) => check::check(run, out),
+        (Command::Records, _) => records::records(run, input, asked.all, out),
+        (Command::Explain, Some(locator)) => explain::explain(run, &locator, &manner, out),
+        (Command::Explain, None) => changes::every_change(run, &manner, out),
+        (Command::Draw, locator) => draw::draw(run, input, asked, locator, out),
+        (Command::Stakes, _) => Ok(()),
     }
-    let mut plain = plain.into_iter();
-    asked.command = match plain.next().as_deref() {
-        Some("list") => Command::List,
-        Some("check") => Command::Check,
-        Some("explain") => Command::Explain,
-        Some("draw") => Command::Draw,
-        Some("help") | None => return Ok(None),
-        Some(other) => return bad(format!("{other}: no such command; lomkhvide --help names them")),
+}
+
+/// The same facts for a script: what was refused, the committee, and the answer.
+fn json_answer(asked: &Asked, input: &Input, run: &Run, out: &mut dyn Write) -> Result<(), Fault> {
+    let manner = manner(asked, run)?;
+    let answer = match (asked.command, &asked.rest[..]) {
+        (Command::List, _) => list::json(run)?,
+        (Command::Check, _) => check::json(run),
+        (Command::Records, _) => records::json(run, input),
+        (Command::Explain, []) => changes::json(run, &manner)?,
+        (Command::Explain, given) => explain::json(run, &locate::locate(run, given)?, &manner)?,
+        (Command::Draw, []) => draw::json(run, input, asked, None)?,
+        (Command::Draw, given) => draw::json(run, input, asked, Some(locate::locate(run, given)?))?,
+        (Command::Stakes, _) => Json::Null,
     };
-    let Some(file) = plain.next() else { return bad("which FILE? lomkhvide --help says more") };
-    asked.file = file;
-    asked.locator = plain.collect();
-    match (asked.command, asked.locator.len()) {
-        (Command::Explain, 0) => bad("which LOCATOR? ROUND/AUTHOR/DIGEST/OFFSET, as 1/0/00000005/0"),
-        (Command::List | Command::Check, 1..) => bad(format!("{}: one argument too many", asked.locator[0])),
-        _ => Ok(Some(asked)),
-    }
-}
-
-/// Owner numbers with commas between them.
-fn owners(text: &str) -> Result<Owners, Fault> {
-    let numbers: Result<Vec<u64>, _> = text.split(',').map(|number| number.trim().parse()).collect();
-    match numbers {
-        Ok(numbers) => Ok(numbers.into_iter().map(AuthorityIndex).collect()),
-        Err(_) => bad("--reach is followed by owner numbers, as 0,4,5"),
-    }
-}
-
-/// Does what is asked: whether nothing was found wrong.
-pub fn answer(asked: &Asked, out: &mut dyn Write) -> Result<bool, Fault> {
-    let bytes = input::read_file(&asked.file)?;
-    let stakes = if bytes.first() == Some(&255) { input::stakes_file()? } else { Vec::new() };
-    answer_bytes(asked, &bytes, &stakes, out)
-}
-
-/// The same of the file's bytes, and those of the file of stakes.
-pub fn answer_bytes(asked: &Asked, bytes: &[u8], stakes: &[u8], out: &mut dyn Write) -> Result<bool, Fault> {
-    let mut input = input::Input::read(bytes, stakes);
-    if let Some(first) = asked.first {
-        input.keep(first);
-    }
-    match asked.command {
-        Command::List => list::list(&input, asked.store, out).map(|()| true),
-        Command::Check => check::check(&input, asked.store, out),
-        Command::Explain => {
-            let run = run::Run::new(&input, asked)?;
-            let locator = locate::locate(&run, &asked.locator)?;
-            explain::explain(&run, &locator, asked.reach, out).map(|()| true)
-        }
-        Command::Draw => {
-            let run = run::Run::new(&input, asked)?;
-            let locator = match &asked.locator[..] {
-                [] => None,
-                given => Some(locate::locate(&run, given)?),
-            };
-            draw::draw(&run, locator, asked.svg, out).map(|()| true)
-        }
-    }
+    let first = run.refused.first().map(|trouble| trouble.json(run));
+    let refused = json::object([("count", run.refused.len().into()), ("of", run.count.into()), ("first", first.into())]);
+    let whole = json::object([
+        ("refused", refused),
+        ("committee", run.members.json()),
+        ("withdrawing", asked.withdrawing.into()),
+        ("answer", answer),
+    ]);
+    writeln!(out, "{whole}")?;
+    Ok(())
 }

@@ -1,41 +1,45 @@
-//! An input fed to the engine: the graph of the records that it took.
+//! An input fed to the engine: the graph of the records that it took, and those that it refused.
 
 use std::collections::{BTreeSet, HashMap};
 
 use lomkhvide::{
-    Aggregator, AuthorityIndex, Committee, Engine, Finality, Locator, Outcome, Owners, PendingItem, Reading, Record, Reference,
-    Refusal, Stake, Statement,
+    AuthorityIndex, Engine, Event, Locator, Outcome, PendingItem, Reading, Record, Reference, RoundNumber, Statement,
 };
 
+use super::Fault;
+use super::ask::refused;
+use super::asked::Asked;
 use super::input::Input;
-use super::{Asked, Fault, bad};
+use super::members::Members;
+use super::trouble::Trouble;
 
-/// The most records that are fed with an index: beyond these its checks would take seconds.
-const MOST_INDEXED: usize = 200;
-
-pub struct Run {
+pub struct Run<'a> {
+    pub members: &'a Members,
     pub engine: Engine,
-    /// The owners' names, where they are known.
-    names: Vec<String>,
+    pub reading: Reading,
+    /// How many records there are, refused ones among them.
+    pub count: usize,
     /// The stored blocks, in order of arrival.
     pub blocks: Vec<Block>,
+    pub refused: Vec<Trouble<'a>>,
     places: HashMap<Reference, usize>,
     positions: HashMap<u64, usize>,
     /// The record whose vote brought a share to quorum.
     processed: HashMap<Locator, usize>,
-    /// Whether an owner may withdraw.
-    pub withdrawing: bool,
     /// The blocks that share, vote on or reject offsets of a block, ascending.
     speaking: HashMap<Reference, BTreeSet<usize>>,
-    pending: Vec<PendingItem>,
+    pub pending: Vec<PendingItem>,
 }
 
 pub struct Block {
     /// The record's number in the file, from 1.
     pub number: usize,
+    pub owner: AuthorityIndex,
+    pub round: RoundNumber,
     pub record: Record,
     /// The included blocks, by their index here.
     pub includes: Vec<usize>,
+    pub events: Vec<Event>,
 }
 
 /// How a block speaks of a locator.
@@ -67,97 +71,62 @@ impl Voice {
     }
 }
 
-/// Owners, counted by the engine's aggregator: each once, with their stake, and whether it is quorum.
-#[derive(Clone, Copy, Debug, Default, PartialEq, Eq)]
-pub struct Tally {
-    pub owners: Owners,
-    pub stake: Stake,
-    pub quorum: bool,
-}
-
-/// A refusal of a question that the engine cannot refuse over its own memory.
-pub fn refused(refusal: Refusal) -> Fault {
-    Fault::Bad(format!("the engine refused a question: {refusal}"))
-}
-
-impl Run {
-    pub fn new(input: &Input, asked: &Asked) -> Result<Run, Fault> {
-        let file = &asked.file;
-        let committee = match &input.committee {
-            Ok(committee) => committee.clone(),
-            Err(refusal) => return bad(format!("{file}, byte 0: the committee is refused: {refusal}")),
-        };
-        if let Some(broken) = &input.broken {
-            return bad(format!("{file}, byte {}: {}", broken.at, broken.why));
-        }
-        let mut engine = match input.records.len() {
-            0..=MOST_INDEXED => Engine::with_index(committee, asked.store),
-            _ => Engine::new(committee, asked.store),
-        };
-        let mut numbers = Vec::new();
-        let mut events = Vec::new();
-        for (k, record) in (1..).zip(&input.records) {
-            if let Ok(told) = engine.feed(record.bytes) {
-                numbers.push(k);
-                events.push(told);
-            }
-        }
+impl<'a> Run<'a> {
+    pub fn new(input: &'a Input<'a>, asked: &Asked) -> Result<Run<'a>, Fault> {
+        let mut engine = Engine::new(input.members.committee.clone(), input.store(asked));
+        let told = engine.feed_all(input.records.iter().map(|record| record.bytes)).map_err(refused)?;
         let mut run = Run {
-            pending: engine.pending_items().collect(),
+            members: &input.members,
+            pending: Vec::new(),
             engine,
-            names: input.names.clone(),
-            withdrawing: asked.withdrawing,
+            reading: if asked.withdrawing { Reading::Withdrawing } else { Reading::Old },
+            count: input.count(),
             blocks: Vec::new(),
+            refused: Vec::new(),
             places: HashMap::new(),
             positions: HashMap::new(),
             processed: HashMap::new(),
             speaking: HashMap::new(),
         };
-        for (i, (position, record)) in run.engine.records().enumerate() {
-            let includes = record.includes().filter_map(|block| run.places.get(&block).copied()).collect();
-            run.places.insert(record.reference(), i);
-            for statement in record.statements() {
-                let about = about(statement).unwrap_or(record.reference());
-                run.speaking.entry(about).or_default().insert(i);
-            }
-            run.positions.insert(position, i);
-            run.blocks.push(Block { number: numbers[i], record, includes });
-        }
-        for (block, events) in run.blocks.iter().zip(&events) {
-            for event in events.iter().filter(|event| event.outcome == Outcome::Processed) {
-                run.processed.insert(event.locator, block.number);
+        let stored: Vec<(u64, Record)> = run.engine.records().collect();
+        let mut stored = stored.into_iter();
+        for ((number, framed), told) in (1..).zip(&input.records).zip(told) {
+            match told {
+                Ok(events) => {
+                    if let Some((position, record)) = stored.next() {
+                        run.positions.insert(position, run.blocks.len());
+                        run.take(number, record, events);
+                    }
+                }
+                Err(refusal) => run.refused.push(Trouble::refused(number, *framed, refusal)),
             }
         }
+        if let Some(broken) = &input.broken {
+            run.refused.push(Trouble::broken(input.count(), broken));
+        }
+        run.pending = run.engine.pending_items().collect();
         Ok(run)
     }
 
-    /// Whether a locator is final in the reading that was asked for.
-    pub fn finality(&self, locator: &Locator) -> Result<Finality, Fault> {
-        self.engine.finality(locator, self.reading()).map_err(refused)
-    }
-
-    pub fn reading(&self) -> Reading {
-        if self.withdrawing { Reading::Withdrawing } else { Reading::Old }
-    }
-
-    pub fn committee(&self) -> &Committee {
-        self.engine.committee()
-    }
-
-    pub fn name(&self, owner: AuthorityIndex) -> Option<&str> {
-        self.names.get(owner.0 as usize).map(String::as_str)
-    }
-
-    /// "owner 3", or with the name "owner 3 (karst)".
-    pub fn owner(&self, owner: AuthorityIndex) -> String {
-        match self.name(owner) {
-            Some(name) => format!("owner {owner} ({name})"),
-            None => format!("owner {owner}"),
+    /// A record that the engine has stored.
+    fn take(&mut self, number: usize, record: Record, events: Vec<Event>) {
+        let reference = record.reference();
+        let i = self.blocks.len();
+        self.places.insert(reference, i);
+        for statement in record.statements() {
+            self.speaking.entry(about(&statement).unwrap_or(reference)).or_default().insert(i);
         }
+        for event in events.iter().filter(|event| event.outcome == Outcome::Processed) {
+            self.processed.insert(event.locator, number);
+        }
+        let includes = record.includes().filter_map(|block| self.place(&block)).collect();
+        let (owner, round) = (record.author(), record.round());
+        self.blocks.push(Block { number, owner, round, record, includes, events });
     }
 
-    pub fn stake(&self, owner: AuthorityIndex) -> Stake {
-        self.committee().stake(owner).unwrap_or_default()
+    /// Whether an owner may withdraw.
+    pub fn withdrawing(&self) -> bool {
+        self.reading == Reading::Withdrawing
     }
 
     /// The index of a stored block.
@@ -175,42 +144,38 @@ impl Run {
         self.processed.get(locator).copied()
     }
 
-    /// The voters for a locator at or below each block that has any, where an index is kept; it speaks of the old reading alone.
-    pub fn voters(&self, locator: &Locator) -> Option<HashMap<usize, Owners>> {
-        let voters = self.engine.voters(locator).filter(|_| !self.withdrawing)?;
-        Some(voters.into_iter().filter_map(|(at, voters)| Some((self.at_position(at)?, voters))).collect())
-    }
-
-    /// The block of an owner in the highest round, the last to arrive of several.
-    pub fn latest(&self, owner: AuthorityIndex) -> Option<usize> {
-        (0..self.blocks.len())
-            .filter(|i| self.blocks[*i].record.author() == owner)
-            .max_by_key(|i| self.blocks[*i].record.round())
-    }
-
-    /// Counts owners.
-    pub fn tally(&self, owners: impl Iterator<Item = AuthorityIndex>) -> Tally {
-        let mut aggregator = Aggregator::default();
-        let mut quorum = false;
-        for owner in owners {
-            quorum = self.committee().add(&mut aggregator, owner).is_ok_and(|vote| vote.has_quorum());
-        }
-        Tally { owners: aggregator.voters, stake: aggregator.stake, quorum }
-    }
-
     /// The blocks that share a locator, vote for it or reject it, in order of arrival.
     pub fn voices(&self, locator: &Locator) -> Vec<(usize, Voice)> {
         let speaking = self.speaking.get(&locator.reference()).into_iter().flatten();
-        speaking.filter_map(|i| Some((*i, self.voice(&self.blocks[*i], locator)?))).collect()
+        speaking.filter_map(|i| Some((*i, voice(&self.blocks[*i].record, locator)?))).collect()
     }
 
-    /// The blocks that are stored or spoken of.
+    /// The blocks that are stored, spoken of or refused.
     pub fn known(&self) -> BTreeSet<Reference> {
-        self.places.keys().chain(self.speaking.keys()).copied().collect()
+        let refused = self.refused.iter().filter_map(|trouble| trouble.reference());
+        self.places.keys().chain(self.speaking.keys()).copied().chain(refused).collect()
+    }
+
+    /// The blocks that statements speak of.
+    pub fn spoken_of(&self) -> BTreeSet<Reference> {
+        self.speaking.keys().copied().collect()
+    }
+
+    /// The blocks whose statements speak of offsets of a block, in order of arrival.
+    pub fn speaking_of(&self, block: &Reference) -> impl Iterator<Item = usize> {
+        self.speaking.get(block).into_iter().flatten().copied()
+    }
+
+    /// The first refused record of a block that is not stored.
+    pub fn refused_record(&self, block: &Reference) -> Option<&Trouble<'a>> {
+        if self.place(block).is_some() {
+            return None;
+        }
+        self.refused.iter().find(|trouble| trouble.reference() == Some(*block))
     }
 
     /// The item of a pending locator.
-    pub fn pending(&self, locator: &Locator) -> Option<PendingItem> {
+    pub fn pending_item(&self, locator: &Locator) -> Option<PendingItem> {
         let holds = |item: &&PendingItem| {
             item.first.reference() == locator.reference() && (item.first.offset()..item.end).contains(&locator.offset())
         };
@@ -224,31 +189,6 @@ impl Run {
         matches!(statement, Some(Statement::Share(_)))
     }
 
-    /// How a block speaks of a locator: by its first vote, and by rejects.
-    pub fn voice(&self, block: &Block, locator: &Locator) -> Option<Voice> {
-        let (reference, offset) = (locator.reference(), locator.offset());
-        let own = block.record.reference() == reference;
-        let mut voice = Voice { vote: None, rejects: false };
-        for (i, statement) in (0..).zip(block.record.statements()) {
-            let vote = match statement {
-                Statement::Share(_) if own && i == offset => Some(Vote::Shares),
-                Statement::Accept(accepted) if accepted == *locator => Some(Vote::Accepts),
-                Statement::Range { first, end }
-                    if first.reference() == reference && (first.offset()..end).contains(&offset) =>
-                {
-                    Some(Vote::Covers)
-                }
-                Statement::Reject(rejected, _) => {
-                    voice.rejects |= rejected == *locator;
-                    None
-                }
-                _ => None,
-            };
-            voice.vote = voice.vote.or(vote);
-        }
-        (voice.vote.is_some() || voice.rejects).then_some(voice)
-    }
-
     /// The blocks that a path of include places leads through, the first one among them.
     pub fn walk(&self, from: usize, path: &[u8]) -> Vec<usize> {
         let mut walked = vec![from];
@@ -260,10 +200,52 @@ impl Run {
         }
         walked
     }
+
+    /// "record 11 (round 3, owner 0, stake 1)".
+    pub fn block_name(&self, block: usize) -> String {
+        let Block { number, owner, round, .. } = self.blocks[block];
+        format!("record {number} (round {round}, {}, stake {})", self.members.owner(owner), self.members.stake(owner))
+    }
+
+    /// The line with which an answer begins where records were refused: how many, and why the first.
+    pub fn refused_line(&self) -> Option<String> {
+        let first = self.refused.first()?;
+        let (count, all) = (self.refused.len(), self.count);
+        let records = if all == 1 { "record" } else { "records" };
+        let were = if count == 1 { "was" } else { "were" };
+        let first_of = if count == 1 { "" } else { "the first, " };
+        let (number, at, reason) = (first.number, first.at, first.reason());
+        Some(format!(
+            "{count} of {all} {records} {were} refused and not counted; {first_of}record {number}, byte {at}: {reason}."
+        ))
+    }
+}
+
+/// How a record speaks of a locator: by its first vote, and by rejects.
+pub fn voice(record: &Record, locator: &Locator) -> Option<Voice> {
+    let (reference, offset) = (locator.reference(), locator.offset());
+    let own = record.reference() == reference;
+    let mut voice = Voice { vote: None, rejects: false };
+    for (i, statement) in (0..).zip(record.statements()) {
+        let vote = match statement {
+            Statement::Share(_) if own && i == offset => Some(Vote::Shares),
+            Statement::Accept(accepted) if accepted == *locator => Some(Vote::Accepts),
+            Statement::Range { first, end } if first.reference() == reference && (first.offset()..end).contains(&offset) => {
+                Some(Vote::Covers)
+            }
+            Statement::Reject(rejected, _) => {
+                voice.rejects |= rejected == *locator;
+                None
+            }
+            _ => None,
+        };
+        voice.vote = voice.vote.or(vote);
+    }
+    (voice.vote.is_some() || voice.rejects).then_some(voice)
 }
 
 /// The block that a vote or a reject is about.
-fn about(statement: Statement) -> Option<Reference> {
+pub fn about(statement: &Statement) -> Option<Reference> {
     match statement {
         Statement::Share(_) => None,
         Statement::Accept(locator) | Statement::Reject(locator, _) => Some(locator.reference()),

@@ -68,3 +68,100 @@ pub fn folder(name: &str) -> PathBuf {
 pub fn runs() -> PathBuf {
     Path::new(env!("CARGO_MANIFEST_DIR")).join("../../crates/listing_runs")
 }
+
+/// A value of JSON.
+#[derive(Clone, Debug, PartialEq)]
+pub enum Json {
+    Null,
+    Bool(bool),
+    Number(u64),
+    Text(String),
+    List(Vec<Json>),
+    Object(Vec<(String, Json)>),
+}
+
+impl Json {
+    /// The value of a whole text.
+    pub fn read(text: &str) -> Option<Json> {
+        let (value, rest) = value(text.as_bytes())?;
+        rest.is_empty().then_some(value)
+    }
+
+    /// The entry of that name.
+    pub fn of(&self, name: &str) -> &Json {
+        let Json::Object(entries) = self else { panic!("{name} of {self:?}") };
+        entries.iter().find(|(key, _)| key == name).map_or(&Json::Null, |(_, value)| value)
+    }
+
+    pub fn list(&self) -> &[Json] {
+        let Json::List(values) = self else { panic!("no list: {self:?}") };
+        values
+    }
+
+    pub fn number(&self) -> u64 {
+        let Json::Number(number) = self else { panic!("no number: {self:?}") };
+        *number
+    }
+
+    pub fn text(&self) -> &str {
+        let Json::Text(text) = self else { panic!("no text: {self:?}") };
+        text
+    }
+}
+
+/// The value at the front, and what follows it.
+fn value(text: &[u8]) -> Option<(Json, &[u8])> {
+    match text.first()? {
+        b'{' => entries(text, b'}', entry).map(|(entries, rest)| (Json::Object(entries), rest)),
+        b'[' => entries(text, b']', value).map(|(values, rest)| (Json::List(values), rest)),
+        b'"' => string(text).map(|(text, rest)| (Json::Text(text), rest)),
+        b'0'..=b'9' => {
+            let (digits, rest) = text.split_at(text.iter().take_while(|byte| byte.is_ascii_digit()).count());
+            Some((Json::Number(std::str::from_utf8(digits).ok()?.parse().ok()?), rest))
+        }
+        _ => {
+            let words = [("true", Json::Bool(true)), ("false", Json::Bool(false)), ("null", Json::Null)];
+            words.into_iter().find_map(|(word, value)| Some((value, text.strip_prefix(word.as_bytes())?)))
+        }
+    }
+}
+
+fn entry(text: &[u8]) -> Option<((String, Json), &[u8])> {
+    let (name, rest) = string(text)?;
+    let (value, rest) = value(rest.strip_prefix(b":")?)?;
+    Some(((name, value), rest))
+}
+
+fn entries<T>(text: &[u8], end: u8, entry: impl Fn(&[u8]) -> Option<(T, &[u8])>) -> Option<(Vec<T>, &[u8])> {
+    let (mut found, mut rest) = (Vec::new(), &text[1..]);
+    if rest.first() == Some(&end) {
+        return Some((found, &rest[1..]));
+    }
+    loop {
+        let (value, after) = entry(rest)?;
+        found.push(value);
+        match after.split_first()? {
+            (b',', after) => rest = after,
+            (byte, after) if *byte == end => return Some((found, after)),
+            _ => return None,
+        }
+    }
+}
+
+fn string(text: &[u8]) -> Option<(String, &[u8])> {
+    let (mut units, mut rest) = (Vec::new(), text.strip_prefix(b"\"")?);
+    loop {
+        match rest {
+            [b'"', after @ ..] => return Some((String::from_utf16(&units).ok()?, after)),
+            [b'\\', b'u', after @ ..] => {
+                units.push(u16::from_str_radix(std::str::from_utf8(after.get(..4)?).ok()?, 16).ok()?);
+                rest = &after[4..];
+            }
+            [byte @ 32..=126, after @ ..] if *byte != b'\\' => {
+                units.push(*byte as u16);
+                rest = after;
+            }
+            _ => return None,
+        }
+    }
+}

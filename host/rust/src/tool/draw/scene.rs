@@ -37,7 +37,7 @@ pub struct Lane {
 
 impl Scene {
     pub fn new(run: &Run) -> Scene {
-        let mut rounds: Vec<RoundNumber> = run.blocks.iter().map(|block| block.record.round()).collect();
+        let mut rounds: Vec<RoundNumber> = run.blocks.iter().map(|block| block.round).collect();
         rounds.sort_unstable();
         rounds.dedup();
         let small = run.blocks.len() > MOST_FOR_A_SLIDE;
@@ -45,11 +45,11 @@ impl Scene {
         let column = if small { 100 } else { (860 / rounds.len().max(1)).clamp(132, 215) };
 
         // Each block's owner, column and place among those that stand above each other there; and how many stand there.
-        let mut stacks = vec![vec![0; rounds.len()]; run.committee().members()];
+        let mut stacks = vec![vec![0; rounds.len()]; run.members.count()];
         let mut places = Vec::new();
         for block in &run.blocks {
-            let owner = block.record.author().0 as usize;
-            let column = rounds.partition_point(|round| *round < block.record.round());
+            let owner = block.owner.0 as usize;
+            let column = rounds.partition_point(|round| *round < block.round);
             places.push((owner, column, stacks[owner][column]));
             stacks[owner][column] += 1;
         }

@@ -2,18 +2,19 @@
 
 use std::fmt::Write;
 
-use lomkhvide::{AuthorityIndex, Owners, Stake, Statement};
+use lomkhvide::{AuthorityIndex, Owners, Stake};
 
+use super::super::records::{includes, said};
 use super::super::run::{Block, Run, Voice, Vote};
 use super::scene::{AXIS, LABELS, Scene};
 use super::{Bar, View};
 
 pub const STYLE: &str = include_str!("drawing.css");
 
-/// The width of the bars, and of one of them.
-pub const BARS_WIDTH: usize = 900;
-pub const BARS_HEIGHT: usize = 84;
+/// The height of the bars, and the size of one of them.
+const BARS_HEIGHT: usize = 84;
 const BAR_WIDTH: usize = 700;
+pub const BAR_HUNDREDTHS: usize = 100 * BAR_WIDTH;
 const BAR_HEIGHT: usize = 22;
 
 /// The narrowest part of a bar that has room for its owner's number, in hundredths.
@@ -23,33 +24,41 @@ const ROOM_FOR_NAME: usize = 2200;
 const MOST_STATEMENTS: usize = 12;
 
 /// Width and height of the line that explains the signs.
-pub const LEGEND_WIDTH: usize = 900;
-pub const LEGEND_HEIGHT: usize = 44;
+const LEGEND_WIDTH: usize = 1_080;
+const LEGEND_HEIGHT: usize = 44;
 
 /// The whole drawing.
 pub fn drawing(run: &Run, scene: &Scene, view: Option<&View>) -> String {
     let width = (LABELS + scene.width).max(LABELS + LEGEND_WIDTH - 60) + 16;
-    let (graph, bars) = (72, 72 + scene.height + 12);
+    let refused = run.refused_line().map(|line| format!("<text class=\"refused\" x=\"12\" y=\"20\">{}</text>\n", text(&line)));
+    let top = if refused.is_some() { 24 } else { 0 };
+    let (graph, bars) = (top + 92, top + 92 + scene.height + 12);
     let legend = bars + BARS_HEIGHT;
     let height = legend + LEGEND_HEIGHT;
     let (title, says) = view.map_or(("No share is stored".into(), String::new()), |view| (view.title(), view.says.clone()));
     let mut out = String::new();
     let _ = write!(
         out,
-        "<svg xmlns=\"http://www.w3.org/2000/svg\" viewBox=\"0 0 {width} {height}\" width=\"{width}\" height=\"{height}\" role=\"img\">\n\
-         <title>{title}</title>\n<style>\n{STYLE}</style>\n\
+        "<svg xmlns=\"http://www.w3.org/2000/svg\" viewBox=\"0 0 {width} {height}\" width=\"{width}\" height=\"{height}\" role=\"img\" aria-labelledby=\"drawn\">\n\
+         <title id=\"drawn\">{title}</title>\n<style>\n{STYLE}</style>\n\
          <rect width=\"{width}\" height=\"{height}\" fill=\"#fff\"/>\n\
-         <text class=\"title\" x=\"12\" y=\"32\">{title}</text>\n<text class=\"says\" x=\"12\" y=\"56\">{says}</text>\n\
+         {}<text class=\"title\" x=\"12\" y=\"{}\">{title}</text>\n<text class=\"says\" x=\"12\" y=\"{}\">{says}</text>\n\
+         <text class=\"sum\" x=\"12\" y=\"{}\">{}</text>\n\
          <g id=\"labels\" transform=\"translate(0,{graph})\">\n{}</g>\n\
          <g id=\"axis\" transform=\"translate({LABELS},{graph})\">\n{}</g>\n\
          <g id=\"graph\" transform=\"translate({LABELS},{graph})\">\n{}</g>\n\
          <g id=\"bars\" transform=\"translate(0,{bars})\">\n{}</g>\n\
          <g id=\"legend\" transform=\"translate(12,{legend})\">\n{}</g>\n</svg>\n",
+        refused.unwrap_or_default(),
+        top + 32,
+        top + 56,
+        top + 78,
+        text(&run.members.line()),
         labels_of(run, scene),
         axis_of(scene),
         graph_of(run, scene, view),
         bars_of(run, view),
-        legend_of(scene),
+        legend_of(scene, view.is_some_and(|view| !view.ways.is_empty())),
     );
     out
 }
@@ -58,7 +67,7 @@ pub fn drawing(run: &Run, scene: &Scene, view: Option<&View>) -> String {
 pub fn labels_of(run: &Run, scene: &Scene) -> String {
     let mut out = String::new();
     for lane in &scene.lanes {
-        let name = run.name(lane.owner).map(shortened);
+        let name = run.members.name(lane.owner).map(shortened);
         let middle = lane.top + lane.height / 2 - if name.is_some() { 7 } else { 0 };
         let _ = write!(
             out,
@@ -66,7 +75,7 @@ pub fn labels_of(run: &Run, scene: &Scene) -> String {
             middle - 3,
             lane.owner,
             middle + 13,
-            run.stake(lane.owner)
+            run.members.stake(lane.owner)
         );
         if let Some(name) = name {
             let _ = write!(out, "<text class=\"name\" x=\"12\" y=\"{}\">{name}</text>", middle + 27);
@@ -99,8 +108,8 @@ pub fn axis_of(scene: &Scene) -> String {
     out
 }
 
-/// Lanes, includes, ways and blocks.
-pub fn graph_of(run: &Run, scene: &Scene, view: Option<&View>) -> String {
+/// Every other lane is grey.
+pub fn lanes_of(scene: &Scene) -> String {
     let mut out = String::new();
     for (i, lane) in scene.lanes.iter().enumerate() {
         if i % 2 == 0 {
@@ -111,6 +120,12 @@ pub fn graph_of(run: &Run, scene: &Scene, view: Option<&View>) -> String {
             );
         }
     }
+    out
+}
+
+/// Lanes, includes, ways and blocks.
+fn graph_of(run: &Run, scene: &Scene, view: Option<&View>) -> String {
+    let mut out = lanes_of(scene);
     let thin = if scene.small { " thin" } else { "" };
     out.push_str("<g id=\"includes\">\n");
     for (i, block) in run.blocks.iter().enumerate().filter(|(_, block)| !block.includes.is_empty()) {
@@ -119,28 +134,28 @@ pub fn graph_of(run: &Run, scene: &Scene, view: Option<&View>) -> String {
     }
     out.push_str("</g>\n");
     let _ = writeln!(out, "<path id=\"ways\" class=\"ways\" d=\"{}\"/>", view.map_or("", |view| &view.ways));
-    for (i, block) in run.blocks.iter().enumerate() {
-        out.push_str(&block_of(run, scene, i, block, view));
+    for i in 0..run.blocks.len() {
+        out.push_str(&block_of(run, scene, i, view));
     }
     out
 }
 
-fn block_of(run: &Run, scene: &Scene, i: usize, block: &Block, view: Option<&View>) -> String {
-    let (x, y) = scene.corners[i];
+pub fn block_of(run: &Run, scene: &Scene, i: usize, view: Option<&View>) -> String {
+    let (block, (x, y)) = (&run.blocks[i], scene.corners[i]);
     let voice = view.and_then(|view| view.voices.iter().find(|(at, _, _)| *at == i));
     let certifies = view.is_some_and(|view| view.certifying.contains(&i));
     let class = class(block.record.is_marked(), voice.map(|(_, voice, _)| *voice), certifies);
     let role = voice.map_or("", |(_, _, words)| words);
     format!(
         "<g id=\"b{i}\" class=\"{class}\" transform=\"translate({x},{y})\"><title>{}</title>{}{}</g>\n",
-        about(run, block),
+        text(&about(run, block, if scene.small { 3 } else { MOST_STATEMENTS })),
         shapes(scene, block.record.is_marked()),
         texts(scene, &block.number.to_string(), role),
     )
 }
 
 /// The classes of a block, in a fixed order.
-pub fn class(marked: bool, voice: Option<Voice>, certifies: bool) -> String {
+fn class(marked: bool, voice: Option<Voice>, certifies: bool) -> String {
     let mut class = String::from(if marked { "block marked" } else { "block" });
     if voice.is_some_and(|voice| voice.vote.is_some()) {
         class.push_str(" votes");
@@ -192,33 +207,27 @@ fn texts(scene: &Scene, number: &str, role: &str) -> String {
 }
 
 /// A block in words.
-fn about(run: &Run, block: &Block) -> String {
+fn about(run: &Run, block: &Block, most: usize) -> String {
     let record = &block.record;
     let mut text = format!("record {}: {:#}", block.number, record.reference());
     if record.is_marked() {
         text.push_str(", with an epoch mark");
     }
-    let numbers: Vec<String> = block.includes.iter().map(|include| run.blocks[*include].number.to_string()).collect();
-    if !numbers.is_empty() {
-        let _ = write!(text, "\nincludes {}", numbers.join(", "));
+    if let Some(includes) = includes(run, record, MOST_STATEMENTS) {
+        let _ = write!(text, "\n{includes}");
     }
-    for (i, statement) in record.statements().enumerate().take(MOST_STATEMENTS) {
-        let _ = match statement {
-            Statement::Share(payload) => write!(text, "\n{i}: shares {} bytes", payload.len()),
-            Statement::Accept(locator) => write!(text, "\n{i}: accepts {locator:#}"),
-            Statement::Reject(locator, _) => write!(text, "\n{i}: rejects {locator:#}"),
-            Statement::Range { first, end } => write!(text, "\n{i}: accepts {first:#} to {end}"),
-        };
+    for (i, statement) in record.statements().enumerate().take(most) {
+        let _ = write!(text, "\n{i}: {}", said(run, &statement));
     }
-    if record.statements().len() > MOST_STATEMENTS {
-        let _ = write!(text, "\nand {} more", record.statements().len() - MOST_STATEMENTS);
+    if record.statements().len() > most {
+        let _ = write!(text, "\nand {} more", record.statements().len() - most);
     }
     text
 }
 
 /// The owners who vote and those who certify, by stake, and where quorum begins.
-pub fn bars_of(run: &Run, view: Option<&View>) -> String {
-    let (total, quorum) = (run.committee().total_stake(), run.committee().quorum());
+fn bars_of(run: &Run, view: Option<&View>) -> String {
+    let (total, quorum) = (run.members.total(), run.members.quorum());
     let none = || Bar { owners: Owners::default(), says: format!("0 of {total}") };
     let empty = (none(), none());
     let (votes, certificates) = view.map_or((&empty.0, &empty.1), |view| (&view.votes, &view.certificates));
@@ -272,18 +281,18 @@ fn parts(run: &Run, id: &str, y: usize, bar: &Bar) -> String {
 
 /// The width of each owner's part of a bar, in hundredths.
 pub fn widths(run: &Run) -> Vec<usize> {
-    let total = run.committee().total_stake();
-    let mut before = Stake(0);
-    let widths = run.committee().authorities().map(|owner| {
+    let total = run.members.total();
+    let mut before = Stake::default();
+    let part = |owner: AuthorityIndex| {
         let start = along(total, before);
-        before = before + run.stake(owner);
+        before = before + run.members.stake(owner);
         along(total, before) - start
-    });
-    widths.collect()
+    };
+    run.members.committee.authorities().map(part).collect()
 }
 
 /// How far along a bar an amount of stake reaches, in hundredths.
-fn along(total: Stake, amount: Stake) -> usize {
+pub fn along(total: Stake, amount: Stake) -> usize {
     (amount.0 as u128 * 100 * BAR_WIDTH as u128 / total.0 as u128) as usize
 }
 
@@ -291,8 +300,8 @@ fn hundredths(number: usize) -> String {
     format!("{}.{:02}", number / 100, number % 100)
 }
 
-/// What the signs mean.
-pub fn legend_of(scene: &Scene) -> String {
+/// The signs with their meaning; a way to a vote where there is one.
+pub fn signs(scene: &Scene, has_ways: bool) -> Vec<(String, &'static str)> {
     let sample = Scene {
         small: true,
         box_width: 46,
@@ -303,24 +312,39 @@ pub fn legend_of(scene: &Scene) -> String {
         corners: vec![],
         ..*scene
     };
-    let mut out = String::new();
-    let items = [
-        (false, Some(Voice { vote: Some(Vote::Accepts), rejects: false }), false, "+2", "votes, with its stake", 0),
-        (false, None, true, "", "certifies", 210),
-        (true, None, false, "", "marked: passes votes on, never certifies", 344),
+    let block = |marked: bool, voice: Option<Voice>, certifies: bool, role: &str| {
+        format!(
+            "<g class=\"{}\">{}<text class=\"role\" x=\"23\" y=\"17\">{role}</text></g>",
+            class(marked, voice, certifies),
+            shapes(&sample, marked)
+        )
+    };
+    let votes = Voice { vote: Some(Vote::Accepts), rejects: false };
+    let rejects = Voice { vote: None, rejects: true };
+    let mut signs = vec![
+        (block(false, Some(votes), false, "+2"), "votes, with its stake"),
+        (block(false, Some(rejects), false, ""), "rejects"),
+        (block(false, None, true, ""), "certifies"),
+        (block(true, None, false, ""), "marked: passes votes on, never certifies"),
+        ("<path class=\"include\" d=\"M0 12h44\"/>".into(), "includes"),
     ];
-    for (marked, voice, certifies, role, words, x) in items {
+    if has_ways {
+        signs.push(("<path class=\"ways\" d=\"M0 12h44\"/>".into(), "way to a vote"));
+    }
+    signs
+}
+
+/// What the signs mean, in a line.
+fn legend_of(scene: &Scene, has_ways: bool) -> String {
+    let mut out = String::new();
+    let mut x = 0;
+    for (sign, words) in signs(scene, has_ways) {
         let _ = writeln!(
             out,
-            "<g class=\"{}\" transform=\"translate({x},6)\">{}<text class=\"role\" x=\"23\" y=\"17\">{role}</text></g>\
-             <text class=\"sum\" x=\"{}\" y=\"22\">{words}</text>",
-            class(marked, voice, certifies),
-            shapes(&sample, marked),
-            x + 60,
+            "<g transform=\"translate({x},6)\">{sign}</g><text class=\"sum\" x=\"{}\" y=\"22\">{words}</text>",
+            x + 54
         );
+        x += 54 + 7 * words.len() + 22;
     }
-    let x = 690;
-    let _ = writeln!(out, "<path class=\"include\" d=\"M{x} 12h40\"/><path class=\"ways\" d=\"M{x} 22h40\"/>");
-    let _ = writeln!(out, "<text class=\"sum\" x=\"{}\" y=\"22\">includes; way to a vote</text>", x + 50);
     out
 }
