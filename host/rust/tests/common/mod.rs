@@ -4,6 +4,7 @@
 
 use std::fs;
 use std::path::{Path, PathBuf};
+use std::process::Command;
 
 use lomkhvide::Record;
 
@@ -67,4 +68,51 @@ pub fn folder(name: &str) -> PathBuf {
 /// The folder of the inputs of `listing_runs`.
 pub fn runs() -> PathBuf {
     Path::new(env!("CARGO_MANIFEST_DIR")).join("../../crates/listing_runs")
+}
+
+/// A program of the examples. `cargo test` has built it; `cargo test --test NAME` has not.
+pub fn example(name: &str) -> PathBuf {
+    let tests = std::env::current_exe().unwrap();
+    let program = tests.parent().unwrap().parent().unwrap().join("examples").join(name);
+    if !program.exists() {
+        let built = Command::new(env!("CARGO")).args(["build", "--offline", "--example", name]).status().unwrap();
+        assert!(built.success());
+    }
+    program
+}
+
+/// A file of stakes.
+pub fn stakes_file(stakes: &[u64]) -> Vec<u8> {
+    let mut file = vec![1, 0];
+    for (i, stake) in stakes.iter().enumerate() {
+        let next = if i + 1 < stakes.len() { i as u16 + 2 } else { 0 };
+        file.extend(next.to_le_bytes());
+        let mut name = [0; 16];
+        name[..7].copy_from_slice(format!("owner{i:02}").as_bytes());
+        file.extend(name);
+        file.extend(stake.to_le_bytes());
+    }
+    file
+}
+
+/// A chain of blocks under owners of stake 2 and 1, of which both have to vote: each block includes both owners' blocks of the round before, shares
+/// a change and accepts the other's.
+pub fn chain(blocks: u64) -> Vec<Record> {
+    let mut records: Vec<Record> = Vec::new();
+    for i in 0..blocks {
+        let (author, round) = (i % 2, i / 2);
+        let mut digest = [5; 32];
+        digest[..8].copy_from_slice(&i.to_le_bytes());
+        let mut builder = Record::builder(author, round, digest);
+        if round > 0 {
+            for before in &records[2 * round as usize - 2..2 * round as usize] {
+                builder = builder.include(before.reference());
+            }
+        }
+        if i + 1 == blocks || i == 1023 {
+            builder = builder.share(&i.to_le_bytes());
+        }
+        records.push(builder.finish().unwrap());
+    }
+    records
 }
