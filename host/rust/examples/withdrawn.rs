@@ -9,13 +9,13 @@
 use std::env;
 use std::io::{self, Write};
 
-use lomkhvide::{Record, Reference};
+use lomkhvide::{AuthorityIndex, Record, Reference, RoundNumber};
 
 /// Record k has k in its digest.
 fn reference(k: u8, author: u64, round: u64) -> Reference {
     let mut digest = [0; 32];
     digest[3] = k;
-    Reference { round, author, digest }
+    Reference::new(RoundNumber(round), AuthorityIndex(author), digest)
 }
 
 fn main() -> Result<(), Box<dyn std::error::Error>> {
@@ -28,7 +28,8 @@ fn main() -> Result<(), Box<dyn std::error::Error>> {
         for i in 0..blocks {
             let k = first + i;
             let author = if k == 14 { 3 } else { i as u64 };
-            let mut record = Record::builder(author, round, reference(k, author, round).digest);
+            let block = reference(k, author, round);
+            let mut record = Record::builder(block.round, block.author, block.digest);
             if round > 0 {
                 let before = [1, 5, 8][round as usize - 1];
                 for author in 0..3 {

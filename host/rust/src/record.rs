@@ -2,8 +2,8 @@
 
 use std::fmt;
 
-use crate::types::word_at;
-use crate::{Committee, Draft, Given, Locator, Reference, Refusal, Refused, fresh_store, fresh_table};
+use crate::memory::word_at;
+use crate::{AuthorityIndex, Committee, Locator, Reference, Refusal, RoundNumber, Stake, calls, fresh_store, fresh_table};
 
 /// Where the includes begin, in a record without a time.
 const HEADER: usize = 56;
@@ -11,15 +11,13 @@ const HEADER: usize = 56;
 /// A well-formed block record.
 ///
 /// ```
-/// # fn main() -> Result<(), lomkhvide::Refusal> {
-/// use lomkhvide::{Record, Statement};
+/// use lomkhvide::{AuthorityIndex, Record, RoundNumber, Statement};
 ///
-/// let first = Record::builder(0, 0, [1; 32]).finish()?;
-/// let second = Record::builder(0, 1, [2; 32]).include(first.reference()).share(b"gain").finish()?;
+/// let first = Record::builder(RoundNumber(0), AuthorityIndex(0), [1; 32]).finish()?;
+/// let second = Record::builder(RoundNumber(1), AuthorityIndex(0), [2; 32]).include(first.reference()).share(b"gain").finish()?;
 /// assert_eq!(second.includes().collect::<Vec<_>>(), [first.reference()]);
 /// assert_eq!(second.statements().next(), Some(Statement::Share(b"gain")));
-/// # Ok(())
-/// # }
+/// # Ok::<(), lomkhvide::Refusal>(())
 /// ```
 #[derive(Clone, PartialEq, Eq, Hash)]
 pub struct Record {
@@ -29,15 +27,13 @@ pub struct Record {
 /// A statement of a record. Its index among all of them is the offset of a share.
 ///
 /// ```
-/// # fn main() -> Result<(), lomkhvide::Refusal> {
-/// use lomkhvide::{Record, Reference, Statement};
+/// use lomkhvide::{AuthorityIndex, Record, Reference, RoundNumber, Statement};
 ///
-/// let block = Reference { round: 1, author: 0, digest: [2; 32] };
-/// let record = Record::builder(1, 2, [3; 32]).accept(block.at(4)).accept(block.at(5)).finish()?;
+/// let block = Reference::new(RoundNumber(1), AuthorityIndex(0), [2; 32]);
+/// let record = Record::builder(RoundNumber(2), AuthorityIndex(1), [3; 32]).accept(block.at(4)).accept(block.at(5)).finish()?;
 /// let joined = Statement::Range { first: block.at(4), end: 6 };
 /// assert_eq!(record.statements().collect::<Vec<_>>(), [joined]);
-/// # Ok(())
-/// # }
+/// # Ok::<(), lomkhvide::Refusal>(())
 /// ```
 #[derive(Clone, Copy, Debug, PartialEq, Eq)]
 pub enum Statement<'a> {
@@ -48,41 +44,43 @@ pub enum Statement<'a> {
     /// A reject of the first locator; it may name a second one.
     Reject(Locator, Option<Locator>),
     /// A vote for every offset from the first locator's to an end (excluded).
-    Range { first: Locator, end: u64 },
+    Range {
+        /// The first locator.
+        first: Locator,
+        /// The offset after the last one.
+        end: u64,
+    },
 }
 
 impl Record {
     /// Begins a record of our own.
     ///
     /// ```
-    /// # fn main() -> Result<(), lomkhvide::Refusal> {
-    /// use lomkhvide::Record;
+    /// use lomkhvide::{AuthorityIndex, Record, RoundNumber};
     ///
-    /// let record = Record::builder(3, 0, [1; 32]).finish()?;
-    /// assert_eq!((record.author(), record.round(), record.digest()), (3, 0, [1; 32]));
-    /// # Ok(())
-    /// # }
+    /// let record = Record::builder(RoundNumber(0), AuthorityIndex(3), [1; 32]).finish()?;
+    /// assert_eq!((record.round(), record.author(), record.digest()), (RoundNumber(0), AuthorityIndex(3), [1; 32]));
+    /// # Ok::<(), lomkhvide::Refusal>(())
     /// ```
-    pub fn builder(author: u64, round: u64, digest: [u8; 32]) -> RecordBuilder {
-        RecordBuilder(Draft { author, round, digest, marked: false, time: None, includes: vec![], statements: vec![] })
+    pub fn builder(round: RoundNumber, author: AuthorityIndex, digest: [u8; 32]) -> RecordBuilder {
+        let block = Reference { round, author, digest };
+        RecordBuilder { block, marked: false, time: None, includes: Vec::new(), statements: Vec::new() }
     }
 
     /// Reads a record, or refuses it as malformed: the engine is asked. What else it thinks of the record, feeding tells.
     ///
     /// ```
-    /// # fn main() -> Result<(), lomkhvide::Refusal> {
-    /// use lomkhvide::{Record, Refusal};
+    /// use lomkhvide::{AuthorityIndex, Record, Refusal, RoundNumber};
     ///
-    /// let record = Record::builder(3, 0, [1; 32]).finish()?;
+    /// let record = Record::builder(RoundNumber(0), AuthorityIndex(3), [1; 32]).finish()?;
     /// assert_eq!(Record::read(record.as_bytes()), Ok(record.clone()));
     /// assert_eq!(Record::read(&record.as_bytes()[1..]), Err(Refusal::Malformed));
-    /// # Ok(())
-    /// # }
+    /// # Ok::<(), lomkhvide::Refusal>(())
     /// ```
     pub fn read(bytes: &[u8]) -> Result<Record, Refusal> {
         // A fresh store of 16 bytes has no room, so nothing is taken; and 20 is the first number that a record can bring there.
-        match Committee::new(&[1])?.feed(&mut fresh_store(16), &mut fresh_table(), bytes) {
-            Err(Refused(20)) => Err(Refusal::Malformed),
+        match Committee::new(&[Stake(1)])?.feed(&mut fresh_store(16), &mut fresh_table(), bytes) {
+            Err(Refusal::Malformed) => Err(Refusal::Malformed),
             _ => Ok(Record { bytes: bytes.to_vec() }),
         }
     }
@@ -95,12 +93,10 @@ impl Record {
     /// Its bytes.
     ///
     /// ```
-    /// # fn main() -> Result<(), lomkhvide::Refusal> {
-    /// use lomkhvide::Record;
+    /// use lomkhvide::{AuthorityIndex, Record, RoundNumber};
     ///
-    /// assert_eq!(Record::builder(3, 0, [1; 32]).finish()?.as_bytes().len(), 56);
-    /// # Ok(())
-    /// # }
+    /// assert_eq!(Record::builder(RoundNumber(0), AuthorityIndex(3), [1; 32]).finish()?.as_bytes().len(), 56);
+    /// # Ok::<(), lomkhvide::Refusal>(())
     /// ```
     pub fn as_bytes(&self) -> &[u8] {
         &self.bytes
@@ -109,13 +105,11 @@ impl Record {
     /// The reference of its block.
     ///
     /// ```
-    /// # fn main() -> Result<(), lomkhvide::Refusal> {
-    /// use lomkhvide::{Record, Reference};
+    /// use lomkhvide::{AuthorityIndex, Record, Reference, RoundNumber};
     ///
-    /// let record = Record::builder(3, 0, [1; 32]).finish()?;
-    /// assert_eq!(record.reference(), Reference { round: 0, author: 3, digest: [1; 32] });
-    /// # Ok(())
-    /// # }
+    /// let record = Record::builder(RoundNumber(0), AuthorityIndex(3), [1; 32]).finish()?;
+    /// assert_eq!(record.reference(), Reference::new(RoundNumber(0), AuthorityIndex(3), [1; 32]));
+    /// # Ok::<(), lomkhvide::Refusal>(())
     /// ```
     pub fn reference(&self) -> Reference {
         reference_at(&self.bytes, 0)
@@ -124,37 +118,31 @@ impl Record {
     /// The owner who made the block.
     ///
     /// ```
-    /// # fn main() -> Result<(), lomkhvide::Refusal> {
-    /// # use lomkhvide::Record;
-    /// assert_eq!(Record::builder(3, 0, [1; 32]).finish()?.author(), 3);
-    /// # Ok(())
-    /// # }
+    /// # use lomkhvide::{AuthorityIndex, Record, RoundNumber};
+    /// assert_eq!(Record::builder(RoundNumber(0), AuthorityIndex(3), [1; 32]).finish()?.author(), AuthorityIndex(3));
+    /// # Ok::<(), lomkhvide::Refusal>(())
     /// ```
-    pub fn author(&self) -> u64 {
+    pub fn author(&self) -> AuthorityIndex {
         self.reference().author
     }
 
     /// Its round.
     ///
     /// ```
-    /// # fn main() -> Result<(), lomkhvide::Refusal> {
-    /// # use lomkhvide::Record;
-    /// assert_eq!(Record::builder(3, 7, [1; 32]).finish()?.round(), 7);
-    /// # Ok(())
-    /// # }
+    /// # use lomkhvide::{AuthorityIndex, Record, RoundNumber};
+    /// assert_eq!(Record::builder(RoundNumber(7), AuthorityIndex(3), [1; 32]).finish()?.round(), RoundNumber(7));
+    /// # Ok::<(), lomkhvide::Refusal>(())
     /// ```
-    pub fn round(&self) -> u64 {
+    pub fn round(&self) -> RoundNumber {
         self.reference().round
     }
 
     /// Its digest, as given.
     ///
     /// ```
-    /// # fn main() -> Result<(), lomkhvide::Refusal> {
-    /// # use lomkhvide::Record;
-    /// assert_eq!(Record::builder(3, 0, [1; 32]).finish()?.digest(), [1; 32]);
-    /// # Ok(())
-    /// # }
+    /// # use lomkhvide::{AuthorityIndex, Record, RoundNumber};
+    /// assert_eq!(Record::builder(RoundNumber(0), AuthorityIndex(3), [1; 32]).finish()?.digest(), [1; 32]);
+    /// # Ok::<(), lomkhvide::Refusal>(())
     /// ```
     pub fn digest(&self) -> [u8; 32] {
         self.reference().digest
@@ -163,11 +151,9 @@ impl Record {
     /// Whether it has an epoch mark: such a block passes votes on, and does not certify.
     ///
     /// ```
-    /// # fn main() -> Result<(), lomkhvide::Refusal> {
-    /// # use lomkhvide::Record;
-    /// assert!(Record::builder(3, 0, [1; 32]).marked().finish()?.is_marked());
-    /// # Ok(())
-    /// # }
+    /// # use lomkhvide::{AuthorityIndex, Record, RoundNumber};
+    /// assert!(Record::builder(RoundNumber(0), AuthorityIndex(3), [1; 32]).marked().finish()?.is_marked());
+    /// # Ok::<(), lomkhvide::Refusal>(())
     /// ```
     pub fn is_marked(&self) -> bool {
         self.bytes[48] == 1
@@ -176,12 +162,10 @@ impl Record {
     /// The time of its creation in nanoseconds, where it has one.
     ///
     /// ```
-    /// # fn main() -> Result<(), lomkhvide::Refusal> {
-    /// # use lomkhvide::Record;
-    /// assert_eq!(Record::builder(3, 0, [1; 32]).finish()?.time(), None);
-    /// assert_eq!(Record::builder(3, 0, [1; 32]).time(5).finish()?.time(), Some(5));
-    /// # Ok(())
-    /// # }
+    /// # use lomkhvide::{AuthorityIndex, Record, RoundNumber};
+    /// assert_eq!(Record::builder(RoundNumber(0), AuthorityIndex(3), [1; 32]).finish()?.time(), None);
+    /// assert_eq!(Record::builder(RoundNumber(0), AuthorityIndex(3), [1; 32]).time(5).finish()?.time(), Some(5));
+    /// # Ok::<(), lomkhvide::Refusal>(())
     /// ```
     pub fn time(&self) -> Option<u64> {
         self.is_timed().then(|| word_at(&self.bytes, HEADER))
@@ -203,13 +187,11 @@ impl Record {
     /// The blocks that it includes, in their order.
     ///
     /// ```
-    /// # fn main() -> Result<(), lomkhvide::Refusal> {
-    /// # use lomkhvide::{Record, Reference};
-    /// let block = Reference { round: 0, author: 2, digest: [2; 32] };
-    /// let record = Record::builder(3, 1, [1; 32]).include(block).finish()?;
+    /// # use lomkhvide::{AuthorityIndex, Record, Reference, RoundNumber};
+    /// let block = Reference::new(RoundNumber(0), AuthorityIndex(2), [2; 32]);
+    /// let record = Record::builder(RoundNumber(1), AuthorityIndex(3), [1; 32]).include(block).finish()?;
     /// assert_eq!(record.includes().collect::<Vec<_>>(), [block]);
-    /// # Ok(())
-    /// # }
+    /// # Ok::<(), lomkhvide::Refusal>(())
     /// ```
     pub fn includes(&self) -> impl ExactSizeIterator<Item = Reference> {
         let start = self.includes_start();
@@ -219,12 +201,10 @@ impl Record {
     /// Its statements, in their order.
     ///
     /// ```
-    /// # fn main() -> Result<(), lomkhvide::Refusal> {
-    /// # use lomkhvide::{Record, Statement};
-    /// let record = Record::builder(3, 1, [1; 32]).share(b"a").share(b"").finish()?;
+    /// # use lomkhvide::{AuthorityIndex, Record, RoundNumber, Statement};
+    /// let record = Record::builder(RoundNumber(1), AuthorityIndex(3), [1; 32]).share(b"a").share(b"").finish()?;
     /// assert_eq!(record.statements().collect::<Vec<_>>(), [Statement::Share(b"a"), Statement::Share(b"")]);
-    /// # Ok(())
-    /// # }
+    /// # Ok::<(), lomkhvide::Refusal>(())
     /// ```
     pub fn statements(&self) -> Statements<'_> {
         let start = self.includes_start() + 48 * self.count_at(49);
@@ -234,14 +214,12 @@ impl Record {
     /// The locators of its shares, with their payloads.
     ///
     /// ```
-    /// # fn main() -> Result<(), lomkhvide::Refusal> {
-    /// # use lomkhvide::{Record, Reference};
-    /// let other = Reference { round: 0, author: 2, digest: [2; 32] };
-    /// let record = Record::builder(3, 1, [1; 32]).share(b"a").accept(other.at(0)).share(b"b").finish()?;
+    /// # use lomkhvide::{AuthorityIndex, Record, Reference, RoundNumber};
+    /// let other = Reference::new(RoundNumber(0), AuthorityIndex(2), [2; 32]);
+    /// let record = Record::builder(RoundNumber(1), AuthorityIndex(3), [1; 32]).share(b"a").accept(other.at(0)).share(b"b").finish()?;
     /// let offsets: Vec<u64> = record.shares().map(|(locator, _)| locator.offset()).collect();
     /// assert_eq!(offsets, [0, 2], "a share's offset is its index among all statements");
-    /// # Ok(())
-    /// # }
+    /// # Ok::<(), lomkhvide::Refusal>(())
     /// ```
     pub fn shares(&self) -> impl Iterator<Item = (Locator, &[u8])> {
         let block = self.reference();
@@ -273,11 +251,9 @@ fn reference_at(bytes: &[u8], at: usize) -> Reference {
 /// The statements of a record, one after the other.
 ///
 /// ```
-/// # fn main() -> Result<(), lomkhvide::Refusal> {
-/// # use lomkhvide::Record;
-/// assert_eq!(Record::builder(3, 1, [1; 32]).share(b"a").finish()?.statements().len(), 1);
-/// # Ok(())
-/// # }
+/// # use lomkhvide::{AuthorityIndex, Record, RoundNumber};
+/// assert_eq!(Record::builder(RoundNumber(1), AuthorityIndex(3), [1; 32]).share(b"a").finish()?.statements().len(), 1);
+/// # Ok::<(), lomkhvide::Refusal>(())
 /// ```
 #[derive(Clone, Debug)]
 pub struct Statements<'a> {
@@ -295,7 +271,7 @@ impl<'a> Statements<'a> {
     fn locator(&mut self) -> Locator {
         let mut locator = [0; 56];
         locator.copy_from_slice(self.take(56));
-        Locator(locator)
+        Locator::from_bytes(&locator)
     }
 }
 
@@ -328,120 +304,121 @@ impl ExactSizeIterator for Statements<'_> {}
 /// A record of our own, before the engine writes it.
 ///
 /// ```
-/// # fn main() -> Result<(), lomkhvide::Refusal> {
-/// use lomkhvide::Record;
+/// use lomkhvide::{AuthorityIndex, Record, RoundNumber};
 ///
-/// let record = Record::builder(0, 0, [1; 32]).marked().time(1_700_000_000_000_000_000).finish()?;
+/// let record = Record::builder(RoundNumber(0), AuthorityIndex(0), [1; 32]).marked().time(1_700_000_000_000_000_000).finish()?;
 /// assert!(record.is_marked());
-/// # Ok(())
-/// # }
+/// # Ok::<(), lomkhvide::Refusal>(())
 /// ```
 #[derive(Clone, Debug)]
-pub struct RecordBuilder(Draft);
+pub struct RecordBuilder {
+    block: Reference,
+    marked: bool,
+    time: Option<u64>,
+    /// As they cross: references of 48 bytes, and statements as in a record, but for a share's length of 4 bytes.
+    includes: Vec<u8>,
+    statements: Vec<u8>,
+}
 
 impl RecordBuilder {
     /// Gives it an epoch mark.
     ///
     /// ```
-    /// # fn main() -> Result<(), lomkhvide::Refusal> {
-    /// # use lomkhvide::Record;
-    /// assert!(Record::builder(0, 0, [1; 32]).marked().finish()?.is_marked());
-    /// # Ok(())
-    /// # }
+    /// # use lomkhvide::{AuthorityIndex, Record, RoundNumber};
+    /// assert!(Record::builder(RoundNumber(0), AuthorityIndex(0), [1; 32]).marked().finish()?.is_marked());
+    /// # Ok::<(), lomkhvide::Refusal>(())
     /// ```
     pub fn marked(mut self) -> RecordBuilder {
-        self.0.marked = true;
+        self.marked = true;
         self
     }
 
     /// Gives it a time of creation, in nanoseconds.
     ///
     /// ```
-    /// # fn main() -> Result<(), lomkhvide::Refusal> {
-    /// # use lomkhvide::Record;
-    /// assert_eq!(Record::builder(0, 0, [1; 32]).time(7).finish()?.time(), Some(7));
-    /// # Ok(())
-    /// # }
+    /// # use lomkhvide::{AuthorityIndex, Record, RoundNumber};
+    /// assert_eq!(Record::builder(RoundNumber(0), AuthorityIndex(0), [1; 32]).time(7).finish()?.time(), Some(7));
+    /// # Ok::<(), lomkhvide::Refusal>(())
     /// ```
     pub fn time(mut self, nanoseconds: u64) -> RecordBuilder {
-        self.0.time = Some(nanoseconds);
+        self.time = Some(nanoseconds);
         self
     }
 
     /// Includes a block.
     ///
     /// ```
-    /// # fn main() -> Result<(), lomkhvide::Refusal> {
-    /// # use lomkhvide::{Record, Reference};
-    /// let block = Reference { round: 0, author: 2, digest: [2; 32] };
-    /// assert_eq!(Record::builder(0, 1, [1; 32]).include(block).include(block).finish()?.includes().len(), 2);
-    /// # Ok(())
-    /// # }
+    /// # use lomkhvide::{AuthorityIndex, Record, Reference, RoundNumber};
+    /// let block = Reference::new(RoundNumber(0), AuthorityIndex(2), [2; 32]);
+    /// assert_eq!(Record::builder(RoundNumber(1), AuthorityIndex(0), [1; 32]).include(block).include(block).finish()?.includes().len(), 2);
+    /// # Ok::<(), lomkhvide::Refusal>(())
     /// ```
     pub fn include(mut self, block: Reference) -> RecordBuilder {
-        self.0.includes.push(block.to_bytes());
+        self.includes.extend(block.to_bytes());
         self
     }
 
     /// Shares a change.
     ///
     /// ```
-    /// # fn main() -> Result<(), lomkhvide::Refusal> {
-    /// # use lomkhvide::Record;
-    /// assert_eq!(Record::builder(0, 1, [1; 32]).share(b"gain").finish()?.shares().count(), 1);
-    /// # Ok(())
-    /// # }
+    /// # use lomkhvide::{AuthorityIndex, Record, RoundNumber};
+    /// assert_eq!(Record::builder(RoundNumber(1), AuthorityIndex(0), [1; 32]).share(b"gain").finish()?.shares().count(), 1);
+    /// # Ok::<(), lomkhvide::Refusal>(())
     /// ```
     pub fn share(mut self, payload: &[u8]) -> RecordBuilder {
-        self.0.statements.push(Given::Share(payload.to_vec()));
+        // A length that 4 bytes do not hold is too long anyway: the writer answers 51 to the largest that they do.
+        let length = u32::try_from(payload.len()).unwrap_or(u32::MAX);
+        self.statements.push(0);
+        self.statements.extend(length.to_le_bytes());
+        self.statements.extend(payload);
         self
     }
 
     /// Votes for a locator. Accepts that follow each other, each offset one above the last, are written as a range.
     ///
     /// ```
-    /// # fn main() -> Result<(), lomkhvide::Refusal> {
-    /// # use lomkhvide::{Record, Reference, Statement};
-    /// let locator = Reference { round: 0, author: 2, digest: [2; 32] }.at(3);
-    /// let record = Record::builder(0, 1, [1; 32]).accept(locator).finish()?;
+    /// # use lomkhvide::{AuthorityIndex, Record, Reference, RoundNumber, Statement};
+    /// let locator = Reference::new(RoundNumber(0), AuthorityIndex(2), [2; 32]).at(3);
+    /// let record = Record::builder(RoundNumber(1), AuthorityIndex(0), [1; 32]).accept(locator).finish()?;
     /// assert_eq!(record.statements().next(), Some(Statement::Accept(locator)));
-    /// # Ok(())
-    /// # }
+    /// # Ok::<(), lomkhvide::Refusal>(())
     /// ```
     pub fn accept(mut self, locator: Locator) -> RecordBuilder {
-        self.0.statements.push(Given::Accept(locator));
+        self.statements.push(1);
+        self.statements.extend(locator.to_bytes());
         self
     }
 
     /// Rejects a locator; a second one may be named.
     ///
     /// ```
-    /// # fn main() -> Result<(), lomkhvide::Refusal> {
-    /// # use lomkhvide::{Record, Reference, Statement};
-    /// let locator = Reference { round: 0, author: 2, digest: [2; 32] }.at(3);
-    /// let record = Record::builder(0, 1, [1; 32]).reject(locator, None).finish()?;
+    /// # use lomkhvide::{AuthorityIndex, Record, Reference, RoundNumber, Statement};
+    /// let locator = Reference::new(RoundNumber(0), AuthorityIndex(2), [2; 32]).at(3);
+    /// let record = Record::builder(RoundNumber(1), AuthorityIndex(0), [1; 32]).reject(locator, None).finish()?;
     /// assert_eq!(record.statements().next(), Some(Statement::Reject(locator, None)));
-    /// # Ok(())
-    /// # }
+    /// # Ok::<(), lomkhvide::Refusal>(())
     /// ```
     pub fn reject(mut self, locator: Locator, other: Option<Locator>) -> RecordBuilder {
-        self.0.statements.push(Given::Reject(locator, other));
+        self.statements.push(2);
+        self.statements.extend(locator.to_bytes());
+        self.statements.push(other.is_some() as u8);
+        other.iter().for_each(|other| self.statements.extend(other.to_bytes()));
         self
     }
 
     /// Votes for every offset from the locator's to an end (excluded).
     ///
     /// ```
-    /// # fn main() -> Result<(), lomkhvide::Refusal> {
-    /// # use lomkhvide::{Record, Reference, Statement};
-    /// let first = Reference { round: 0, author: 2, digest: [2; 32] }.at(3);
-    /// let record = Record::builder(0, 1, [1; 32]).range(first, 9).finish()?;
+    /// # use lomkhvide::{AuthorityIndex, Record, Reference, RoundNumber, Statement};
+    /// let first = Reference::new(RoundNumber(0), AuthorityIndex(2), [2; 32]).at(3);
+    /// let record = Record::builder(RoundNumber(1), AuthorityIndex(0), [1; 32]).range(first, 9).finish()?;
     /// assert_eq!(record.statements().next(), Some(Statement::Range { first, end: 9 }));
-    /// # Ok(())
-    /// # }
+    /// # Ok::<(), lomkhvide::Refusal>(())
     /// ```
     pub fn range(mut self, first: Locator, end: u64) -> RecordBuilder {
-        self.0.statements.push(Given::Range(first, end));
+        self.statements.push(3);
+        self.statements.extend(first.to_bytes());
+        self.statements.extend(end.to_le_bytes());
         self
     }
 
@@ -449,19 +426,54 @@ impl RecordBuilder {
     /// bytes, over 1,024 statements after joining.
     ///
     /// ```
-    /// use lomkhvide::{Record, Refusal};
+    /// use lomkhvide::{AuthorityIndex, Record, Refusal, RoundNumber};
     ///
-    /// let long = Record::builder(0, 1, [1; 32]).share(&[0; 65_536]);
+    /// let long = Record::builder(RoundNumber(1), AuthorityIndex(0), [1; 32]).share(&[0; 65_536]);
     /// assert_eq!(long.finish(), Err(Refusal::NotWritable));
     /// ```
     pub fn finish(&self) -> Result<Record, Refusal> {
-        let mut statements = Vec::new();
-        self.0.statements.iter().for_each(|statement| statement.put(&mut statements));
         // No statement is longer in the record than here.
-        let mut bytes = vec![0; HEADER + 16 + 48 * self.0.includes.len() + statements.len()];
-        let length = self.0.write(&mut bytes)?;
+        let mut bytes = vec![0; HEADER + 16 + self.includes.len() + self.statements.len()];
+        let length = self.write(&mut bytes)?;
         bytes.truncate(length);
         Ok(Record { bytes })
+    }
+
+    /// Has the engine write it to the front of `out`, and gives its length; the bytes after it keep their content. Or 51, 50.
+    ///
+    /// ```
+    /// use lomkhvide::{AuthorityIndex, Record, Refusal, RoundNumber};
+    ///
+    /// let record = Record::builder(RoundNumber(0), AuthorityIndex(0), [1; 32]);
+    /// assert_eq!(record.write(&mut [0; 55]), Err(Refusal::TooShortToWrite));
+    /// assert_eq!(record.write(&mut [0; 56]), Ok(56));
+    /// ```
+    pub fn write(&self, out: &mut [u8]) -> Result<usize, Refusal> {
+        let (author, round, mark) = (self.block.author.0, self.block.round.0, self.marked as u64);
+        let (digest, includes, statements) = (&self.block.digest, &self.includes, &self.statements);
+        let length = match self.time {
+            None => calls::write_record(author, round, digest, mark, includes, statements, out)?,
+            Some(time) => calls::write_timed_record(author, round, digest, mark, time, includes, statements, out)?,
+        };
+        Ok(length as usize)
+    }
+}
+
+impl Committee {
+    /// The time of a stored block's creation in nanoseconds, by its reference; none where its record has none, or no such block is stored.
+    /// Or 5, 10.
+    ///
+    /// ```
+    /// # use lomkhvide::*;
+    /// // One owner, who has shared a change in round 1.
+    /// let Sample { committee, store, share, .. } = sample();
+    /// assert_eq!(committee.creation_time(&store, &share.reference())?, None, "its record has no time");
+    /// # Ok::<(), Refusal>(())
+    /// ```
+    pub fn creation_time(&self, store: &[u8], block: &Reference) -> Result<Option<u64>, Refusal> {
+        let mut found = [0; 8];
+        let is_found = calls::creation_time(self.stakes(), store, &block.to_bytes(), &mut found)? == 1;
+        Ok(is_found.then(|| u64::from_le_bytes(found)))
     }
 }
 
@@ -470,21 +482,21 @@ mod tests {
     use super::*;
 
     fn block(round: u64) -> Reference {
-        Reference { round, author: 2, digest: [3; 32] }
+        Reference::new(RoundNumber(round), AuthorityIndex(2), [3; 32])
     }
 
     /// All that is given is read back, in both editions.
     #[test]
     fn written_and_read() {
         for time in [None, Some(0), Some(u64::MAX)] {
-            let mut builder = Record::builder(1, 9, [4; 32]).include(block(0)).include(block(8));
+            let mut builder = Record::builder(RoundNumber(9), AuthorityIndex(1), [4; 32]).include(block(0)).include(block(8));
             if let Some(time) = time {
                 builder = builder.time(time);
             }
             let (one, two) = (block(3).at(1), block(4).at(u64::MAX));
             let record = builder.share(b"gain").accept(one).reject(one, Some(two)).reject(two, None).range(one, 7).share(b"");
             let record = record.finish().unwrap();
-            assert_eq!(record.reference(), Reference { round: 9, author: 1, digest: [4; 32] });
+            assert_eq!(record.reference(), Reference::new(RoundNumber(9), AuthorityIndex(1), [4; 32]));
             assert_eq!((record.time(), record.is_marked()), (time, false));
             assert_eq!(record.includes().collect::<Vec<_>>(), [block(0), block(8)]);
             let statements = [
@@ -507,7 +519,7 @@ mod tests {
     /// Whatever the engine takes as well formed can be read to its end.
     #[test]
     fn every_byte_changed() {
-        let record = Record::builder(1, 9, [4; 32])
+        let record = Record::builder(RoundNumber(9), AuthorityIndex(1), [4; 32])
             .include(block(8))
             .share(b"gain")
             .reject(block(3).at(1), None)

@@ -3,8 +3,6 @@
 use std::error::Error;
 use std::fmt;
 
-use crate::Refused;
-
 /// Makes the enum from its table: number, name, sentence.
 macro_rules! refusals {
     ($($number:literal $name:ident $sentence:literal,)*) => {
@@ -13,9 +11,9 @@ macro_rules! refusals {
         /// The sentences are those of the list of refusals in `lomkhvide.h`.
         ///
         /// ```
-        /// use lomkhvide::{Committee, Refusal};
+        /// use lomkhvide::{Committee, Refusal, Stake};
         ///
-        /// let refusal = Refusal::from(Committee::new(&[5, 0, 3]).unwrap_err());
+        /// let refusal = Committee::new(&[5, 0, 3].map(Stake)).unwrap_err();
         /// assert_eq!(refusal, Refusal::ZeroStake);
         /// assert_eq!(refusal.number(), 2);
         /// assert_eq!(refusal.to_string(), "a stake of the committee is zero (2)");
@@ -135,18 +133,6 @@ impl fmt::Display for Refusal {
 
 impl Error for Refusal {}
 
-impl From<Refused> for Refusal {
-    fn from(refused: Refused) -> Refusal {
-        Refusal::from_number(refused.0)
-    }
-}
-
-impl From<Refusal> for Refused {
-    fn from(refusal: Refusal) -> Refused {
-        Refused(refusal.number())
-    }
-}
-
 #[cfg(test)]
 mod tests {
     use super::*;
@@ -156,8 +142,6 @@ mod tests {
         for number in 0..200 {
             let refusal = Refusal::from_number(number);
             assert_eq!(refusal.number(), number);
-            assert_eq!(Refusal::from(Refused(number)), refusal);
-            assert_eq!(Refused::from(refusal), Refused(number));
             assert_eq!(Refusal::ALL.contains(&refusal), !matches!(refusal, Refusal::Other(_)));
         }
     }

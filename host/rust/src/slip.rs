@@ -1,7 +1,7 @@
 //! Finality slips, taken apart.
 
-use crate::types::word_at;
-use crate::{Committee, Locator, Record, Reference, Refusal};
+use crate::memory::word_at;
+use crate::{AuthorityIndex, Committee, Locator, Reading, Record, Reference, Refusal, calls};
 
 /// A finality slip: which blocks certify a locator, and where the votes of their voters stand.
 ///
@@ -9,22 +9,15 @@ use crate::{Committee, Locator, Record, Reference, Refusal};
 /// ([`Slip::read`]) and needs no store.
 ///
 /// ```
-/// # fn main() -> Result<(), lomkhvide::Refusal> {
-/// use lomkhvide::{Committee, Engine, Record, Slip};
-///
-/// let committee = Committee::new(&[1])?;
-/// let mut engine = Engine::new(committee.clone(), 65_536);
-/// let first = Record::builder(0, 0, [1; 32]).finish()?;
-/// let second = Record::builder(0, 1, [2; 32]).include(first.reference()).share(b"gain").finish()?;
-/// engine.feed(&first)?;
-/// engine.feed(&second)?;
-/// let slip = engine.slip(&second.reference().at(0))?;
+/// # use lomkhvide::*;
+/// // One owner, who has shared a change in round 1.
+/// let Sample { engine, record, share, .. } = sample();
+/// let slip = engine.slip(&share, Reading::Old)?;
 ///
 /// // At the station:
-/// let read = Slip::read(&committee, slip.as_bytes(), &[second])?;
-/// assert_eq!(read.certifiers()[0].voters[0].author, 0);
-/// # Ok(())
-/// # }
+/// let read = Slip::read(engine.committee(), slip.as_bytes(), &[record])?;
+/// assert_eq!(read.certifiers()[0].voters[0].author, AuthorityIndex(0));
+/// # Ok::<(), Refusal>(())
 /// ```
 #[derive(Clone, Debug, PartialEq, Eq)]
 pub struct Slip {
@@ -35,28 +28,32 @@ pub struct Slip {
 /// A certifying block, with its voters.
 ///
 /// ```
-/// use lomkhvide::{Certifier, Reference};
+/// use lomkhvide::{Certifier, NotAReference};
 ///
-/// let block = Reference { round: 3, author: 0, digest: [1; 32] };
-/// assert!(Certifier { block, voters: vec![] }.voters.is_empty());
+/// assert!(Certifier { block: "3/0/00000001".parse()?, voters: vec![] }.voters.is_empty());
+/// # Ok::<(), NotAReference>(())
 /// ```
 #[derive(Clone, Debug, PartialEq, Eq)]
 pub struct Certifier {
+    /// The block.
     pub block: Reference,
+    /// The owners whose votes it stands above, ascending.
     pub voters: Vec<Voter>,
 }
 
 /// A voter of a certifying block, and the path from that block to the vote: in each block on the way the place of the include to go to.
 ///
 /// ```
-/// use lomkhvide::Voter;
+/// use lomkhvide::{AuthorityIndex, Voter};
 ///
-/// let voter = Voter { author: 2, path: vec![0, 1] };
+/// let voter = Voter { author: AuthorityIndex(2), path: vec![0, 1] };
 /// assert_eq!(voter.path.len(), 2);
 /// ```
 #[derive(Clone, Debug, PartialEq, Eq)]
 pub struct Voter {
-    pub author: u64,
+    /// The owner who votes.
+    pub author: AuthorityIndex,
+    /// The places of the includes to go by.
     pub path: Vec<u8>,
 }
 
@@ -66,14 +63,12 @@ impl Slip {
     /// reading in which an owner may withdraw needs every record below its certifying blocks.
     ///
     /// ```
-    /// # fn main() -> Result<(), lomkhvide::Refusal> {
-    /// use lomkhvide::{Committee, Refusal, Slip};
+    /// use lomkhvide::{Committee, Refusal, Slip, Stake};
     ///
-    /// let committee = Committee::new(&[1])?;
+    /// let committee = Committee::new(&[Stake(1)])?;
     /// assert_eq!(Slip::read(&committee, b"noise", &[]), Err(Refusal::SlipReadingUnknown));
     /// assert_eq!(Slip::read(&committee, b"\0", &[]), Err(Refusal::SlipNotHeld));
-    /// # Ok(())
-    /// # }
+    /// # Ok::<(), Refusal>(())
     /// ```
     pub fn read(committee: &Committee, slip: &[u8], records: &[Record]) -> Result<Slip, Refusal> {
         let records: Vec<&[u8]> = records.iter().map(Record::as_bytes).collect();
@@ -95,7 +90,7 @@ impl Slip {
     /// ```
     /// # use lomkhvide::*;
     /// # fn shown(slip: &Slip) {
-    /// assert_eq!(slip.as_bytes()[1..57], slip.locator().0);
+    /// assert_eq!(slip.as_bytes()[1..57], slip.locator().to_bytes());
     /// # }
     /// ```
     pub fn as_bytes(&self) -> &[u8] {
@@ -106,15 +101,28 @@ impl Slip {
     ///
     /// ```
     /// # use lomkhvide::*;
-    /// # fn shown(engine: &Engine, locator: &Locator) -> Result<(), Refusal> {
-    /// assert_eq!(engine.slip(locator)?.locator(), *locator);
-    /// # Ok(())
-    /// # }
+    /// // One owner, who has shared a change in round 1.
+    /// let Sample { engine, share, .. } = sample();
+    /// assert_eq!(engine.slip(&share, Reading::Old)?.locator(), share);
+    /// # Ok::<(), Refusal>(())
     /// ```
     pub fn locator(&self) -> Locator {
         let mut locator = [0; 56];
         locator.copy_from_slice(&self.bytes[1..57]);
-        Locator(locator)
+        Locator::from_bytes(&locator)
+    }
+
+    /// The reading in which it holds.
+    ///
+    /// ```
+    /// # use lomkhvide::*;
+    /// // One owner, who has shared a change in round 1.
+    /// let Sample { engine, share, .. } = sample();
+    /// assert_eq!(engine.slip(&share, Reading::Withdrawing)?.reading(), Reading::Withdrawing);
+    /// # Ok::<(), Refusal>(())
+    /// ```
+    pub fn reading(&self) -> Reading {
+        if self.bytes[0] == 0 { Reading::Old } else { Reading::Withdrawing }
     }
 
     /// Its certifying blocks, in ascending order of reference.
@@ -143,9 +151,50 @@ fn certifier(rest: &mut &[u8]) -> Certifier {
     block.copy_from_slice(take(rest, 48));
     let voters = take(rest, 1)[0];
     let voter = |_| {
-        let author = word_at(take(rest, 8), 0);
+        let author = AuthorityIndex(word_at(take(rest, 8), 0));
         let length = take(rest, 2);
         Voter { author, path: take(rest, u16::from_le_bytes([length[0], length[1]]) as usize).to_vec() }
     };
     Certifier { block: Reference::from_bytes(&block), voters: (0..voters).map(voter).collect() }
+}
+
+impl Committee {
+    /// Reads a finality slip of either reading with the records that come with it: the number of its certifying blocks; or 5, 61, 52, 53.
+    ///
+    /// ```
+    /// # use lomkhvide::*;
+    /// // One owner, who has shared a change in round 1.
+    /// let Sample { committee, store, record, share, .. } = sample();
+    /// let mut slip = [0; 200];
+    /// let written = committee.write_slip(&store, &share, Reading::Old, &mut slip)?;
+    /// assert_eq!(committee.read_slip(&slip[..written], &[record.as_bytes()])?, 1);
+    /// # Ok::<(), Refusal>(())
+    /// ```
+    pub fn read_slip(&self, slip: &[u8], records: &[&[u8]]) -> Result<u64, Refusal> {
+        let mut framed = Vec::new();
+        for record in records {
+            // A length that 4 bytes do not hold is that of no record: the reader answers 52.
+            framed.extend(u32::try_from(record.len()).unwrap_or(u32::MAX).to_le_bytes());
+            framed.extend(*record);
+        }
+        calls::read_slip(self.stakes(), slip, &framed)
+    }
+
+    /// Writes the finality slip of a final locator to the front of `out`: its length; or 5, 10, 52, 50, and nothing is written.
+    ///
+    /// ```
+    /// # use lomkhvide::*;
+    /// // One owner, who has shared a change in round 1.
+    /// let Sample { committee, store, share, .. } = sample();
+    /// assert_eq!(committee.write_slip(&store, &share, Reading::Old, &mut [0; 200])?, 118);
+    /// assert_eq!(committee.write_slip(&store, &share, Reading::Old, &mut [0; 100]), Err(Refusal::TooShortToWrite));
+    /// # Ok::<(), Refusal>(())
+    /// ```
+    pub fn write_slip(&self, store: &[u8], locator: &Locator, reading: Reading, out: &mut [u8]) -> Result<usize, Refusal> {
+        let call = match reading {
+            Reading::Old => calls::write_slip,
+            Reading::Withdrawing => calls::write_slip_withdrawing,
+        };
+        Ok(call(self.stakes(), store, &locator.to_bytes(), out)? as usize)
+    }
 }

@@ -4,13 +4,13 @@ mod common;
 
 use common::{Chance, graph};
 use lomkhvide::{
-    Committee, Engine, Event, Locator, Outcome, Owners, Parts, Pending, Record, Refusal, Refused, Slip, fresh_store,
-    fresh_table,
+    Committee, Engine, Event, Listed, Locator, Outcome, Owners, Parts, Pending, Reading, Record, Refusal, Slip, Stake,
+    fresh_store, fresh_table,
 };
 
 const ROOM: usize = 1 << 20;
 
-fn fed(stakes: &[u64], records: &[Record]) -> Engine {
+fn fed(stakes: &[Stake], records: &[Record]) -> Engine {
     let mut engine = Engine::new(Committee::new(stakes).unwrap(), ROOM);
     records.iter().for_each(|record| drop(engine.feed(record).unwrap()));
     engine
@@ -20,25 +20,25 @@ fn fed(stakes: &[u64], records: &[Record]) -> Engine {
 #[test]
 fn thin_calls() {
     let records = graph(4, 12);
-    let committee = Committee::new(&[2, 1, 1, 1]).unwrap();
+    let committee = Committee::new(&[2, 1, 1, 1].map(Stake)).unwrap();
     let (mut store, mut table) = (fresh_store(ROOM), fresh_table());
     let mut engine = Engine::new(committee.clone(), ROOM);
     let mut events: Vec<Event> = Vec::new();
     for record in records.iter().flat_map(|record| [record, record]) {
         let told = engine.feed(record);
-        assert_eq!(told.clone().map_err(Refused::from), committee.feed(&mut store, &mut table, record.as_bytes()));
+        assert_eq!(told, committee.feed(&mut store, &mut table, record.as_bytes()));
         events.extend(told.unwrap_or_default());
     }
     assert_eq!(engine.store(), store);
     assert!(events.iter().any(|event| event.outcome == Outcome::Processed));
     for locator in records.iter().flat_map(|record| [record.reference().at(0), record.reference().at(1)]) {
-        assert_eq!(engine.finality(&locator), Ok(committee.finality(&store, &locator).unwrap()));
-        assert_eq!(engine.finality_withdrawing(&locator), Ok(committee.finality_withdrawing(&store, &locator).unwrap()));
-        assert_eq!(engine.pending(&locator).map_err(Refused::from), committee.pending(&store, &table, &locator));
-        assert_eq!(engine.payload(&locator).map_err(Refused::from), committee.payload(&store, &locator));
-        let ring = engine.ring(&locator, Owners::ALL).map_err(Refused::from).map(|ring| (ring.owners.0, ring.stake));
-        let flat = committee.whom_to_ring(&store, &table, u128::MAX, &locator).map(|ring| (ring.owners, ring.stake));
-        assert_eq!(ring, flat);
+        for reading in [Reading::Old, Reading::Withdrawing] {
+            assert_eq!(engine.finality(&locator, reading), committee.finality(&store, &locator, reading));
+        }
+        assert_eq!(engine.pending(&locator), committee.pending(&store, &table, &locator));
+        assert_eq!(engine.payload(&locator), committee.payload(&store, &locator));
+        let ring = engine.ring(&locator, Owners::ALL);
+        assert_eq!(ring, committee.whom_to_ring(&store, &table, Owners::ALL, &locator));
     }
 }
 
@@ -46,15 +46,15 @@ fn thin_calls() {
 #[test]
 fn long_lists() {
     let records = graph(4, 60);
-    let engine = fed(&[1; 4], &records);
-    let stretches = engine.finals().collect::<Result<Vec<_>, _>>().unwrap();
+    let engine = fed(&[Stake(1); 4], &records);
+    let stretches = engine.finals(Listed::Ordinary, Reading::Old).collect::<Result<Vec<_>, _>>().unwrap();
     assert!(stretches.len() > 128, "{} stretches", stretches.len());
     let mut listed = Vec::new();
     for stretch in stretches {
-        listed.extend((stretch.first.offset()..stretch.end).map(|offset| stretch.first.reference().at(offset)));
+        listed.extend(stretch.locators());
     }
     let mut asked = Vec::new();
-    while let Some(next) = engine.committee().next_final(engine.store(), asked.last()).unwrap() {
+    while let Some(next) = engine.next(Listed::Ordinary, Reading::Old, asked.last()).unwrap() {
         asked.push(next);
     }
     assert_eq!(listed, asked);
@@ -64,7 +64,7 @@ fn long_lists() {
 #[test]
 fn items_and_records() {
     let records = graph(4, 6);
-    let engine = fed(&[1; 4], &records);
+    let engine = fed(&[Stake(1); 4], &records);
     assert_eq!(engine.records().map(|(_, record)| record).collect::<Vec<_>>(), records);
     for (position, record) in engine.records() {
         assert_eq!(engine.record_at(position), Some(record));
@@ -89,13 +89,13 @@ fn items_and_records() {
 #[test]
 fn slips() {
     let records = graph(4, 40);
-    let engine = fed(&[1; 4], &records);
+    let engine = fed(&[Stake(1); 4], &records);
     let share = records[4].reference().at(0);
-    let slip = engine.slip(&share).unwrap();
+    let slip = engine.slip(&share, Reading::Old).unwrap();
     assert!(slip.as_bytes().len() > 4096, "it does not fit at first");
     assert_eq!(slip.locator(), share);
-    assert_eq!(slip.certifiers().len(), engine.finality(&share).unwrap().certifying.len());
-    for (certifier, position) in slip.certifiers().iter().zip(engine.finality(&share).unwrap().certifying) {
+    assert_eq!(slip.certifiers().len(), engine.finality(&share, Reading::Old).unwrap().certifying.len());
+    for (certifier, position) in slip.certifiers().iter().zip(engine.finality(&share, Reading::Old).unwrap().certifying) {
         assert_eq!(certifier.block, engine.record_at(position).unwrap().reference());
         assert!(certifier.voters.len() >= 3);
     }
@@ -107,16 +107,16 @@ fn slips() {
 #[test]
 fn kept_and_opened() {
     let records = graph(4, 10);
-    let mut engine = fed(&[1; 4], &records[..25]);
+    let mut engine = fed(&[Stake(1); 4], &records[..25]);
     let (store, table) = (engine.parts().store.to_vec(), engine.parts().table.to_vec());
     let parts = Parts { store: &store, table: &table, index: None };
-    let mut opened = Engine::open(Committee::new(&[1; 4]).unwrap(), ROOM, parts).unwrap();
+    let mut opened = Engine::open(Committee::new(&[Stake(1); 4]).unwrap(), ROOM, parts).unwrap();
     assert_eq!(opened, engine);
     for record in &records[25..] {
         assert_eq!(opened.feed(record), engine.feed(record));
     }
     assert_eq!(opened, engine);
-    let less = Engine::open(Committee::new(&[1; 4]).unwrap(), 16, parts).unwrap();
+    let less = Engine::open(Committee::new(&[Stake(1); 4]).unwrap(), 16, parts).unwrap();
     assert_eq!(less.store().len(), store.len(), "the room is never less than what was kept");
 }
 
@@ -124,28 +124,30 @@ fn kept_and_opened() {
 #[test]
 fn indexed() {
     let records = graph(4, 12);
-    let committee = Committee::new(&[1; 4]).unwrap();
+    let committee = Committee::new(&[Stake(1); 4]).unwrap();
     let (mut plain, mut engine) = (Engine::new(committee.clone(), ROOM), Engine::with_index(committee.clone(), ROOM));
     for record in records.iter().flat_map(|record| [record, record]) {
         assert_eq!(engine.feed(record), plain.feed(record));
     }
     assert_eq!(engine.store(), plain.store());
-    assert!(engine.finals().eq(plain.finals()) && engine.finals_wide().eq(plain.finals_wide()));
+    for listed in [Listed::Ordinary, Listed::Wide] {
+        assert!(engine.finals(listed, Reading::Old).eq(plain.finals(listed, Reading::Old)));
+    }
     for share in records.iter().map(|record| record.reference().at(0)) {
         let quorum = |voters: &Owners| voters.len() >= 3;
         let mut certifying: Vec<u64> =
-            engine.voters(&share).iter().filter(|(_, voters)| quorum(voters)).map(|(at, _)| *at).collect();
+            engine.voters(&share).unwrap().iter().filter(|(_, voters)| quorum(voters)).map(|(at, _)| *at).collect();
         certifying.sort();
         assert_eq!(
             certifying,
-            engine.finality(&share).unwrap().certifying,
+            engine.finality(&share, Reading::Old).unwrap().certifying,
             "no block is marked, and all stand in ascending order"
         );
-        assert!(plain.voters(&share).is_empty());
+        assert_eq!(plain.voters(&share), None);
     }
     let shares: Vec<Locator> = records.iter().map(|record| record.reference().at(0)).collect();
     for (share, reply) in shares.iter().zip(engine.replies(&shares).unwrap()) {
-        assert_eq!(reply.is_final, engine.finality(share).unwrap().is_final);
+        assert_eq!(reply.is_final, engine.finality(share, Reading::Old).unwrap().is_final);
     }
     assert_eq!(plain.replies(&shares), Err(Refusal::IndexDisagrees));
     assert_eq!(engine.replies(&[shares[1], shares[0]]), Err(Refusal::LocatorsNotSorted));
@@ -169,8 +171,8 @@ fn indexed() {
 /// Damaged parts are refused or are in order; nothing panics, and what is opened answers.
 #[test]
 fn damaged_parts() {
-    let engine = fed(&[1; 4], &graph(4, 5));
-    let committee = Committee::new(&[1; 4]).unwrap();
+    let engine = fed(&[Stake(1); 4], &graph(4, 5));
+    let committee = Committee::new(&[Stake(1); 4]).unwrap();
     let mut chance = Chance(5);
     let mut refused = 0;
     for _ in 0..600 {
@@ -184,7 +186,7 @@ fn damaged_parts() {
         }
         match Engine::open(committee.clone(), ROOM, Parts { store: &store, table: &table, index: None }) {
             Ok(opened) => {
-                assert!(opened.finals().all(|stretch| stretch.is_ok()));
+                assert!(opened.finals(Listed::Ordinary, Reading::Old).all(|stretch| stretch.is_ok()));
                 opened.pending_items().for_each(drop);
                 opened.records().for_each(drop);
             }

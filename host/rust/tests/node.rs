@@ -11,8 +11,8 @@ use std::process::{Child, Command, Output, Stdio};
 use std::thread::sleep;
 use std::time::Duration;
 
-use common::{Chance, chain, example, folder, graph, input, stakes_file};
-use lomkhvide::{Committee, Engine, Record};
+use common::{Chance, builder, chain, example, folder, graph, input, stakes_file};
+use lomkhvide::{AuthorityIndex, Committee, Engine, Listed, Reading, Record};
 
 const OWNERS: u64 = 7;
 const ROUNDS: u64 = 14;
@@ -72,7 +72,7 @@ fn finals_of(records: &[Record]) -> Vec<String> {
     let line = |stretch: lomkhvide::Stretch| {
         format!("final {:#}..{} by {} blocks, stake {}", stretch.first, stretch.end, stretch.blocks, stretch.stake)
     };
-    engine.finals().map(|stretch| line(stretch.unwrap())).collect()
+    engine.finals(Listed::Ordinary, Reading::Old).map(|stretch| line(stretch.unwrap())).collect()
 }
 
 /// When a node that is at work is killed.
@@ -152,7 +152,7 @@ fn killed_between_two_renames() {
         return;
     }
     let records = graph(OWNERS, 6);
-    let soon: Vec<Record> = records.iter().filter(|record| record.author() != 2).cloned().collect();
+    let soon: Vec<Record> = records.iter().filter(|record| record.author() != AuthorityIndex(2)).cloned().collect();
     let (soon, all, none) = (given("node-soon", &soon), given("node-all", &records), folder("node-between-none"));
     let state = folder("node-between");
     assert!(run(&[&state, &soon]).status.success());
@@ -281,7 +281,7 @@ fn cut_streams() {
 fn numbers_of_records() {
     let records = graph(OWNERS, 2);
     // Waits for a block of record 9, and then has more offsets than there is room for events.
-    let mut long = Record::builder(0, 2, [9; 32]);
+    let mut long = builder(2, 0, [9; 32]);
     for record in &records[7..14] {
         long = long.include(record.reference());
     }
@@ -306,9 +306,9 @@ fn too_many_wait() {
     for i in 0..1030u32 {
         let mut digest = [7; 32];
         digest[..4].copy_from_slice(&i.to_le_bytes());
-        let mut record = Record::builder(0, 1, digest);
+        let mut record = builder(1, 0, digest);
         for author in 0..OWNERS {
-            record = record.include(Record::builder(author, 0, digest).finish().unwrap().reference());
+            record = record.include(builder(0, author, digest).finish().unwrap().reference());
         }
         records.push(record.finish().unwrap());
     }
@@ -608,7 +608,7 @@ fn full_store_and_next_epoch() {
     let output = streamed(&next, &input(0, &records[..40])[1..]);
     assert!(told(&output).contains("record 1 is refused: it began an earlier epoch"), "{}", told(&output));
     assert_eq!(lines(&output, "final").len(), 0);
-    let new = Record::builder(0, 0, [77; 32]).finish().unwrap();
+    let new = builder(0, 0, [77; 32]).finish().unwrap();
     let output = streamed(&next, &input(0, &[new])[1..]);
     assert_eq!(numbers(&output, "kept").last(), Some(&1));
     assert_eq!(run(&[Path::new("--epoch"), &state, &next]).status.code(), Some(1), "it is begun already");
@@ -621,7 +621,7 @@ fn epochs_are_closed_by_marks() {
     let records = graph(OWNERS, 3);
     let mut last = Vec::new();
     for author in 0..3 {
-        let mut record = Record::builder(author, 3, [3; 32]).marked();
+        let mut record = builder(3, author, [3; 32]).marked();
         for include in &records[14..] {
             record = record.include(include.reference());
         }
@@ -635,7 +635,7 @@ fn epochs_are_closed_by_marks() {
     assert_eq!(epoch.status.code(), Some(1));
     assert!(told(&epoch).contains("owners 0, 1, 2 marked one, stake 11; quorum begins at 12"), "{}", told(&epoch));
     assert_eq!((contents(&state), contents(&next).len()), (before, 0));
-    let mut record = Record::builder(5, 3, [3; 32]).marked();
+    let mut record = builder(3, 5, [3; 32]).marked();
     for include in &records[14..] {
         record = record.include(include.reference());
     }

@@ -32,10 +32,10 @@ use std::fs;
 use std::io::Cursor;
 use std::path::{Path, PathBuf};
 
-use common::{folder, graph, stakes_file};
+use common::{builder, folder, graph, stakes_file};
 use files::{Access, Files};
 use input::Input;
-use lomkhvide::{Record, Reference};
+use lomkhvide::{AuthorityIndex, Record, Reference, RoundNumber};
 use node::Node;
 use waiting::{Arrived, Lack, MOST_BYTES, MOST_RECORDS, Waiting};
 
@@ -49,9 +49,9 @@ fn digest(epoch: u8, number: u8) -> [u8; 32] {
 /// Four owners of stake 1: all make a block of round 0, and three of them one of round 1.
 fn records(epoch: u8) -> Vec<Record> {
     let mut records: Vec<Record> =
-        (0..4).map(|owner| Record::builder(owner, 0, digest(epoch, owner as u8)).finish().unwrap()).collect();
+        (0..4).map(|owner| builder(0, owner, digest(epoch, owner as u8)).finish().unwrap()).collect();
     for owner in 0..3 {
-        let mut record = Record::builder(owner, 1, digest(epoch, 16 + owner as u8)).marked();
+        let mut record = builder(1, owner, digest(epoch, 16 + owner as u8)).marked();
         for block in &records[..4] {
             record = record.include(block.reference());
         }
@@ -86,7 +86,7 @@ fn every_byte_damaged() {
     let later = records(2);
     drop(fed(&state, &later[..6]));
     // One more that waits for a block that nobody has sent.
-    let waits = Record::builder(3, 2, digest(2, 99));
+    let waits = builder(2, 3, digest(2, 99));
     let waits = later[4..7].iter().fold(waits, |record, block| record.include(block.reference())).finish().unwrap();
     let right = fed(&state, &[waits]).engine;
     let before = contents(&state);
@@ -153,7 +153,7 @@ fn the_place_for_digests_and_signatures() {
     let state = folder("parts-trust");
     fs::write(state.join("stakes"), stakes_file(&[1; 4])).unwrap();
     let mut given = records(1);
-    let forged = Record::builder(3, 0, [3; 32]).finish().unwrap();
+    let forged = builder(0, 3, [3; 32]).finish().unwrap();
     given.insert(2, forged.clone());
     given.extend(records(2));
     let node = fed(&state, &given);
@@ -169,7 +169,7 @@ fn arrived(order: u64, record: &Record) -> Arrived {
 fn block(number: u64) -> Reference {
     let mut digest = [0; 32];
     digest[..8].copy_from_slice(&number.to_le_bytes());
-    Reference { round: number, author: 0, digest }
+    Reference::new(RoundNumber(number), AuthorityIndex(0), digest)
 }
 
 /// Only those that wait for what has come are taken out, in order of arrival.
@@ -191,21 +191,21 @@ fn by_what_they_wait_for() {
     assert_eq!(orders(waiting.take(Lack::Block(block(0)))), [88, 91, 94, 97, 100]);
     assert_eq!(waiting.len(), 4);
     let kept = Waiting::records_of(&waiting.to_bytes()).unwrap();
-    assert_eq!(kept.iter().map(Record::author).collect::<Vec<_>>(), [4, 1, 5, 2]);
+    assert_eq!(kept.iter().map(|record| record.author().0).collect::<Vec<_>>(), [4, 1, 5, 2]);
 }
 
 /// Past either bound the oldest go, whatever they wait for.
 #[test]
 fn bounds_of_what_waits() {
     let mut waiting = Waiting::default();
-    let short = Record::builder(0, 0, [1; 32]).finish().unwrap();
+    let short = builder(0, 0, [1; 32]).finish().unwrap();
     for order in 0..MOST_RECORDS as u64 {
         assert!(waiting.put(arrived(order, &short), Lack::Block(block(order))).is_empty());
     }
     let refused = waiting.put(arrived(5000, &short), Lack::Room);
     assert_eq!(refused.iter().map(|arrived| arrived.order).collect::<Vec<_>>(), [0]);
     let payload = [7; 60_000];
-    let long = (0..17).fold(Record::builder(0, 1, [1; 32]), |record, _| record.share(&payload)).finish().unwrap();
+    let long = (0..17).fold(builder(1, 0, [1; 32]), |record, _| record.share(&payload)).finish().unwrap();
     let (mut order, mut gone) = (6000, 1);
     while waiting.len() == MOST_RECORDS {
         gone += waiting.put(arrived(order, &long), Lack::Room).len();
@@ -223,10 +223,10 @@ fn room_in_the_table() {
     fs::write(state.join("stakes"), stakes_file(&[1; 4])).unwrap();
     let (records, mut given) = (records(1), records(1)[..4].to_vec());
     let round = |owner: u64, round: u64, number: u8, below: &[Record]| {
-        below.iter().fold(Record::builder(owner, round, digest(1, number)), |record, block| record.include(block.reference()))
+        below.iter().fold(builder(round, owner, digest(1, number)), |record, block| record.include(block.reference()))
     };
     // Shares that do not neighbour each other, 511 to a block, are an item each; the table holds 1,024.
-    let nobody = Reference { round: 9, author: 0, digest: [9; 32] };
+    let nobody = Reference::new(RoundNumber(9), AuthorityIndex(0), [9; 32]);
     let many = |owner: u64, number: u8| {
         let record = round(owner, 1, number, &records[..4]);
         (0..511).fold(record, |record, _| record.share(b"").reject(nobody.at(0), None)).finish().unwrap()

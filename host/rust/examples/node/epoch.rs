@@ -11,10 +11,10 @@
 use std::collections::BTreeSet;
 use std::path::Path;
 
-use lomkhvide::{Engine, Locator, Owners, Record, Reference};
+use lomkhvide::{Engine, Listed, Locator, Owners, Record, Reference, RoundNumber, Stake};
 
 use crate::files::{Access, Files, ROOM, Told, checksum, read_if_there, replace};
-use crate::node::{LONGEST_RECORD, MOST_BLOCKS};
+use crate::node::{LONGEST_RECORD, MOST_BLOCKS, READING};
 
 /// The epoch of a folder: its number, from 1 on, and the blocks of round 0 of those before it.
 pub struct Epoch {
@@ -97,7 +97,7 @@ pub fn next(old: &Path, new: &Path) -> Told<()> {
     if let (Some(stakes), false) = (read_if_there(&old.join("stakes"))?, new.join("stakes").exists()) {
         replace(new, "stakes", &stakes)?;
     }
-    let first = records.iter().filter(|record| record.round() == 0).map(Record::reference);
+    let first = records.iter().filter(|record| record.round() == RoundNumber(0)).map(Record::reference);
     let epoch = Epoch { number: epoch.number + 1, before: epoch.before.iter().copied().chain(first).collect() };
     let list = share_again(&engine, &records)?;
     replace(new, "share-again", list.concat().as_bytes())?;
@@ -114,7 +114,7 @@ pub fn next(old: &Path, new: &Path) -> Told<()> {
 fn may_close(engine: &Engine, records: &[Record]) -> Told<()> {
     let committee = engine.committee();
     let marked: Owners = records.iter().filter(|record| record.is_marked()).map(Record::author).collect();
-    let stake: u64 = marked.iter().filter_map(|owner| committee.stake(owner)).sum();
+    let stake: Stake = marked.iter().filter_map(|owner| committee.stake(owner)).sum();
     let full = records.len() == MOST_BLOCKS || ROOM < engine.parts().store.len() + LONGEST_RECORD;
     if full || stake >= committee.quorum() {
         return Ok(());
@@ -131,9 +131,8 @@ fn may_close(engine: &Engine, records: &[Record]) -> Told<()> {
 /// locator is another in the new epoch if that is shared again too.
 fn share_again(engine: &Engine, records: &[Record]) -> Told<Vec<String>> {
     let mut finals = BTreeSet::new();
-    for stretch in engine.finals() {
-        let stretch = stretch?;
-        finals.extend((stretch.first.offset()..stretch.end).map(|offset| stretch.first.reference().at(offset)));
+    for stretch in engine.finals(Listed::Ordinary, READING) {
+        finals.extend(stretch?.locators());
     }
     let mut lines = Vec::new();
     for record in records {
@@ -148,5 +147,5 @@ fn share_again(engine: &Engine, records: &[Record]) -> Told<Vec<String>> {
 /// The change that a payload needs: one that begins with 1 has its locator next.
 fn needed(payload: &[u8]) -> Option<Locator> {
     let (first, rest) = payload.split_first()?;
-    rest.first_chunk().filter(|_| *first == 1).map(|locator| Locator(*locator))
+    rest.first_chunk().filter(|_| *first == 1).map(Locator::from_bytes)
 }

@@ -162,7 +162,7 @@ impl Files {
     pub fn committee(&self) -> Told<Committee> {
         let path = self.folder.join("stakes");
         let stakes = read_if_there(&path)?.unwrap_or_default();
-        Committee::load(&stakes).map_err(|refused| format!("{}: {}", path.display(), Refusal::from(refused)).into())
+        Committee::load(&stakes).map_err(|refusal| format!("{}: {refusal}", path.display()).into())
     }
 
     fn path(&self, part: &str, number: u64) -> PathBuf {

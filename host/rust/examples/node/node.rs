@@ -4,13 +4,16 @@ use std::collections::HashSet;
 use std::io::{self, Write};
 use std::path::Path;
 
-use lomkhvide::{Engine, Event, Outcome, Record, Reference, Refusal};
+use lomkhvide::{Engine, Event, Listed, Outcome, Reading, Record, Reference, Refusal};
 
 use crate::epoch::{self, Epoch};
 use crate::files::{Access, Files, ROOM, Told, read_if_there, replace};
 use crate::input::Input;
 use crate::trust;
 use crate::waiting::{Arrived, Lack, MOST_BYTES, MOST_RECORDS, Waiting};
+
+/// What a reject means in this network: nothing, or that its owner withdraws.
+pub const READING: Reading = Reading::Old;
 
 /// The most records that are fed, and then kept, at a time.
 const BATCH: usize = 256;
@@ -251,7 +254,7 @@ impl Node {
 }
 
 pub fn print_finals(engine: &Engine) -> Told<()> {
-    for stretch in engine.finals() {
+    for stretch in engine.finals(Listed::Ordinary, READING) {
         let stretch = stretch?;
         println!("final {:#}..{} by {} blocks, stake {}", stretch.first, stretch.end, stretch.blocks, stretch.stake);
     }

@@ -44,11 +44,7 @@ impl Account {
 
     /// The slip of a final locator.
     pub fn slip(&self, run: &Run) -> Result<Option<Slip>, Fault> {
-        let answer = match run.withdrawing {
-            false => run.engine.slip(&self.locator),
-            true => run.engine.slip_withdrawing(&self.locator),
-        };
-        match answer {
+        match run.engine.slip(&self.locator, run.reading()) {
             Ok(slip) => Ok(Some(slip)),
             Err(Refusal::SlipNotHeld) => Ok(None),
             Err(refusal) => Err(refused(refusal)),

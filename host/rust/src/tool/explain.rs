@@ -109,8 +109,9 @@ fn missing(run: &Run, account: &Account, reachable: Owners, out: &mut dyn Write)
     let less = if run.withdrawing { ", less those who reject there" } else { "" };
     writeln!(out, "An unmarked block certifies that has quorum votes at or below it{less}. Ring for such a block:")?;
     let voters = run.voters(&account.locator);
-    let members = 0..run.committee().members() as u64;
-    for owner in members.filter(|owner| !account.certified.owners.contains(*owner) && reachable.contains(*owner)) {
+    for owner in
+        run.committee().authorities().filter(|owner| !account.certified.owners.contains(*owner) && reachable.contains(*owner))
+    {
         write!(out, "  {}, stake {}", run.owner(owner), run.stake(owner))?;
         if let (Some(latest), Some(voters)) = (run.latest(owner), &voters) {
             let below = run.tally(voters.get(&latest).copied().unwrap_or_default().iter());

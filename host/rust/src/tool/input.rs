@@ -72,7 +72,7 @@ impl<'a> Input<'a> {
             }
         };
         let names = if byte(0) == 255 && committee.is_ok() { names(stakes_file) } else { Vec::new() };
-        let mut input = Input { committee: committee.map_err(Refusal::from), names, records: Vec::new(), broken: None };
+        let mut input = Input { committee, names, records: Vec::new(), broken: None };
         while at < bytes.len() {
             match framed(&bytes[at..]) {
                 Ok(record) => {

@@ -2,7 +2,7 @@
 
 use std::io::Write;
 
-use lomkhvide::{Engine, Outcome};
+use lomkhvide::{Engine, Listed, Outcome, Reading};
 
 use super::Fault;
 use super::input::Input;
@@ -29,7 +29,7 @@ pub fn list(input: &Input, store: usize, out: &mut dyn Write) -> Result<(), Faul
                         Outcome::Unknown => "unknown",
                     };
                     processed += (event.outcome == Outcome::Processed) as u64;
-                    writeln!(out, "{name} {k} {} {}", event.statement, event.offset)?;
+                    writeln!(out, "{name} {k} {} {}", event.statement, event.locator.offset())?;
                 }
             }
             Err(refusal) => {
@@ -43,7 +43,7 @@ pub fn list(input: &Input, store: usize, out: &mut dyn Write) -> Result<(), Faul
         writeln!(out, "refused {} 20", input.records.len() + 1)?;
     }
     let mut finals = 0;
-    for stretch in engine.finals() {
+    for stretch in engine.finals(Listed::Ordinary, Reading::Old) {
         let stretch = stretch.map_err(refused)?;
         let block = stretch.first.reference();
         let digest: String = block.digest[..4].iter().map(|byte| format!("{byte:02x}")).collect();

@@ -24,13 +24,15 @@ pub fn locate(run: &Run, given: &[String]) -> Result<Locator, Fault> {
     if digits.len() > 64 || !digits.bytes().all(|digit| digit.is_ascii_hexdigit()) {
         return bad(format!("{}: the digest '{digits}' is not of up to 64 hexadecimal digits", given.join(" ")));
     }
-    if let Ok(locator) = format!("{round}/{author}/{digits}/{offset}").parse() {
+    if digits.len() == 64
+        && let Ok(locator) = format!("{round}/{author}/{digits}/{offset}").parse()
+    {
         return Ok(locator);
     }
     let digits = digits.to_ascii_lowercase();
     let begins = |block: &Reference| {
         let hex: String = block.digest[..digits.len().div_ceil(2)].iter().map(|byte| format!("{byte:02x}")).collect();
-        (block.round, block.author) == (round, author) && hex.starts_with(&digits)
+        (block.round.0, block.author.0) == (round, author) && hex.starts_with(&digits)
     };
     let named: Vec<Reference> = run.known().into_iter().filter(begins).collect();
     let who = format!("round {round} and owner {author} whose digest begins with {digits}");

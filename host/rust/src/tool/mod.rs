@@ -14,7 +14,7 @@ mod tests;
 use std::fmt;
 use std::io::{self, Write};
 
-use lomkhvide::Owners;
+use lomkhvide::{AuthorityIndex, Owners};
 
 pub const USAGE: &str = "\
 lomkhvide: what became of the records of a file, by the engine
@@ -148,7 +148,7 @@ pub fn asked(words: &[String]) -> Result<Option<Asked>, Fault> {
 fn owners(text: &str) -> Result<Owners, Fault> {
     let numbers: Result<Vec<u64>, _> = text.split(',').map(|number| number.trim().parse()).collect();
     match numbers {
-        Ok(numbers) => Ok(numbers.into_iter().collect()),
+        Ok(numbers) => Ok(numbers.into_iter().map(AuthorityIndex).collect()),
         Err(_) => bad("--reach is followed by owner numbers, as 0,4,5"),
     }
 }

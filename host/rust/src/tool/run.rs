@@ -3,7 +3,8 @@
 use std::collections::{BTreeSet, HashMap};
 
 use lomkhvide::{
-    Aggregator, Committee, Engine, Finality, Locator, Outcome, Owners, PendingItem, Record, Reference, Refusal, Statement,
+    Aggregator, AuthorityIndex, Committee, Engine, Finality, Locator, Outcome, Owners, PendingItem, Reading, Record, Reference,
+    Refusal, Stake, Statement,
 };
 
 use super::input::Input;
@@ -70,7 +71,7 @@ impl Voice {
 #[derive(Clone, Copy, Debug, Default, PartialEq, Eq)]
 pub struct Tally {
     pub owners: Owners,
-    pub stake: u64,
+    pub stake: Stake,
     pub quorum: bool,
 }
 
@@ -124,9 +125,7 @@ impl Run {
         }
         for (block, events) in run.blocks.iter().zip(&events) {
             for event in events.iter().filter(|event| event.outcome == Outcome::Processed) {
-                if let Some(voted) = block.record.statements().nth(event.statement as usize).and_then(about) {
-                    run.processed.insert(voted.at(event.offset), block.number);
-                }
+                run.processed.insert(event.locator, block.number);
             }
         }
         Ok(run)
@@ -134,31 +133,31 @@ impl Run {
 
     /// Whether a locator is final in the reading that was asked for.
     pub fn finality(&self, locator: &Locator) -> Result<Finality, Fault> {
-        let answer = match self.withdrawing {
-            false => self.engine.finality(locator),
-            true => self.engine.finality_withdrawing(locator),
-        };
-        answer.map_err(refused)
+        self.engine.finality(locator, self.reading()).map_err(refused)
+    }
+
+    pub fn reading(&self) -> Reading {
+        if self.withdrawing { Reading::Withdrawing } else { Reading::Old }
     }
 
     pub fn committee(&self) -> &Committee {
         self.engine.committee()
     }
 
-    pub fn name(&self, owner: u64) -> Option<&str> {
-        self.names.get(owner as usize).map(String::as_str)
+    pub fn name(&self, owner: AuthorityIndex) -> Option<&str> {
+        self.names.get(owner.0 as usize).map(String::as_str)
     }
 
     /// "owner 3", or with the name "owner 3 (karst)".
-    pub fn owner(&self, owner: u64) -> String {
+    pub fn owner(&self, owner: AuthorityIndex) -> String {
         match self.name(owner) {
             Some(name) => format!("owner {owner} ({name})"),
             None => format!("owner {owner}"),
         }
     }
 
-    pub fn stake(&self, owner: u64) -> u64 {
-        self.committee().stake(owner).unwrap_or(0)
+    pub fn stake(&self, owner: AuthorityIndex) -> Stake {
+        self.committee().stake(owner).unwrap_or_default()
     }
 
     /// The index of a stored block.
@@ -178,25 +177,25 @@ impl Run {
 
     /// The voters for a locator at or below each block that has any, where an index is kept; it speaks of the old reading alone.
     pub fn voters(&self, locator: &Locator) -> Option<HashMap<usize, Owners>> {
-        self.engine.parts().index.filter(|_| !self.withdrawing)?;
-        Some(self.engine.voters(locator).into_iter().filter_map(|(at, voters)| Some((self.at_position(at)?, voters))).collect())
+        let voters = self.engine.voters(locator).filter(|_| !self.withdrawing)?;
+        Some(voters.into_iter().filter_map(|(at, voters)| Some((self.at_position(at)?, voters))).collect())
     }
 
     /// The block of an owner in the highest round, the last to arrive of several.
-    pub fn latest(&self, owner: u64) -> Option<usize> {
+    pub fn latest(&self, owner: AuthorityIndex) -> Option<usize> {
         (0..self.blocks.len())
             .filter(|i| self.blocks[*i].record.author() == owner)
             .max_by_key(|i| self.blocks[*i].record.round())
     }
 
     /// Counts owners.
-    pub fn tally(&self, owners: impl Iterator<Item = u64>) -> Tally {
+    pub fn tally(&self, owners: impl Iterator<Item = AuthorityIndex>) -> Tally {
         let mut aggregator = Aggregator::default();
         let mut quorum = false;
         for owner in owners {
             quorum = self.committee().add(&mut aggregator, owner).is_ok_and(|vote| vote.has_quorum());
         }
-        Tally { owners: Owners::from_words(aggregator.low, aggregator.high), stake: aggregator.stake, quorum }
+        Tally { owners: aggregator.voters, stake: aggregator.stake, quorum }
     }
 
     /// The blocks that share a locator, vote for it or reject it, in order of arrival.

@@ -6,7 +6,7 @@ use std::fs;
 use std::path::{Path, PathBuf};
 use std::process::Command;
 
-use lomkhvide::Record;
+use lomkhvide::{AuthorityIndex, Record, RecordBuilder, RoundNumber};
 
 /// Numbers that look like chance and are the same in every run.
 pub struct Chance(pub u64);
@@ -16,6 +16,11 @@ impl Chance {
         self.0 = self.0.wrapping_mul(6_364_136_223_846_793_005).wrapping_add(1_442_695_040_888_963_407);
         (self.0 >> 33) % end
     }
+}
+
+/// Begins a record, by bare numbers.
+pub fn builder(round: u64, author: u64, digest: [u8; 32]) -> RecordBuilder {
+    Record::builder(RoundNumber(round), AuthorityIndex(author), digest)
 }
 
 /// The records of a graph: each owner makes a block in each round, with all blocks of the round before, a share, and accepts of the
@@ -28,7 +33,7 @@ pub fn graph(owners: u64, rounds: u64) -> Vec<Record> {
         for author in 0..owners {
             let mut digest = [0; 32];
             digest[..4].copy_from_slice(&(1 + records.len() as u32).to_be_bytes());
-            let mut builder = Record::builder(author, round, digest);
+            let mut builder = Record::builder(RoundNumber(round), AuthorityIndex(author), digest);
             for block in &before {
                 builder = builder.include(*block);
             }
@@ -36,7 +41,7 @@ pub fn graph(owners: u64, rounds: u64) -> Vec<Record> {
                 builder = builder.share(&[1, 2, 3]);
             }
             if round > 1 {
-                for block in before.iter().filter(|block| block.author != author) {
+                for block in before.iter().filter(|block| block.author.0 != author) {
                     builder = builder.accept(block.at(0));
                 }
             }
@@ -103,7 +108,7 @@ pub fn chain(blocks: u64) -> Vec<Record> {
         let (author, round) = (i % 2, i / 2);
         let mut digest = [5; 32];
         digest[..8].copy_from_slice(&i.to_le_bytes());
-        let mut builder = Record::builder(author, round, digest);
+        let mut builder = builder(round, author, digest);
         if round > 0 {
             for before in &records[2 * round as usize - 2..2 * round as usize] {
                 builder = builder.include(before.reference());

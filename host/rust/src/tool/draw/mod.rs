@@ -7,7 +7,7 @@ mod svg;
 use std::collections::BTreeSet;
 use std::io::Write;
 
-use lomkhvide::{Locator, Owners};
+use lomkhvide::{Listed, Locator, Owners, Reading};
 
 use super::Fault;
 use super::account::{Account, blocks_certify};
@@ -92,7 +92,7 @@ fn choices(run: &Run) -> Result<(Vec<Locator>, usize), Fault> {
     }
     let mut left_out = all.len().saturating_sub(MOST_CHOICES);
     all = all.into_iter().take(MOST_CHOICES).collect();
-    for stretch in run.engine.finals_wide() {
+    for stretch in run.engine.finals(Listed::Wide, Reading::Old) {
         let stretch = stretch.map_err(refused)?;
         let (block, mut offsets) = (stretch.first.reference(), stretch.first.offset()..stretch.end);
         while all.len() < MOST_CHOICES {

@@ -129,7 +129,7 @@ fn json(text: &str) -> String {
 }
 
 fn list(owners: Owners) -> String {
-    format!("{:?}", owners.iter().collect::<Vec<_>>())
+    format!("{:?}", owners.iter().map(|owner| owner.0).collect::<Vec<_>>())
 }
 
 /// Indexes as spans, first and last: the blocks that certify mostly follow each other.

@@ -1,5 +1,7 @@
 //! Where everything stands in a drawing.
 
+use lomkhvide::{AuthorityIndex, RoundNumber};
+
 use super::super::run::Run;
 
 /// The most blocks of a drawing for a slide; more are drawn smaller.
@@ -19,7 +21,7 @@ pub struct Scene {
     pub box_width: usize,
     pub box_height: usize,
     pub column: usize,
-    pub rounds: Vec<u64>,
+    pub rounds: Vec<RoundNumber>,
     pub lanes: Vec<Lane>,
     /// The upper left corner of each block.
     pub corners: Vec<(usize, usize)>,
@@ -28,14 +30,14 @@ pub struct Scene {
 }
 
 pub struct Lane {
-    pub owner: u64,
+    pub owner: AuthorityIndex,
     pub top: usize,
     pub height: usize,
 }
 
 impl Scene {
     pub fn new(run: &Run) -> Scene {
-        let mut rounds: Vec<u64> = run.blocks.iter().map(|block| block.record.round()).collect();
+        let mut rounds: Vec<RoundNumber> = run.blocks.iter().map(|block| block.record.round()).collect();
         rounds.sort_unstable();
         rounds.dedup();
         let small = run.blocks.len() > MOST_FOR_A_SLIDE;
@@ -46,7 +48,7 @@ impl Scene {
         let mut stacks = vec![vec![0; rounds.len()]; run.committee().members()];
         let mut places = Vec::new();
         for block in &run.blocks {
-            let owner = block.record.author() as usize;
+            let owner = block.record.author().0 as usize;
             let column = rounds.partition_point(|round| *round < block.record.round());
             places.push((owner, column, stacks[owner][column]));
             stacks[owner][column] += 1;
@@ -57,7 +59,7 @@ impl Scene {
         let corner = |(owner, at, place): (usize, usize, usize)| {
             // A lower stack stands in the middle of its lane.
             let stack = stacks[owner][at] * (box_height + gap) - gap;
-            let lane = lanes.iter().find(|lane| lane.owner == owner as u64);
+            let lane = lanes.iter().find(|lane| lane.owner.0 == owner as u64);
             let top = lane.map_or(AXIS, |lane| lane.top + (lane.height - stack) / 2);
             (at * column + (column - box_width) / 2, top + place * (box_height + gap))
         };
@@ -82,7 +84,7 @@ impl Scene {
 fn lanes(stacks: &[Vec<usize>], step: usize, margin: usize) -> (Vec<Lane>, usize) {
     let mut lanes = Vec::new();
     let mut top = AXIS;
-    for (owner, stack) in (0..).zip(stacks) {
+    for (owner, stack) in (0..).map(AuthorityIndex).zip(stacks) {
         let most = stack.iter().copied().max().unwrap_or(0);
         if most > 0 || stacks.len() <= MOST_LANES {
             let height = most.max(1) * step + margin;

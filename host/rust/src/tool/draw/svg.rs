@@ -2,7 +2,7 @@
 
 use std::fmt::Write;
 
-use lomkhvide::{Owners, Statement};
+use lomkhvide::{AuthorityIndex, Owners, Stake, Statement};
 
 use super::super::run::{Block, Run, Voice, Vote};
 use super::scene::{AXIS, LABELS, Scene};
@@ -246,7 +246,8 @@ pub fn bars_of(run: &Run, view: Option<&View>) -> String {
 /// The parts of a bar, those of the bar's owners in front.
 fn parts(run: &Run, id: &str, y: usize, bar: &Bar) -> String {
     let widths = widths(run);
-    let (front, rest): (Vec<usize>, Vec<usize>) = (0..widths.len()).partition(|owner| bar.owners.contains(*owner as u64));
+    let (front, rest): (Vec<usize>, Vec<usize>) =
+        (0..widths.len()).partition(|owner| bar.owners.contains(AuthorityIndex(*owner as u64)));
     let mut starts = vec![0; widths.len()];
     let mut start = 100 * LABELS;
     for owner in front.into_iter().chain(rest) {
@@ -255,7 +256,7 @@ fn parts(run: &Run, id: &str, y: usize, bar: &Bar) -> String {
     }
     let mut out = String::new();
     for (owner, (start, width)) in starts.iter().zip(&widths).enumerate() {
-        let on = if bar.owners.contains(owner as u64) { " on" } else { "" };
+        let on = if bar.owners.contains(AuthorityIndex(owner as u64)) { " on" } else { "" };
         let name = if *width >= ROOM_FOR_NAME { owner.to_string() } else { String::new() };
         let _ = writeln!(
             out,
@@ -272,20 +273,18 @@ fn parts(run: &Run, id: &str, y: usize, bar: &Bar) -> String {
 /// The width of each owner's part of a bar, in hundredths.
 pub fn widths(run: &Run) -> Vec<usize> {
     let total = run.committee().total_stake();
-    let mut before = 0;
-    let members = 0..run.committee().members() as u64;
-    members
-        .map(|owner| {
-            let start = along(total, before);
-            before += run.stake(owner);
-            along(total, before) - start
-        })
-        .collect()
+    let mut before = Stake(0);
+    let widths = run.committee().authorities().map(|owner| {
+        let start = along(total, before);
+        before = before + run.stake(owner);
+        along(total, before) - start
+    });
+    widths.collect()
 }
 
 /// How far along a bar an amount of stake reaches, in hundredths.
-fn along(total: u64, amount: u64) -> usize {
-    (amount as u128 * 100 * BAR_WIDTH as u128 / total as u128) as usize
+fn along(total: Stake, amount: Stake) -> usize {
+    (amount.0 as u128 * 100 * BAR_WIDTH as u128 / total.0 as u128) as usize
 }
 
 fn hundredths(number: usize) -> String {
