@@ -93,7 +93,7 @@ pub fn stakes_file(stakes: &[u64]) -> Vec<u8> {
         let next = if i + 1 < stakes.len() { i as u16 + 2 } else { 0 };
         file.extend(next.to_le_bytes());
         let mut name = [0; 16];
-        name[..7].copy_from_slice(format!("owner{i:02}").as_bytes());
+        name[..8].copy_from_slice(format!("owner{i:03}").as_bytes());
         file.extend(name);
         file.extend(stake.to_le_bytes());
     }
