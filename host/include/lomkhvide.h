@@ -1,8 +1,14 @@
-/* The engine's calls for a host in C.
+/* The engine's calls for a host in C or C++. host/examples/host.c is a small one:
+ *
+ *     host/archive
+ *     cc -std=c11 -Ihost/include host/examples/host.c target/staticlib/libhost.a -o target/host/example
+ *     c++ -std=c++11 -Ihost/include -x c++ host/examples/host.c -x none target/staticlib/libhost.a -o target/host/example
  *
  * A slice is lent as a pointer and a length in bytes; one of words (uint64_t, aligned) as a pointer and the number of words. A pointer may
- * be anything but null, also where the length is 0. No two slices of one call may overlap where one of them is not const. Nothing is kept
- * after a call returns.
+ * be anything but null, also where the length is 0. No two slices of one call may overlap where one of them is not const.
+ *
+ * Nothing is kept between calls: a call works on what it is lent and on its stack, and the archive has no memory of its own. So calls may be
+ * made from several threads at once; a slice that a call writes must not be lent to another one meanwhile, and slices that are only read may be.
  *
  * Words and stakes are 8 bytes each, lowest byte first.
  *
@@ -13,6 +19,54 @@
 
 #include <stddef.h>
 #include <stdint.h>
+
+#ifdef __cplusplus
+extern "C" {
+#endif
+
+/* The version of these calls. It is raised where bytes or numbers of a call change that was there before, not where a call is added; a host
+ * that was written for one version says #if LOMKHVIDE_CALLS != 1, #error. */
+#define LOMKHVIDE_CALLS 1
+
+/* The most stack that each call needs, in KB of 1,024 bytes: LOMKHVIDE_STACKS(X) is X(name without lomkhvide_, KB) for each, and
+ * LOMKHVIDE_STACK is enough for every call, in bytes. A thread that calls needs as much beside what it uses itself. */
+#define LOMKHVIDE_STACK ((size_t)524288)
+#define LOMKHVIDE_STACKS(X) \
+    X(new_committee, 2) \
+    X(load_stakes, 32) \
+    X(is_quorum, 1) \
+    X(is_valid, 1) \
+    X(add, 2) \
+    X(feed, 256) \
+    X(feed_indexed, 256) \
+    X(pending_stake, 96) \
+    X(pending_voters, 96) \
+    X(whom_to_ring, 96) \
+    X(finality, 96) \
+    X(finality_withdrawing, 96) \
+    X(next_final, 96) \
+    X(next_wide, 96) \
+    X(next_final_withdrawing, 96) \
+    X(next_wide_withdrawing, 96) \
+    X(final_stretches, 480) \
+    X(wide_stretches, 480) \
+    X(final_stretches_withdrawing, 480) \
+    X(wide_stretches_withdrawing, 480) \
+    X(final_stretches_indexed, 128) \
+    X(wide_stretches_indexed, 128) \
+    X(answer_sorted, 48) \
+    X(payload_length, 32) \
+    X(payload_start, 32) \
+    X(is_loadable, 96) \
+    X(loadable, 496) \
+    X(write_slip, 480) \
+    X(write_slip_withdrawing, 480) \
+    X(read_slip, 32) \
+    X(write_record, 2) \
+    X(write_timed_record, 2) \
+    X(creation_time, 24) \
+    X(is_open, 2) \
+    X(next_open, 2)
 
 /* Whether a call's word is a refusal, and its number. */
 #define LOMKHVIDE_IS_REFUSED(word) ((uint64_t)(word) >> 63 != 0)
@@ -112,8 +166,7 @@ uint64_t lomkhvide_finality(const uint8_t *stakes, size_t stakes_len, const uint
                             size_t positions_len, const uint8_t *locator, size_t locator_len);
 
 /* The same in the reading in which an owner may withdraw: in the ancestry of a block, a reject by an owner for a locator (its first)
- * cancels that owner's share, accepts and ranges for it, for that block. With no rejects in the store both readings answer the same.
- * Both need at most 96 KB of stack. */
+ * cancels that owner's share, accepts and ranges for it, for that block. With no rejects in the store both readings answer the same. */
 uint64_t lomkhvide_finality_withdrawing(const uint8_t *stakes, size_t stakes_len, const uint8_t *store, size_t store_len,
                                         uint8_t *positions, size_t positions_len, const uint8_t *locator, size_t locator_len);
 
@@ -126,11 +179,11 @@ uint64_t lomkhvide_finality_withdrawing(const uint8_t *stakes, size_t stakes_len
 uint64_t lomkhvide_next_final(const uint8_t *stakes, size_t stakes_len, const uint8_t *store, size_t store_len, const uint8_t *after,
                               size_t after_len, uint8_t *found, size_t found_len);
 
-/* The same of the wide list. Both need at most 96 KB of stack. */
+/* The same of the wide list. */
 uint64_t lomkhvide_next_wide(const uint8_t *stakes, size_t stakes_len, const uint8_t *store, size_t store_len, const uint8_t *after,
                              size_t after_len, uint8_t *found, size_t found_len);
 
-/* Both in the reading in which an owner may withdraw. They need at most 96 KB of stack. */
+/* Both in the reading in which an owner may withdraw. */
 uint64_t lomkhvide_next_final_withdrawing(const uint8_t *stakes, size_t stakes_len, const uint8_t *store, size_t store_len,
                                           const uint8_t *after, size_t after_len, uint8_t *found, size_t found_len);
 uint64_t lomkhvide_next_wide_withdrawing(const uint8_t *stakes, size_t stakes_len, const uint8_t *store, size_t store_len,
@@ -146,11 +199,11 @@ uint64_t lomkhvide_next_wide_withdrawing(const uint8_t *stakes, size_t stakes_le
 uint64_t lomkhvide_final_stretches(const uint8_t *stakes, size_t stakes_len, const uint8_t *store, size_t store_len, const uint8_t *after,
                                    size_t after_len, uint8_t *stretches, size_t stretches_len);
 
-/* The same of the wide list. Both need at most 480 KB of stack. */
+/* The same of the wide list. */
 uint64_t lomkhvide_wide_stretches(const uint8_t *stakes, size_t stakes_len, const uint8_t *store, size_t store_len, const uint8_t *after,
                                   size_t after_len, uint8_t *stretches, size_t stretches_len);
 
-/* Both in the reading in which an owner may withdraw: a stretch ends before a withdrawn locator too. They need at most 480 KB of stack. */
+/* Both in the reading in which an owner may withdraw: a stretch ends before a withdrawn locator too. */
 uint64_t lomkhvide_final_stretches_withdrawing(const uint8_t *stakes, size_t stakes_len, const uint8_t *store, size_t store_len,
                                                const uint8_t *after, size_t after_len, uint8_t *stretches, size_t stretches_len);
 uint64_t lomkhvide_wide_stretches_withdrawing(const uint8_t *stakes, size_t stakes_len, const uint8_t *store, size_t store_len,
@@ -158,7 +211,7 @@ uint64_t lomkhvide_wide_stretches_withdrawing(const uint8_t *stakes, size_t stak
 
 /* Both lists with the index, which goes from feed to feed with the store: in words, 8-byte aligned, as many as there are. Certifying blocks and
  * voters come from it; what is answered and written is as without it.
- * Refused between 10 and 20: 54 an index that disagrees with the store. Both need at most 128 KB of stack. */
+ * Refused between 10 and 20: 54 an index that disagrees with the store. */
 uint64_t lomkhvide_final_stretches_indexed(const uint8_t *stakes, size_t stakes_len, const uint8_t *store, size_t store_len,
                                            const uint64_t *index, size_t index_len, const uint8_t *after, size_t after_len,
                                            uint8_t *stretches, size_t stretches_len);
@@ -179,8 +232,7 @@ uint64_t lomkhvide_pending_voters(const uint8_t *stakes, size_t stakes_len, cons
  * that the committee does not know are ignored. Of the sets of them, without those who have voted, whose votes with those counted hold
  * quorum it is one of the fewest, of these one of the largest stake, of these the one whose members in ascending order come first: 0 and
  * three words of zero where the votes counted hold quorum already.
- * Refused between 20 and 42: 40 `found` not of 24 bytes. Refused last: 60 all of them with the voters miss quorum.
- * It needs at most 96 KB of stack. */
+ * Refused between 20 and 42: 40 `found` not of 24 bytes. Refused last: 60 all of them with the voters miss quorum. */
 #define LOMKHVIDE_RING_LEN ((size_t)24)
 uint64_t lomkhvide_whom_to_ring(const uint8_t *stakes, size_t stakes_len, const uint8_t *store, size_t store_len, const uint8_t *table,
                                 size_t table_len, uint64_t reachable_low, uint64_t reachable_high, const uint8_t *locator,
@@ -199,8 +251,7 @@ uint64_t lomkhvide_feed(const uint8_t *stakes, size_t stakes_len, uint8_t *store
  * of arrival a run count and its runs, ascending, ten words each: author, round, the digest in four words (each eight of its bytes, the first
  * one lowest), first offset, end offset (excluded), the voters' bits, 0 to 63 and 64 to 127. Each run is the longest stretch of locators with
  * the same voters in the block's ancestry. The new block's part is appended, and nothing else of the index changes but its first word.
- * Refused between 11 and 20: 54 no words, or used words that are not those of the store. Refused last: 55 too few words for the new part.
- * It needs at most 256 KB of stack. */
+ * Refused between 11 and 20: 54 no words, or used words that are not those of the store. Refused last: 55 too few words for the new part. */
 uint64_t lomkhvide_feed_indexed(const uint8_t *stakes, size_t stakes_len, uint8_t *store, size_t store_len, uint8_t *table,
                                 size_t table_len, uint64_t *index, size_t index_len, uint8_t *events, size_t events_len,
                                 const uint8_t *record, size_t record_len);
@@ -218,8 +269,7 @@ uint64_t lomkhvide_payload_start(const uint8_t *stakes, size_t stakes_len, const
  * and the bytes after them keep their content. The file is an index of 2 bytes and records of 26: the index of the next one 2, a name 16
  * (zero padded, not empty), a stake 8. Indexes start at 1, the leading one names the first record, and 0 ends the chain.
  * Refused, in this order: 56 over 65,536 bytes, bytes that end inside the index or a record, an index that is not in the file or comes a
- * second time; 57 a bad or repeated name on the chain; 1 to 4 as of a committee; 40 `stakes` not of 128 words.
- * It needs at most 32 KB of stack. */
+ * second time; 57 a bad or repeated name on the chain; 1 to 4 as of a committee; 40 `stakes` not of 128 words. */
 #define LOMKHVIDE_STAKES_LEN ((size_t)1024)
 uint64_t lomkhvide_load_stakes(const uint8_t *file, size_t file_len, uint8_t *stakes, size_t stakes_len);
 
@@ -230,8 +280,7 @@ uint64_t lomkhvide_load_stakes(const uint8_t *file, size_t file_len, uint8_t *st
  * A time is the number of seconds since 1 January 1970, 0:00; its weekday is the one that this count has, without leap seconds.
  *
  * Both calls are refused with 59: bytes that are not whole words, an odd number of words, more than 64 windows, a window whose start is
- * not below its end, that ends past 604,800 or that starts before the end of the one before it.
- * Both need at most 2 KB of stack. */
+ * not below its end, that ends past 604,800 or that starts before the end of the one before it. */
 
 /* Whether loading is open at a time: 1 or 0. */
 uint64_t lomkhvide_is_open(const uint8_t *calendar, size_t calendar_len, uint64_t time);
@@ -247,24 +296,21 @@ uint64_t lomkhvide_next_open(const uint8_t *calendar, size_t calendar_len, uint6
  * bytes, as in a record. The statements stand one after the other, each as in a record, but a share's length has 4 bytes. Accepts that
  * follow each other for one block, each offset one above the last, become a range as far as its end stays below 1,048,576.
  * Refused: 51 a digest not of 32 bytes, a mark other than 0 or 1, includes or statements of another form, over 256 includes, a payload over
- * 65,535 bytes, over 1,024 statements after joining; then 50 a slice shorter than the record.
- * It needs at most 2 KB of stack. */
+ * 65,535 bytes, over 1,024 statements after joining; then 50 a slice shorter than the record. */
 uint64_t lomkhvide_write_record(uint64_t author, uint64_t round, const uint8_t *digest, size_t digest_len, uint64_t mark,
                                 const uint8_t *includes, size_t includes_len, const uint8_t *statements, size_t statements_len,
                                 uint8_t *out, size_t out_len);
 
 /* The same of the record's second edition, with the time of the block's creation in nanoseconds. A record's edition is its byte 53: 0, or 2
  * and then 16 bytes of time, lowest first, between the 56 of the header and the includes; feeding refuses any other, and a time above
- * 2^64 - 1, as malformed (20).
- * It needs at most 2 KB of stack. */
+ * 2^64 - 1, as malformed (20). */
 uint64_t lomkhvide_write_timed_record(uint64_t author, uint64_t round, const uint8_t *digest, size_t digest_len, uint64_t mark,
                                       uint64_t time, const uint8_t *includes, size_t includes_len, const uint8_t *statements,
                                       size_t statements_len, uint8_t *out, size_t out_len);
 
 /* The time of a stored block, by its reference, the 48 bytes that it has in a record: 1, and it is written to `found` as a word; or 0 where
  * its record has none, or no such block is stored.
- * Refused, in this order: 5; 10; 20 a reference not of 48 bytes; 40 `found` not of 8 bytes.
- * It needs at most 24 KB of stack. */
+ * Refused, in this order: 5; 10; 20 a reference not of 48 bytes; 40 `found` not of 8 bytes. */
 #define LOMKHVIDE_REFERENCE_LEN ((size_t)48)
 uint64_t lomkhvide_creation_time(const uint8_t *stakes, size_t stakes_len, const uint8_t *store, size_t store_len,
                                  const uint8_t *reference, size_t reference_len, uint8_t *found, size_t found_len);
@@ -284,20 +330,18 @@ uint64_t lomkhvide_creation_time(const uint8_t *stakes, size_t stakes_len, const
  * taken as given.
  * Refused, in this order: 5 stakes that are no committee or not whole words; 61 another first byte, or none; 52 a slip or records of another form, over 1,024 records, two
  * of one reference, or one that 20 to 22 or 24 to 29 refuse; 53 a record that it names, also by path, is missing, or for a
- * slip of the new reading one of the ancestry; 52 it does not hold.
- * It needs at most 32 KB of stack. */
+ * slip of the new reading one of the ancestry; 52 it does not hold. */
 uint64_t lomkhvide_read_slip(const uint8_t *stakes, size_t stakes_len, const uint8_t *slip, size_t slip_len, const uint8_t *records,
                              size_t records_len);
 
 /* Writes the finality slip of a final locator to the front of `out`: its length; the bytes after it keep their content. It names all
  * certifying blocks in ascending order of reference, and of each all voters in ascending order, each by the shortest path and among these
  * the first.
- * Refused, in this order: 5; 10; 20 a locator not of 56 bytes; 52 a locator that is not final; 50 a slice shorter than the slip.
- * It needs at most 480 KB of stack. */
+ * Refused, in this order: 5; 10; 20 a locator not of 56 bytes; 52 a locator that is not final; 50 a slice shorter than the slip. */
 uint64_t lomkhvide_write_slip(const uint8_t *stakes, size_t stakes_len, const uint8_t *store, size_t store_len, const uint8_t *locator,
                               size_t locator_len, uint8_t *out, size_t out_len);
 
-/* The same in the reading in which an owner may withdraw, with the same slices, refusals and stack: 52 for a locator that is not final there. Its
+/* The same in the reading in which an owner may withdraw, with the same slices and refusals: 52 for a locator that is not final there. Its
  * reader takes it with the records of every block in the listed blocks' ancestry. */
 uint64_t lomkhvide_write_slip_withdrawing(const uint8_t *stakes, size_t stakes_len, const uint8_t *store, size_t store_len,
                                           const uint8_t *locator, size_t locator_len, uint8_t *out, size_t out_len);
@@ -309,16 +353,14 @@ uint64_t lomkhvide_write_slip_withdrawing(const uint8_t *stakes, size_t stakes_l
  * that is itself loadable. */
 
 /* Whether a locator names a loadable stored share: 1 or 0.
- * Refused, in this order: 5; 10; 20 a locator not of 56 bytes.
- * It needs at most 96 KB of stack. */
+ * Refused, in this order: 5; 10; 20 a locator not of 56 bytes. */
 uint64_t lomkhvide_is_loadable(const uint8_t *stakes, size_t stakes_len, const uint8_t *store, size_t store_len, const uint8_t *locator,
                                size_t locator_len);
 
 /* All loadable stored shares in ascending order of locator: their number. They are written to the front of `places`, two words each: where
  * in the store the entry of the block begins, and the offset; a change stands after the one that it needs. The words after them keep their
  * content. The places cross as words of 64 bits, aligned as such, and `places_len` is the number of words; an odd last one is no place.
- * Refused, in this order: 5; 10; 58 fewer places than stored shares.
- * It needs at most 496 KB of stack. */
+ * Refused, in this order: 5; 10; 58 fewer places than stored shares. */
 uint64_t lomkhvide_loadable(const uint8_t *stakes, size_t stakes_len, const uint8_t *store, size_t store_len, uint64_t *places,
                             size_t places_len);
 
@@ -327,9 +369,12 @@ uint64_t lomkhvide_loadable(const uint8_t *stakes, size_t stakes_len, const uint
  * author i the bit i of the low word, or i - 64 of the high one. The words after them keep their content. `index` is the index that was kept
  * beside the store, whole. Index and replies are lent in words, 8-byte aligned, and their lengths are numbers of words.
  * Refused, in this order: 5; 10; 54 an index that disagrees with the store; 62 a list out of order, or whose bytes are not whole locators;
- * 63 fewer words for replies than three each.
- * It needs at most 48 KB of stack. */
+ * 63 fewer words for replies than three each. */
 uint64_t lomkhvide_answer_sorted(const uint8_t *stakes, size_t stakes_len, const uint8_t *store, size_t store_len, const uint64_t *index,
                                  size_t index_len, const uint8_t *locators, size_t locators_len, uint64_t *replies, size_t replies_len);
+
+#ifdef __cplusplus
+}
+#endif
 
 #endif

@@ -18,9 +18,7 @@ fn main() {
     if !archive.is_file() {
         let from = if given.is_some() { "LOMKHVIDE_LIB names that folder" } else { "LOMKHVIDE_LIB is not set" };
         println!("cargo::error=the engine's archive is missing: {} ({from})", archive.display());
-        println!(
-            "cargo::error=run 'rt staticlib host' in the repository, or set LOMKHVIDE_LIB to the folder that holds libhost.a"
-        );
+        println!("cargo::error=run host/archive in the repository, or set LOMKHVIDE_LIB to the folder that holds libhost.a");
         exit(1);
     }
     println!("cargo::rustc-link-search=native={}", folder.display());

@@ -7,7 +7,7 @@ pub type Answer = Result<u64, u64>;
 
 /// Makes a function of each call that answers the bare number of a refusal.
 macro_rules! answered {
-    ($($name:ident = $symbol:ident($($lent:ident: $sort:ty),*);)*) => {
+    ($($name:ident = $symbol:ident($($lent:ident: $sort:ty),*) stack $kb:literal;)*) => {
         mod bare {
             $(pub fn $name($($lent: $sort),*) -> super::Answer {
                 lomkhvide::calls::$name($($lent),*).map_err(lomkhvide::Refusal::number)

@@ -1,5 +1,6 @@
 //! The blast calendar.
 
+use crate::calls::stack;
 use crate::memory::bytes_of;
 use crate::{Refusal, calls};
 
@@ -67,6 +68,7 @@ impl Calendar {
     }
 
     /// Whether loading is open at a time, in seconds since 1970; or 59.
+    #[doc = stack!(is_open)]
     ///
     /// ```
     /// use lomkhvide::{Calendar, Window};
@@ -79,6 +81,7 @@ impl Calendar {
     }
 
     /// The first open second at or after a time, or none; or 59.
+    #[doc = stack!(next_open)]
     ///
     /// ```
     /// use lomkhvide::{Calendar, Window};

@@ -12,83 +12,90 @@
 
 use crate::Refusal;
 
-/// Hands the list of all calls to a macro: a name, its symbol, and what it is lent. Numbers cross as they are, bytes as a pointer and their
-/// number, words (8-byte aligned) as a pointer and the number of words.
+/// Hands the list of all calls to a macro: a name, its symbol, what it is lent, and the most stack that it needs, in KB. Numbers cross as they
+/// are, bytes as a pointer and their number, words (8-byte aligned) as a pointer and the number of words.
 #[doc(hidden)]
 #[macro_export]
 macro_rules! each_call {
     ($made:ident) => {
         $made! {
-            new_committee = lomkhvide_new_committee(stakes: &[u8]);
-            load_stakes = lomkhvide_load_stakes(file: &[u8], stakes: &mut [u8]);
-            is_quorum = lomkhvide_is_quorum(total: u64, amount: u64);
-            is_valid = lomkhvide_is_valid(total: u64, amount: u64);
-            add = lomkhvide_add(stakes: &[u8], aggregator: &mut [u8], voter: u64);
+            new_committee = lomkhvide_new_committee(stakes: &[u8]) stack 2;
+            load_stakes = lomkhvide_load_stakes(file: &[u8], stakes: &mut [u8]) stack 32;
+            is_quorum = lomkhvide_is_quorum(total: u64, amount: u64) stack 1;
+            is_valid = lomkhvide_is_valid(total: u64, amount: u64) stack 1;
+            add = lomkhvide_add(stakes: &[u8], aggregator: &mut [u8], voter: u64) stack 2;
 
-            feed = lomkhvide_feed(stakes: &[u8], store: &mut [u8], table: &mut [u8], events: &mut [u8], record: &[u8]);
+            feed = lomkhvide_feed(stakes: &[u8], store: &mut [u8], table: &mut [u8], events: &mut [u8], record: &[u8]) stack 256;
             feed_indexed = lomkhvide_feed_indexed(
                 stakes: &[u8], store: &mut [u8], table: &mut [u8], index: &mut [u64], events: &mut [u8], record: &[u8]
-            );
-            pending_stake = lomkhvide_pending_stake(stakes: &[u8], store: &[u8], table: &[u8], locator: &[u8]);
-            pending_voters = lomkhvide_pending_voters(stakes: &[u8], store: &[u8], table: &[u8], locator: &[u8]);
+            ) stack 256;
+            pending_stake = lomkhvide_pending_stake(stakes: &[u8], store: &[u8], table: &[u8], locator: &[u8]) stack 96;
+            pending_voters = lomkhvide_pending_voters(stakes: &[u8], store: &[u8], table: &[u8], locator: &[u8]) stack 96;
             whom_to_ring = lomkhvide_whom_to_ring(
                 stakes: &[u8], store: &[u8], table: &[u8], reachable_low: u64, reachable_high: u64, locator: &[u8], found: &mut [u8]
-            );
+            ) stack 96;
 
-            finality = lomkhvide_finality(stakes: &[u8], store: &[u8], positions: &mut [u8], locator: &[u8]);
+            finality = lomkhvide_finality(stakes: &[u8], store: &[u8], positions: &mut [u8], locator: &[u8]) stack 96;
             finality_withdrawing = lomkhvide_finality_withdrawing(
                 stakes: &[u8], store: &[u8], positions: &mut [u8], locator: &[u8]
-            );
-            next_final = lomkhvide_next_final(stakes: &[u8], store: &[u8], after: &[u8], found: &mut [u8]);
-            next_wide = lomkhvide_next_wide(stakes: &[u8], store: &[u8], after: &[u8], found: &mut [u8]);
+            ) stack 96;
+            next_final = lomkhvide_next_final(stakes: &[u8], store: &[u8], after: &[u8], found: &mut [u8]) stack 96;
+            next_wide = lomkhvide_next_wide(stakes: &[u8], store: &[u8], after: &[u8], found: &mut [u8]) stack 96;
             next_final_withdrawing = lomkhvide_next_final_withdrawing(
                 stakes: &[u8], store: &[u8], after: &[u8], found: &mut [u8]
-            );
+            ) stack 96;
             next_wide_withdrawing = lomkhvide_next_wide_withdrawing(
                 stakes: &[u8], store: &[u8], after: &[u8], found: &mut [u8]
-            );
-            final_stretches = lomkhvide_final_stretches(stakes: &[u8], store: &[u8], after: &[u8], stretches: &mut [u8]);
-            wide_stretches = lomkhvide_wide_stretches(stakes: &[u8], store: &[u8], after: &[u8], stretches: &mut [u8]);
+            ) stack 96;
+            final_stretches = lomkhvide_final_stretches(stakes: &[u8], store: &[u8], after: &[u8], stretches: &mut [u8]) stack 480;
+            wide_stretches = lomkhvide_wide_stretches(stakes: &[u8], store: &[u8], after: &[u8], stretches: &mut [u8]) stack 480;
             final_stretches_withdrawing = lomkhvide_final_stretches_withdrawing(
                 stakes: &[u8], store: &[u8], after: &[u8], stretches: &mut [u8]
-            );
+            ) stack 480;
             wide_stretches_withdrawing = lomkhvide_wide_stretches_withdrawing(
                 stakes: &[u8], store: &[u8], after: &[u8], stretches: &mut [u8]
-            );
+            ) stack 480;
             final_stretches_indexed = lomkhvide_final_stretches_indexed(
                 stakes: &[u8], store: &[u8], index: &[u64], after: &[u8], stretches: &mut [u8]
-            );
+            ) stack 128;
             wide_stretches_indexed = lomkhvide_wide_stretches_indexed(
                 stakes: &[u8], store: &[u8], index: &[u64], after: &[u8], stretches: &mut [u8]
-            );
+            ) stack 128;
             answer_sorted = lomkhvide_answer_sorted(
                 stakes: &[u8], store: &[u8], index: &[u64], locators: &[u8], replies: &mut [u64]
-            );
+            ) stack 48;
 
-            payload_length = lomkhvide_payload_length(stakes: &[u8], store: &[u8], locator: &[u8]);
-            payload_start = lomkhvide_payload_start(stakes: &[u8], store: &[u8], locator: &[u8]);
-            is_loadable = lomkhvide_is_loadable(stakes: &[u8], store: &[u8], locator: &[u8]);
-            loadable = lomkhvide_loadable(stakes: &[u8], store: &[u8], places: &mut [u64]);
+            payload_length = lomkhvide_payload_length(stakes: &[u8], store: &[u8], locator: &[u8]) stack 32;
+            payload_start = lomkhvide_payload_start(stakes: &[u8], store: &[u8], locator: &[u8]) stack 32;
+            is_loadable = lomkhvide_is_loadable(stakes: &[u8], store: &[u8], locator: &[u8]) stack 96;
+            loadable = lomkhvide_loadable(stakes: &[u8], store: &[u8], places: &mut [u64]) stack 496;
 
-            write_slip = lomkhvide_write_slip(stakes: &[u8], store: &[u8], locator: &[u8], out: &mut [u8]);
+            write_slip = lomkhvide_write_slip(stakes: &[u8], store: &[u8], locator: &[u8], out: &mut [u8]) stack 480;
             write_slip_withdrawing = lomkhvide_write_slip_withdrawing(
                 stakes: &[u8], store: &[u8], locator: &[u8], out: &mut [u8]
-            );
-            read_slip = lomkhvide_read_slip(stakes: &[u8], slip: &[u8], records: &[u8]);
+            ) stack 480;
+            read_slip = lomkhvide_read_slip(stakes: &[u8], slip: &[u8], records: &[u8]) stack 32;
 
             write_record = lomkhvide_write_record(
                 author: u64, round: u64, digest: &[u8], mark: u64, includes: &[u8], statements: &[u8], out: &mut [u8]
-            );
+            ) stack 2;
             write_timed_record = lomkhvide_write_timed_record(
                 author: u64, round: u64, digest: &[u8], mark: u64, time: u64, includes: &[u8], statements: &[u8], out: &mut [u8]
-            );
-            creation_time = lomkhvide_creation_time(stakes: &[u8], store: &[u8], reference: &[u8], found: &mut [u8]);
+            ) stack 2;
+            creation_time = lomkhvide_creation_time(stakes: &[u8], store: &[u8], reference: &[u8], found: &mut [u8]) stack 24;
 
-            is_open = lomkhvide_is_open(calendar: &[u8], time: u64);
-            next_open = lomkhvide_next_open(calendar: &[u8], time: u64, found: &mut [u8]);
+            is_open = lomkhvide_is_open(calendar: &[u8], time: u64) stack 2;
+            next_open = lomkhvide_next_open(calendar: &[u8], time: u64, found: &mut [u8]) stack 2;
         }
     };
 }
+
+/// The version of the calls that this crate is written for: `LOMKHVIDE_CALLS` of `lomkhvide.h`. It is raised where bytes or numbers of a call
+/// change that was there before.
+pub const VERSION: u64 = 1;
+
+/// Enough stack for every call, in bytes: `LOMKHVIDE_STACK` of `lomkhvide.h`.
+pub const STACK: usize = 524_288;
 
 /// Below 2^63 a word is the answer, and 2^63 + n is refusal n.
 fn answer(word: u64) -> Result<u64, Refusal> {
@@ -102,11 +109,19 @@ unsafe extern "C" {}
 /// Declares each call and makes a safe function of it: what it is lent is taken one by one, and with it grow the parameters of the
 /// declaration and the values that cross.
 macro_rules! declared {
-    ($($name:ident = $symbol:ident($($lent:tt)*);)*) => {
-        $(declared! { $name $symbol [$($lent)*] [] [] $($lent)*, })*
+    ($($name:ident = $symbol:ident($($lent:tt)*) stack $kb:literal;)*) => {
+        /// The most stack that each call needs, in bytes, as the table of `lomkhvide.h` has it.
+        pub const STACKS: &[(&str, usize)] = &[$((stringify!($name), 1024 * $kb)),*];
+
+        /// A sentence about the stack of a call, for the documentation of what makes it.
+        macro_rules! stack {
+            $(($name) => { concat!("It needs at most ", $kb, " KB of stack.") };)*
+        }
+
+        $(declared! { $name $symbol $kb [$($lent)*] [] [] $($lent)*, })*
     };
-    ($name:ident $symbol:ident [$($lent:tt)*] [$($parameters:tt)*] [$($values:tt)*] $(,)?) => {
-        #[doc = concat!("`", stringify!($symbol), "`: see `lomkhvide.h`.")]
+    ($name:ident $symbol:ident $kb:literal [$($lent:tt)*] [$($parameters:tt)*] [$($values:tt)*] $(,)?) => {
+        #[doc = concat!("`", stringify!($symbol), "`: see `lomkhvide.h`. It needs at most ", $kb, " KB of stack.")]
         pub fn $name($($lent)*) -> Result<u64, Refusal> {
             unsafe extern "C" {
                 fn $symbol($($parameters)*) -> u64;
@@ -116,19 +131,68 @@ macro_rules! declared {
             answer(unsafe { $symbol($($values)*) })
         }
     };
-    ($name:ident $symbol:ident $lent:tt [$($parameters:tt)*] [$($values:tt)*] $slice:ident: &[$item:ident], $($rest:tt)*) => {
+    ($name:ident $symbol:ident $kb:literal $lent:tt [$($parameters:tt)*] [$($values:tt)*] $slice:ident: &[$item:ident], $($rest:tt)*) => {
         declared! {
-            $name $symbol $lent [$($parameters)* _: *const $item, _: usize,] [$($values)* $slice.as_ptr(), $slice.len(),] $($rest)*
+            $name $symbol $kb $lent
+            [$($parameters)* _: *const $item, _: usize,] [$($values)* $slice.as_ptr(), $slice.len(),]
+            $($rest)*
         }
     };
-    ($name:ident $symbol:ident $lent:tt [$($parameters:tt)*] [$($values:tt)*] $slice:ident: &mut [$item:ident], $($rest:tt)*) => {
+    ($name:ident $symbol:ident $kb:literal $lent:tt [$($parameters:tt)*] [$($values:tt)*] $slice:ident: &mut [$item:ident], $($rest:tt)*) => {
         declared! {
-            $name $symbol $lent [$($parameters)* _: *mut $item, _: usize,] [$($values)* $slice.as_mut_ptr(), $slice.len(),] $($rest)*
+            $name $symbol $kb $lent
+            [$($parameters)* _: *mut $item, _: usize,] [$($values)* $slice.as_mut_ptr(), $slice.len(),]
+            $($rest)*
         }
     };
-    ($name:ident $symbol:ident $lent:tt [$($parameters:tt)*] [$($values:tt)*] $number:ident: u64, $($rest:tt)*) => {
-        declared! { $name $symbol $lent [$($parameters)* _: u64,] [$($values)* $number,] $($rest)* }
+    ($name:ident $symbol:ident $kb:literal $lent:tt [$($parameters:tt)*] [$($values:tt)*] $number:ident: u64, $($rest:tt)*) => {
+        declared! { $name $symbol $kb $lent [$($parameters)* _: u64,] [$($values)* $number,] $($rest)* }
     };
 }
 
 each_call!(declared);
+
+pub(crate) use stack;
+
+#[cfg(test)]
+mod tests {
+    use super::*;
+
+    fn header() -> String {
+        std::fs::read_to_string(concat!(env!("CARGO_MANIFEST_DIR"), "/../include/lomkhvide.h")).unwrap()
+    }
+
+    /// The lines `X(NAME, KB)` of the header's table are the list above, in its order.
+    #[test]
+    fn stacks_of_the_header() {
+        let header = header();
+        let line = |line: &str| {
+            let (name, rest) = line.trim().strip_prefix("X(")?.split_once(", ")?;
+            let kb: usize = rest.split_once(')')?.0.parse().ok()?;
+            Some((name.to_string(), 1024 * kb))
+        };
+        let listed: Vec<(String, usize)> = header.lines().filter_map(line).collect();
+        let table: Vec<(String, usize)> = STACKS.iter().map(|(name, most)| (name.to_string(), *most)).collect();
+        assert_eq!(listed, table);
+        assert!(STACKS.iter().all(|(_, most)| *most <= STACK));
+    }
+
+    #[test]
+    fn constants_of_the_header() {
+        let header = header();
+        assert!(header.contains(&format!("#define LOMKHVIDE_CALLS {VERSION}\n")));
+        assert!(header.contains(&format!("#define LOMKHVIDE_STACK ((size_t){STACK})\n")));
+    }
+
+    /// Every function that the header declares is in the list, and no other.
+    #[test]
+    fn calls_of_the_header() {
+        let header = header();
+        let declared = header.split("\nuint64_t lomkhvide_").skip(1).filter_map(|rest| Some(rest.split_once('(')?.0));
+        let mut declared: Vec<&str> = declared.collect();
+        let mut listed: Vec<&str> = STACKS.iter().map(|(name, _)| *name).collect();
+        declared.sort();
+        listed.sort();
+        assert_eq!(declared, listed);
+    }
+}

@@ -2,6 +2,7 @@
 
 use std::fmt;
 
+use crate::calls::stack;
 use crate::memory::{bytes_of, word_at, words_of};
 use crate::{AuthorityIndex, Owners, Refusal, Stake, calls};
 
@@ -25,6 +26,7 @@ pub struct Committee {
 
 impl Committee {
     /// Sets a committee, or 1 to 4.
+    #[doc = stack!(new_committee)]
     ///
     /// ```
     /// use lomkhvide::{Committee, Refusal, Stake};
@@ -36,6 +38,7 @@ impl Committee {
     }
 
     /// The same of stakes as they cross, or 5 where they are not whole words.
+    #[doc = stack!(new_committee)]
     ///
     /// ```
     /// use lomkhvide::{Committee, Refusal};
@@ -48,6 +51,7 @@ impl Committee {
     }
 
     /// Loads a network's own stakes from the bytes of its file `stakes`; no bytes are the course committee. Or 56, 57, 1 to 4.
+    #[doc = stack!(load_stakes)]
     ///
     /// ```
     /// use lomkhvide::{Committee, Refusal, Stake};
@@ -139,6 +143,7 @@ impl Committee {
     }
 
     /// The least stake that is quorum: the engine is asked, by halving.
+    #[doc = stack!(is_quorum)]
     ///
     /// ```
     /// use lomkhvide::{Committee, Refusal, Stake};
@@ -160,6 +165,7 @@ impl Committee {
     }
 
     /// Puts a voter into the aggregator: what the vote did; or 6, 21, and the aggregator is as it was.
+    #[doc = stack!(add)]
     ///
     /// ```
     /// use lomkhvide::{Aggregator, AuthorityIndex, Committee, Refusal, Stake, Vote};

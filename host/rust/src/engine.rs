@@ -3,10 +3,13 @@
 mod questions;
 mod slip_records;
 
-pub use questions::{Finals, PendingItem};
+use std::panic::resume_unwind;
+use std::{io, thread};
 
+use crate::calls::stack;
 use crate::memory::word_at;
-use crate::{Committee, Event, Record, Refusal, fresh_index, fresh_store, fresh_table};
+use crate::{Committee, Event, Record, Refusal, calls, fresh_index, fresh_store, fresh_table};
+pub use questions::{Finals, PendingItem};
 
 /// The words of an item of the pending table: entry position, start, end, votes low and high, stake.
 const ITEM_WORDS: usize = 6;
@@ -14,6 +17,9 @@ const ITEM_WORDS: usize = 6;
 /// The bytes in front of a store's entries, and in front of the record in each entry.
 const STORE_HEADER: usize = 16;
 const ENTRY_HEADER: usize = 8;
+
+/// The stack of [`Engine::with_stack`] beside that of a call.
+const OWN_STACK: usize = 524_288;
 
 /// The words of a fresh index, before it grows.
 const FIRST_INDEX: usize = 1024;
@@ -23,6 +29,9 @@ const FIRST_INDEX: usize = 1024;
 ///
 /// Made by [`Engine::new`], [`Engine::with_index`] or [`Engine::open`] and changed by [`Engine::feed`] alone, its memory is in order: 5, 10, 11
 /// and 54 never come.
+///
+/// Nothing is kept outside of it, so threads may ask one engine at once. Each method says how much stack its call needs; on a small thread,
+/// [`Engine::with_stack`] runs it.
 ///
 /// ```
 /// use lomkhvide::{AuthorityIndex, Committee, Engine, Reading, Record, Refusal, RoundNumber, Stake};
@@ -97,6 +106,7 @@ impl Engine {
 
     /// An engine over parts that were kept, with room for a store of that many bytes. Refused where they are not in order under the
     /// committee: 10, 11, 54.
+    #[doc = stack!(feed_indexed)]
     ///
     /// ```
     /// use lomkhvide::{Committee, Engine, Parts, Refusal, Stake};
@@ -167,6 +177,7 @@ impl Engine {
 
     /// Feeds a record: it is stored and counted, and its events come back; the index grows where it is too short. Refused with 20 to 30 where
     /// it breaks a rule, 15, 13 or 14 where memory is short.
+    #[doc = stack!(feed_indexed)]
     ///
     /// ```
     /// use lomkhvide::{AuthorityIndex, Committee, Engine, Record, Refusal, RoundNumber, Stake};
@@ -189,6 +200,25 @@ impl Engine {
                 told => return told,
             }
         }
+    }
+
+    /// Runs something on a thread of its own that has stack enough for every call, and waits for it: for a host whose threads are small. It may
+    /// borrow; its panic is the caller's. Fails where no thread can be made.
+    ///
+    /// ```
+    /// # use lomkhvide::*;
+    /// // One owner, who has shared a change in round 1; and a thread on which a list has no room.
+    /// let Sample { engine, .. } = sample();
+    /// let small = std::thread::Builder::new().stack_size(65_536);
+    /// let list = small.spawn(move || Engine::with_stack(|| engine.finals(Listed::Ordinary, Reading::Old).count()))?;
+    /// assert_eq!(list.join().unwrap()?, 1);
+    /// # Ok::<(), std::io::Error>(())
+    /// ```
+    pub fn with_stack<T: Send>(run: impl FnOnce() -> T + Send) -> io::Result<T> {
+        thread::scope(|scope| {
+            let thread = thread::Builder::new().stack_size(calls::STACK + OWN_STACK).spawn_scoped(scope, run)?;
+            Ok(thread.join().unwrap_or_else(|panic| resume_unwind(panic)))
+        })
     }
 
     /// The stored records, in order of arrival, each with the position that the engine's answers name it by.

@@ -1,5 +1,6 @@
 //! Feeding records, over memory that the caller lends.
 
+use crate::calls::stack;
 use crate::memory::words_of;
 use crate::{Committee, Locator, Record, Refusal, Statement, calls};
 
@@ -74,6 +75,7 @@ fn voted(statement: Statement) -> Option<Locator> {
 
 impl Committee {
     /// Feeds a block record: its events; or 5, 10, 11, 20 to 30, 15, 13, 14, and store and table are as they were.
+    #[doc = stack!(feed)]
     ///
     /// ```
     /// use lomkhvide::{Committee, Refusal, Stake, fresh_store, fresh_table};
@@ -90,6 +92,7 @@ impl Committee {
     }
 
     /// The same with the index beside the store, to which the block's part is appended: 54 after 11, and 55 last; a refusal leaves the index too.
+    #[doc = stack!(feed_indexed)]
     ///
     /// ```
     /// use lomkhvide::{Committee, Refusal, Stake, fresh_index, fresh_store, fresh_table};

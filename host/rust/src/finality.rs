@@ -1,5 +1,6 @@
 //! What is final: of one locator, as lists, and of many locators at once, over memory that the caller lends.
 
+use crate::calls::stack;
 use crate::memory::words_of;
 use crate::{Committee, Locator, Owners, Refusal, Stake, calls};
 
@@ -158,6 +159,7 @@ fn bytes_after(after: Option<&Locator>) -> Vec<u8> {
 
 impl Committee {
     /// Whether a locator is final; or 5, 10.
+    #[doc = stack!(finality_withdrawing)]
     ///
     /// ```
     /// # use lomkhvide::*;
@@ -177,6 +179,7 @@ impl Committee {
     }
 
     /// The least locator of a list after a given one, or from the start; or 5, 10.
+    #[doc = stack!(next_wide_withdrawing)]
     ///
     /// ```
     /// # use lomkhvide::*;
@@ -205,6 +208,7 @@ impl Committee {
     }
 
     /// A list after a given locator, or from the start, up to 128 stretches of it; or 5, 10.
+    #[doc = stack!(wide_stretches_withdrawing)]
     ///
     /// ```
     /// # use lomkhvide::*;
@@ -235,6 +239,7 @@ impl Committee {
 
     /// The same with the index, which goes from feed to feed with the store and speaks of the old reading; or 5, 10, 54 an index that
     /// disagrees with the store.
+    #[doc = stack!(wide_stretches_indexed)]
     ///
     /// ```
     /// # use lomkhvide::*;
@@ -261,6 +266,7 @@ impl Committee {
     }
 
     /// The replies to locators in ascending order, equal ones included, with the index that was kept beside the store; or 5, 10, 54, 62.
+    #[doc = stack!(answer_sorted)]
     ///
     /// ```
     /// # use lomkhvide::*;

@@ -1,9 +1,11 @@
 //! What a station may load, and the payloads, over a store that the caller lends.
 
+use crate::calls::stack;
 use crate::{Committee, Locator, Refusal, calls};
 
 impl Committee {
     /// A stored share's payload, as the part of the store that holds it; or 5, 10, 41.
+    #[doc = stack!(payload_start)]
     ///
     /// ```
     /// # use lomkhvide::*;
@@ -20,6 +22,7 @@ impl Committee {
     }
 
     /// Whether the locator names a loadable stored share: a final one whose needed change, if any, is loadable; or 5, 10.
+    #[doc = stack!(is_loadable)]
     ///
     /// ```
     /// # use lomkhvide::*;
@@ -34,6 +37,7 @@ impl Committee {
 
     /// The number of loadable stored shares, which are written to the front of `places` in ascending order, two words each: the position of
     /// the block's entry in the store, and the offset; or 5, 10, 58 for fewer places than stored shares.
+    #[doc = stack!(loadable)]
     ///
     /// ```
     /// # use lomkhvide::*;

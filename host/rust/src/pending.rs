@@ -1,5 +1,6 @@
 //! What is pending, and whom to ring, over memory that the caller lends.
 
+use crate::calls::stack;
 use crate::memory::words_of;
 use crate::{Committee, Locator, Owners, Refusal, Stake, calls};
 
@@ -46,6 +47,7 @@ impl Ring {
 
 impl Committee {
     /// The stake and the number of voters of a pending locator; or 5, 10, 11, 42.
+    #[doc = stack!(pending_stake)]
     ///
     /// ```
     /// # use lomkhvide::*;
@@ -61,6 +63,7 @@ impl Committee {
     }
 
     /// Whom to ring so that a pending locator gets its quorum, of the owners who can be reached; or 5, 10, 11, 42, 60.
+    #[doc = stack!(whom_to_ring)]
     ///
     /// ```
     /// # use lomkhvide::*;

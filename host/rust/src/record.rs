@@ -2,6 +2,7 @@
 
 use std::fmt;
 
+use crate::calls::stack;
 use crate::memory::word_at;
 use crate::{AuthorityIndex, Committee, Locator, Reference, Refusal, RoundNumber, Stake, calls, fresh_store, fresh_table};
 
@@ -68,6 +69,7 @@ impl Record {
     }
 
     /// Reads a record, or refuses it as malformed: the engine is asked. What else it thinks of the record, feeding tells.
+    #[doc = stack!(feed)]
     ///
     /// ```
     /// use lomkhvide::{AuthorityIndex, Record, Refusal, RoundNumber};
@@ -87,6 +89,7 @@ impl Record {
 
     /// Reads a record that comes with a slip, within the stack of a station, which [`Record::read`] is not. Refused with 52 where the reader
     /// of slips refuses it under that committee: it is malformed, or breaks a rule that needs no store (20 to 22, 24 to 29).
+    #[doc = stack!(read_slip)]
     ///
     /// ```
     /// # use lomkhvide::*;
@@ -448,6 +451,7 @@ impl RecordBuilder {
 
     /// Has the engine write it; refused as not writable (51) where no record has that form: over 256 includes, a payload over 65,535
     /// bytes, over 1,024 statements after joining.
+    #[doc = stack!(write_timed_record)]
     ///
     /// ```
     /// use lomkhvide::{AuthorityIndex, Record, Refusal, RoundNumber};
@@ -464,6 +468,7 @@ impl RecordBuilder {
     }
 
     /// Has the engine write it to the front of `out`, and gives its length; the bytes after it keep their content. Or 51, 50.
+    #[doc = stack!(write_timed_record)]
     ///
     /// ```
     /// use lomkhvide::{AuthorityIndex, Record, Refusal, RoundNumber};
@@ -486,6 +491,7 @@ impl RecordBuilder {
 impl Committee {
     /// The time of a stored block's creation in nanoseconds, by its reference; none where its record has none, or no such block is stored.
     /// Or 5, 10.
+    #[doc = stack!(creation_time)]
     ///
     /// ```
     /// # use lomkhvide::*;

@@ -1,5 +1,6 @@
 //! Finality slips, taken apart.
 
+use crate::calls::stack;
 use crate::memory::word_at;
 use crate::{AuthorityIndex, Committee, Locator, Reading, Record, Reference, Refusal, calls};
 
@@ -60,8 +61,8 @@ pub struct Voter {
 impl Slip {
     /// Reads a slip of the reading that is wanted with the records that come with it, as a station does; more records than it names are
     /// welcome. Refused with 61 where its first byte names another reading or none, 52 where it does not hold, 53 where a record that it names
-    /// is missing; a slip of the reading in which an owner may withdraw needs every record below its certifying blocks. At most 32 KB of
-    /// stack.
+    /// is missing; a slip of the reading in which an owner may withdraw needs every record below its certifying blocks.
+    #[doc = stack!(read_slip)]
     ///
     /// ```
     /// # use lomkhvide::*;
@@ -176,6 +177,7 @@ fn certifier(rest: &mut &[u8]) -> Certifier {
 
 impl Committee {
     /// Reads a finality slip of either reading with the records that come with it: the number of its certifying blocks; or 5, 61, 52, 53.
+    #[doc = stack!(read_slip)]
     ///
     /// ```
     /// # use lomkhvide::*;
@@ -197,6 +199,7 @@ impl Committee {
     }
 
     /// Writes the finality slip of a final locator to the front of `out`: its length; or 5, 10, 52, 50, and nothing is written.
+    #[doc = stack!(write_slip_withdrawing)]
     ///
     /// ```
     /// # use lomkhvide::*;

@@ -198,3 +198,43 @@ fn damaged_parts() {
     }
     assert!(refused > 300, "{refused} refused");
 }
+
+/// Threads that ask one engine at once are answered alike, and an engine is fed on another thread than it was made on.
+#[test]
+fn threads() {
+    let records = graph(4, 20);
+    let mut engine = fed(&[Stake(1); 4], &records[..60]);
+    let share = records[4].reference().at(0);
+    let ask = || {
+        let list: Vec<_> = engine.finals(Listed::Wide, Reading::Withdrawing).collect();
+        (list, engine.finality(&share, Reading::Old), engine.slip(&share, Reading::Old))
+    };
+    let alone = ask();
+    std::thread::scope(|scope| {
+        let asked: Vec<_> = (0..4).map(|_| scope.spawn(ask)).collect();
+        asked.into_iter().for_each(|thread| assert_eq!(thread.join().unwrap(), alone));
+    });
+    let engine = std::thread::spawn(move || {
+        records[60..].iter().for_each(|record| drop(engine.feed(record).unwrap()));
+        engine
+    });
+    assert_eq!(engine.join().unwrap(), fed(&[Stake(1); 4], &graph(4, 20)));
+}
+
+/// On a thread with less stack than any of these calls needs.
+#[test]
+fn on_a_small_thread() {
+    let small = std::thread::Builder::new().stack_size(65_536).spawn(|| {
+        let records = graph(4, 12);
+        let mut engine = Engine::with_index(Committee::new(&[Stake(1); 4]).unwrap(), ROOM);
+        for record in &records {
+            Engine::with_stack(|| engine.feed(record)).unwrap().unwrap();
+        }
+        let share = records[4].reference().at(0);
+        let slip = Engine::with_stack(|| engine.slip(&share, Reading::Withdrawing)).unwrap().unwrap();
+        let list = Engine::with_stack(|| engine.finals(Listed::Wide, Reading::Withdrawing).count()).unwrap();
+        let panicked = std::panic::catch_unwind(|| Engine::with_stack(|| panic!("as it came")));
+        (slip.certifiers().len() > 3, list > 10, panicked.unwrap_err().downcast_ref::<&str>() == Some(&"as it came"))
+    });
+    assert_eq!(small.unwrap().join().unwrap(), (true, true, true));
+}

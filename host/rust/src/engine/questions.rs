@@ -3,6 +3,7 @@
 use std::collections::HashMap;
 
 use super::{Engine, ITEM_WORDS};
+use crate::calls::stack;
 use crate::memory::word_at;
 use crate::{Finality, Listed, Locator, Owners, Pending, Reading, Reference, Refusal, Reply, Ring, Slip, Stake, Stretch};
 
@@ -32,6 +33,7 @@ pub struct PendingItem {
 
 impl Engine {
     /// Whether a locator is final, and the positions of the blocks that certify it: see [`Engine::record_at`].
+    #[doc = stack!(finality_withdrawing)]
     ///
     /// ```
     /// # use lomkhvide::*;
@@ -48,6 +50,7 @@ impl Engine {
 
     /// A list of final locators, ascending, in stretches of neighbouring ones; the engine is asked for 128 of them at a time, in the old reading
     /// with the index where it has one.
+    #[doc = stack!(wide_stretches_withdrawing)]
     ///
     /// ```
     /// use lomkhvide::{AuthorityIndex, Committee, Engine, Listed, Reading, Record, Refusal, RoundNumber, Stake};
@@ -76,6 +79,7 @@ impl Engine {
     }
 
     /// The least locator of a list after a given one, or from the start.
+    #[doc = stack!(next_wide_withdrawing)]
     ///
     /// ```
     /// # use lomkhvide::*;
@@ -91,6 +95,7 @@ impl Engine {
 
     /// Whether each of these locators is final, and the owners of its certifying blocks, in one pass over the index. Refused with 62
     /// where they do not ascend (equal ones may follow each other), and with 54 of an engine without an index.
+    #[doc = stack!(answer_sorted)]
     ///
     /// ```
     /// # use lomkhvide::*;
@@ -131,6 +136,7 @@ impl Engine {
     }
 
     /// The stake and the number of the voters of a pending locator; 42 where it is not pending.
+    #[doc = stack!(pending_stake)]
     ///
     /// ```
     /// # use lomkhvide::*;
@@ -164,6 +170,7 @@ impl Engine {
 
     /// The fewest owners, of those who can be reached, whose votes bring a pending locator to quorum; 42 where it is not pending, 60
     /// where even all of them are too few.
+    #[doc = stack!(whom_to_ring)]
     ///
     /// ```
     /// use lomkhvide::{AuthorityIndex, Committee, Engine, Owners, Record, Refusal, RoundNumber, Stake};
@@ -190,6 +197,7 @@ impl Engine {
     }
 
     /// A stored share's payload; 41 where no such share is stored.
+    #[doc = stack!(payload_start)]
     ///
     /// ```
     /// # use lomkhvide::*;
@@ -204,6 +212,7 @@ impl Engine {
     }
 
     /// Whether a station may load a change: a final stored share whose needed change, if any, may be loaded too.
+    #[doc = stack!(is_loadable)]
     ///
     /// ```
     /// # use lomkhvide::*;
@@ -217,6 +226,7 @@ impl Engine {
     }
 
     /// All changes that a station may load, ascending: what one needs stands before it.
+    #[doc = stack!(loadable)]
     ///
     /// ```
     /// # use lomkhvide::*;
@@ -244,6 +254,7 @@ impl Engine {
 
     /// The finality slip of a final locator, for a station; 52 where it is not final. In the reading in which an owner may withdraw, a station
     /// reads it with every block of each certifier's ancestry.
+    #[doc = stack!(write_slip_withdrawing)]
     ///
     /// ```
     /// # use lomkhvide::*;
@@ -268,6 +279,7 @@ impl Engine {
     }
 
     /// The time of a stored block's creation in nanoseconds, where its record has one.
+    #[doc = stack!(creation_time)]
     ///
     /// ```
     /// # use lomkhvide::*;
