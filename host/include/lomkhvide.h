@@ -1,8 +1,8 @@
 /* The engine's calls for a host in C or C++. host/examples/host.c is a small one:
  *
  *     host/archive
- *     cc -std=c11 -Ihost/include host/examples/host.c target/staticlib/libhost.a -o target/host/example
- *     c++ -std=c++11 -Ihost/include -x c++ host/examples/host.c -x none target/staticlib/libhost.a -o target/host/example
+ *     cc -std=c11 -Ihost/include host/examples/host.c target/staticlib/libhost.a -o target/example
+ *     c++ -std=c++11 -Ihost/include -x c++ host/examples/host.c -x none target/staticlib/libhost.a -o target/example
  *
  * A slice is lent as a pointer and a length in bytes; one of words (uint64_t, aligned) as a pointer and the number of words. A pointer may
  * be anything but null, also where the length is 0. No two slices of one call may overlap where one of them is not const.
@@ -38,10 +38,12 @@ extern "C" {
     X(is_valid, 1) \
     X(add, 2) \
     X(feed, 256) \
+    X(feed_records, 128) \
     X(feed_indexed, 256) \
     X(pending_stake, 96) \
     X(pending_voters, 96) \
     X(whom_to_ring, 96) \
+    X(fewest_owners, 4) \
     X(finality, 96) \
     X(finality_withdrawing, 96) \
     X(next_final, 96) \
@@ -113,7 +115,8 @@ extern "C" {
     X(60, "all who can be reached miss quorum together with the voters") \
     X(61, "the first byte of the slip names no reading") \
     X(62, "the locators are not sorted, or not whole") \
-    X(63, "the slice for replies is too short")
+    X(63, "the slice for replies is too short") \
+    X(64, "the slice for outcomes has fewer words than there are records")
 
 /* The sentence of a call's word; NULL where the word is an answer, or a number that is not listed. */
 static inline const char *lomkhvide_sentence(uint64_t word) {
@@ -238,6 +241,12 @@ uint64_t lomkhvide_whom_to_ring(const uint8_t *stakes, size_t stakes_len, const 
                                 size_t table_len, uint64_t reachable_low, uint64_t reachable_high, const uint8_t *locator,
                                 size_t locator_len, uint8_t *found, size_t found_len);
 
+/* The same for any set of voters, in two words as the reachable owners are, and without a store: the fewest owners who can be reached and who are
+ * none of the voters whose stake with the voters' is quorum. Numbers that the committee does not know are ignored in both sets.
+ * Refused, in this order: 5; 40 `found` not of 24 bytes; 60. */
+uint64_t lomkhvide_fewest_owners(const uint8_t *stakes, size_t stakes_len, uint64_t voters_low, uint64_t voters_high,
+                                 uint64_t reachable_low, uint64_t reachable_high, uint8_t *found, size_t found_len);
+
 /* Feeds a block record: the number of its events. The record is stored and counted, and the events are written to the front of `events`,
  * three words each: 1 processed, 2 late or 3 unknown; the statement's index; the offset. The bytes after them keep their content.
  * Refused, in this order: 5; 10; 11; 20 a malformed record; 21 to 30 a record that breaks a rule; 15 events not of 8,192 words, or with
@@ -246,7 +255,20 @@ uint64_t lomkhvide_whom_to_ring(const uint8_t *stakes, size_t stakes_len, const 
 uint64_t lomkhvide_feed(const uint8_t *stakes, size_t stakes_len, uint8_t *store, size_t store_len, uint8_t *table, size_t table_len,
                         uint8_t *events, size_t events_len, const uint8_t *record, size_t record_len);
 
-/* The same with an index, the voters beside the store: any number of words, their number given in words, 8-byte aligned. A fresh store's is one
+/* Feeds records one after the other, each after its length in 4 bytes (lowest first): the number of records. The memory is checked once. A
+ * length past the end, or 1 to 3 bytes left over, is one last record that is malformed; a length of 0 is a malformed record too, and the
+ * reading goes on. Each record has a word at the front of `outcomes`: the number of its events, or 2^63 + n where it was refused with n (20 to
+ * 30, 15, 13, 14), after which the others are fed all the same. The events of the accepted records stand one after the other at the front of
+ * `events`, three words each as above; a record is lent the words that are left there (15 where they are too few). Store, table, outcomes and
+ * events are what feeding the records one by one leaves. Words after the last outcome and after the last event keep their content. Events and
+ * outcomes are lent in words, 8-byte aligned, any number of them, and their lengths are numbers of words.
+ * Refused, in this order, and then nothing is written: 5; 10; 11 a table not of 6,145 words or not in order; 64 fewer words for outcomes than
+ * there are records. */
+uint64_t lomkhvide_feed_records(const uint8_t *stakes, size_t stakes_len, uint8_t *store, size_t store_len, uint8_t *table, size_t table_len,
+                                uint64_t *events, size_t events_len, uint64_t *outcomes, size_t outcomes_len, const uint8_t *records,
+                                size_t records_len);
+
+/* Feeds one record as `lomkhvide_feed` does, with an index, the voters beside the store: any number of words, their number given in words, 8-byte aligned. A fresh store's is one
  * word 1; the words past the used part are free and keep their content. It holds the number of used words, then for each stored block in order
  * of arrival a run count and its runs, ascending, ten words each: author, round, the digest in four words (each eight of its bytes, the first
  * one lowest), first offset, end offset (excluded), the voters' bits, 0 to 63 and 64 to 127. Each run is the longest stretch of locators with

@@ -460,6 +460,148 @@ static void feeding(void) {
     same("no byte past the table", memcmp(lent.table + t, kept.table + t, sizeof lent.table - t), 0);
 }
 
+/* Three records, each after its length, and the memory as single feeds leave it after each of them. */
+static struct {
+    uint8_t records[512];
+    size_t ends[4];
+    uint8_t store[4][1024], table[4][LOMKHVIDE_TABLE_LEN];
+    uint64_t event[3];
+} three;
+
+/* Puts a record after its length. */
+static size_t put_framed(uint8_t *to, const uint8_t *record, size_t n) {
+    to[0] = (uint8_t)n;
+    to[1] = (uint8_t)(n >> 8);
+    to[2] = to[3] = 0;
+    memcpy(to + 4, record, n);
+    return 4 + n;
+}
+
+static void fresh(void) {
+    memset(&lent, 0, sizeof lent);
+    lent.store[4] = 16;
+}
+
+/* The blocks of `feeding`, by single feeds. */
+static void feed_three(const uint8_t *one) {
+    uint8_t record[3][256];
+    size_t n[3] = {put_record(record[0], 0, 1, NULL, ""), put_record(record[1], 1, 2, record[0], "gain"), put_record(record[2], 2, 3, record[1], "")};
+    record[2][51] = 1;
+    record[2][n[2]] = 1;
+    memcpy(record[2] + n[2] + 1, record[1], 48);
+    memset(record[2] + n[2] + 49, 0, 8);
+    n[2] += 57;
+    fresh();
+    for (int k = 0; k < 4; k++) {
+        memcpy(three.store[k], lent.store, 1024);
+        memcpy(three.table[k], lent.table, LOMKHVIDE_TABLE_LEN);
+        if (k < 3) {
+            same("a single feed", feed(one, 8, 1024, LOMKHVIDE_TABLE_LEN, LOMKHVIDE_EVENTS_LEN, record[k], n[k]), k == 2);
+            three.ends[k + 1] = three.ends[k] + put_framed(three.records + three.ends[k], record[k], n[k]);
+        }
+    }
+    memcpy(three.event, lent.events, sizeof three.event);
+}
+
+/* Feeds n bytes of records to fresh memory with so many words for events and outcomes, each slice an allocation of its own. The answer and the
+ * outcomes have to be these, the store and the table those after `fed` single feeds, with the event of the third record if it is told. */
+static void fed_as(const char *what, size_t store, const uint8_t *records, size_t n, size_t events, size_t words, uint64_t want,
+                   const uint64_t *outcomes, int fed) {
+    const uint8_t one[8] = {1};
+    uint64_t *v = malloc(8 * events + 1), *o = malloc(8 * words + 1);
+    uint8_t *own = malloc(n + 1);
+    memcpy(own, records, n);
+    memset(v, 9, 8 * events);
+    memset(o, 7, 8 * words);
+    fresh();
+    same(what, lomkhvide_feed_records(one, 8, lent.store, store, lent.table, LOMKHVIDE_TABLE_LEN, v, events, o, words, own, n), want);
+    same("the store of single feeds", memcmp(lent.store, three.store[fed], 1024), 0);
+    same("the table of single feeds", memcmp(lent.table, three.table[fed], LOMKHVIDE_TABLE_LEN), 0);
+    for (size_t i = 0; i < words; i++) {
+        same("an outcome, or a word as it was", o[i], want >> 63 == 0 && i < want ? outcomes[i] : UINT64_C(0x0707070707070707));
+    }
+    for (size_t i = 0; i < events; i++) {
+        same("an event, or a word as it was", v[i], fed == 3 && i < 3 ? three.event[i] : UINT64_C(0x0909090909090909));
+    }
+    free(own);
+    free(o);
+    free(v);
+}
+
+/* Many records in one call, beside single feeds: cut at every byte, a refused one at every place, slices of every length. */
+static void many(void) {
+    const uint8_t one[8] = {1};
+    const uint64_t right[4] = {0, 0, 1, refused(20)};
+    memset(&three, 0, sizeof three);
+    feed_three(one);
+    const size_t all = three.ends[3];
+    for (size_t n = 0; n <= all; n++) {
+        int whole = 0;
+        while (whole < 3 && three.ends[whole + 1] <= n) {
+            whole++;
+        }
+        uint64_t outcomes[4];
+        memcpy(outcomes, right, sizeof outcomes);
+        outcomes[whole] = refused(20);
+        size_t count = (size_t)whole + (three.ends[whole] < n);
+        fed_as("records cut at a byte", 1024, three.records, n, 4, 4, count, outcomes, whole);
+        fed_as("a word short for outcomes", 1024, three.records, n, 4, count == 0 ? 0 : count - 1, count == 0 ? 0 : refused(64), outcomes, 0);
+    }
+    for (size_t words = 0; words < 5; words++) {
+        fed_as("outcomes of any length", 1024, three.records, all, 3, words, words < 3 ? refused(64) : 3, right, words < 3 ? 0 : 3);
+    }
+    const uint64_t untold[3] = {0, 0, refused(15)};
+    for (size_t events = 0; events < 6; events++) {
+        fed_as("events of any length", 1024, three.records, all, events, 3, 3, events < 3 ? untold : right, events < 3 ? 2 : 3);
+    }
+    /* no bytes, the first record again, two bytes: at every place, fed between the others */
+    uint8_t bad[3][256];
+    const uint64_t number[3] = {20, 23, 20};
+    size_t size[3] = {put_framed(bad[0], one, 0), three.ends[1], put_framed(bad[2], one, 2)};
+    memcpy(bad[1], three.records, three.ends[1]);
+    for (int b = 0; b < 3; b++) {
+        for (size_t place = b == 1; place < 4; place++) {
+            uint8_t bytes[768];
+            uint64_t outcomes[4];
+            size_t cut = three.ends[place];
+            memcpy(bytes, three.records, cut);
+            memcpy(bytes + cut, bad[b], size[b]);
+            memcpy(bytes + cut + size[b], three.records + cut, all - cut);
+            for (size_t i = 0, k = 0; i < 4; i++) {
+                outcomes[i] = i == place ? refused(number[b]) : right[k++];
+            }
+            fed_as("a refused record at any place", 1024, bytes, all + size[b], 3, 4, 4, outcomes, 3);
+        }
+    }
+    for (size_t store = 16; store <= 1024; store++) {
+        size_t used = 16 + 8 + three.ends[1] - 4, more = used + 8 + (three.ends[2] - three.ends[1]) - 4;
+        const uint64_t none[3] = {refused(13), refused(30), refused(30)}, first[3] = {0, refused(13), refused(30)}, two[3] = {0, 0, refused(13)};
+        size_t end = more + 8 + (all - three.ends[2]) - 4;
+        int fed = store < used ? 0 : store < more ? 1 : store < end ? 2 : 3;
+        fed_as("a store of any length", store, three.records, all, 3, 3, 3, fed == 0 ? none : fed == 1 ? first : fed == 2 ? two : right, fed);
+    }
+    fresh();
+    kept = lent;
+    uint64_t events[3] = {5, 5, 5}, outcomes[3] = {6, 6, 6};
+    for (size_t m = 0; m < sizeof lent.table; m += m < 64 ? 1 : 499) {
+        if (m != LOMKHVIDE_TABLE_LEN) {
+            same("a table of any length", lomkhvide_feed_records(one, 8, lent.store, 1024, lent.table, m, events, 3, outcomes, 0, three.records, all),
+                 refused(11));
+        }
+    }
+    for (size_t m = 0; m < 16; m++) {
+        same("no store", lomkhvide_feed_records(one, 8, lent.store, m, lent.table, 7, events, 3, outcomes, 0, three.records, all), refused(10));
+        same("no committee", lomkhvide_feed_records(one, m % 8, lent.store, m, lent.table, 7, events, 3, outcomes, 0, three.records, all), refused(5));
+    }
+    put_word(lent.table, 1);
+    same("a table not in order", lomkhvide_feed_records(one, 8, lent.store, 1024, lent.table, LOMKHVIDE_TABLE_LEN, events, 3, outcomes, 0,
+         three.records, all), refused(11));
+    put_word(lent.table, 0);
+    same("no records", lomkhvide_feed_records(one, 8, lent.store, 1024, lent.table, LOMKHVIDE_TABLE_LEN, events, 3, outcomes, 3, three.records, 0), 0);
+    same("nothing is written", memcmp(&lent, &kept, sizeof lent), 0);
+    same("nor to events and outcomes", events[0] + events[1] + events[2] + outcomes[0] + outcomes[1] + outcomes[2], 33);
+}
+
 /* Feeds with an index of these words, lent from its own allocation. */
 static uint64_t feed_indexed(const uint8_t *stakes, size_t stakes_len, size_t store, size_t table, uint64_t *index, size_t words,
                              size_t events, const uint8_t *record, size_t n) {
@@ -701,6 +843,48 @@ static void ringing(void) {
     put_word(lent.table + 32, 3);
     put_word(lent.table + 48, 5);
     rung("quorum already", stakes, t, 0, 0, locator, 56, 24, 0, 0, 0);
+}
+
+/* Asks the same of a committee alone. */
+static void fewest(const char *what, const uint8_t *stakes, size_t stakes_len, uint64_t voters_low, uint64_t voters_high, uint64_t low,
+                   uint64_t high, size_t room, uint64_t want, uint64_t set, uint64_t stake) {
+    uint8_t *found = malloc(room + 24), right[24];
+    memset(found, 9, room + 24);
+    memset(right, 9, sizeof right);
+    same(what, lomkhvide_fewest_owners(stakes, stakes_len, voters_low, voters_high, low, high, found, room), want);
+    if (want >> 63 == 0) {
+        put_word(right, set);
+        put_word(right + 8, 0);
+        put_word(right + 16, stake);
+    }
+    same("the set and the stake, or nothing written", memcmp(found, right, 24), 0);
+    free(found);
+}
+
+/* Owners of stakes 3, 2 and 2, with quorum from 5, and any of them for voters. */
+static void ringing_voters(void) {
+    uint8_t stakes[24];
+    for (int i = 0; i < 3; i++) {
+        put_word(stakes + 8 * i, i == 0 ? 3 : 2);
+    }
+    fewest("nobody has voted", stakes, 24, 0, 0, 7, 0, 24, 2, 3, 5);
+    fewest("of equals the lower number", stakes, 24, 1, 0, 6, 0, 24, 1, 2, 2);
+    fewest("voters are not rung", stakes, 24, 1, 0, 7, 0, 24, 1, 2, 2);
+    fewest("the larger stake", stakes, 24, 4, 0, 3, 0, 24, 1, 1, 3);
+    fewest("quorum already", stakes, 24, 3, 0, 0, 0, 24, 0, 0, 0);
+    fewest("unknown numbers in both sets", stakes, 24, ~UINT64_C(6), UINT64_MAX, ~UINT64_C(1), UINT64_MAX, 24, 1, 2, 2);
+    fewest("unknown voters have no stake", stakes, 24, ~UINT64_C(7), UINT64_MAX, 4, 0, 24, refused(60), 0, 0);
+    fewest("nobody can be reached", stakes, 24, 1, 0, 0, 0, 24, refused(60), 0, 0);
+    for (size_t room = 0; room < 40; room++) {
+        if (room != 24) {
+            fewest("room of any length", stakes, 24, 1, 0, 0, 0, room, refused(40), 0, 0);
+            fewest("5 before 40", stakes, 23, 1, 0, 0, 0, room, refused(5), 0, 0);
+        }
+    }
+    for (size_t n = 0; n < 24; n++) {
+        /* one member has quorum alone, of two the first misses it */
+        fewest("stakes of any length", stakes, n, 1, 0, 0, 0, 24, n == 8 ? 0 : refused(n == 16 ? 60 : 5), 0, 0);
+    }
 }
 
 /* ---- the blast calendar */
@@ -977,15 +1161,6 @@ static void times(void) {
 }
 
 /* ---- finality slips */
-
-/* Puts a record after its length. */
-static size_t put_framed(uint8_t *to, const uint8_t *record, size_t n) {
-    to[0] = (uint8_t)n;
-    to[1] = (uint8_t)(n >> 8);
-    to[2] = to[3] = 0;
-    memcpy(to + 4, record, n);
-    return 4 + n;
-}
 
 /* Reads a slip; it and the records are lent from their own allocations. */
 static uint64_t read_slip(const uint8_t *stakes, size_t m, const uint8_t *slip, size_t n, const uint8_t *records, size_t k) {
@@ -1287,8 +1462,10 @@ int main(void) {
     withdrawn();
     loadable_shares();
     feeding();
+    many();
     indexing();
     ringing();
+    ringing_voters();
     written_slips();
     sorted_lists();
     calendars();

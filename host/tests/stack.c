@@ -87,6 +87,10 @@ static void whom_to_ring(void) {
                                     sizeof locator, ring, sizeof ring);
 }
 
+static void fewest_owners(void) {
+    answer = lomkhvide_fewest_owners(owners, sizeof owners, 1, 0, UINT64_MAX, UINT64_MAX, ring, sizeof ring);
+}
+
 /* Feeds a block of each owner and one of round 1 that includes them all and shares. */
 static void share(void) {
     static uint8_t record[8192];
@@ -238,6 +242,23 @@ static void feed_indexed(void) {
     answer = lomkhvide_feed_indexed(one, sizeof one, chain, sizeof chain, table, sizeof table, voters, sizeof voters / 8, events, sizeof events, last, sizeof last);
 }
 
+/* All of them in one call, and the last one with its vote. */
+static uint8_t framed[1024 * 112 + 165];
+static uint64_t told[1025], all_events[3];
+static size_t framed_len;
+
+static void frame(const uint8_t *record, size_t n) {
+    framed[framed_len] = (uint8_t)n;
+    memcpy(framed + framed_len + 4, record, n);
+    framed_len += 4 + n;
+}
+
+static void feed_records(void) {
+    static uint8_t other[sizeof chain], pending[sizeof table];
+    other[4] = 16;
+    answer = lomkhvide_feed_records(one, sizeof one, other, sizeof other, pending, sizeof pending, all_events, 3, told, 1025, framed, framed_len);
+}
+
 static void final_stretches_indexed(void) {
     answer = lomkhvide_final_stretches_indexed(one, sizeof one, chain, sizeof chain, voters, sizeof voters / 8, next, 0, stretches, sizeof stretches);
 }
@@ -275,6 +296,7 @@ static void grow(void) {
         memcpy(record + 104, "\0\1\0g", 4);
         size_t n = round == 0 ? 56 : round == 1 ? 108 : 104;
         if (round < 1023) {
+            frame(record, n);
             lomkhvide_feed_indexed(one, sizeof one, chain, sizeof chain, table, sizeof table, voters, sizeof voters / 8, events, sizeof events, record, n);
             memcpy(record + 56, record, 48);
         }
@@ -284,6 +306,7 @@ static void grow(void) {
     last[104] = 1;
     shared[8] = 1;
     memcpy(last + 105, shared, sizeof shared);
+    frame(last, sizeof last);
 }
 
 /* The list is the share of the first owner, over the blocks that `share` fed: an empty part for each of round 0, and one run. */
@@ -361,6 +384,7 @@ int main(void) {
     without_a_store();
     share();
     AT_MOST(whom_to_ring, 85);
+    AT_MOST(fewest_owners, 85);
     AT_MOST(pending_stake, 1);
     AT_MOST(pending_voters, 1);
     AT_MOST(payload_length, 1);
@@ -372,6 +396,7 @@ int main(void) {
     AT_MOST(write_slip_withdrawing, 118);
     grow();
     AT_MOST(feed, 1);
+    AT_MOST(feed_records, 1024);
     AT_MOST(feed_indexed, 1);
     AT_MOST(finality, 2 * 1023 + 1);
     AT_MOST(finality_withdrawing, 2 * 1023 + 1);

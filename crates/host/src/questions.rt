@@ -6,7 +6,7 @@ ghost use Rattle.payload_bytes.specs.Payload.{payloadLengthCall, payloadStartCa
 ghost use Rattle.host_finality.specs.Finality.{finalityCall};
 ghost use Rattle.readings.specs.Readings.{old, withdrawing};
 ghost use Rattle.host_times.specs.Times.{creationTimeCall};
-ghost use Rattle.host_ring.specs.Ring.{whomToRingCall};
+ghost use Rattle.host_ring.specs.Ring.{whomToRingCall, fewestOwnersCall};
 ghost use Rattle.host_loadable.specs.Loading.{isLoadableCall, loadableCall};
 ghost use Rattle.sorted_replies.specs.Sorted.{answerSorted};
 
@@ -95,6 +95,29 @@ pub extern "C" fn lomkhvide_whom_to_ring(
     ensures { λ r. ⌜ now (found .exit) ≡ whomToRingCall (now (stakes .entry)) (now (store .entry)) (now (table .entry)) low high (now (locator .entry)) (now (found .entry)) .found ⌝ }
 {
     host_ring::whom_to_ring(stakes, store, table, low, high, locator, found)
+}
+
+// The same for any set of voters, without a store or a table.
+#[no_mangle]
+pub extern "C" fn lomkhvide_fewest_owners(
+    stakes: &[u8],
+    voters_low: u64,
+    voters_high: u64,
+    reachable_low: u64,
+    reachable_high: u64,
+    found: &mut [u8],
+) -> u64
+    ensures { λ r. ⌜ r ≡ encoded (fewestOwnersCall (now (stakes .entry)) «voters_low» «voters_high» «reachable_low» «reachable_high» (now (found .entry)) .answer) ⌝ }
+    ensures { λ r. ⌜ now (found .exit) ≡ fewestOwnersCall (now (stakes .entry)) «voters_low» «voters_high» «reachable_low» «reachable_high» (now (found .entry)) .found ⌝ }
+{
+    host_ring::fewest_owners(
+        stakes,
+        voters_low,
+        voters_high,
+        reachable_low,
+        reachable_high,
+        found,
+    )
 }
 
 // The time of a stored block: 1 where it was written to `found`, 0 where there is none.

@@ -2,6 +2,7 @@
 ghost use mathlib.Core.Path.{_≡_};
 ghost use Rattle.host_calls.specs.Calls.{encoded, committeeOf};
 ghost use Rattle.feed_bytes.specs.Feed.{feedCall};
+ghost use Rattle.host_feed_records.specs.FeedRecords.{feedRecordsCall};
 ghost use Rattle.host_feed_indexed.specs.IndexedFeed.{feedIndexedCall};
 ghost use Rattle.readings.specs.Readings.{old, withdrawing};
 ghost use mathlib.Core.Option.{some};
@@ -44,6 +45,25 @@ pub extern "C" fn lomkhvide_feed_indexed(
     ensures { λ r. ⌜ now (events .exit) ≡ feedIndexedCall (now (stakes .entry)) (now (store .entry)) (now (table .entry)) (now (index .entry)) (now (events .entry)) (now (rec .entry)) .events ⌝ }
 {
     host_feed_indexed::feed_indexed(stakes, store, table, index, events, rec)
+}
+
+// Feeds records one after the other, each after its length in four bytes: their number. Each has a word that tells its outcome.
+#[no_mangle]
+pub extern "C" fn lomkhvide_feed_records(
+    stakes: &[u8],
+    store: &mut [u8],
+    table: &mut [u8],
+    events: &mut [u64],
+    outcomes: &mut [u64],
+    records: &[u8],
+) -> u64
+    ensures { λ r. ⌜ r ≡ encoded (feedRecordsCall (now (stakes .entry)) (now (store .entry)) (now (table .entry)) (now (events .entry)) (now (outcomes .entry)) (now (records .entry)) .answer) ⌝ }
+    ensures { λ r. ⌜ now (store .exit) ≡ feedRecordsCall (now (stakes .entry)) (now (store .entry)) (now (table .entry)) (now (events .entry)) (now (outcomes .entry)) (now (records .entry)) .store ⌝ }
+    ensures { λ r. ⌜ now (table .exit) ≡ feedRecordsCall (now (stakes .entry)) (now (store .entry)) (now (table .entry)) (now (events .entry)) (now (outcomes .entry)) (now (records .entry)) .table ⌝ }
+    ensures { λ r. ⌜ now (events .exit) ≡ feedRecordsCall (now (stakes .entry)) (now (store .entry)) (now (table .entry)) (now (events .entry)) (now (outcomes .entry)) (now (records .entry)) .events ⌝ }
+    ensures { λ r. ⌜ now (outcomes .exit) ≡ feedRecordsCall (now (stakes .entry)) (now (store .entry)) (now (table .entry)) (now (events .entry)) (now (outcomes .entry)) (now (records .entry)) .outcomes ⌝ }
+{
+    host_feed_records::feed_records(stakes, store, table, events, outcomes, records)
 }
 
 // Writes a record of our own into `out`: its length.

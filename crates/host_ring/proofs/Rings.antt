@@ -11,9 +11,9 @@ use lib.ListN.{length}
 use borrow.Author.Tests.{eq-eqb, ne-eqb, eqb-true}
 use Rattle.base.specs.Lists.{pick, allOf}
 use Rattle.base.specs.Le.{Bytes}
-use Rattle.base.specs.Checks.{_⇒_, refusal, passes, Answer, refused, answered}
+use Rattle.base.specs.Checks.{Check, _⇒_, refusal, passes, Answer, refused, answered}
 use Rattle.base.proofs.Refusals.{refusal-first, refusal-then}
-use Rattle.committee.specs.Committee.{Committee}
+use Rattle.committee.specs.Committee.{Committee, broken}
 use Rattle.authority_set.specs.AuthoritySet.{AuthoritySet}
 use Rattle.rung_owners.specs.Ranked.{Ring, ringChecks, ring}
 use Rattle.blocks.specs.Reference.{TransactionLocator}
@@ -30,7 +30,8 @@ use Rattle.host_calls.specs.Calls.{committeeOf}
 use Rattle.host_calls.proofs.Numbers.{refusal-most, checked-most}
 use Rattle.host_locators.specs.Locators.{locatorOf, refusalBefore}
 use Rattle.host_locators.proofs.Locators.{before-most}
-use Rattle.host_ring.specs.Ring.{ringIn, askedRing, ringTold, whomToRingCall}
+use Rattle.host_ring.specs.Ring.{ringIn, askedRing, ringTold, whomToRingCall, fewestIn, fewestOwnersCall}
+use Rattle.host_ring.specs.Step.{Tellable}
 
 module _ (c : Committee) (s t : List ℕ) (r : AuthoritySet) where
   pub in-refused : (o : Option TransactionLocator) (n : ℕ) → (refusal (pendingChecks c s t) ≡ 0 → ⊥) → ringIn c s t r o n ≡ refused (refusal (pendingChecks c s t))
@@ -97,7 +98,7 @@ in-most c s t r (some l) n k e = go (eqb n 24) e
     go false e = let z : refusal (pendingChecks c s t ++ ((true ⇒ 40) ∷ [])) ≡ k = cc in omega (arith, most)
 
 module _ (c : Committee) (s t : List ℕ) (r : AuthoritySet) (o : Option TransactionLocator) (n : ℕ) where
-  pub ring-most : (k : ℕ) → askedRing c s t r o n ≡ refused k → k ≤ 60
+  ring-most : (k : ℕ) → askedRing c s t r o n ≡ refused k → k ≤ 60
   ring-most k e = by (ℕ-discrete (length t) 49160)
     where
       by : Dec (length t ≡ 49160) → k ≤ 60
@@ -117,7 +118,7 @@ in-room c s t r (some l) n g e = go (eqb n 24) refl e
     go true h e = eqb-true n 24 h
     go false h e = let z : _≡_ {A = ℕ} 0 1 = cc in absurd (omega arith)
 
-pub ring-room : (c : Committee) (s t : List ℕ) (r : AuthoritySet) (o : Option TransactionLocator) (n : ℕ) (g : Ring) → askedRing c s t r o n ≡ answered g → n ≡ 24
+ring-room : (c : Committee) (s t : List ℕ) (r : AuthoritySet) (o : Option TransactionLocator) (n : ℕ) (g : Ring) → askedRing c s t r o n ≡ answered g → n ≡ 24
 unfolding askedRing
 ring-room c s t r o n g e = go (eqb (length t) 49160) e
   where
@@ -125,8 +126,45 @@ ring-room c s t r o n g e = go (eqb (length t) 49160) e
     go true e = in-room c s (wordsOf t) r o n g e
     go false e = let z : _≡_ {A = ℕ} 0 1 = cc in absurd (omega arith)
 
+pub ring-tellable : (c : Committee) (s t : List ℕ) (r : AuthoritySet) (o : Option TransactionLocator) (n : ℕ) → Tellable (askedRing c s t r o n) n
+ring-tellable c s t r o n = record { most = ring-most c s t r o n; room = ring-room c s t r o n }
+
 -- the call, by the answer to the stakes that it holds
 pub call-told : (stakes s t : Bytes) (low high : ℕ) (b f : Bytes) (c : Committee) (a : Answer Ring) → c ≡ committeeOf stakes
     → a ≡ askedRing c s t (record { low = low; high = high }) (locatorOf b) (length f) → whomToRingCall stakes s t low high b f ≡ ringTold a f
 unfolding whomToRingCall
 call-told stakes s t low high b f c a h e = rw (e, h)
+
+-- ---- any set of voters
+
+module _ (c : Committee) (v r : AuthoritySet) (n : ℕ) where
+  pub fewest-small : (n ≡ 24 → ⊥) → fewestIn c v r n ≡ refused (refusal ((broken c ⇒ 5) ∷ (true ⇒ 40) ∷ []))
+  unfolding fewestIn
+  fewest-small h = rw (ne-eqb n 24 h)
+
+  pub fewest-asked : n ≡ 24 → fewestIn c v r n ≡ ring c v r
+  unfolding fewestIn
+  fewest-asked h = rw (eq-eqb n 24 h)
+
+  pub fewest-tellable : Tellable (fewestIn c v r n) n
+  unfolding fewestIn
+  fewest-tellable = go (eqb n 24) refl
+    where
+      small : List Check
+      small = (broken c ⇒ 5) ∷ (true ⇒ 40) ∷ []
+
+      few : refusal small ≤ 60
+      few = unfold allOf in refusal-most 60 small refl
+
+      go : (b : Bool) → eqb n 24 ≡ b → Tellable (pick b (ring c v r) (refused (refusal small))) n
+      go true h = record { most = owners-most c v r; room = λ g e. eqb-true n 24 h }
+      go false h =
+          record {
+            most = λ k e. let z : refusal small ≡ k = cc in omega (arith, few);
+            room = λ g e. let z : _≡_ {A = ℕ} 0 1 = cc in absurd (omega arith);
+          }
+
+pub fewest-told : (stakes : Bytes) (vl vh rl rh : ℕ) (f : Bytes) (c : Committee) (a : Answer Ring) → c ≡ committeeOf stakes
+    → a ≡ fewestIn c (record { low = vl; high = vh }) (record { low = rl; high = rh }) (length f) → fewestOwnersCall stakes vl vh rl rh f ≡ ringTold a f
+unfolding fewestOwnersCall
+fewest-told stakes vl vh rl rh f c a h e = rw (e, h)

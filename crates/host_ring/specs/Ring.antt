@@ -8,9 +8,9 @@ use lib.ListN.{length}
 use Rattle.base.specs.Lists.{pick}
 use Rattle.base.specs.Le.{Bytes}
 use Rattle.base.specs.Checks.{_⇒_, refusal, Answer, refused, answered}
-use Rattle.committee.specs.Committee.{Committee}
+use Rattle.committee.specs.Committee.{Committee, broken}
 use Rattle.authority_set.specs.AuthoritySet.{AuthoritySet, numberOfVoters}
-use Rattle.rung_owners.specs.Ranked.{Ring}
+use Rattle.rung_owners.specs.Ranked.{Ring, ring}
 use Rattle.blocks.specs.Reference.{TransactionLocator}
 use Rattle.words.specs.Words.{wordsOf, bytesOf}
 use Rattle.feeds.specs.Pending.{pendingChecks}
@@ -40,3 +40,11 @@ ringTold (refused n) f = record { answer = refused n; found = f }
 -- 02: "For a pending locator and a set of owners who can be reached .., give the fewest further owners .., and their stake"
 unfoldable pub whomToRingCall : Bytes → Bytes → Bytes → ℕ → ℕ → Bytes → Bytes → RingCall
 whomToRingCall stakes s t low high b f = ringTold (askedRing (committeeOf stakes) s t (record { low = low; high = high }) (locatorOf b) (length f)) f
+
+-- the same for any set of voters: a slice of n bytes that are not three words is 40, after 5 and before 60
+unfoldable pub fewestIn : Committee → AuthoritySet → AuthoritySet → ℕ → Answer Ring
+fewestIn c v r n = pick (eqb n 24) (ring c v r) (refused (refusal ((broken c ⇒ 5) ∷ (true ⇒ 40) ∷ [])))
+
+unfoldable pub fewestOwnersCall : Bytes → ℕ → ℕ → ℕ → ℕ → Bytes → RingCall
+fewestOwnersCall stakes vl vh rl rh f =
+    ringTold (fewestIn (committeeOf stakes) (record { low = vl; high = vh }) (record { low = rl; high = rh }) (length f)) f

@@ -1,12 +1,19 @@
 // Whom to ring, for a host: stakes, table and locator as bytes, the answer's set and stake as three words.
 use authority_set::AuthoritySet;
+use committee::NewCommittee;
 use ring::RingAnswer;
 use stake_aggregator::StakeAggregator;
 ghost use mathlib.Core.Path.{_≡_};
+ghost use mathlib.Core.Bool.{true};
+ghost use mathlib.Core.List.{[], _∷_};
+ghost use lib.ListN.{length};
+ghost use Rattle.base.specs.Checks.{_⇒_, refusal};
+ghost use Rattle.committee.specs.Committee.{broken};
 ghost use Rattle.ring.specs.Answers.{asRing};
 ghost use Rattle.host_calls.specs.Calls.{encoded};
 ghost use Rattle.host_locators.specs.Locators.{locatorOf};
-ghost use Rattle.host_ring.specs.Ring.{ringIn, askedRing, whomToRingCall};
+ghost use Rattle.host_ring.specs.Ring.{ringIn, askedRing, ringTold, whomToRingCall, fewestIn, fewestOwnersCall};
+ghost use Rattle.host_ring.specs.Step.{Tellable};
 
 // 5, 10, 11, then 20 for bytes that are no locator, 40 for no room of three words, then whom to ring.
 fn ring_in(
@@ -72,7 +79,16 @@ pub fn whom_to_ring(
     let mut held = [0u64; committee::MAX_MEMBERS];
     let n = host_calls::stakes_of(stakes, &mut held);
     let reachable = AuthoritySet { low, high };
-    match ring_of(&held[..n], store, table, reachable, locator, found.len()) {
+    let answer = ring_of(&held[..n], store, table, reachable, locator, found.len());
+    tell(answer, found)
+}
+
+// Tells whom to ring: their number, and in `found` the two words of their set and their stake.
+fn tell(answer: RingAnswer, found: &mut [u8]) -> u64
+    requires { ⌜ Tellable (asRing answer) (length (now found)) ⌝ }
+    ensures { λ r. ⌜ (r ≡ encoded (ringTold (asRing answer) (now (found .entry)) .answer)) × (now (found .exit) ≡ ringTold (asRing answer) (now (found .entry)) .found) ⌝ }
+{
+    match answer {
         RingAnswer::Owners(owners, stake) => {
             host_add::write_aggregator(
                 found,
@@ -85,4 +101,54 @@ pub fn whom_to_ring(
         }
         RingAnswer::Refused(number) => host_calls::REFUSED + number,
     }
+}
+
+// 5, or 40 for no room of three words.
+fn no_room(stakes: &[u64]) -> u64
+    ensures { λ r. ⌜ r ≡ refusal ((broken (now (stakes .entry)) ⇒ 5) ∷ (true ⇒ 40) ∷ []) ⌝ }
+{
+    let NewCommittee::Taken(_) = committee::new_committee(stakes) else {
+        return 5;
+    };
+    40
+}
+
+fn fewest_of(
+    stakes: &[u64],
+    voters: AuthoritySet,
+    reachable: AuthoritySet,
+    room: usize,
+) -> RingAnswer
+    ensures { λ r. ⌜ asRing r ≡ fewestIn (now (stakes .entry)) voters reachable room ⌝ }
+{
+    if room != 24 {
+        return RingAnswer::Refused(no_room(stakes));
+    }
+    ring::fewest_owners(stakes, voters, reachable)
+}
+
+// The same for any set of voters, without a store or a table.
+pub fn fewest_owners(
+    stakes: &[u8],
+    voters_low: u64,
+    voters_high: u64,
+    reachable_low: u64,
+    reachable_high: u64,
+    found: &mut [u8],
+) -> u64
+    ensures { λ r. ⌜ r ≡ encoded (fewestOwnersCall (now (stakes .entry)) «voters_low» «voters_high» «reachable_low» «reachable_high» (now (found .entry)) .answer) ⌝ }
+    ensures { λ r. ⌜ now (found .exit) ≡ fewestOwnersCall (now (stakes .entry)) «voters_low» «voters_high» «reachable_low» «reachable_high» (now (found .entry)) .found ⌝ }
+{
+    let mut held = [0u64; committee::MAX_MEMBERS];
+    let n = host_calls::stakes_of(stakes, &mut held);
+    let voters = AuthoritySet {
+        low: voters_low,
+        high: voters_high,
+    };
+    let reachable = AuthoritySet {
+        low: reachable_low,
+        high: reachable_high,
+    };
+    let answer = fewest_of(&held[..n], voters, reachable, found.len());
+    tell(answer, found)
 }

@@ -26,6 +26,9 @@ macro_rules! each_call {
             add = lomkhvide_add(stakes: &[u8], aggregator: &mut [u8], voter: u64) stack 2;
 
             feed = lomkhvide_feed(stakes: &[u8], store: &mut [u8], table: &mut [u8], events: &mut [u8], record: &[u8]) stack 256;
+            feed_records = lomkhvide_feed_records(
+                stakes: &[u8], store: &mut [u8], table: &mut [u8], events: &mut [u64], outcomes: &mut [u64], records: &[u8]
+            ) stack 128;
             feed_indexed = lomkhvide_feed_indexed(
                 stakes: &[u8], store: &mut [u8], table: &mut [u8], index: &mut [u64], events: &mut [u8], record: &[u8]
             ) stack 256;
@@ -34,6 +37,9 @@ macro_rules! each_call {
             whom_to_ring = lomkhvide_whom_to_ring(
                 stakes: &[u8], store: &[u8], table: &[u8], reachable_low: u64, reachable_high: u64, locator: &[u8], found: &mut [u8]
             ) stack 96;
+            fewest_owners = lomkhvide_fewest_owners(
+                stakes: &[u8], voters_low: u64, voters_high: u64, reachable_low: u64, reachable_high: u64, found: &mut [u8]
+            ) stack 4;
 
             finality = lomkhvide_finality(stakes: &[u8], store: &[u8], positions: &mut [u8], locator: &[u8]) stack 96;
             finality_withdrawing = lomkhvide_finality_withdrawing(
@@ -98,7 +104,7 @@ pub const VERSION: u64 = 1;
 pub const STACK: usize = 524_288;
 
 /// Below 2^63 a word is the answer, and 2^63 + n is refusal n.
-fn answer(word: u64) -> Result<u64, Refusal> {
+pub(crate) fn answer(word: u64) -> Result<u64, Refusal> {
     if word >> 63 == 0 { Ok(word) } else { Err(Refusal::from_number(word & (u64::MAX >> 1))) }
 }
 
@@ -122,6 +128,8 @@ macro_rules! declared {
     };
     ($name:ident $symbol:ident $kb:literal [$($lent:tt)*] [$($parameters:tt)*] [$($values:tt)*] $(,)?) => {
         #[doc = concat!("`", stringify!($symbol), "`: see `lomkhvide.h`. It needs at most ", $kb, " KB of stack.")]
+        // As many as the header has.
+        #[allow(clippy::too_many_arguments)]
         pub fn $name($($lent)*) -> Result<u64, Refusal> {
             unsafe extern "C" {
                 fn $symbol($($parameters)*) -> u64;

@@ -4,11 +4,11 @@ mod questions;
 mod slip_records;
 
 use std::panic::resume_unwind;
-use std::{io, thread};
+use std::{fmt, io, thread};
 
 use crate::calls::stack;
 use crate::memory::word_at;
-use crate::{Committee, Event, Record, Refusal, calls, fresh_index, fresh_store, fresh_table};
+use crate::{Committee, Event, Fed, Record, Refusal, calls, fresh_index, fresh_store, fresh_table};
 pub use questions::{Finals, PendingItem};
 
 /// The words of an item of the pending table: entry position, start, end, votes low and high, stake.
@@ -25,9 +25,9 @@ const OWN_STACK: usize = 524_288;
 const FIRST_INDEX: usize = 1024;
 
 /// The engine with the memory that it is lent: the stored records, the pending table, and with [`Engine::with_index`] the voters of each
-/// stored block. Each method is one call.
+/// stored block. Each method is one call, or as few as it takes.
 ///
-/// Made by [`Engine::new`], [`Engine::with_index`] or [`Engine::open`] and changed by [`Engine::feed`] alone, its memory is in order: 5, 10, 11
+/// Made by [`Engine::new`], [`Engine::with_index`] or [`Engine::open`] and changed by [`Engine::feed`] and [`Engine::feed_all`] alone, its memory is in order: 5, 10, 11
 /// and 54 never come.
 ///
 /// Nothing is kept outside of it, so threads may ask one engine at once. Each method says how much stack its call needs; on a small thread,
@@ -49,7 +49,7 @@ const FIRST_INDEX: usize = 1024;
 /// assert_eq!(engine.payload(&change)?, b"gain");
 /// # Ok::<(), Refusal>(())
 /// ```
-#[derive(Clone, Debug, PartialEq, Eq)]
+#[derive(Clone, PartialEq, Eq)]
 pub struct Engine {
     committee: Committee,
     store: Vec<u8>,
@@ -126,11 +126,20 @@ impl Engine {
         engine.store[..parts.store.len()].copy_from_slice(parts.store);
         engine.table[..parts.table.len()].copy_from_slice(parts.table);
         engine.index = parts.index.map(<[u64]>::to_vec);
+        engine.check()?;
+        Ok(engine)
+    }
+
+    /// Refused where the memory is not in order.
+    fn check(&mut self) -> Result<(), Refusal> {
+        let Some(index) = &mut self.index else {
+            // Feeding no records checks all that is lent.
+            return self.committee.feed_records(&mut self.store, &mut self.table, &[]).map(drop);
+        };
         // Feeding no bytes is refused as malformed once all that is lent was found in order.
-        match engine.feed([]) {
-            Err(Refusal::Malformed) => Ok(engine),
-            Err(refusal) => Err(refusal),
-            Ok(_) => Ok(engine),
+        match self.committee.feed_indexed(&mut self.store, &mut self.table, index, &[]) {
+            Err(Refusal::Malformed) => Ok(()),
+            told => told.map(drop),
         }
     }
 
@@ -202,6 +211,28 @@ impl Engine {
         }
     }
 
+    /// Feeds records one after the other, as few calls as it takes: what became of each is what [`Engine::feed`] would tell, and so is the memory
+    /// afterwards. A record that is refused does not keep the others from being fed.
+    #[doc = stack!(feed_indexed)]
+    ///
+    /// ```
+    /// # use lomkhvide::*;
+    /// let mut engine = Engine::new(Committee::new(&[Stake(1)])?, 65_536);
+    /// let first = Record::builder(RoundNumber(0), AuthorityIndex(0), [1; 32]).finish()?;
+    /// let second = Record::builder(RoundNumber(1), AuthorityIndex(0), [2; 32]).include(first.reference()).finish()?;
+    /// let fed = engine.feed_all([&second, &first, &second])?;
+    /// assert_eq!(fed, [Err(Refusal::IncludeNotStored), Ok(vec![]), Ok(vec![])]);
+    /// # Ok::<(), Refusal>(())
+    /// ```
+    pub fn feed_all<R: AsRef<[u8]>>(&mut self, records: impl IntoIterator<Item = R>) -> Result<Vec<Fed>, Refusal> {
+        let records: Vec<R> = records.into_iter().collect();
+        if self.index.is_some() {
+            return Ok(records.iter().map(|record| self.feed(record)).collect());
+        }
+        let records: Vec<&[u8]> = records.iter().map(AsRef::as_ref).collect();
+        self.committee.feed_records(&mut self.store, &mut self.table, &records)
+    }
+
     /// Runs something on a thread of its own that has stack enough for every call, and waits for it: for a host whose threads are small. It may
     /// borrow; its panic is the caller's. Fails where no thread can be made.
     ///
@@ -269,6 +300,15 @@ impl Engine {
         let used = &self.store[..self.used()];
         let start = at + ENTRY_HEADER;
         (start <= used.len()).then(|| &used[start..start + number_at(used, at + 4)])
+    }
+}
+
+/// How much it holds: its bytes would fill many screens.
+impl fmt::Debug for Engine {
+    fn fmt(&self, f: &mut fmt::Formatter) -> fmt::Result {
+        let (members, records) = (self.committee.members(), self.records().count());
+        let index = self.parts().index.map_or("no index".into(), |index| format!("an index of {} words", index.len()));
+        write!(f, "Engine({members} members, {records} records, {} of {} bytes, {index})", self.used(), self.store.len())
     }
 }
 

@@ -24,7 +24,7 @@ mod tests;
 pub use calendar::{Calendar, Window};
 pub use committee::{Aggregator, Committee, Vote, is_quorum, is_valid};
 pub use engine::{Engine, Finals, Parts, PendingItem};
-pub use feeding::{Event, Outcome};
+pub use feeding::{Event, Fed, Outcome};
 pub use finality::{Finality, Listed, Reading, Reply, Stretch, Stretches};
 pub use memory::{bytes_of, fresh_index, fresh_store, fresh_table, words_of};
 pub use names::{Locator, NotALocator, NotAReference, Reference};

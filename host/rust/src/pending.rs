@@ -79,4 +79,25 @@ impl Committee {
         calls::whom_to_ring(self.stakes(), store, table, low, high, &locator.to_bytes(), &mut found)?;
         Ok(Ring::of(&found))
     }
+
+    /// The same for any set of voters, without a store: the fewest of the owners who can be reached whose stake with the voters' is quorum; nobody
+    /// where the voters hold it. Unknown numbers are ignored in both sets. Or 60.
+    #[doc = stack!(fewest_owners)]
+    ///
+    /// ```
+    /// use lomkhvide::{Committee, Owners, Refusal, Ring, Stake};
+    ///
+    /// let committee = Committee::new(&[5, 3, 3, 2, 2, 1, 1].map(Stake))?;
+    /// // Owners 2 and 3 have voted; 7 more are needed for 12 of 17.
+    /// let ring = committee.fewest_owners(Owners(0b1100), Owners::ALL)?;
+    /// assert_eq!(ring, Ring { owners: Owners(0b11), stake: Stake(8) });
+    /// assert_eq!(committee.fewest_owners(Owners(0b1100), Owners(0b1)), Err(Refusal::QuorumOutOfReach));
+    /// # Ok::<(), Refusal>(())
+    /// ```
+    pub fn fewest_owners(&self, voters: Owners, reachable: Owners) -> Result<Ring, Refusal> {
+        let ([voters_low, voters_high], [low, high]) = (voters.to_words(), reachable.to_words());
+        let mut found = [0; 24];
+        calls::fewest_owners(self.stakes(), voters_low, voters_high, low, high, &mut found)?;
+        Ok(Ring::of(&found))
+    }
 }

@@ -234,8 +234,7 @@ impl Record {
     /// # Ok::<(), lomkhvide::Refusal>(())
     /// ```
     pub fn statements(&self) -> Statements<'_> {
-        let start = self.includes_start() + 48 * self.count_at(49);
-        Statements { rest: &self.bytes[start..], left: self.count_at(51) }
+        Statements::of(&self.bytes)
     }
 
     /// The locators of its shares, with their payloads.
@@ -289,16 +288,30 @@ pub struct Statements<'a> {
 }
 
 impl<'a> Statements<'a> {
-    fn take(&mut self, length: usize) -> &'a [u8] {
-        let (taken, rest) = self.rest.split_at(length);
-        self.rest = rest;
-        taken
+    /// The statements of bytes that may be no record; they end where a byte is missing.
+    pub(crate) fn of(bytes: &'a [u8]) -> Statements<'a> {
+        let none = Statements { rest: &[], left: 0 };
+        let Some(header) = bytes.first_chunk::<HEADER>() else { return none };
+        let count = |at: usize| u16::from_le_bytes([header[at], header[at + 1]]) as usize;
+        let start = HEADER + if header[53] == 2 { 16 } else { 0 } + 48 * count(49);
+        bytes.get(start..).map_or(none, |rest| Statements { rest, left: count(51) })
     }
 
-    fn locator(&mut self) -> Locator {
-        let mut locator = [0; 56];
-        locator.copy_from_slice(self.take(56));
-        Locator::from_bytes(&locator)
+    fn take<const N: usize>(&mut self) -> Option<&'a [u8; N]> {
+        let (taken, rest) = self.rest.split_first_chunk()?;
+        self.rest = rest;
+        Some(taken)
+    }
+
+    fn locator(&mut self) -> Option<Locator> {
+        self.take().map(Locator::from_bytes)
+    }
+
+    fn payload(&mut self) -> Option<&'a [u8]> {
+        let length = u16::from_le_bytes(*self.take()?);
+        let (payload, rest) = self.rest.split_at_checked(length as usize)?;
+        self.rest = rest;
+        Some(payload)
     }
 }
 
@@ -307,17 +320,18 @@ impl<'a> Iterator for Statements<'a> {
 
     fn next(&mut self) -> Option<Statement<'a>> {
         self.left = self.left.checked_sub(1)?;
-        Some(match self.take(1)[0] {
-            0 => {
-                let length = self.take(2);
-                Statement::Share(self.take(u16::from_le_bytes([length[0], length[1]]) as usize))
+        Some(match self.take()? {
+            [0] => Statement::Share(self.payload()?),
+            [1] => Statement::Accept(self.locator()?),
+            [2] => {
+                let first = self.locator()?;
+                let other = match self.take()? {
+                    [1] => Some(self.locator()?),
+                    _ => None,
+                };
+                Statement::Reject(first, other)
             }
-            1 => Statement::Accept(self.locator()),
-            2 => {
-                let first = self.locator();
-                Statement::Reject(first, (self.take(1)[0] == 1).then(|| self.locator()))
-            }
-            _ => Statement::Range { first: self.locator(), end: word_at(self.take(8), 0) },
+            _ => Statement::Range { first: self.locator()?, end: u64::from_le_bytes(*self.take()?) },
         })
     }
 

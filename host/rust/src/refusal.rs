@@ -19,6 +19,7 @@ macro_rules! refusals {
         /// assert_eq!(refusal.to_string(), "a stake of the committee is zero (2)");
         /// ```
         #[derive(Clone, Copy, Debug, PartialEq, Eq, Hash)]
+        #[non_exhaustive]
         pub enum Refusal {
             $(#[doc = concat!(stringify!($number), ": ", $sentence, ".")] $name,)*
             /// A number that this crate does not know: the archive is a later one.
@@ -122,6 +123,7 @@ refusals! {
     61 SlipReadingUnknown "the first byte of the slip names no reading",
     62 LocatorsNotSorted "the locators are not sorted, or not whole",
     63 RepliesTooShort "the slice for replies is too short",
+    64 OutcomesTooShort "the slice for outcomes has fewer words than there are records",
 }
 
 /// The sentence, and the number in brackets.

@@ -1,6 +1,7 @@
 //! Finality slips, taken apart.
 
 use crate::calls::stack;
+use crate::feeding::framed;
 use crate::memory::word_at;
 use crate::{AuthorityIndex, Committee, Locator, Reading, Record, Reference, Refusal, calls};
 
@@ -189,13 +190,7 @@ impl Committee {
     /// # Ok::<(), Refusal>(())
     /// ```
     pub fn read_slip(&self, slip: &[u8], records: &[&[u8]]) -> Result<u64, Refusal> {
-        let mut framed = Vec::new();
-        for record in records {
-            // A length that 4 bytes do not hold is that of no record: the reader answers 52.
-            framed.extend(u32::try_from(record.len()).unwrap_or(u32::MAX).to_le_bytes());
-            framed.extend(*record);
-        }
-        calls::read_slip(self.stakes(), slip, &framed)
+        calls::read_slip(self.stakes(), slip, &framed(records))
     }
 
     /// Writes the finality slip of a final locator to the front of `out`: its length; or 5, 10, 52, 50, and nothing is written.

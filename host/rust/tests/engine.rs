@@ -4,8 +4,8 @@ mod common;
 
 use common::{Chance, graph};
 use lomkhvide::{
-    Committee, Engine, Event, Listed, Locator, Outcome, Owners, Parts, Pending, Reading, Record, Refusal, Slip, Stake,
-    fresh_store, fresh_table,
+    AuthorityIndex, Committee, Engine, Event, Listed, Locator, Outcome, Owners, Parts, Pending, Reading, Record, Refusal,
+    RoundNumber, Slip, Stake, fresh_store, fresh_table,
 };
 
 const ROOM: usize = 1 << 20;
@@ -65,6 +65,8 @@ fn long_lists() {
 fn items_and_records() {
     let records = graph(4, 6);
     let engine = fed(&[Stake(1); 4], &records);
+    let used = engine.parts().store.len();
+    assert_eq!(format!("{engine:?}"), format!("Engine(4 members, 24 records, {used} of {ROOM} bytes, no index)"));
     assert_eq!(engine.records().map(|(_, record)| record).collect::<Vec<_>>(), records);
     for (position, record) in engine.records() {
         assert_eq!(engine.record_at(position), Some(record));
@@ -237,4 +239,57 @@ fn on_a_small_thread() {
         (slip.certifiers().len() > 3, list > 10, panicked.unwrap_err().downcast_ref::<&str>() == Some(&"as it came"))
     });
     assert_eq!(small.unwrap().join().unwrap(), (true, true, true));
+}
+
+/// Bytes changed, cut or put in, of one record in eight.
+fn damaged(record: &Record, chance: &mut Chance) -> Vec<u8> {
+    let mut bytes = record.as_bytes().to_vec();
+    let place = chance.below(bytes.len() as u64) as usize;
+    match chance.below(24) {
+        0 => bytes.truncate(place),
+        1 => bytes[place] = [0, 1, 2, 3, 255][chance.below(5) as usize],
+        2 => bytes.insert(place, 0),
+        _ => (),
+    }
+    bytes
+}
+
+/// Records fed at once become what they become one by one, in whatever order and damage, also where some can have more events than a feed is
+/// lent room for.
+#[test]
+fn fed_at_once() {
+    let mut chance = Chance(21);
+    let (mut short, mut long) = (0, 0);
+    for round in 0..12 {
+        let (whole, later) = (graph(4, 2), graph(4, 10).split_off(8));
+        let mut records: Vec<Vec<u8>> = later.iter().map(|record| damaged(record, &mut chance)).collect();
+        let above = |digest: u8, end: u64| {
+            let begun = Record::builder(RoundNumber(2), AuthorityIndex(0), [digest; 32]);
+            let begun = whole[4..].iter().fold(begun, |begun, record| begun.include(record.reference()));
+            begun.range(whole[4].reference().at(0), end).finish().unwrap().as_bytes().to_vec()
+        };
+        for (digest, end) in [(70, 2730), (71, 2731), (72, 1_048_575), (73, 2000), (74, 2730)] {
+            records.insert(chance.below(records.len() as u64) as usize, above(digest, end));
+        }
+        for _ in 0..3 {
+            let moved = records.remove(chance.below(records.len() as u64) as usize);
+            records.insert(chance.below(records.len() as u64) as usize, moved);
+        }
+        records.splice(..0, whole.iter().map(|record| record.as_bytes().to_vec()));
+        let committee = Committee::new(&[Stake(1); 4]).unwrap();
+        let room = if round % 4 == 3 { 6000 } else { ROOM };
+        for engine in [Engine::new(committee.clone(), room), Engine::with_index(committee.clone(), room)] {
+            let (mut one, mut all) = (engine.clone(), engine);
+            let told: Vec<_> = records.iter().map(|record| one.feed(record)).collect();
+            short += told.iter().filter(|fed| **fed == Err(Refusal::EventsTooShort)).count();
+            long += told.iter().filter(|fed| fed.as_ref().is_ok_and(|events| events.len() == 2730)).count();
+            assert_eq!(all.feed_all(&records), Ok(told));
+            assert_eq!(all.parts(), one.parts());
+        }
+    }
+    assert!(short > 10 && long > 5, "{short} records had too many votes, and {long} as many as there is room for");
+    let mut engine = fed(&[Stake(1); 4], &graph(4, 3));
+    let before = engine.clone();
+    assert_eq!(engine.feed_all::<&[u8]>([]), Ok(vec![]));
+    assert_eq!(engine, before);
 }

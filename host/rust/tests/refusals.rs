@@ -147,6 +147,7 @@ fn of_questions() -> Vec<Option<Refusal>> {
         three.ring(&above.reference().at(0), Owners(0)).err(),
         sorted.replies(&[block(1, 0).at(0), nowhere()]).err(),
         calls::answer_sorted(committee.stakes(), sorted.store(), &[1], &share.to_bytes(), &mut [0; 2]).err(),
+        calls::feed_records(committee.stakes(), &mut fresh_store(16), &mut fresh_table(), &mut [], &mut [], &[0; 4]).err(),
     ]
 }
 
