@@ -89,9 +89,20 @@ impl Node {
         Ok(())
     }
 
+    /// A new node that catches up on this one's records by one call has the same memory.
+    fn caught_up(&self) -> Outcome {
+        let mut other = Engine::new(self.plain.committee().clone(), ROOM);
+        let records = self.plain.records().map(|(_, record)| record);
+        let fed = other.feed_all(records).map_err(|refusal| format!("feed_all is refused: {refusal}"))?;
+        same("fed by one call", "engine", fed.iter().filter(|told| told.is_ok()).count(), self.state.stores.blocks.len())?;
+        same_bytes("the store by one call", other.parts().store, self.plain.parts().store)?;
+        same_bytes("the table by one call", other.parts().table, self.plain.parts().table)
+    }
+
     /// Writes the files. The index is the one worked out afresh.
     pub fn keep(&mut self) -> Outcome {
         self.same_memory()?;
+        self.caught_up()?;
         let Parts { store, table, .. } = self.plain.parts();
         let index = self.indexed.as_ref().and_then(|engine| engine.parts().index).map(<[u64]>::to_vec);
         if let Some(index) = &index {

@@ -4,7 +4,7 @@ use std::collections::HashSet;
 use std::io::{self, Write};
 use std::path::Path;
 
-use lomkhvide::{Engine, Event, Listed, Outcome, Reading, Record, Reference, Refusal};
+use lomkhvide::{Engine, Fed, Listed, Outcome, Reading, Record, Reference, Refusal};
 
 use crate::epoch::{self, Epoch};
 use crate::files::{Access, Files, ROOM, Told, read_if_there, replace};
@@ -50,11 +50,6 @@ pub struct Node {
     pub full: Option<String>,
 }
 
-/// Feeds records, one after the other: the events of each, or why it was refused.
-fn feed_all(engine: &mut Engine, records: &[Arrived]) -> Vec<Result<Vec<Event>, Refusal>> {
-    records.iter().map(|arrived| engine.feed(&arrived.record)).collect()
-}
-
 impl Node {
     /// Opens a folder. What waited when the node was stopped is tried again.
     pub fn open(folder: &Path) -> Told<Node> {
@@ -84,7 +79,7 @@ impl Node {
         println!("opened {} blocks, {} waiting", node.stored.len(), waiting.len());
         let name = |record: &Record| format!("a record that waited, {:#},", record.reference());
         let batch = waiting.into_iter().map(|record| node.arrive(name(&record), record)).collect();
-        node.take(batch);
+        node.take(batch)?;
         Ok(node)
     }
 
@@ -110,14 +105,14 @@ impl Node {
                 Err(error) => break Err(format!("record {}: {error}", self.count.read + 1).into()),
             }
             if batch.len() == BATCH || input.pauses() {
-                self.take(std::mem::take(&mut batch));
+                self.take(std::mem::take(&mut batch))?;
                 self.keep()?;
                 if self.full.is_some() {
                     return Ok(());
                 }
             }
         };
-        self.take(batch);
+        self.take(batch)?;
         self.keep()?;
         end
     }
@@ -149,11 +144,11 @@ impl Node {
     }
 
     /// Feeds records, and those that waited for them, until nothing that waits can be stored.
-    fn take(&mut self, mut batch: Vec<Arrived>) {
+    fn take(&mut self, mut batch: Vec<Arrived>) -> Told<()> {
         while !batch.is_empty() {
             // Rounds fall with every include: in this order an include comes before those that have it.
             batch.sort_by_key(|arrived| (arrived.record.round(), arrived.order));
-            let told = feed_all(&mut self.engine, &batch);
+            let told = self.engine.feed_all(batch.iter().map(|arrived| &arrived.record))?;
             let mut freed = Vec::new();
             for (arrived, told) in batch.into_iter().zip(told) {
                 self.note(arrived, told, &mut freed);
@@ -166,10 +161,11 @@ impl Node {
                 }
             }
         }
+        Ok(())
     }
 
     /// Notes what became of a record; those that waited for it are free.
-    fn note(&mut self, arrived: Arrived, told: Result<Vec<Event>, Refusal>, freed: &mut Vec<Arrived>) {
+    fn note(&mut self, arrived: Arrived, told: Fed, freed: &mut Vec<Arrived>) {
         match told {
             Ok(events) => {
                 self.count.stored += 1;
