@@ -612,6 +612,10 @@ fn full_store_and_next_epoch() {
     let output = streamed(&next, &input(0, &[new])[1..]);
     assert_eq!(numbers(&output, "kept").last(), Some(&1));
     assert_eq!(run(&[Path::new("--epoch"), &state, &next]).status.code(), Some(1), "it is begun already");
+    let third = folder("node-full-third");
+    let twice = run(&[Path::new("--epoch"), &state, &third]);
+    assert!(twice.status.code() == Some(1) && told(&twice).contains("this epoch is closed"), "one epoch goes on in one folder");
+    assert!(contents(&third).is_empty());
 }
 
 /// An epoch is closed by marks of quorum stake, and not before.
@@ -639,13 +643,17 @@ fn epochs_are_closed_by_marks() {
     for include in &records[14..] {
         record = record.include(include.reference());
     }
-    streamed(&state, &input(0, &[record.finish().unwrap()])[1..]);
+    let waits = builder(9, 0, [9; 32]).include(builder(8, 0, [8; 32]).finish().unwrap().reference());
+    let waits =
+        (0..OWNERS).fold(waits, |record, owner| record.include(builder(8, owner, [8; 32]).finish().unwrap().reference()));
+    streamed(&state, &input(0, &[record.finish().unwrap(), waits.finish().unwrap()])[1..]);
     // One that was stopped before its end is begun by nobody else, and can be run again.
     fs::write(next.join("epoch"), "half").unwrap();
     let output = run(&[&next, &folder("node-marks-none")]);
     assert!(output.status.code() == Some(1) && told(&output).contains("run node --epoch again"), "{}", told(&output));
     let epoch = run(&[Path::new("--epoch"), &state, &next]);
     assert!(epoch.status.success(), "{}", told(&epoch));
+    assert_eq!(told(&epoch), "1 records still waited and were never stored: what they share is not on the list\n");
     assert!(run(&[&next, &folder("node-marks-none")]).status.success());
     let missing = folder("node-marks-none").join("nowhere");
     assert_eq!(run(&[Path::new("--epoch"), &missing, &folder("node-marks-other")]).status.code(), Some(1));

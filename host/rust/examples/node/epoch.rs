@@ -15,6 +15,7 @@ use lomkhvide::{Engine, Listed, Locator, Owners, Record, Reference, RoundNumber,
 
 use crate::files::{Access, Files, ROOM, Told, checksum, read_if_there, replace};
 use crate::node::{LONGEST_RECORD, MOST_BLOCKS, READING};
+use crate::waiting;
 
 /// The epoch of a folder: its number, from 1 on, and the blocks of round 0 of those before it.
 pub struct Epoch {
@@ -90,6 +91,10 @@ pub fn next(old: &Path, new: &Path) -> Told<()> {
     let (engine, epoch) = (files.engine()?, Epoch::read(old)?);
     let records: Vec<Record> = engine.records().map(|(_, record)| record).collect();
     may_close(&engine, &records)?;
+    let closed = format!("this epoch is closed, and goes on in {}\n", new.display());
+    if read_if_there(&old.join("closed"))?.is_some_and(|before| before != closed.as_bytes()) {
+        refuse_closed(old)?;
+    }
     let mut begun = Files::hold(new, Access::Write)?;
     if begun.is_begun()? {
         return Err(format!("{}: a node began here already", new.display()).into());
@@ -103,10 +108,13 @@ pub fn next(old: &Path, new: &Path) -> Told<()> {
     replace(new, "share-again", list.concat().as_bytes())?;
     replace(new, "epoch", epoch.text().as_bytes())?;
     // From here on the old epoch is closed, and only this goes on in the new folder.
-    let closed = format!("this epoch is closed, and goes on in {}\n", new.display());
     replace(old, "closed", closed.as_bytes())?;
     begun.begin()?;
     println!("epoch {} is begun in {}; {} changes to share again", epoch.number, new.display(), list.len());
+    let waited = waiting::kept(old)?;
+    if !waited.is_empty() {
+        eprintln!("{} records still waited and were never stored: what they share is not on the list", waited.len());
+    }
     Ok(())
 }
 

@@ -7,10 +7,10 @@ use std::path::Path;
 use lomkhvide::{Engine, Fed, Listed, Outcome, Reading, Record, Reference, Refusal};
 
 use crate::epoch::{self, Epoch};
-use crate::files::{Access, Files, ROOM, Told, read_if_there, replace};
+use crate::files::{Access, Files, ROOM, Told, replace};
 use crate::input::Input;
 use crate::trust;
-use crate::waiting::{Arrived, Lack, MOST_BYTES, MOST_RECORDS, Waiting};
+use crate::waiting::{self, Arrived, Lack, MOST_BYTES, MOST_RECORDS, Waiting};
 
 /// What a reject means in this network: nothing, or that its owner withdraws.
 pub const READING: Reading = Reading::Old;
@@ -57,13 +57,7 @@ impl Node {
         epoch::refuse_closed(folder)?;
         let (engine, epoch) = (files.engine()?, Epoch::read(folder)?);
         let stored = engine.records().map(|(_, record)| record.reference()).collect();
-        let path = folder.join("waiting");
-        let waiting = match read_if_there(&path)? {
-            Some(bytes) => Waiting::records_of(&bytes).ok_or_else(|| {
-                format!("{}: it is damaged; without it the node goes on, and what waited has to come again", path.display())
-            })?,
-            None => vec![],
-        };
+        let waiting = waiting::kept(folder)?;
         let mut node = Node {
             engine,
             files,

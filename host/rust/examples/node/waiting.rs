@@ -1,10 +1,11 @@
 //! Records that cannot be stored yet, each under what it waits for, so that nothing else is looked at when that comes.
 
 use std::collections::{BTreeMap, BTreeSet};
+use std::path::Path;
 
 use lomkhvide::{Record, Reference};
 
-use crate::files::checksum;
+use crate::files::{Told, checksum, read_if_there};
 
 /// The most records that wait, and the most bytes that they have together. Past either the oldest is refused.
 pub const MOST_RECORDS: usize = 1024;
@@ -26,6 +27,15 @@ pub enum Lack {
     Block(Reference),
     /// Room in the pending table (14), which there is when a change leaves it.
     Room,
+}
+
+/// The records that waited when a folder was last kept.
+pub fn kept(folder: &Path) -> Told<Vec<Record>> {
+    let path = folder.join("waiting");
+    let Some(bytes) = read_if_there(&path)? else { return Ok(vec![]) };
+    Waiting::records_of(&bytes).ok_or_else(|| {
+        format!("{}: it is damaged; without it the node goes on, and what waited has to come again", path.display()).into()
+    })
 }
 
 #[derive(Default)]
