@@ -3,9 +3,9 @@
 //!     cargo run --example station -- FOLDER SLIP RECORDS PAYLOAD [TIME]
 //!     cargo run --example station -- --help
 //!
-//! It holds no store and counts no votes. A node writes the slip (`Engine::slip`) and gathers the records that have to travel with it
-//! (`Engine::slip_records`) and the record of the share itself. The work is done on a small stack, as stations have it: the header says 32 KB
-//! for the reader of slips.
+//! It holds no store and counts no votes. A node hands it all three files (`node --slip`): the slip, the records that have to travel with it
+//! (`Engine::slip_records`) with that of the share itself, and the payload. The work is done on a small stack, as stations have it: the
+//! header says 32 KB for the reader of slips.
 
 #[path = "node/trust.rs"]
 mod trust;

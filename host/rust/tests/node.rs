@@ -70,7 +70,7 @@ fn finals_of(records: &[Record]) -> Vec<String> {
     let mut engine = Engine::new(Committee::load(&[]).unwrap(), 1 << 20);
     records.iter().for_each(|record| drop(engine.feed(record).unwrap()));
     let line = |stretch: lomkhvide::Stretch| {
-        format!("final {:#}..{} by {} blocks, stake {}", stretch.first, stretch.end, stretch.blocks, stretch.stake)
+        format!("final {}..{} by {} blocks, stake {}", stretch.first, stretch.end, stretch.blocks, stretch.stake)
     };
     engine.finals(Listed::Ordinary, Reading::Old).map(|stretch| line(stretch.unwrap())).collect()
 }

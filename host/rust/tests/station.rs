@@ -142,6 +142,31 @@ fn load_wait_and_order() {
     assert_eq!(never.shown(&engine, &program, Reading::Old, MONDAY), why);
 }
 
+/// From a node's folder to a station: the node hands over what its list names, and the station loads it.
+#[test]
+fn from_a_node() {
+    let Network { engine, program, .. } = network();
+    let (state, handed, given) = (folder("station-node"), folder("station-handed"), folder("station-given"));
+    fs::write(state.join("stakes"), stakes_file(&[1; 4])).unwrap();
+    for (position, record) in engine.records() {
+        fs::write(given.join(format!("{position:08}")), record.as_bytes()).unwrap();
+    }
+    let node = |words: &[&Path]| Command::new(example("node")).args(words).stdin(Stdio::null()).output().unwrap();
+    let listed = String::from_utf8_lossy(&node(&[&state, &given]).stdout).into_owned();
+    let named = listed.lines().find_map(|line| line.strip_prefix("final ")?.split("..").next()).unwrap();
+    assert_eq!(named, program.to_string());
+    let output = node(&[Path::new("--slip"), &state, Path::new(named), &handed]);
+    assert!(output.status.success(), "{}", String::from_utf8_lossy(&output.stderr));
+    let station = Station::new("station-from-node", "old", "");
+    let file = |name: &str| fs::read(handed.join(name)).unwrap();
+    assert_eq!(station.says(&file("slip"), &file("records"), &file("payload"), 0), format!("load {program}"));
+    for (name, why) in [("1/0/00000005/9", "(52)"), ("nonsense", "nonsense: ")] {
+        let output = node(&[Path::new("--slip"), &state, Path::new(name), &handed]);
+        assert_eq!(output.status.code(), Some(1));
+        assert!(String::from_utf8_lossy(&output.stderr).contains(why));
+    }
+}
+
 /// A station of the new rule takes no slip of the old one for a change that was withdrawn, nor the other way round.
 #[test]
 fn the_reading_that_is_wanted() {

@@ -12,6 +12,7 @@ mod epoch;
 mod files;
 mod input;
 mod node;
+mod slip;
 mod trust;
 mod waiting;
 
@@ -27,6 +28,8 @@ use node::Node;
 const HELP: &str = "\
 node STATE [RECORDS]     feeds the files of the folder RECORDS, by name, or records from standard input, each after its length (4 bytes)
 node --list STATE        prints what is final, and changes nothing
+node --slip STATE LOCATOR FOLDER
+                         writes what a station is handed for a final change, as a line 'final' names it: slip, records and payload
 node --epoch OLD NEW     closes the epoch of the folder OLD, once its blocks are marked or its store is full, and begins the next in NEW
 node --help              prints this
 
@@ -82,6 +85,9 @@ fn main() -> ExitCode {
             Ok(End::Done)
         }
         (Some("--list"), [_, state]) => list(state),
+        (Some("--slip"), [_, state, locator, folder]) => {
+            slip::hand_over(state, &locator.to_string_lossy(), folder).map(|_| End::Done)
+        }
         (Some("--epoch"), [_, old, new]) => epoch::next(old, new).map(|_| End::Done),
         (first, [state, rest @ ..]) if rest.len() < 2 && !first.is_some_and(|word| word.starts_with('-')) => {
             feed(state, rest.first())

@@ -246,7 +246,7 @@ impl Node {
 pub fn print_finals(engine: &Engine) -> Told<()> {
     for stretch in engine.finals(Listed::Ordinary, READING) {
         let stretch = stretch?;
-        println!("final {:#}..{} by {} blocks, stake {}", stretch.first, stretch.end, stretch.blocks, stretch.stake);
+        println!("final {}..{} by {} blocks, stake {}", stretch.first, stretch.end, stretch.blocks, stretch.stake);
     }
     Ok(())
 }
