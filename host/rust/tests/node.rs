@@ -2,7 +2,7 @@
 
 mod common;
 
-use std::collections::BTreeMap;
+use std::collections::{BTreeMap, BTreeSet};
 use std::fs;
 use std::io::{BufRead, BufReader, Write};
 use std::os::unix::fs::MetadataExt;
@@ -12,7 +12,7 @@ use std::thread::sleep;
 use std::time::Duration;
 
 use common::{Chance, builder, chain, example, folder, graph, input, stakes_file};
-use lomkhvide::{AuthorityIndex, Committee, Engine, Listed, Reading, Record};
+use lomkhvide::{AuthorityIndex, Committee, Engine, Listed, Parts, Reading, Record};
 
 const OWNERS: u64 = 7;
 const ROUNDS: u64 = 14;
@@ -98,50 +98,70 @@ fn killed(state: &Path, records: &Path, moment: &Moment) -> Output {
     child.wait_with_output().unwrap()
 }
 
-/// After each kill all that was reported is there: every block that was kept is stored, and what waited waits or is stored.
+/// The records that a folder holds, stored or waiting.
+fn held(state: &Path) -> BTreeSet<Vec<u8>> {
+    let mut held = BTreeSet::new();
+    let current = fs::read_to_string(state.join("current")).unwrap_or("0".to_string());
+    let number = current.lines().next().unwrap();
+    if number != "0" {
+        let read = |part: &str| fs::read(state.join(format!("{part}.{number}"))).unwrap();
+        let (store, table) = (read("store"), read("table"));
+        let parts = Parts { store: &store, table: &table, index: None };
+        let engine = Engine::open(Committee::load(&[]).unwrap(), 1 << 20, parts).unwrap();
+        held.extend(engine.records().map(|(_, record)| record.as_bytes().to_vec()));
+    }
+    let waiting = fs::read(state.join("waiting")).unwrap_or_default();
+    let mut rest = waiting.get(8..).unwrap_or_default();
+    while let Some((length, after)) = rest.split_first_chunk() {
+        let (record, after) = after.split_at(u32::from_le_bytes(*length) as usize);
+        held.insert(record.to_vec());
+        rest = after;
+    }
+    held
+}
+
+/// After each kill all that was reported is there, stored or waiting, and all that was there before.
 #[test]
 fn killed_at_random_moments() {
     let mut chance = Chance(1);
     let records = graph(OWNERS, ROUNDS);
     let (state, none) = (folder("node-state"), folder("node-none"));
     let names = ["current", "current.new", "waiting", "waiting.new"];
-    let (mut kept, mut at_work, mut between) = ((0, 0), 0, 0);
+    let (mut before, mut at_work, mut waited) = (BTreeSet::new(), 0, 0);
     for kill in 0..KILLS {
-        let given = given("node-records", &shuffled(records.clone(), &mut chance));
+        // Some do not come this time, so that others wait for them.
+        let some = records.iter().filter(|_| chance.below(6) > 0).cloned().collect();
+        let given = given("node-records", &shuffled(some, &mut chance));
         let moment = match kill % 2 {
             0 => Moment::After(Duration::from_micros(500 + chance.below(16_000))),
             _ => Moment::Changed(names[chance.below(4) as usize]),
         };
         let output = killed(&state, &given, &moment);
         at_work += !output.status.success() as u64;
-        for line in lines(&output, "kept") {
-            let words: Vec<&str> = line.split_whitespace().collect();
-            kept = (words[1].parse().unwrap(), words[words.len() - 2].parse().unwrap());
+        let after = held(&state);
+        assert!(before.is_subset(&after), "kill {kill}: {} records were there, and {} are", before.len(), after.len());
+        if let Some(line) = lines(&output, "kept").last() {
+            let words: Vec<usize> = line.split_whitespace().filter_map(|word| word.parse().ok()).collect();
+            assert!(after.len() >= words[0] + words[words.len() - 1], "kill {kill}: {line}, and {} are there", after.len());
         }
-        between += (state.join("waiting.new").exists() || state.join("current.new").exists()) as u64;
         let restarted = run(&[&state, &none]);
         assert!(restarted.status.success(), "restart {kill}: {}", told(&restarted));
-        let opened = numbers(&restarted, "opened")[0];
-        let waiting: usize = lines(&restarted, "opened")[0].split_whitespace().rev().nth(1).unwrap().parse().unwrap();
-        assert!(opened >= kept.0, "restart {kill}: {kept:?} was kept and {opened} blocks are there");
-        assert!(
-            opened + waiting >= kept.0 + kept.1,
-            "restart {kill}: {kept:?} was kept, {opened} blocks and {waiting} are there"
-        );
-        kept = (opened, 0);
-        if opened == records.len() || kill % 8 == 7 {
-            // begins anew, so that all kills meet a node at work
+        before = held(&state);
+        assert!(after.is_subset(&before), "restart {kill}");
+        waited += (before.len() > numbers(&restarted, "opened")[0]) as u64;
+        if kill % 8 == 7 {
+            // begins anew, so that kills meet a node with much to do
             fs::remove_dir_all(&state).unwrap();
             fs::create_dir(&state).unwrap();
-            kept = (0, 0);
+            before = BTreeSet::new();
         }
     }
     let output = run(&[&state, &given("node-records", &records)]);
     assert!(output.status.success());
     assert_eq!(numbers(&output, "kept").last(), Some(&records.len()));
     assert_eq!(lines(&output, "final"), finals_of(&records));
-    println!("{KILLS} kills, {at_work} of a node at work, {between} between writing a file and renaming it");
-    assert!(at_work > KILLS / 2, "{at_work} of {KILLS}");
+    println!("{KILLS} kills, {at_work} of a node at work; {waited} times records waited");
+    assert!(at_work > KILLS / 4 && waited > KILLS / 4, "{at_work} and {waited} of {KILLS}");
 }
 
 /// Killed in front of each rename and each removal in turn, where there is strace to do it.
