@@ -192,13 +192,51 @@ mod tests {
         assert!(header.contains(&format!("#define LOMKHVIDE_STACK ((size_t){STACK})\n")));
     }
 
-    /// Every function that the header declares is in the list, and no other.
+    /// What a function of the header is lent, as the list writes it.
+    fn lent(parameters: &str) -> String {
+        let words: Vec<&str> = parameters.split_whitespace().collect();
+        let text = words.join(" ");
+        let mut lent = Vec::new();
+        for parameter in text.split(", ").filter(|parameter| !parameter.starts_with("size_t ")) {
+            let (sort, name) = parameter.rsplit_once([' ', '*']).unwrap();
+            let sort = match sort.trim_end() {
+                "const uint8_t" => "&[u8]",
+                "uint8_t" => "&mut [u8]",
+                "const uint64_t" => "&[u64]",
+                "uint64_t" if parameter.contains('*') => "&mut [u64]",
+                "uint64_t" => "u64",
+                other => panic!("{other}"),
+            };
+            let length = format!("{name}, size_t {name}_len");
+            assert_eq!(
+                text.contains(&length),
+                sort != "u64",
+                "a slice is followed by its length, and no number is: {parameter}"
+            );
+            lent.push(format!("{name}: {sort}"));
+        }
+        lent.join(", ")
+    }
+
+    macro_rules! listed {
+        ($($name:ident = $symbol:ident($($lent:ident: $sort:ty),*) stack $kb:literal;)*) => {
+            vec![$((stringify!($symbol).to_string(), [$(concat!(stringify!($lent), ": ", stringify!($sort))),*].join(", "))),*]
+        };
+    }
+
+    /// Every function that the header declares is in the list, with the same parameters in the same order, and no other.
     #[test]
     fn calls_of_the_header() {
         let header = header();
-        let declared = header.split("\nuint64_t lomkhvide_").skip(1).filter_map(|rest| Some(rest.split_once('(')?.0));
-        let mut declared: Vec<&str> = declared.collect();
-        let mut listed: Vec<&str> = STACKS.iter().map(|(name, _)| *name).collect();
+        let function = |rest: &str| {
+            let (name, rest) = rest.split_once('(').unwrap();
+            (format!("lomkhvide_{name}"), lent(rest.split_once(");").unwrap().0))
+        };
+        let mut declared: Vec<(String, String)> = header.split("\nuint64_t lomkhvide_").skip(1).map(function).collect();
+        let mut listed: Vec<(String, String)> = each_call!(listed);
+        // How a type is spaced is the compiler's.
+        listed.iter_mut().for_each(|(_, lent)| *lent = lent.replace("& ", "&"));
+        assert!(listed.iter().zip(STACKS).all(|((symbol, _), (name, _))| *symbol == format!("lomkhvide_{name}")));
         declared.sort();
         listed.sort();
         assert_eq!(declared, listed);
