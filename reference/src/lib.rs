@@ -16,6 +16,7 @@ pub mod list;
 pub mod loading;
 pub mod members;
 pub mod model;
+pub mod network;
 pub mod program;
 pub mod questions;
 pub mod rings;

@@ -8,12 +8,15 @@ use reference::compare::compare;
 use reference::indexes::Indexed;
 use reference::list::List;
 use reference::loading::{self, Loaded};
+use reference::model::mistake::Mistake;
 use reference::slips::Told;
 use reference::sorted::Asked;
 use reference::tally::Tally;
 use reference::withdrawing::Withdrawn;
 use reference::writing::Written;
-use reference::{calendars, exhaustive, generate, indexes, members, program, rings, shrink, sorted, tables, withdrawing};
+use reference::{
+    calendars, exhaustive, generate, indexes, members, network, program, rings, shrink, sorted, tables, withdrawing,
+};
 
 fn main() {
     let words: Vec<String> = std::env::args().skip(1).collect();
@@ -35,6 +38,8 @@ fn main() {
         Some("withdrawing") => withdrawing(number(word(1), 2000), number(word(2), 1)),
         Some("loading") => loading(number(word(1), 1000), number(word(2), 1)),
         Some("indexes") => indexes(number(word(1), 400), number(word(2), 1)),
+        Some("network") if word(1) == Some("mistakes") => network_mistakes(),
+        Some("network") => network(number(word(1), 200), number(word(2), 1)),
         Some("stakes") => tables(number(word(1), 100_000), number(word(2), 1)),
         Some("model") => model(word(1).expect("a file"), word(2)),
         Some("inputs") => inputs(word(1) == Some("check")),
@@ -152,6 +157,55 @@ fn indexes(count: u64, seed: u64) {
     let Indexed { feeds, accepted, disagreeing, short, lists, longest } = indexed;
     println!("{feeds} feeds with the index: {accepted} accepted, {disagreeing} refused by 54, {short} by 55; {lists} lists; the longest index has {longest} words");
     end(count, failed);
+}
+
+/// Networks of nodes; the smallest form of the first that fail.
+fn network(count: u64, seed: u64) {
+    println!("seed {seed}");
+    let (start, mut told) = (Instant::now(), Instant::now());
+    let (mut tally, mut failed) = (network::Tally::default(), 0);
+    for n in 0..count {
+        if let Err(failure) = network::run(seed, n, None, &mut tally) {
+            failed += 1;
+            println!("network {n} of seed {seed} failed: {}", failure.text);
+            if failed <= 3 {
+                let small = network::smallest(failure, None);
+                println!("its smallest form: {}\n{}", small.text, small.script.describe());
+            }
+        }
+        if told.elapsed() > Duration::from_secs(20) {
+            println!("{} of {count} networks, {failed} failed, {} s", n + 1, start.elapsed().as_secs());
+            let _ = std::io::stdout().flush();
+            told = Instant::now();
+        }
+    }
+    println!("{}", tally.describe());
+    end(count, failed);
+}
+
+/// Whether the networks find a model that makes one of the course's mistakes, as they would find an engine that does.
+fn network_mistakes() {
+    let mistakes =
+        [Mistake::HeadsForStake, Mistake::OwnerTwice, Mistake::MarkedBlock, Mistake::ShareOffsets, Mistake::EmptyRange];
+    let mut failed = 0;
+    for mistake in mistakes {
+        let found = (0..200).find_map(|n| {
+            let failure = network::run(1, n, Some(mistake), &mut network::Tally::default()).err()?;
+            Some((n, network::smallest(failure, Some(mistake))))
+        });
+        match found {
+            Some((n, small)) => println!(
+                "{mistake:?}: found by network {n}; its smallest form has {} steps and {} records",
+                small.script.steps.len(),
+                small.script.records.len()
+            ),
+            None => {
+                failed += 1;
+                println!("{mistake:?}: not found by 200 networks");
+            }
+        }
+    }
+    end(mistakes.len() as u64, failed);
 }
 
 /// Sorted lists of locators answered with the index.

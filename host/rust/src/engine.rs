@@ -1,6 +1,7 @@
 //! An engine that owns its memory: store, pending table and, where it is wanted, the index of voters.
 
 mod questions;
+mod slip_records;
 
 use std::panic::resume_unwind;
 use std::{fmt, io, thread};

@@ -87,6 +87,31 @@ impl Record {
         }
     }
 
+    /// Reads a record that comes with a slip, within the stack of a station, which [`Record::read`] is not. Refused with 52 where the reader
+    /// of slips refuses it under that committee: it is malformed, or breaks a rule that needs no store (20 to 22, 24 to 29).
+    #[doc = stack!(read_slip)]
+    ///
+    /// ```
+    /// # use lomkhvide::*;
+    /// // One owner, who has shared a change in round 1.
+    /// let Sample { committee, record, .. } = sample();
+    /// assert_eq!(Record::read_under(&committee, record.as_bytes()), Ok(record.clone()));
+    /// assert_eq!(Record::read_under(&committee, &record.as_bytes()[1..]), Err(Refusal::SlipNotHeld));
+    /// ```
+    pub fn read_under(committee: &Committee, bytes: &[u8]) -> Result<Record, Refusal> {
+        // A slip that names one block, which is not this one: with a record of the right form that block is missing.
+        let mut slip = [0; 57 + 2 + 48 + 1];
+        slip[57] = 1;
+        let length = bytes.len().min(48);
+        slip[59..59 + length].copy_from_slice(&bytes[..length]);
+        slip[59 + 47] ^= 1;
+        match committee.read_slip(&slip, &[bytes]) {
+            Err(Refusal::SlipRecordMissing) => Ok(Record { bytes: bytes.to_vec() }),
+            Err(refusal) => Err(refusal),
+            Ok(_) => Err(Refusal::SlipNotHeld),
+        }
+    }
+
     /// A record that the engine has taken before.
     pub(crate) fn known(bytes: &[u8]) -> Record {
         Record { bytes: bytes.to_vec() }

@@ -17,7 +17,7 @@ use crate::{AuthorityIndex, Committee, Locator, Reading, Record, Reference, Refu
 /// let slip = engine.slip(&share, Reading::Old)?;
 ///
 /// // At the station:
-/// let read = Slip::read(engine.committee(), slip.as_bytes(), &[record])?;
+/// let read = Slip::read(engine.committee(), slip.as_bytes(), &[record], Reading::Old)?;
 /// assert_eq!(read.certifiers()[0].voters[0].author, AuthorityIndex(0));
 /// # Ok::<(), Refusal>(())
 /// ```
@@ -60,20 +60,27 @@ pub struct Voter {
 }
 
 impl Slip {
-    /// Reads a slip of either reading with the records that come with it, as a station does; more records than it names are welcome. Refused
-    /// with 61 where its first byte names no reading, 52 where it does not hold, 53 where a record that it names is missing; a slip of the
-    /// reading in which an owner may withdraw needs every record below its certifying blocks.
+    /// Reads a slip of the reading that is wanted with the records that come with it, as a station does; more records than it names are
+    /// welcome. Refused with 61 where its first byte names another reading or none, 52 where it does not hold, 53 where a record that it names
+    /// is missing; a slip of the reading in which an owner may withdraw needs every record below its certifying blocks.
     #[doc = stack!(read_slip)]
     ///
     /// ```
-    /// use lomkhvide::{Committee, Refusal, Slip, Stake};
-    ///
-    /// let committee = Committee::new(&[Stake(1)])?;
-    /// assert_eq!(Slip::read(&committee, b"noise", &[]), Err(Refusal::SlipReadingUnknown));
-    /// assert_eq!(Slip::read(&committee, b"\0", &[]), Err(Refusal::SlipNotHeld));
+    /// # use lomkhvide::*;
+    /// // One owner, who has shared a change in round 1.
+    /// let Sample { engine, record, share, .. } = sample();
+    /// let slip = engine.slip(&share, Reading::Old)?;
+    /// let read = |slip, wanted| Slip::read(engine.committee(), slip, &[record.clone()], wanted);
+    /// assert_eq!(read(slip.as_bytes(), Reading::Old), Ok(slip.clone()));
+    /// assert_eq!(read(slip.as_bytes(), Reading::Withdrawing), Err(Refusal::SlipReadingUnknown));
+    /// assert_eq!(read(b"noise", Reading::Old), Err(Refusal::SlipReadingUnknown));
+    /// assert_eq!(read(b"\0", Reading::Old), Err(Refusal::SlipNotHeld));
     /// # Ok::<(), Refusal>(())
     /// ```
-    pub fn read(committee: &Committee, slip: &[u8], records: &[Record]) -> Result<Slip, Refusal> {
+    pub fn read(committee: &Committee, slip: &[u8], records: &[Record], wanted: Reading) -> Result<Slip, Refusal> {
+        if slip.first() != Some(&first_byte(wanted)) {
+            return Err(Refusal::SlipReadingUnknown);
+        }
         let records: Vec<&[u8]> = records.iter().map(Record::as_bytes).collect();
         committee.read_slip(slip, &records)?;
         Ok(Slip::written(slip.to_vec()))
@@ -125,7 +132,7 @@ impl Slip {
     /// # Ok::<(), Refusal>(())
     /// ```
     pub fn reading(&self) -> Reading {
-        if self.bytes[0] == 0 { Reading::Old } else { Reading::Withdrawing }
+        if self.bytes[0] == first_byte(Reading::Old) { Reading::Old } else { Reading::Withdrawing }
     }
 
     /// Its certifying blocks, in ascending order of reference.
@@ -140,6 +147,14 @@ impl Slip {
     /// ```
     pub fn certifiers(&self) -> &[Certifier] {
         &self.certifiers
+    }
+}
+
+/// The byte that names a reading.
+fn first_byte(reading: Reading) -> u8 {
+    match reading {
+        Reading::Old => 0,
+        Reading::Withdrawing => 1,
     }
 }
 

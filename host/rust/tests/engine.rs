@@ -101,8 +101,8 @@ fn slips() {
         assert_eq!(certifier.block, engine.record_at(position).unwrap().reference());
         assert!(certifier.voters.len() >= 3);
     }
-    assert_eq!(Slip::read(engine.committee(), slip.as_bytes(), &records), Ok(slip.clone()));
-    assert_eq!(Slip::read(engine.committee(), slip.as_bytes(), &records[..20]), Err(Refusal::SlipRecordMissing));
+    assert_eq!(Slip::read(engine.committee(), slip.as_bytes(), &records, Reading::Old), Ok(slip.clone()));
+    assert_eq!(Slip::read(engine.committee(), slip.as_bytes(), &records[..20], Reading::Old), Err(Refusal::SlipRecordMissing));
 }
 
 /// What was kept opens to the same engine, which goes on alike.

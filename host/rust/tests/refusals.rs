@@ -159,8 +159,8 @@ fn of_writing() -> Vec<Option<Refusal>> {
         begun(0).write(&mut [0; 55]).err(),
         second().share(&[0; 65_536]).finish().err(),
         engine.slip(&nowhere(), Reading::Old).err(),
-        Slip::read(engine.committee(), slip.as_bytes(), &[first()]).err(),
-        Slip::read(engine.committee(), b"noise", &[]).err(),
+        Slip::read(engine.committee(), slip.as_bytes(), &[first()], Reading::Old).err(),
+        Slip::read(engine.committee(), b"noise", &[], Reading::Old).err(),
     ]
 }
 

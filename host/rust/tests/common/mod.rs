@@ -4,8 +4,9 @@
 
 use std::fs;
 use std::path::{Path, PathBuf};
+use std::process::Command;
 
-use lomkhvide::{AuthorityIndex, Record, RoundNumber};
+use lomkhvide::{AuthorityIndex, Record, RecordBuilder, RoundNumber};
 
 /// Numbers that look like chance and are the same in every run.
 pub struct Chance(pub u64);
@@ -15,6 +16,11 @@ impl Chance {
         self.0 = self.0.wrapping_mul(6_364_136_223_846_793_005).wrapping_add(1_442_695_040_888_963_407);
         (self.0 >> 33) % end
     }
+}
+
+/// Begins a record, by bare numbers.
+pub fn builder(round: u64, author: u64, digest: [u8; 32]) -> RecordBuilder {
+    Record::builder(RoundNumber(round), AuthorityIndex(author), digest)
 }
 
 /// The records of a graph: each owner makes a block in each round, with all blocks of the round before, a share, and accepts of the
@@ -164,4 +170,50 @@ fn string(text: &[u8]) -> Option<(String, &[u8])> {
             _ => return None,
         }
     }
+
+/// A program of the examples. `cargo test` has built it; `cargo test --test NAME` has not.
+pub fn example(name: &str) -> PathBuf {
+    let tests = std::env::current_exe().unwrap();
+    let program = tests.parent().unwrap().parent().unwrap().join("examples").join(name);
+    if !program.exists() {
+        let built = Command::new(env!("CARGO")).args(["build", "--offline", "--example", name]).status().unwrap();
+        assert!(built.success());
+    }
+    program
+}
+
+/// A file of stakes.
+pub fn stakes_file(stakes: &[u64]) -> Vec<u8> {
+    let mut file = vec![1, 0];
+    for (i, stake) in stakes.iter().enumerate() {
+        let next = if i + 1 < stakes.len() { i as u16 + 2 } else { 0 };
+        file.extend(next.to_le_bytes());
+        let mut name = [0; 16];
+        name[..8].copy_from_slice(format!("owner{i:03}").as_bytes());
+        file.extend(name);
+        file.extend(stake.to_le_bytes());
+    }
+    file
+}
+
+/// A chain of blocks under owners of stake 2 and 1, of which both have to vote: each block includes both owners' blocks of the round before, shares
+/// a change and accepts the other's.
+pub fn chain(blocks: u64) -> Vec<Record> {
+    let mut records: Vec<Record> = Vec::new();
+    for i in 0..blocks {
+        let (author, round) = (i % 2, i / 2);
+        let mut digest = [5; 32];
+        digest[..8].copy_from_slice(&i.to_le_bytes());
+        let mut builder = builder(round, author, digest);
+        if round > 0 {
+            for before in &records[2 * round as usize - 2..2 * round as usize] {
+                builder = builder.include(before.reference());
+            }
+        }
+        if i + 1 == blocks || i == 1023 {
+            builder = builder.share(&i.to_le_bytes());
+        }
+        records.push(builder.finish().unwrap());
+    }
+    records
 }
