@@ -1,2 +1,3 @@
 mod Stored
 mod Others
+mod Orders
