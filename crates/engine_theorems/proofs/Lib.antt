@@ -1,3 +1,4 @@
 mod Stored
 mod Others
 mod Orders
+mod Events

@@ -16,6 +16,7 @@ use Rattle.readings.specs.Readings.{Reading}
 use Rattle.reading_lists.specs.Lists.{nextListed, listedStretches}
 use Rattle.promises.specs.Feeds.{storedBlocks, storedRecords}
 use Rattle.promises.specs.ThirdStatement.{Start, engineOf, acceptedOf, SameRecords}
+use Rattle.engine_theorems.specs.Events.{EventsMean}
 
 -- 01: "Stored means accepted in that list": what the store holds is what was accepted, the last first
 pub record StoresAccepted (c : Committee) (t : Start) : Type 0 where
@@ -41,3 +42,5 @@ pub record Claims : Type 0 where
   pub stored : (c : Committee) (t : Start) → StoresAccepted c t
   pub others : OthersNotPending
   pub order : OrderUnseen
+  -- each event is processed, late or unknown by what is stored with its record
+  pub events : (c : Committee) (t : Start) → EventsMean (acceptedOf c t)
