@@ -28,10 +28,13 @@ step-all-requires c κs =
     let a = c .before .before .before .before .before .before .before .before .before .before .before .args in
     let k = c .before .before .before .before .before .before .before .before .before .before .before .pre in
     let bytes = bytes-of (a .store .now) (λ i h. omega (arith, c .before .before .before .before .before .before .before .before .before .shared-slice-known2 .given i)) in
-    let n = counted (a .stakes .now) (a .store .now) (a .index .now) (k .0 .0 .0) (k .0 .1 .0) bytes (k .0 .1 .1) in
-    (k .0,
-    ((listed (a .locators .now) (k .1 .0), omega (arith, n, c .before .read-u16 .ensures)),
-    c .before .before .before .before .clear .ensures ∙ ap (λ (m : ℕ). replicate m 0) (k .1 .1)))
+    let n = counted (a .stakes .now) (a .store .now) (a .index .now) (k .0 .0 .0) (k .0 .1 .0) bytes (k .0 .1 .1) in (
+      k .0,
+      (
+        (listed (a .locators .now) (k .1 .0), omega (arith, n, c .before .read-u16 .ensures)),
+        c .before .before .before .before .clear .ensures ∙ ap (λ (m : ℕ). replicate m 0) (k .1 .1),
+      ),
+    )
 
 same-length : tie.Need-same-length
 same-length c = search needs
