@@ -1,7 +1,8 @@
 -- The wide and the ordinary list in bulk after every list of feeds from a fresh engine. Assumes nothing: these are definitions.
+use Prim.Native.Nat.{_≤_}
 use mathlib.Core.Path.{_≡_}
 use mathlib.Core.Bool.{Bool, true, false}
-use mathlib.Core.List.{List, _++_, map, flatten}
+use mathlib.Core.List.{List, _∷_, _++_, map, flatten}
 use mathlib.Core.Option.{Option, none}
 use lib.ListN.{length}
 use Rattle.base.specs.Lists.{_∈_}
@@ -33,6 +34,18 @@ pub data StretchesOn (c : Committee) (s : Bytes) (k : Listing) : Option Transact
   onward : {after : Option TransactionLocator} {ts : List FinalStretch} (out : Bytes) → Answered c s k out after true
       → StretchesOn c s k (reached after (held c s k out after)) ts → StretchesOn c s k after (held c s k out after ++ ts)
 
+-- the same with these slices in this order, those that are left over unused
+pub data AskedWith (c : Committee) (s : Bytes) (k : Listing) : Option TransactionLocator → List Bytes → List FinalStretch → Type 0 where
+  ends : {after : Option TransactionLocator} {outs : List Bytes} (out : Bytes) → Answered c s k out after false
+      → AskedWith c s k after (out ∷ outs) (held c s k out after)
+  goes : {after : Option TransactionLocator} {outs : List Bytes} {ts : List FinalStretch} (out : Bytes) → Answered c s k out after true
+      → AskedWith c s k (reached after (held c s k out after)) outs ts → AskedWith c s k after (out ∷ outs) (held c s k out after ++ ts)
+
+-- it comes to the end with any slices of 80 bytes or more, of which as many as there are locators are enough, and one where there are none
+unfoldable pub ReachesEnd : Committee → Bytes → Listing → List TransactionLocator → Type 0
+ReachesEnd c s k ls = (outs : List Bytes) → ((out : Bytes) → out ∈ outs → 80 ≤ length out) → 1 ≤ length outs → length ls ≤ length outs
+    → (ts : List FinalStretch) × AskedWith c s k none outs ts
+
 -- the stretches of the wide list, and of the ordinary one
 abbrev pub WideOn : Committee → Bytes → List FinalStretch → Type 0
 WideOn c s ts = StretchesOn c s (wide c (blocksOf s)) none ts
@@ -57,6 +70,9 @@ pub record BulkStatement : Type 0 where
   -- "Every other list from a fresh engine under that committee that leaves the same records stored, in whatever order, gives the same final list."
   pub sameList : (c : Committee) → broken c ≡ false → (t u : Start) → SameRecords c t u → (ts us : List FinalStretch)
       → WideOn c (engineOf c t .store) ts → WideOn c (engineOf c u .store) us → spreadOut ts ≡ spreadOut us
+  -- 01: "asked on from the start until none": it comes to that end, with whatever slices that hold a stretch
+  pub reaches : (c : Committee) → broken c ≡ false → (t : Start) (ls : List TransactionLocator) → FinalList c (engineOf c t .store) ls
+      → ReachesEnd c (engineOf c t .store) (wide c (blocksOf (engineOf c t .store))) ls
   -- 02: "The ordinary listing shall show final locators that name a stored share": in bulk it is the ordinary list
   pub ordinarySpread : (c : Committee) → broken c ≡ false → (t : Start) (ts : List FinalStretch) → OrdinaryOn c (engineOf c t .store) ts
       → (ls : List TransactionLocator) → FinalShareList c (engineOf c t .store) ls → spreadOut ts ≡ ls
@@ -70,3 +86,6 @@ pub record BulkStatement : Type 0 where
   -- the same for every order of arrival
   pub ordinarySame : (c : Committee) → broken c ≡ false → (t u : Start) → SameRecords c t u → (ts us : List FinalStretch)
       → OrdinaryOn c (engineOf c t .store) ts → OrdinaryOn c (engineOf c u .store) us → spreadOut ts ≡ spreadOut us
+  -- and it comes to its end too
+  pub ordinaryReaches : (c : Committee) → broken c ≡ false → (t : Start) (ls : List TransactionLocator) → FinalShareList c (engineOf c t .store) ls
+      → ReachesEnd c (engineOf c t .store) (ordinary c (blocksOf (engineOf c t .store))) ls

@@ -4,14 +4,14 @@ use mathlib.Core.Logic.{_⊎_, inl, inr}
 use mathlib.Core.Bool.{Bool, true, false}
 use mathlib.Core.List.{List, [], _∷_, map, flatten}
 use mathlib.Core.Option.{Option, none, some}
-use Prim.Native.Nat.{ℕ, suc, _+_}
+use Prim.Native.Nat.{ℕ, suc, _+_, _-_, _≤_, _<_}
 use native.Mathlib.Omega.{arith}
 use lib.Dec.{eqb}
 use lib.ListN.{getElem?}
 use borrow.Author.Tests.{eqb-true}
 use Rattle.base.specs.Lists.{pick, find, _∈_}
 use Rattle.base.specs.Checks.{passes}
-use Rattle.base.proofs.Members.{in-empty, in-cases, in-append, flatten-in, map-in}
+use Rattle.base.proofs.Members.{in-empty, in-cases, in-append, flatten-in, map-in, countFrom-in}
 use Rattle.base.proofs.Lists.{Every, every-in, find-passes, find-every, find-in}
 use Rattle.committee.specs.Committee.{AuthorityIndex, Committee, known}
 use Rattle.stake_aggregator.specs.StakeAggregator.{hasQuorum}
@@ -72,6 +72,11 @@ item-shared c rs xs h r o x f = go (lookup (entries rs) r) refl f
         called : (z : Entry) → lookup (entries rs) r ≡ some z → sameReference (referenceOf z) r ≡ true
         called z t = find-passes (λ y. sameReference (referenceOf y) r) (entries rs) z t
 
+-- an offset of a range lies within it
+offsets-in : (q : TransactionLocatorRange) (o : ℕ) → o ∈ offsets q → (q .start ≤ o) × (o < q .end)
+unfolding offsets
+offsets-in q o m = let i = countFrom-in (q .start) (q .end - q .start) m in (i .0, omega (arith, i .0, i .1))
+
 -- a statement, from index i on, by which the event came
 pub record Source (es : List Entry) (i : ℕ) (ss : List Statement) (v : Event) : Type 0 where
   pub index : ℕ
@@ -80,17 +85,21 @@ pub record Source (es : List Entry) (i : ℕ) (ss : List Statement) (v : Event) 
   pub stands : getElem? ss index ≡ some statement
   pub range : TransactionLocatorRange
   pub votes : votedRange statement ≡ some range
+  pub within : (range .start ≤ v .offset) × (v .offset < range .end)
   pub processed : v .kind ≡ 1 → Shared es (range .block) (v .offset)
+  -- without an item it is late or unknown
+  pub missing : (v .kind ≡ 1) ⊎ (v .kind ≡ missed es (range .block) (v .offset))
 
 later : (es : List Entry) (i : ℕ) (s : Statement) (ss : List Statement) (v : Event) → Source es (i + 1) ss v → Source es i (s ∷ ss) v
 later es i s ss v u =
-    record { index = suc (u .index); told = omega (arith, u .told); statement = u .statement; stands = u .stands; range = u .range; votes = u .votes; processed = u .processed }
+    record { index = suc (u .index); told = omega (arith, u .told); statement = u .statement; stands = u .stands; range = u .range; votes = u .votes; within = u .within; processed = u .processed; missing = u .missing }
 
 -- the event of one offset
 record Told (c : Committee) (es : List Entry) (r : BlockReference) (i o : ℕ) (x : Option Item) (v : Event) : Type 0 where
   by : v .statement ≡ i
   at : v .offset ≡ o
   item : v .kind ≡ 1 → (y : Item) × (x ≡ some y)
+  kind : (v .kind ≡ 1) ⊎ (v .kind ≡ missed es r o)
 
 told-of : (c : Committee) (es : List Entry) (r : BlockReference) (i o : ℕ) (x : Option Item) (v : Event) → v ∈ eventOf c es r i o x → Told c es r i o x v
 unfolding eventAt eventOf missed
@@ -101,12 +110,12 @@ told-of c es r i o none v m = go (in-cases m)
     not-one false e = omega arith
 
     go : (v ≡ record { kind = missed es r o; statement = i; offset = o }) ⊎ (v ∈ []) → Told c es r i o none v
-    go (inl e) = record { by = ap (λ (w : Event). w .statement) e; at = ap (λ (w : Event). w .offset) e; item = λ k. absurd (not-one (isStoredShare (blocksAt es) (locator r o)) (sym (ap (λ (w : Event). w .kind) e) ∙ k)) }
+    go (inl e) = record { by = ap (λ (w : Event). w .statement) e; at = ap (λ (w : Event). w .offset) e; item = λ k. absurd (not-one (isStoredShare (blocksAt es) (locator r o)) (sym (ap (λ (w : Event). w .kind) e) ∙ k)); kind = inr (ap (λ (w : Event). w .kind) e) }
     go (inr k) = absurd (in-empty k)
 told-of c es r i o (some y) v m = split (hasQuorum c (y .aggregator)) m
   where
     go : (v ≡ record { kind = 1; statement = i; offset = o }) ⊎ (v ∈ []) → Told c es r i o (some y) v
-    go (inl e) = record { by = ap (λ (w : Event). w .statement) e; at = ap (λ (w : Event). w .offset) e; item = λ k. (y, refl) }
+    go (inl e) = record { by = ap (λ (w : Event). w .statement) e; at = ap (λ (w : Event). w .offset) e; item = λ k. (y, refl); kind = inl (ap (λ (w : Event). w .kind) e) }
     go (inr k) = absurd (in-empty k)
 
     split : (t : Bool) → v ∈ pick t (record { kind = 1; statement = i; offset = o } ∷ []) [] → Told c es r i o (some y) v
@@ -142,6 +151,10 @@ module _ (c : Committee) (rs : List Record) (a : AuthorityIndex) (k : known c a 
             stands = refl;
             range = q;
             votes = e;
+            within =
+                let i = offsets-in q (o .0) (o .1) in
+                (omega (arith, t .at, i .0), omega (arith, t .at, i .1));
+            missing = subst (λ (n : ℕ). (v .kind ≡ 1) ⊎ (v .kind ≡ missed (entries rs) (q .block) n)) (sym (t .at)) (t .kind);
             processed = λ w.
                 let y = t .item w in
                 subst (λ (n : ℕ). Shared (entries rs) (q .block) n) (sym (t .at))

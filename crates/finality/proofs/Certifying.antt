@@ -4,9 +4,10 @@ use mathlib.Core.Bool.{Bool, true, false}
 use mathlib.Core.List.{List, [], _∷_}
 use Prim.Native.Nat.{suc}
 use lib.ListN.{length, length-map}
-use Rattle.base.specs.Lists.{pick, keep, _∈_, here, there}
+use Rattle.base.specs.Lists.{pick, keep, _∈_}
 use Rattle.base.specs.Le.{Bytes}
-use Rattle.base.proofs.Lists.{Every, none-of, and, every-in, pairs-keep, pairs-pairwise}
+use Rattle.base.proofs.Lists.{pairs-keep, pairs-pairwise}
+use Rattle.base.proofs.Members.{in-keep, keep-in}
 use Rattle.committee.specs.Committee.{Committee}
 use Rattle.blocks.specs.Reference.{TransactionLocator, referenceBefore}
 use Rattle.blocks.specs.Block.{Block}
@@ -15,43 +16,13 @@ use Rattle.store_layout.specs.Store.{recordsOf, storeInOrder}
 use Rattle.store_layout.proofs.Store.{in-order}
 use Rattle.store_layout.proofs.Chain.{Ascending, ascending-every, ascending-ascends, distinct}
 use Rattle.store_layout.proofs.Accepted.{blocks}
+use Rattle.store_layout.proofs.Lookups.{entry-block}
+use Rattle.store_layout.proofs.Visit.{ascending-in, in-ascending}
 use Rattle.finality.specs.Voters.{certifies, certifiers}
 use Rattle.finality.specs.Finality.{blocksOf, certifyingPositions}
-use Rattle.finality.specs.Claims.{CertifyingMeant}
-
-placed-self : (e : Entry) (ds : List Entry) → e ∈ placed e ds
-unfolding placed
-placed-self e [] = here
-placed-self e (d ∷ ds) = split (referenceBefore (referenceOf e) (referenceOf d)) (placed-self e ds)
-  where
-    split : (t : Bool) → e ∈ placed e ds → e ∈ pick t (e ∷ d ∷ ds) (d ∷ placed e ds)
-    split true k = here
-    split false k = there k
-
-placed-other : (e x : Entry) (ds : List Entry) → x ∈ ds → x ∈ placed e ds
-unfolding placed
-placed-other e x (d ∷ ds) here = split (referenceBefore (referenceOf e) (referenceOf x))
-  where
-    split : (t : Bool) → x ∈ pick t (e ∷ x ∷ ds) (x ∷ placed e ds)
-    split true = there here
-    split false = here
-placed-other e x (d ∷ ds) (there m) = split (referenceBefore (referenceOf e) (referenceOf d)) (placed-other e x ds m)
-  where
-    split : (t : Bool) → x ∈ placed e ds → x ∈ pick t (e ∷ d ∷ ds) (d ∷ placed e ds)
-    split true k = there (there m)
-    split false k = there k
-
-pub ascending-in : (x : Entry) (es : List Entry) → x ∈ ascending es → x ∈ es
-ascending-in x es m = every-in (ascending es) x (ascending-every es (each es (λ y k. k))) m
-  where
-    each : (ds : List Entry) → ((y : Entry) → y ∈ ds → y ∈ es) → Every (λ y. y ∈ es) ds
-    each [] f = none-of
-    each (d ∷ ds) f = and (f d here) (each ds (λ y k. f y (there k)))
-
-pub in-ascending : (x : Entry) (es : List Entry) → x ∈ es → x ∈ ascending es
-unfolding ascending
-in-ascending x (e ∷ es) here = placed-self e (ascending es)
-in-ascending x (e ∷ es) (there m) = placed-other e x (ascending es) (in-ascending x es m)
+use Rattle.finality.specs.Claims.{CertifyingEntry, CertifyingMeant}
+use Rattle.finality.proofs.Finals.{certifies-true, true-certifies}
+use Rattle.finality.proofs.Asked.{in-order-stored}
 
 -- the certifying blocks of a store in order, in ascending reference order
 certifying-ascends : (c : Committee) (s : Bytes) (l : TransactionLocator) → storeInOrder c s ≡ true
@@ -104,9 +75,25 @@ certifying-meant c s l h =
     record {
       found = found;
       positions = refl;
+      exactly = λ e. (named e, names e);
       ascending = pairs-pairwise (λ e d. referenceBefore (referenceOf e) (referenceOf d)) found (certifying-ascends c s l h);
       many = sym (length-map found (λ e. e .position)) ∙ certifying-count c s l;
     }
   where
     found : List Entry
     found = keep (λ e. certifies c (blocksOf s) l (e .block)) (ascending (entries (recordsOf s)))
+
+    test : Entry → Bool
+    test e = certifies c (blocksOf s) l (e .block)
+
+    named : (e : Entry) → e ∈ found → CertifyingEntry c s l e
+    named e m =
+        let k = keep-in test (ascending (entries (recordsOf s))) m in
+        let stands : e ∈ entries (recordsOf s) = ascending-in (entries (recordsOf s)) e (k .0) in
+        let x = certifies-true c (in-order-stored c s h) l (e .block) (unfold blocksOf in entry-block (recordsOf s) e stands) (k .1) in
+        record { stored = stands; unmarked = x .0; quorum = x .1 }
+
+    names : (e : Entry) → CertifyingEntry c s l e → e ∈ found
+    names e x =
+        in-keep test (ascending (entries (recordsOf s))) (in-ascending (entries (recordsOf s)) e (x .stored))
+        (true-certifies c (in-order-stored c s h) l (e .block) (unfold blocksOf in entry-block (recordsOf s) e (x .stored)) (x .unmarked) (x .quorum))

@@ -8,12 +8,13 @@ use lib.ListN.{length}
 use Rattle.base.specs.Lists.{pairwise, _∈_}
 use Rattle.base.specs.Le.{Bytes}
 use Rattle.committee.specs.Committee.{AuthorityIndex, Committee, broken}
+use Rattle.committee.specs.Quorum.{HoldQuorum}
 use Rattle.authority_set.specs.AuthoritySet.{member}
 use Rattle.blocks.specs.Reference.{TransactionLocator, referenceBefore}
 use Rattle.blocks.specs.Block.{Block}
-use Rattle.store_layout.specs.Layout.{Record, Entry, referenceOf}
+use Rattle.store_layout.specs.Layout.{Record, Entry, referenceOf, entries}
 use Rattle.store_layout.specs.Accept.{allAccepted}
-use Rattle.store_layout.specs.Store.{storeInOrder}
+use Rattle.store_layout.specs.Store.{recordsOf, storeInOrder}
 use Rattle.finality.specs.Ancestry.{Ancestor, Voter, Final}
 use Rattle.finality.specs.Voters.{voters, certifiers, isFinal}
 use Rattle.finality.specs.Finality.{blocksOf, certifyingPositions}
@@ -47,11 +48,18 @@ LeastFinalMeant = (c : Committee) (bs : List Block) (after : Option TransactionL
 unfoldable pub FinalListMeant : Type 0
 FinalListMeant = (c : Committee) (s : Bytes) → broken c ≡ false → storeInOrder c s ≡ true → FinalList c s (finalList c (blocksOf s))
 
--- 01: "the number of certifying blocks and their positions, one word each, in ascending reference order": they are the positions of certifying
--- entries, as many as blocks certify, each of a higher reference than the one before
+-- 01: "An unmarked block with quorum voters certifies": so does that of a stored entry
+pub record CertifyingEntry (c : Committee) (s : Bytes) (l : TransactionLocator) (e : Entry) : Type 0 where
+  pub stored : e ∈ entries (recordsOf s)
+  pub unmarked : e .block .marked ≡ false
+  pub quorum : HoldQuorum c (Voter (blocksOf s) (e .block) l)
+
+-- 01: "the number of certifying blocks and their positions, one word each, in ascending reference order": they are the positions of exactly the
+-- entries that certify, as many as blocks certify, each of a higher reference than the one before
 pub record CertifyingMeant (c : Committee) (s : Bytes) (l : TransactionLocator) : Type 0 where
   pub found : List Entry
   pub positions : certifyingPositions c s l ≡ map (λ e. e .position) found
+  pub exactly : (e : Entry) → (e ∈ found) ↔ CertifyingEntry c s l e
   pub ascending : pairwise (λ e d. referenceBefore (referenceOf e) (referenceOf d)) found ≡ true
   pub many : length found ≡ length (certifiers c (blocksOf s) l)
 

@@ -1,20 +1,22 @@
 -- A list of feeds with the index leaves what the list without it leaves, the feeds that 55 refused left out. Assumes nothing.
 use mathlib.Core.Path.{_≡_, refl, ap, _∙_}
-use mathlib.Core.Bool.{Bool, true, false}
+use mathlib.Core.Bool.{Bool, true, false, not}
 use mathlib.Core.List.{List, [], _∷_, _++_}
 use mathlib.Core.Option.{Option, none, some}
 use Prim.Native.Nat.{ℕ}
 use borrow.Author.Tests.{eqb-true}
-use Rattle.base.specs.Lists.{pick}
-use Rattle.base.specs.Checks.{Answer, refused, answered}
-use Rattle.base.proofs.Tests.{not-both}
+use Rattle.base.specs.Lists.{pick, allOf}
+use Rattle.base.specs.Checks.{Check, _⇒_, passes, Answer, refused, answered}
+use Rattle.base.proofs.Tests.{not-both, fails}
+use Rattle.base.proofs.Checks.{passes-left, passes-right}
 use Rattle.committee.specs.Committee.{Committee}
 use Rattle.store_layout.specs.Layout.{Record, readRecord}
 use Rattle.store_layout.specs.Store.{storeInOrder}
-use Rattle.feeds.specs.Feed.{Fed, refusedFeed}
+use Rattle.feeds.specs.Feed.{Lent, Fed, refusedFeed}
+use Rattle.feeds.specs.Pending.{pendingChecks}
 use Rattle.finality.specs.Finality.{blocksOf}
 use Rattle.voters_index.specs.Index.{indexAgrees}
-use Rattle.indexed_feeds.specs.IndexedFeed.{IndexedFed}
+use Rattle.indexed_feeds.specs.IndexedFeed.{IndexedFed, indexedLentChecks, indexedChecks, refusedIndexed, feedIndexedRecord, feedIndexed}
 use Rattle.indexed_feeds.specs.Claims.{AsWithout, RefusedLeaves, StaysAgreed}
 use Rattle.indexed_feeds.proofs.Claimed.{as-without, refused-leaves, stays-agreed}
 use Rattle.promises.specs.Feeds.{Feed, Engine, outcome, left, run, Accepted, acceptedIn, accepted}
@@ -106,3 +108,33 @@ module _ (c : Committee) (g : IndexedEngine) (h : Agreeing c g) where
           let same = same-outcome c (runIndexed c g earlier) (run-agreeing earlier) f (λ u. not-both (is-55 _ u) e) ∙ ap (λ (x : Engine). outcome c x f) (run-reduced earlier) in
           ap (λ (x : Fed). acceptedIn (readRecord (f .bytes)) (x .answer) (x .events) ++ takenIndexed c g earlier) same
           ∙ ap (λ (as′ : List Accepted). acceptedIn (readRecord (f .bytes)) (outcome c (run c (g .engine) (but55 c g earlier)) f .answer) (outcome c (run c (g .engine) (but55 c g earlier)) f .events) ++ as′) ih
+
+-- ---- an index that disagrees
+
+-- every feed is refused (54, or what comes before it), and leaves all as it was
+unmoved : (c : Committee) (g : IndexedEngine) → indexAgrees (blocksOf (g .engine .store)) (g .index) ≡ false → (f : Feed) → leftIndexed (outcomeIndexed c g f) ≡ g
+unfolding outcomeIndexed leftIndexed left feedIndexed feedIndexedRecord refusedIndexed refusedFeed indexedChecks indexedLentChecks passes allOf
+unmoved c g e f = go (readRecord (f .bytes))
+  where
+    m : Lent
+    m = record { store = g .engine .store; table = g .engine .table; work = f .work; events = f .events }
+
+    lent : List Check
+    lent = (not (indexAgrees (blocksOf (m .store)) (g .index)) ⇒ 54) ∷ []
+
+    refuses : passes lent ≡ true → ⊥
+    refuses p = not-both p (rw e)
+
+    short : (o : Option Record) → passes (indexedChecks c m (g .index) o) ≡ false
+    short o =
+        fails (passes (indexedChecks c m (g .index) o)) (λ p.
+        refuses (passes-right (pendingChecks c (m .store) (m .table)) lent (passes-left (indexedLentChecks c (m .store) (m .table) (g .index)) _ p)))
+
+    go : (o : Option Record) → leftIndexed (feedIndexedRecord c m (g .index) o) ≡ g
+    go none = refl
+    go (some r) = rw (short (some r))
+
+pub run-unmoved : (c : Committee) (g : IndexedEngine) → indexAgrees (blocksOf (g .engine .store)) (g .index) ≡ false → (fs : List Feed) → runIndexed c g fs ≡ g
+unfolding runIndexed
+run-unmoved c g e [] = refl
+run-unmoved c g e (f ∷ fs) = ap (λ (d : IndexedEngine). leftIndexed (outcomeIndexed c d f)) (run-unmoved c g e fs) ∙ unmoved c g e f

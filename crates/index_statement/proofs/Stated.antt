@@ -1,6 +1,6 @@
 -- The statements, from those without the index. Assumes nothing.
-use mathlib.Core.Path.{_≡_, sym, ap, subst, _∙_}
-use mathlib.Core.Bool.{true, false}
+use mathlib.Core.Path.{_≡_, refl, sym, ap, subst, _∙_}
+use mathlib.Core.Bool.{Bool, true, false}
 use mathlib.Core.List.{List, [], _∷_, _++_, map}
 use Prim.Native.Nat.{ℕ}
 use Rattle.base.specs.Lists.{_∈_}
@@ -9,18 +9,20 @@ use Rattle.base.proofs.Orders.{same-refl, same-true}
 use Rattle.committee.specs.Committee.{Committee, broken}
 use Rattle.blocks.specs.Reference.{TransactionLocator}
 use Rattle.store_layout.specs.Layout.{Record}
+use Rattle.store_layout.specs.Store.{storeInOrder}
 use Rattle.finality.specs.Finality.{blocksOf}
 use Rattle.finality.specs.NextFinal.{FinalList}
 use Rattle.voters_index.specs.Index.{indexed, bodyWords, usedWords, indexWords, indexOf, freshIndex, usedPart, indexAgrees}
-use Rattle.promises.specs.Feeds.{Engine, fresh, Accepted, storedRecords}
+use Rattle.readings.specs.Readings.{Reading}
+use Rattle.promises.specs.Feeds.{Feed, Engine, fresh, run, Accepted, storedRecords}
 use Rattle.promises.specs.ThirdStatement.{Holds, engineOf, acceptedOf, SameRecords}
 use Rattle.promises.proofs.Storing.{fresh-holds}
 use Rattle.promises.proofs.ThirdStatement.{third-statement}
 use Rattle.trust.specs.Staying.{StillFinal}
 use Rattle.trust.proofs.Staying.{stays-final}
-use Rattle.index_statement.specs.Indexed.{IndexedEngine, IndexedStart, freshIndexed, engineIndexed, acceptedIndexedOf, but55, without55}
+use Rattle.index_statement.specs.Indexed.{IndexedEngine, runIndexed, IndexedStart, freshIndexed, engineIndexed, acceptedIndexedOf, but55, without55}
 use Rattle.index_statement.specs.Statement.{IndexStatement, SameStored, IndexedThird, IndexedStays}
-use Rattle.index_statement.proofs.Reduced.{Agreeing, same-outcome, run-agreeing, run-reduced, taken-reduced}
+use Rattle.index_statement.proofs.Reduced.{Agreeing, same-outcome, run-agreeing, run-reduced, taken-reduced, run-unmoved}
 
 fresh-index : (past : List ℕ) → indexAgrees [] (freshIndex ++ past) ≡ true
 unfolding indexAgrees usedPart freshIndex indexWords usedWords bodyWords indexed
@@ -83,10 +85,19 @@ same-list c b t u s ls ms x y =
 pub third-indexed : IndexedThird
 third-indexed = record { every = every; sameList = same-list }
 
+-- from any store in order: an index that disagrees has every feed refused
+further : (reading : Reading) (c : Committee) → broken c ≡ false → (g : IndexedEngine) → storeInOrder c (g .engine .store) ≡ true → (fs : List Feed)
+    → StillFinal reading c (g .engine .store) (runIndexed c g fs .engine .store)
+further reading c b g h fs = split (indexAgrees (blocksOf (g .engine .store)) (g .index)) refl
+  where
+    split : (t : Bool) → indexAgrees (blocksOf (g .engine .store)) (g .index) ≡ t → StillFinal reading c (g .engine .store) (runIndexed c g fs .engine .store)
+    split true e =
+        subst (λ (d : Engine). StillFinal reading c (g .engine .store) (d .store)) (sym (run-reduced c g (record { order = h; agrees = e }) fs))
+        (stays-final .further reading c b (g .engine) h (but55 c g fs))
+    split false e =
+        subst (λ (d : IndexedEngine). StillFinal reading c (g .engine .store) (d .engine .store)) (sym (run-unmoved c g e fs))
+        (unfold run in stays-final .further reading c b (g .engine) h [])
+
 pub stays-indexed : IndexedStays
 stays-indexed =
-    record {
-      fed = λ reading c b t fs.
-          subst (λ (g : Engine). StillFinal reading c (engineIndexed c t .engine .store) (g .store)) (sym (run-reduced c (engineIndexed c t) (after c t) fs))
-          (stays-final .further reading c b (engineIndexed c t .engine) (after c t .order) (but55 c (engineIndexed c t) fs));
-    }
+    record { further = further; fed = λ reading c b t fs. further reading c b (engineIndexed c t) (after c t .order) fs }

@@ -1,20 +1,21 @@
 -- The engine with the index keeps its promises. Assumes nothing: these are definitions.
 use mathlib.Core.Path.{_≡_}
 use mathlib.Core.Logic.{_↔_}
-use mathlib.Core.Bool.{false}
+use mathlib.Core.Bool.{true, false}
 use mathlib.Core.List.{List}
 use Rattle.base.specs.Lists.{_∈_}
 use Rattle.base.specs.Le.{Bytes}
 use Rattle.base.specs.Checks.{refused}
 use Rattle.committee.specs.Committee.{Committee, broken}
 use Rattle.blocks.specs.Reference.{TransactionLocator}
+use Rattle.store_layout.specs.Store.{storeInOrder}
 use Rattle.finality.specs.NextFinal.{FinalList}
 use Rattle.voters_index.specs.Index.{indexOf, usedPart}
 use Rattle.readings.specs.Readings.{Reading}
 use Rattle.promises.specs.Feeds.{Feed, outcome, storedRecords}
 use Rattle.promises.specs.ThirdStatement.{Holds, engineOf, acceptedOf}
 use Rattle.trust.specs.Staying.{StillFinal}
-use Rattle.index_statement.specs.Indexed.{outcomeIndexed, runIndexed, IndexedStart, engineIndexed, acceptedIndexedOf, without55}
+use Rattle.index_statement.specs.Indexed.{IndexedEngine, outcomeIndexed, runIndexed, IndexedStart, engineIndexed, acceptedIndexedOf, without55}
 
 pub record IndexStatement : Type 0 where
   -- 02: "After any list of feeds with it the index equals the one worked out afresh from the store"
@@ -41,5 +42,9 @@ pub record IndexedThird : Type 0 where
 
 -- what is final stays final after every further list of feeds with the index, in both readings
 pub record IndexedStays : Type 0 where
+  -- from any store in order, whatever table and index stand beside it
+  pub further : (reading : Reading) (c : Committee) → broken c ≡ false → (g : IndexedEngine) → storeInOrder c (g .engine .store) ≡ true → (fs : List Feed)
+      → StillFinal reading c (g .engine .store) (runIndexed c g fs .engine .store)
+  -- so from every engine that a list of feeds from fresh left
   pub fed : (reading : Reading) (c : Committee) → broken c ≡ false → (t : IndexedStart) (fs : List Feed)
       → StillFinal reading c (engineIndexed c t .engine .store) (runIndexed c (engineIndexed c t) fs .engine .store)

@@ -140,7 +140,7 @@ gives-finals c b t = gives-final c (engineOf c t) (acceptedOf c t) b (store-of c
 pub gives-final-shares : (c : Committee) → broken c ≡ false → (t : Start) → GivesFinalShares c (engineOf c t) (storedBlocks (acceptedOf c t))
 gives-final-shares c b t = gives-final-share c (engineOf c t) (acceptedOf c t) b (store-of c t)
 
-same-blocks : (c : Committee) (t u : Start) → SameRecords c t u → (e : Block) → (e ∈ blocksOf (engineOf c t .store)) ↔ (e ∈ blocksOf (engineOf c u .store))
+pub same-blocks : (c : Committee) (t u : Start) → SameRecords c t u → (e : Block) → (e ∈ blocksOf (engineOf c t .store)) ↔ (e ∈ blocksOf (engineOf c u .store))
 same-blocks c t u f e =
     let h = store-of c t in
     let k = store-of c u in

@@ -1,16 +1,15 @@
 -- The replies after the steps of the blocks that were passed. Assumes nothing.
 use mathlib.Core.Path.{_≡_, refl, sym, ap, subst, _∙_}
 use mathlib.Core.Bool.{Bool, true, false}
-use mathlib.Core.List.{List, [], _∷_, _++_, flatten}
+use mathlib.Core.List.{List, [], _∷_, _++_, map, map-append, flatten}
 use Prim.Native.Nat.{ℕ, zero, suc, _+_, _-_, _*_, _≤_, _<_}
 use native.Mathlib.Omega.{arith}
 use native.Mathlib.Numerals.{add-one}
-use lib.ListN.{length, getD, take, drop, set, replicate, length-replicate}
-use lib.Seq.{take-all, take-suc-set}
+use lib.ListN.{length, getD, take, drop, set, replicate, length-map, length-append, length-replicate}
+use lib.Seq.{take-all, take-suc-set, drop-append-seam}
 use borrow.Author.Tests.{le-ltb}
 use Rattle.base.specs.Lists.{pick}
 use Rattle.base.specs.Le.{Bytes, leAt}
-use Rattle.base.proofs.Le.{AllBytes}
 use Rattle.base.proofs.Lists.{Every, none-of, and}
 use Rattle.committee.specs.Committee.{Committee, broken, totalStake, isQuorum}
 use Rattle.authority_set.specs.AuthoritySet.{inserted, stakeOf}
@@ -18,20 +17,26 @@ use Rattle.blocks.specs.Reference.{TransactionLocator}
 use Rattle.blocks.specs.Block.{Block, author}
 use Rattle.blocks.specs.Record.{wellFormed, blockIn}
 use Rattle.store_layout.specs.Layout.{Record, blocks}
+use Rattle.store_layout.specs.Accept.{allAccepted}
 use Rattle.store_layout.specs.Store.{recordsOf, storeInOrder}
 use Rattle.store_layout.specs.Entry.{recordAt, blockAt}
 use Rattle.store_layout.proofs.Loops.{entry-room, record-part}
+use Rattle.store_layout.proofs.Lookups.{accepted-older}
+use Rattle.store_layout.proofs.Store.{in-order}
 use Rattle.finality.specs.Finality.{blocksOf}
+use Rattle.finality.proofs.Asked.{in-order-stored}
+use Rattle.finality.proofs.Claimed.{well-stored}
 use Rattle.voters_index.specs.Runs.{Run}
 use Rattle.voters_index.specs.Part.{partIn}
-use Rattle.voters_index.specs.Index.{Indexed, indexed, indexAgrees}
+use Rattle.voters_index.specs.Index.{Indexed, indexed}
 use Rattle.voters_index.specs.Walk.{partAt}
 use Rattle.voters_index.specs.Certified.{partCertifies}
 use Rattle.authority_set.proofs.Votes.{stake-nobody}
-use Rattle.sorted_replies.specs.Sorted.{Reply, noReply, replyWords, replyOf, stepReply, step, repliesAfter, asked}
+use Rattle.sorted_replies.specs.Sorted.{Reply, noReply, replyWords, replyOf, stepReply, step, singleReply, firstBlocks, repliesAfter, asked}
+use Rattle.sorted_replies.proofs.Replies.{replies-single}
 use Rattle.sorted_step.specs.Step.{repliesFrom, repliesWords, stepWords, Settled, PartWords}
 use Rattle.sorted_step.proofs.Words.{replies-back, settled-words}
-use Rattle.sorted_answers.proofs.Arriving.{Arriving, arriving-start, Arrived, arrived-all}
+use Rattle.sorted_answers.proofs.Arriving.{Arriving, arriving-start, Arrived}
 
 -- ---- replies
 
@@ -133,11 +138,30 @@ module _ (c : Committee) (s bytes : Bytes) (ws : List ℕ) (k at p : ℕ) (g : A
               ∙ ap (λ (qs : List Reply). repliesWords (step c (a .next .block) (partIn (a .next .block ∷ blocks (g .older)) (a .next .block .reference)) (asked bytes) qs)) (ap (λ (n : ℕ). repliesFrom n ws) (sym many) ∙ ap (repliesFrom (length after)) (g .replies) ∙ replies-back after);
         }
 
--- all blocks were passed
-pub answered-all : (c : Committee) (s bytes : Bytes) (ix : List ℕ) → broken c ≡ false → storeInOrder c s ≡ true → AllBytes s → indexAgrees (blocksOf s) ix ≡ true
-    → (ws : List ℕ) (k at p : ℕ) → Answering c s bytes ws k at p → length (recordsOf s) ≤ k → ws ≡ repliesWords (repliesAfter c (asked bytes) (indexed (blocksOf s)))
-answered-all c s bytes ix b o a i ws k at p g h =
-    g .replies ∙ ap (λ (bs : List Block). repliesWords (repliesAfter c (asked bytes) (indexed bs))) (arrived-all c s ix b o a i (g .older) k at p (g .arriving) h)
+-- 02: "after k steps these are the replies for the first k blocks alone"
+pub answered-first : (c : Committee) (s bytes : Bytes) → broken c ≡ false → storeInOrder c s ≡ true → (ws : List ℕ) (k at p : ℕ) → Answering c s bytes ws k at p
+    → ws ≡ repliesWords (map (singleReply c (firstBlocks k (blocksOf s))) (asked bytes))
+unfolding blocksOf firstBlocks
+answered-first c s bytes b o ws k at p g =
+    let newer : List Record = g .arriving .newer in
+    let older : List Record = g .older in
+    let all : blocksOf s ≡ blocks newer ++ blocks older = ap blocks (g .arriving .all) ∙ map-append (λ (r : Record). r .block) newer older in
+    let many : length (blocksOf s) - k ≡ length (blocks newer) =
+    omega (arith, ap length all, length-append (blocks newer) (blocks older), length-map older (λ (r : Record). r .block), g .arriving .many) in
+    let first : drop (length (blocksOf s) - k) (blocksOf s) ≡ blocks older =
+    ap (λ (n : ℕ). drop n (blocksOf s)) many ∙ ap (λ (bs : List Block). drop (length (blocks newer)) bs) all ∙ drop-append-seam (blocks newer) (blocks older) in
+    let accepted : allAccepted c older ≡ true = accepted-older c newer older (subst (λ (rs : List Record). allAccepted c rs ≡ true) (g .arriving .all) (in-order c s o .accepted)) in
+    g .replies
+    ∙ ap repliesWords (replies-single c (asked bytes) (well-stored c (blocks older) (record { sound = b; records = older; accepted = accepted; blocks = refl })))
+    ∙ ap (λ (bs : List Block). repliesWords (map (singleReply c bs) (asked bytes))) (sym first)
+
+-- as many steps as there are blocks
+pub answered-all : (c : Committee) (s bytes : Bytes) → broken c ≡ false → storeInOrder c s ≡ true → (n : ℕ) → n ≡ length (recordsOf s)
+    → repliesWords (map (singleReply c (firstBlocks n (blocksOf s))) (asked bytes)) ≡ repliesWords (repliesAfter c (asked bytes) (indexed (blocksOf s)))
+unfolding blocksOf firstBlocks
+answered-all c s bytes b o n e =
+    let m : length (blocksOf s) - n ≡ 0 = omega (arith, e, length-map (recordsOf s) (λ (r : Record). r .block)) in
+    rw m (ap repliesWords (sym (replies-single c (asked bytes) (in-order-stored c s o))))
 
 -- ---- words cleared one after the other
 

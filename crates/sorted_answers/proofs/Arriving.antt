@@ -136,15 +136,6 @@ module _ (c : Committee) (s : Bytes) (ix : List ℕ) (sound : broken c ≡ false
   pub headed : 16 ≤ length s
   headed = is-readable s (laid-out s (order-laid c s ordered) .tested) .header .long
 
-  -- all were passed
-  pub arrived-all : (older : List Record) (k at p : ℕ) → Arriving s older k at p → length (recordsOf s) ≤ k → blocks older ≡ blocksOf s
-  unfolding blocksOf
-  arrived-all older k at p g h = go (g .newer) (g .all) (omega (arith, g .many, ap length (g .all), length-append (g .newer) older))
-    where
-      go : (newer : List Record) → recordsOf s ≡ newer ++ older → length newer ≡ 0 → blocks older ≡ blocks (recordsOf s)
-      go [] e n = ap (λ (rs : List Record). blocks rs) (sym e)
-      go (q ∷ newer) e n = absurd (omega arith)
-
   pub arrived : (older : List Record) (k at p : ℕ) → Arriving s older k at p → k < length (recordsOf s) → Arrived s ix older k at p
   unfolding blocksOf usedBy
   arrived older k at p g h =

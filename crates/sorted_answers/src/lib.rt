@@ -2,14 +2,15 @@
 use committee::Stake;
 ghost use mathlib.Core.Path.{_≡_};
 ghost use mathlib.Core.Bool.{true, false};
-ghost use Prim.Native.Nat.{_*_};
+ghost use mathlib.Core.List.{map};
+ghost use Prim.Native.Nat.{_*_, _≤_};
 ghost use lib.ListN.{length, replicate};
 ghost use Rattle.base.specs.Lists.{holds};
 ghost use Rattle.committee.specs.Committee.{broken, totalStake};
-ghost use Rattle.store_layout.specs.Store.{storeInOrder};
+ghost use Rattle.store_layout.specs.Store.{recordsOf, storeInOrder};
 ghost use Rattle.finality.specs.Finality.{blocksOf};
 ghost use Rattle.voters_index.specs.Index.{indexed, indexAgrees};
-ghost use Rattle.sorted_replies.specs.Sorted.{repliesAfter, sortedLocators, locatorsOf, asked};
+ghost use Rattle.sorted_replies.specs.Sorted.{singleReply, firstBlocks, repliesAfter, sortedLocators, locatorsOf, asked};
 ghost use Rattle.sorted_step.specs.Step.{repliesWords, Listed};
 
 // ---- the list
@@ -47,23 +48,24 @@ fn clear(replies: &mut [u64])
     }
 }
 
-// One step for each stored block in order of arrival: its record and its part stand where those before it end.
+// One step for each of the first stored blocks in order of arrival: its record and its part stand where those before it end. After so many steps the
+// replies are those that the single question finds for these blocks alone.
 fn step_all(
     stakes: &[u64],
     total: Stake,
     store: &[u8],
     index: &[u64],
     locators: &[u8],
+    steps: usize,
     replies: &mut [u64],
 )
-    requires { ⌜ (((broken (now stakes) ≡ false) × (total .0 ≡ totalStake (now stakes))) × ((storeInOrder (now stakes) (now store) ≡ true) × (indexAgrees (blocksOf (now store)) (now index) ≡ true))) × (Listed (now locators) (asked (now locators)) × (now replies ≡ replicate (3 * length (asked (now locators))) 0)) ⌝ }
-    ensures { λ _. ⌜ now (replies .exit) ≡ repliesWords (repliesAfter (now (stakes .entry)) (asked (now (locators .entry))) (indexed (blocksOf (now (store .entry))))) ⌝ }
+    requires { ⌜ (((broken (now stakes) ≡ false) × (total .0 ≡ totalStake (now stakes))) × ((storeInOrder (now stakes) (now store) ≡ true) × (indexAgrees (blocksOf (now store)) (now index) ≡ true))) × ((Listed (now locators) (asked (now locators)) × (steps ≤ length (recordsOf (now store)))) × (now replies ≡ replicate (3 * length (asked (now locators))) 0)) ⌝ }
+    ensures { λ _. ⌜ now (replies .exit) ≡ repliesWords (map (singleReply (now (stakes .entry)) (firstBlocks steps (blocksOf (now (store .entry))))) (asked (now (locators .entry)))) ⌝ }
 {
-    let count = base::read_u16(store, 8) as usize;
     let mut at: usize = 16;
     let mut p: usize = 1;
     let mut k: usize = 0;
-    while k < count {
+    while k < steps {
         let from = at + 8;
         let end = store_entries::record_end(store, at);
         let next = p + 1 + index_runs::RUN_WORDS * (index[p] as usize);
@@ -94,5 +96,6 @@ pub fn replies_of(
     ensures { λ _. ⌜ now (replies .exit) ≡ repliesWords (repliesAfter (now (stakes .entry)) (asked (now (locators .entry))) (indexed (blocksOf (now (store .entry))))) ⌝ }
 {
     clear(replies);
-    step_all(stakes, total, store, index, locators, replies);
+    let count = base::read_u16(store, 8) as usize;
+    step_all(stakes, total, store, index, locators, count, replies);
 }

@@ -1,5 +1,5 @@
 -- A sorted list of locators answered in one pass with the index. Assumes nothing: these are definitions.
-use Prim.Native.Nat.{ℕ, _*_, _/_}
+use Prim.Native.Nat.{ℕ, _-_, _*_, _/_}
 use mathlib.Core.Bool.{Bool, false, not}
 use mathlib.Core.List.{List, [], _∷_, _++_, map, flatten}
 use mathlib.Core.Option.{Option, none, some}
@@ -55,6 +55,10 @@ step c b part (l ∷ ls) (q ∷ qs) = stepReply c b part l q ∷ step c b part l
 unfoldable pub repliesAfter : Committee → List TransactionLocator → List Indexed → List Reply
 repliesAfter c ls [] = map (λ l. noReply) ls
 repliesAfter c ls (x ∷ older) = step c (x .block) (x .runs) ls (repliesAfter c ls older)
+
+-- the first k of some stored blocks in order of arrival, the newest first
+unfoldable pub firstBlocks : ℕ → List Block → List Block
+firstBlocks k bs = drop (length bs - k) bs
 
 -- 02: "answer a sorted list of locators .., equal locators included"
 unfoldable pub sortedLocators : List TransactionLocator → Bool

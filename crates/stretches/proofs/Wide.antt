@@ -25,7 +25,8 @@ use Rattle.finality.specs.NextFinal.{nextFinal, AskedOf}
 use Rattle.finality.specs.NextFinal as asking
 use Rattle.finality.proofs.Asked.{next-answers}
 use Rattle.finality.proofs.Candidates.{least-final}
-use Rattle.finality.proofs.Certifying.{ascending-in, certifying-meant}
+use Rattle.finality.proofs.Certifying.{certifying-meant}
+use Rattle.store_layout.proofs.Visit.{ascending-in}
 use Rattle.finality.proofs.Growing.{certifies-mono, final-votes}
 use Rattle.finality.proofs.Votes.{Covered, spanned, is-spanned}
 use Rattle.base.proofs.Lists.{keep-same}
@@ -160,7 +161,7 @@ module _ (c : Committee) (s : Bytes) (l m : TransactionLocator) (h : certifiedAl
   alike-positions =
       ap (map (λ (e : Entry). e .position))
       (keep-same (λ (e : Entry). certifies c (blocksOf s) m (e .block)) (λ (e : Entry). certifies c (blocksOf s) l (e .block)) (ascending (entries (recordsOf s)))
-      (λ e i. alike-block (e .block) (entry-block (recordsOf s) e (ascending-in e (entries (recordsOf s)) i))))
+      (λ e i. alike-block (e .block) (entry-block (recordsOf s) e (ascending-in (entries (recordsOf s)) e i))))
 
 -- as many positions as certifying blocks
 pub positions-many : (c : Committee) (s : Bytes) (l : TransactionLocator) → storeInOrder c s ≡ true → length (certifyingPositions c s l) ≡ length (certifiers c (blocksOf s) l)

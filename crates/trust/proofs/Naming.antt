@@ -18,7 +18,7 @@ use Rattle.store_layout.proofs.Shares.{blocks-entered}
 use Rattle.store_layout.proofs.Lookups.{entries-older}
 use Rattle.finality.specs.Finality.{blocksOf}
 use Rattle.finality.specs.Claims.{Stored}
-use Rattle.finality.proofs.Certifying.{ascending-in, in-ascending}
+use Rattle.store_layout.proofs.Visit.{ascending-in, in-ascending}
 use Rattle.finality.proofs.Claimed.{well-stored, small-authors}
 use Rattle.readings.specs.Readings.{Reading, certifiesIn, isFinalIn}
 use Rattle.readings.specs.Finality.{certifyingPositionsIn}
@@ -64,11 +64,11 @@ module _ (c : Committee) (s t : Bytes) (b : broken c ≡ false) (h : storeInOrde
     positions-stay p m =
         let x = map-in (λ e. e .position) (keep (λ e. certifiesIn reading c (blocksOf s) l (e .block)) (ascending (entries (recordsOf s)))) m in
         let q = keep-in (λ e. certifiesIn reading c (blocksOf s) l (e .block)) (ascending (entries (recordsOf s))) (x .1) in
-        let stood : x .0 ∈ entries (recordsOf s) = ascending-in (x .0) (entries (recordsOf s)) (q .0) in
+        let stood : x .0 ∈ entries (recordsOf s) = ascending-in (entries (recordsOf s)) (x .0) (q .0) in
         subst (λ (n : ℕ). n ∈ certifyingPositionsIn reading c t l) (x .2)
         (in-map (λ (e : Entry). e .position)
         (in-keep (λ (e : Entry). certifiesIn reading c (blocksOf t) l (e .block)) (ascending (entries (recordsOf t)))
-        (in-ascending (x .0) (entries (recordsOf t)) (entered (x .0) stood)) (sym (kept (x .0 .block) (its-block (x .0) stood)) ∙ q .1)))
+        (in-ascending (entries (recordsOf t)) (x .0) (entered (x .0) stood)) (sym (kept (x .0 .block) (its-block (x .0) stood)) ∙ q .1)))
       where
         its-block : (e : Entry) → e ∈ entries (recordsOf s) → e .block ∈ blocksOf s
         its-block e j = unfold blocksOf in subst (λ (ds : List Block). e .block ∈ ds) (blocks-entered (recordsOf s)) (in-map (λ (d : Entry). d .block) j)

@@ -1,11 +1,16 @@
 use mathlib.Core.Path.{sym, _∙_}
+use mathlib.Core.Option.{none}
 use Rattle.finality.specs.Finality.{blocksOf}
 use Rattle.stretches.specs.Stretches.{wide}
-use Rattle.stretches.proofs.Wide.{wide-lawful}
+use Rattle.stretches.specs.Claims.{WideGives}
+use Rattle.stretches.proofs.Wide.{wide-lawful, wide-gives}
 use Rattle.stored_finals.specs.Ordinary.{ordinary}
-use Rattle.stored_finals.proofs.Ordinary.{ordinary-lawful}
+use Rattle.stored_finals.specs.Claims.{OrdinaryGives}
+use Rattle.stored_finals.proofs.Ordinary.{ordinary-lawful, ordinary-gives}
 use Rattle.promises.specs.ThirdStatement.{engineOf}
 use Rattle.promises.proofs.Finals.{store-of, gives-finals, gives-final-shares, same-list, same-share-list}
+use Rattle.bulk_statement.specs.Bulk.{ReachesEnd}
+use Rattle.bulk_statement.proofs.Reaching.{reach}
 use Rattle.bulk_statement.proofs.Asked.{wide-spread, ordinary-spread, wide-alike-on, longest-on, ordinary-alike-on}
 use Rattle.bulk_statement.proofs.bulk_statement.Statement.{statement}
 use Rattle.bulk_statement.proofs.bulk_statement.Tie as tie
@@ -22,6 +27,8 @@ returns c =
           wide-spread d (engineOf d t .store) b (store-of d t .order) on (f .list) (f .given)
           ∙ same-list d b t u same (f .list) (g .list) (f .given) (g .given)
           ∙ sym (wide-spread d (engineOf d u .store) b (store-of d u .order) un (g .list) (g .given));
+      reaches = λ d b t ls k. let s = engineOf d t .store in unfold ReachesEnd WideGives in λ outs f some few.
+          reach d s b (store-of d t .order) (wide d (blocksOf s)) (wide-lawful d (blocksOf s)) outs f some none ls (wide-gives d s b (store-of d t .order) none ls .1 k) few;
       ordinarySpread = λ d b t ts on ls k. ordinary-spread d (engineOf d t .store) b (store-of d t .order) on ls k;
       ordinaryAlike = λ d b t ts on. ordinary-alike-on d (engineOf d t .store) b (store-of d t .order) on;
       ordinaryLongest = λ d b t ts on. let s = engineOf d t .store in longest-on d s b (store-of d t .order) (ordinary d (blocksOf s)) (ordinary-lawful d (blocksOf s)) on;
@@ -31,6 +38,9 @@ returns c =
           ordinary-spread d (engineOf d t .store) b (store-of d t .order) on (f .shares) (f .given)
           ∙ same-share-list d b t u same (f .shares) (g .shares) (f .given) (g .given)
           ∙ sym (ordinary-spread d (engineOf d u .store) b (store-of d u .order) un (g .shares) (g .given));
+      ordinaryReaches = λ d b t ls k. let s = engineOf d t .store in unfold ReachesEnd OrdinaryGives in λ outs f some few.
+          reach d s b (store-of d t .order) (ordinary d (blocksOf s)) (ordinary-lawful d (blocksOf s)) outs f some none ls
+          (ordinary-gives d s b (store-of d t .order) none ls .1 k) few;
     }
 
 pub bulk-statement-spec : {M : Type 1} → statement M

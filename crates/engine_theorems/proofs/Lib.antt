@@ -1,0 +1,4 @@
+mod Stored
+mod Others
+mod Orders
+mod Events
