@@ -63,7 +63,7 @@ module _ (c : Committee) (s : Bytes) (b : broken c ≡ false) (h : storeInOrder 
       go true e ih =
           let left : 1 ≤ length (a .rest) = not-empty (a .rest) (λ z. not-both e (a .none-left .1 z)) in
           let many : length ts ≡ stretchRoom out = a .full e in
-          let given : 1 ≤ length (spreadOut ts) = some-given (stretchRoom out) after (unfold stretchRoom in omega (arith, many, f out here)) in
+          let given : 1 ≤ length (spreadOut ts) = some-given (stretchRoom out) after (omega (arith, many, f out here)) in
           let whole : length ls ≡ length (spreadOut ts) + length (a .rest) = unfold spreadOut in ap length (a .splits) ∙ length-append (flatten (map stretchLocators ts)) (a .rest) in
           let x = ih (omega (arith, left, given, whole, few)) (reached after ts) (a .rest) (a .onward) (omega (arith, given, whole, few)) in
           (ts ++ x .0, goes out (answered-as out after true e) (x .1))
