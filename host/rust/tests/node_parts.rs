@@ -248,6 +248,34 @@ fn room_in_the_table() {
     assert!(node.engine.records().any(|(_, record)| record == lone));
 }
 
+/// A record that is too long for every node is refused, and is no full store; a store that is full of bytes can be closed.
+#[test]
+fn full_of_bytes() {
+    let (state, given, next) = (folder("parts-bytes"), folder("parts-bytes-given"), folder("parts-bytes-next"));
+    fs::write(state.join("stakes"), stakes_file(&[1; 4])).unwrap();
+    let first = &records(1)[..4];
+    let payload = [7; 65_535];
+    let long = |number: u8, shares: usize| {
+        let record = first.iter().fold(builder(1, 0, digest(1, number)), |record, block| record.include(block.reference()));
+        (0..shares).fold(record, |record, _| record.share(&payload)).finish().unwrap()
+    };
+    let mut given_records = first.to_vec();
+    given_records.push(long(100, 17));
+    given_records.extend((101..116).map(|number| long(number, 15)));
+    for (i, record) in given_records.iter().enumerate() {
+        fs::write(given.join(format!("{i:02}")), record.as_bytes()).unwrap();
+    }
+    let mut node = Node::open(&state).unwrap();
+    node.run(&mut Input::folder(&given).unwrap()).unwrap();
+    assert_eq!((node.engine.records().count(), node.full.is_none()), (19, true), "all but the one that is too long");
+    drop(node);
+    assert!(epoch::next(&state, &next).is_err(), "nothing is marked, and there is room for one of the longest");
+    let node = fed(&state, &[long(200, 15), long(201, 15), long(202, 15)]);
+    assert!(node.full.is_some(), "{} blocks", node.engine.records().count());
+    drop(node);
+    epoch::next(&state, &next).unwrap();
+}
+
 /// A folder can be read where it cannot be written, and reading makes no file.
 #[test]
 fn reading_makes_nothing() {

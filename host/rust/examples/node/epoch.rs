@@ -123,7 +123,8 @@ fn may_close(engine: &Engine, records: &[Record]) -> Told<()> {
     let committee = engine.committee();
     let marked: Owners = records.iter().filter(|record| record.is_marked()).map(Record::author).collect();
     let stake: Stake = marked.iter().filter_map(|owner| committee.stake(owner)).sum();
-    let full = records.len() == MOST_BLOCKS || ROOM < engine.parts().store.len() + LONGEST_RECORD;
+    // An entry has 8 bytes in front of its record.
+    let full = records.len() == MOST_BLOCKS || ROOM < engine.parts().store.len() + 8 + LONGEST_RECORD;
     if full || stake >= committee.quorum() {
         return Ok(());
     }
