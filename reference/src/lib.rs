@@ -14,6 +14,7 @@ pub mod indexes;
 pub mod inputs;
 pub mod list;
 pub mod loading;
+pub mod many;
 pub mod members;
 pub mod model;
 pub mod network;

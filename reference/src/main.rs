@@ -8,6 +8,7 @@ use reference::compare::compare;
 use reference::indexes::Indexed;
 use reference::list::List;
 use reference::loading::{self, Loaded};
+use reference::many::Fed;
 use reference::model::mistake::Mistake;
 use reference::slips::Told;
 use reference::sorted::Asked;
@@ -15,7 +16,7 @@ use reference::tally::Tally;
 use reference::withdrawing::Withdrawn;
 use reference::writing::Written;
 use reference::{
-    calendars, exhaustive, generate, indexes, members, network, program, rings, shrink, sorted, tables, withdrawing,
+    calendars, exhaustive, generate, indexes, many, members, network, program, rings, shrink, sorted, tables, withdrawing,
 };
 
 fn main() {
@@ -37,6 +38,7 @@ fn main() {
         Some("writing") => writing(number(word(1), 2000), number(word(2), 1)),
         Some("withdrawing") => withdrawing(number(word(1), 2000), number(word(2), 1)),
         Some("loading") => loading(number(word(1), 1000), number(word(2), 1)),
+        Some("many") => many(number(word(1), 1000), number(word(2), 1)),
         Some("indexes") => indexes(number(word(1), 400), number(word(2), 1)),
         Some("network") if word(1) == Some("mistakes") => network_mistakes(),
         Some("network") => network(number(word(1), 200), number(word(2), 1)),
@@ -142,6 +144,21 @@ fn calendars(count: u64, seed: u64) -> u64 {
     }
     println!("{}", tally.describe());
     failed
+}
+
+/// Lists fed by calls of many records.
+fn many(count: u64, seed: u64) {
+    let mut fed = Fed::default();
+    let mut failed = 0;
+    for n in 0..count {
+        if let Err(text) = many::compare(seed, n, &mut fed) {
+            failed += 1;
+            println!("list {n} of seed {seed} failed in one call: {text}");
+        }
+    }
+    let Fed { calls, records, accepted, untold, short, singly } = fed;
+    println!("{calls} calls of {records} records: {accepted} accepted, {untold} refused by 15; 64 refused {short} calls; {singly} lists held to single feeds");
+    end(count, failed);
 }
 
 /// Lists fed with the index.

@@ -5,9 +5,7 @@ use std::collections::BTreeSet;
 use crate::compare::{same, same_bytes, Outcome, Sides};
 use crate::engine::{self, Answer};
 use crate::model::finality::{Finality, Graph, Listed};
-use crate::model::lent::{
-    stretches, whom_to_ring, write_finality, write_stretches, POSITION_BYTES, STRETCH_BYTES,
-};
+use crate::model::lent::{stretches, whom_to_ring, write_finality, write_stretches, POSITION_BYTES, STRETCH_BYTES};
 use crate::model::record::{number, Locator, Reference};
 use crate::rng::Rng;
 use crate::tally::Tally;

@@ -28,6 +28,7 @@ fn main() {
         }
         Some("withdrawing") => withdrawing(),
         Some("votes") => votes(),
+        Some("many") => many(),
         _ => table(),
     }
 }
@@ -49,6 +50,7 @@ fn table() {
         row(&format!("ordinary list in bulk, {name} ({shares} shares)"), least(|| final_list(&memory)), rust);
         let engine = least(|| fed(&blocks));
         row(&format!("feeding, {name}"), engine, rust_feed(&blocks));
+        row(&format!("feeding in one call, {name}"), least(|| fed_at_once(&blocks)), rust_feed(&blocks));
         row(&format!("the same, the Rust with `verify` and its store, {name}"), engine, rust_feed_checked(&blocks));
         let (indexed, index) = fed_indexed(&blocks);
         let wide = wide_list_indexed(&indexed, &index);
@@ -58,10 +60,9 @@ fn table() {
             rust,
         );
         row(&format!("ordinary list in bulk with the index, {name}"), least(|| final_list_indexed(&indexed, &index)), rust);
-        // Refused right after the index (20): as often as the list is asked.
-        let calls = wide.div_ceil(128).max(1);
+        // Refused right after the index (20).
         let check = least(|| engine::wide_stretches_indexed(&indexed.stakes, &indexed.store, &index, &[0; 3], &mut []));
-        row(&format!("of which the checks of store and index, {name} ({calls} calls)"), calls as f64 * check, None);
+        row(&format!("of which the check of store and index, {name}"), check, None);
         let mut out = vec![0; 16 << 20];
         let mut first = [0; 56];
         assert_eq!(engine::next_final(&memory.stakes, &memory.store, &[], &mut first), Ok(1));
@@ -80,6 +81,25 @@ fn table() {
     check_indexes();
     longest_listing();
     peak_memory();
+}
+
+/// Records fed by single feeds and in one call, in passes over the store that results: a multiply and an add for each byte.
+fn many() {
+    for count in [250, 500, 1000] {
+        let blocks = graphs::generated(count);
+        let memory = fed(&blocks);
+        let used = number(&memory.store[4..8]) as usize;
+        let pass =
+            least(|| memory.store[..used].iter().fold(0u64, |sum, byte| sum.wrapping_mul(31).wrapping_add(*byte as u64)));
+        let (single, once) = (least(|| fed(&blocks)), least(|| fed_at_once(&blocks)));
+        println!(
+            "{count} records, {used} bytes: single feeds {}, one call {}, {:.0} passes of {}",
+            time(single),
+            time(once),
+            once / pass,
+            time(pass)
+        );
+    }
 }
 
 /// The lists of 1,000 blocks with three accepts each, and with ten.
@@ -173,6 +193,19 @@ fn fed(blocks: &[Block]) -> Memory {
         let Memory { stakes, store, table, events } = &mut memory;
         engine::feed(stakes, store, table, events, record).expect("each record is accepted");
     }
+    memory
+}
+
+/// The same in one call.
+fn fed_at_once(blocks: &[Block]) -> Memory {
+    let (mut memory, records) = lent(blocks);
+    let bytes: Vec<u8> =
+        records.iter().flat_map(|record| [&(record.len() as u32).to_le_bytes(), &record[..]].concat()).collect();
+    let (mut events, mut outcomes) = (vec![0; 3 * 16 * blocks.len()], vec![0; blocks.len()]);
+    let Memory { stakes, store, table, .. } = &mut memory;
+    let answer = engine::feed_records(stakes, store, table, &mut events, &mut outcomes, &bytes);
+    assert_eq!(answer, Ok(blocks.len() as u64));
+    assert!(outcomes.iter().all(|outcome| outcome >> 63 == 0), "each record is accepted");
     memory
 }
 

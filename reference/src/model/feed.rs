@@ -38,13 +38,25 @@ impl State {
         Ok(State { stores, table })
     }
 
-    /// Feeds a record, lent a store and an event slice of these lengths; its events, or 20 to 30, 15, 13, 14.
+    /// Feeds a record, lent a store and an event slice of these lengths; its events, or 20 to 30, 15, 13, 14. An event slice that crosses as bytes
+    /// is 8,192 words.
     pub fn feed(&mut self, committee: &Committee, store: usize, events: usize, record: &[u8]) -> Result<Vec<Event>, u64> {
+        self.feed_with(committee, store, (events == EVENT_BYTES).then_some(events / 8), record)
+    }
+
+    /// The same with so many words for events; none are too few for every record.
+    pub fn feed_with(
+        &mut self,
+        committee: &Committee,
+        store: usize,
+        words: Option<usize>,
+        record: &[u8],
+    ) -> Result<Vec<Event>, u64> {
         let mut block = self.stores.check(committee, record)?;
         if committee.makes(Mistake::ShareOffsets) {
             block.statements.sort_by_key(|statement| !matches!(statement, Statement::Share(_)));
         }
-        if events != EVENT_BYTES || 3 * room(&block) > EVENT_BYTES as u64 / 8 {
+        if words.is_none_or(|words| 3 * room(&block) > words as u64) {
             return Err(15);
         }
         if self.stores.is_full(store, record) {

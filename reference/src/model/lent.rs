@@ -50,6 +50,71 @@ pub fn feed(stakes: &[u8], store: &mut [u8], table: &mut [u8], events: &mut [u8]
     Ok(told.len() as u64)
 }
 
+/// Many records in one call, each after its length in four bytes: 5, 10, 11, then 64 for fewer outcomes than records. A length past the end, or one
+/// to three bytes left over, is one last record of no bytes.
+pub fn feed_records(
+    stakes: &[u8],
+    store: &mut [u8],
+    table: &mut [u8],
+    events: &mut [u64],
+    outcomes: &mut [u64],
+    records: &[u8],
+) -> Answer {
+    let committee = Committee::lent(stakes)?;
+    let mut state = State::read(&committee, store, table)?;
+    let records = framed(records);
+    if outcomes.len() < records.len() {
+        return Err(64);
+    }
+    let mut used = 0;
+    for (outcome, record) in outcomes.iter_mut().zip(&records) {
+        *outcome = match state.feed_with(&committee, store.len(), Some(events.len() - used), record) {
+            Ok(told) => {
+                for event in &told {
+                    events[used..used + 3].copy_from_slice(&[event.kind as u64, event.statement, event.offset]);
+                    used += 3;
+                }
+                told.len() as u64
+            }
+            Err(number) => (1 << 63) + number,
+        };
+    }
+    write_back(&state, &[], store, table, &mut []);
+    Ok(records.len() as u64)
+}
+
+/// Records each after a length of four bytes.
+fn framed(mut bytes: &[u8]) -> Vec<&[u8]> {
+    let mut records = Vec::new();
+    while !bytes.is_empty() {
+        let rest = bytes.get(4..);
+        let size = || u32::from_le_bytes(bytes[..4].try_into().unwrap()) as usize;
+        match rest.filter(|rest| size() <= rest.len()) {
+            Some(rest) => {
+                let (record, others) = rest.split_at(size());
+                records.push(record);
+                bytes = others;
+            }
+            None => {
+                records.push(&[]);
+                bytes = &[];
+            }
+        }
+    }
+    records
+}
+
+/// The fewest owners for any set of voters: 5, 40 for an answer not of 24 bytes, 60.
+pub fn fewest_owners(stakes: &[u8], voters: u128, reachable: u128, found: &mut [u8]) -> Answer {
+    let committee = Committee::lent(stakes)?;
+    if found.len() != 24 {
+        return Err(40);
+    }
+    let (owners, stake) = ring::whom_to_ring(&committee, voters, reachable)?;
+    put_words(found, &[owners as u64, (owners >> 64) as u64, stake]);
+    Ok(owners.count_ones() as u64)
+}
+
 /// The bytes that feeding leaves: those past the used part of the store and past the events keep their content.
 pub fn write_back(state: &State, told: &[Event], store: &mut [u8], table: &mut [u8], events: &mut [u8]) {
     let used = state.stores.layout();
