@@ -25,8 +25,9 @@ extern "C" {
 #endif
 
 /* The version of these calls. It is raised where bytes or numbers of a call change that was there before, not where a call is added; a host
- * that was written for one version says #if LOMKHVIDE_CALLS != 1, #error. */
-#define LOMKHVIDE_CALLS 1
+ * that was written for one version says #if LOMKHVIDE_CALLS != 2, #error.
+ * 2: a stretch begins with its first locator as it is everywhere, and a list is lent room for any number of stretches. */
+#define LOMKHVIDE_CALLS 2
 
 /* The most stack that each call needs, in KB of 1,024 bytes: LOMKHVIDE_STACKS(X) is X(name without lomkhvide_, KB) for each, and
  * LOMKHVIDE_STACK is enough for every call, in bytes. A thread that calls needs as much beside what it uses itself. */
@@ -193,12 +194,12 @@ uint64_t lomkhvide_next_wide_withdrawing(const uint8_t *stakes, size_t stakes_le
                                          const uint8_t *after, size_t after_len, uint8_t *found, size_t found_len);
 
 /* The ordinary list after a given locator, or from the start where `after` has no bytes, in stretches of neighbouring locators of one
- * block that have the same certifying blocks, each as long as can be: 2 * number of stretches, at most 128, and 1 more where locators of
- * the list follow them. Each is ten words: author, round, the digest in four words (each eight of its bytes, the first one highest), first offset, end offset
+ * block that have the same certifying blocks, each as long as can be: 2 * number of stretches, as many as the slice holds, and 1 more where
+ * locators of the list follow them. Each is 80 bytes: its first locator, the 56 bytes that it has in a record, and three words, end offset
  * (excluded), number of certifying blocks, their authors' stake. The bytes after them keep their content. Asked on after the last locator
  * of the last stretch, until none follow, it gives the list in ascending order.
- * Refused last: 40 `stretches` not of 1,280 words. */
-#define LOMKHVIDE_STRETCHES_LEN ((size_t)10240)
+ * Refused last: 40 `stretches` that are no whole number of stretches, at least one. */
+#define LOMKHVIDE_STRETCH_LEN ((size_t)80)
 uint64_t lomkhvide_final_stretches(const uint8_t *stakes, size_t stakes_len, const uint8_t *store, size_t store_len, const uint8_t *after,
                                    size_t after_len, uint8_t *stretches, size_t stretches_len);
 

@@ -168,7 +168,7 @@ static size_t put_record(uint8_t *to, uint64_t round, uint8_t k, const uint8_t *
 static void withdrawn(void) {
     static uint8_t store[1024], table[LOMKHVIDE_TABLE_LEN], events[LOMKHVIDE_EVENTS_LEN], positions[LOMKHVIDE_POSITIONS_LEN];
     uint8_t one[8], digest[32] = {0}, first[56] = {0}, record[512], given[128] = {0}, locator[56] = {0}, found[56];
-    static uint8_t stretches[LOMKHVIDE_STRETCHES_LEN];
+    static uint8_t stretches[2 * LOMKHVIDE_STRETCH_LEN];
     put_word(one, 1);
     store[4] = 16;
     same("a block of round 0", lomkhvide_feed(one, 8, store, sizeof store, table, sizeof table, events, sizeof events, first, 56), 0);
@@ -304,7 +304,8 @@ static void payloads(void) {
         same("it is the share", memcmp(found, room, sizeof found), 0);
     }
 
-    static uint8_t stretches[LOMKHVIDE_STRETCHES_LEN + 8], blank[LOMKHVIDE_STRETCHES_LEN + 8];
+    static uint8_t stretches[5 * LOMKHVIDE_STRETCH_LEN + 8], blank[5 * LOMKHVIDE_STRETCH_LEN + 8];
+    const size_t held = 5 * LOMKHVIDE_STRETCH_LEN;
     const list_call bulks[4] = {lomkhvide_final_stretches, lomkhvide_wide_stretches, lomkhvide_final_stretches_withdrawing,
                                 lomkhvide_wide_stretches_withdrawing};
     for (int k = 0; k < 4; k++) {
@@ -316,18 +317,18 @@ static void payloads(void) {
                 same("stretches after bytes of any length", bulk(one, 8, store, sizeof store, locator, n, stretches, 8), refused(20));
             }
         }
-        for (size_t n = 0; n < sizeof stretches; n += n < 64 ? 1 : 511) {
-            if (n != LOMKHVIDE_STRETCHES_LEN) {
+        for (size_t n = 0; n < sizeof stretches; n++) {
+            if (n == 0 || n % LOMKHVIDE_STRETCH_LEN != 0) {
                 same("stretches of any length", bulk(one, 8, store, sizeof store, locator, 0, stretches, n), refused(40));
             }
         }
         same("no committee", bulk(one, 7, store, sizeof store, locator, 3, stretches, 3), refused(5));
         same("no store", bulk(one, 8, store, 15, locator, 3, stretches, 3), refused(10));
-        same("none after it", bulk(one, 8, store, sizeof store, locator, 56, stretches, LOMKHVIDE_STRETCHES_LEN), 0);
+        same("none after it", bulk(one, 8, store, sizeof store, locator, 56, stretches, held), 0);
         same("nothing is written", memcmp(stretches, blank, sizeof stretches), 0);
-        same("one from the start", bulk(one, 8, store, sizeof store, locator, 0, stretches, LOMKHVIDE_STRETCHES_LEN), 2);
+        same("one from the start", bulk(one, 8, store, sizeof store, locator, 0, stretches, held), 2);
         /* author 0, round 1, a digest whose fourth byte is 2, offsets 0 to 1, one block, stake 1 */
-        const uint64_t words[10] = {0, 1, UINT64_C(2) << 32, 0, 0, 0, 0, 1, 1, 1};
+        const uint64_t words[10] = {0, 1, UINT64_C(2) << 24, 0, 0, 0, 0, 1, 1, 1};
         for (int i = 0; i < 10; i++) {
             put_word(blank + 8 * i, words[i]);
         }
@@ -346,8 +347,8 @@ static void payloads(void) {
                 same("stretches with the index after bytes of any length", bulk(one, 8, store, sizeof store, index, 15, locator, n, stretches, 8), refused(20));
             }
         }
-        for (size_t n = 0; n < sizeof stretches; n += n < 64 ? 1 : 511) {
-            if (n != LOMKHVIDE_STRETCHES_LEN) {
+        for (size_t n = 0; n < sizeof stretches; n++) {
+            if (n == 0 || n % LOMKHVIDE_STRETCH_LEN != 0) {
                 same("stretches with the index of any length", bulk(one, 8, store, sizeof store, index, 15, locator, 0, stretches, n), refused(40));
             }
         }
@@ -356,10 +357,10 @@ static void payloads(void) {
         }
         same("no committee", bulk(one, 7, store, sizeof store, index, 0, locator, 3, stretches, 3), refused(5));
         same("no store", bulk(one, 8, store, 15, index, 0, locator, 3, stretches, 3), refused(10));
-        same("none after it", bulk(one, 8, store, sizeof store, index, 13, locator, 56, stretches, LOMKHVIDE_STRETCHES_LEN), 0);
+        same("none after it", bulk(one, 8, store, sizeof store, index, 13, locator, 56, stretches, held), 0);
         same("nothing is written", memcmp(stretches, blank, sizeof stretches), 0);
-        same("one from the start", bulk(one, 8, store, sizeof store, index, 15, locator, 0, stretches, LOMKHVIDE_STRETCHES_LEN), 2);
-        const uint64_t words[10] = {0, 1, UINT64_C(2) << 32, 0, 0, 0, 0, 1, 1, 1};
+        same("one from the start", bulk(one, 8, store, sizeof store, index, 15, locator, 0, stretches, held), 2);
+        const uint64_t words[10] = {0, 1, UINT64_C(2) << 24, 0, 0, 0, 0, 1, 1, 1};
         for (int i = 0; i < 10; i++) {
             put_word(blank + 8 * i, words[i]);
         }

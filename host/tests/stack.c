@@ -209,7 +209,7 @@ static void loadable(void) {
     answer = lomkhvide_loadable(one, sizeof one, chain, sizeof chain, places, 2);
 }
 
-static uint8_t next[56], stretches[LOMKHVIDE_STRETCHES_LEN];
+static uint8_t next[56], stretches[128 * LOMKHVIDE_STRETCH_LEN];
 
 static void next_final(void) {
     answer = lomkhvide_next_final(one, sizeof one, chain, sizeof chain, next, 0, next, sizeof next);

@@ -174,7 +174,7 @@ fn cases() -> Vec<Case> {
     let record = ("record", record.clone(), record.len() + 100);
     let positions = ("positions", vec![5; lent::POSITION_BYTES], lent::POSITION_BYTES + 16);
     let found = ("locator written", vec![5; 56], 80);
-    let stretches = ("stretches", vec![5; lent::STRETCHES_BYTES], lent::STRETCHES_BYTES + 100);
+    let stretches = ("stretches", vec![5; 3 * lent::STRETCH_BYTES], 3 * lent::STRETCH_BYTES + 100);
     let file = generate::stakes_file::good(&COURSE);
     let room = ("stakes written", vec![5; lent::STAKES_BYTES], lent::STAKES_BYTES + 100);
     vec![

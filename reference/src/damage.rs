@@ -117,7 +117,7 @@ fn questions_of_store(stakes: &[u8], store: &[u8], locator: &[u8]) -> Outcome {
     let told = engine::next_wide(stakes, store, locator, &mut got);
     same("next_wide over damaged memory", "engine", told, answer)?;
     same_bytes("next_wide's locator over damaged memory", &got, &right)?;
-    let (mut right, mut got) = (vec![0x3c; lent::STRETCHES_BYTES], vec![0x3c; lent::STRETCHES_BYTES]);
+    let (mut right, mut got) = (vec![0x3c; 128 * lent::STRETCH_BYTES], vec![0x3c; 128 * lent::STRETCH_BYTES]);
     let answer = lent::final_stretches(stakes, store, locator, &mut right);
     let told = engine::final_stretches(stakes, store, locator, &mut got);
     same("final_stretches over damaged memory", "engine", told, answer)?;
@@ -139,7 +139,7 @@ fn questions_of_store(stakes: &[u8], store: &[u8], locator: &[u8]) -> Outcome {
             answer,
         )?;
         same_bytes("that locator over damaged memory", &got, &right)?;
-        let (mut right, mut got) = (vec![0x3c; lent::STRETCHES_BYTES], vec![0x3c; lent::STRETCHES_BYTES]);
+        let (mut right, mut got) = (vec![0x3c; 128 * lent::STRETCH_BYTES], vec![0x3c; 128 * lent::STRETCH_BYTES]);
         let answer = lent::list_stretches(Reading::Withdrawing, list, stakes, store, locator, &mut right);
         same("a list of the second reading over damaged memory", "engine", bulk(stakes, store, locator, &mut got), answer)?;
         same_bytes("its stretches over damaged memory", &got, &right)?;

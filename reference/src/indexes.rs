@@ -103,23 +103,22 @@ fn lists(lent: &Lent, rng: &mut Rng, indexed: &mut Indexed) -> Outcome {
     let Memory { stakes, store, .. } = &lent.memory;
     let mut after = Vec::new();
     for _ in 0..2 {
-        let mut right = vec![7; 10240];
+        let room = 80 * (1 + rng.below(200) as usize);
+        let mut right = vec![7; room];
         let mut got = right.clone();
         let told = engine::wide_stretches_indexed(stakes, store, &lent.index, &after, &mut got);
         same("wide_stretches_indexed", "engine", told, lent::wide_stretches(stakes, store, &after, &mut right))?;
         same("the wide list with the index", "engine", &got, &right)?;
-        let (mut ordinary, mut shares) = (vec![7; 10240], vec![7; 10240]);
+        let (mut ordinary, mut shares) = (vec![7; room], vec![7; room]);
         let told = engine::final_stretches_indexed(stakes, store, &lent.index, &after, &mut shares);
         same("final_stretches_indexed", "engine", told, lent::final_stretches(stakes, store, &after, &mut ordinary))?;
         same("the ordinary list with the index", "engine", &shares, &ordinary)?;
         indexed.lists += 2;
-        let words: Vec<u64> = right[..80].chunks(8).map(number).collect();
-        let mut offset = words[6].wrapping_add(rng.below(3)).wrapping_sub(1);
+        let mut offset = number(&right[48..56]).wrapping_add(rng.below(3)).wrapping_sub(1);
         if rng.once_in(8) {
             offset = u64::MAX;
         }
-        after = [words[0].to_le_bytes(), words[1].to_le_bytes()].concat();
-        after.extend(words[2..6].iter().flat_map(|word| word.to_be_bytes()));
+        after = right[..48].to_vec();
         after.extend(offset.to_le_bytes());
     }
     Ok(())

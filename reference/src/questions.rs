@@ -6,7 +6,7 @@ use crate::compare::{same, same_bytes, Outcome, Sides};
 use crate::engine::{self, Answer};
 use crate::model::finality::{Finality, Graph, Listed};
 use crate::model::lent::{
-    stretches, whom_to_ring, write_finality, write_stretches, MOST_STRETCHES, POSITION_BYTES, STRETCHES_BYTES,
+    stretches, whom_to_ring, write_finality, write_stretches, POSITION_BYTES, STRETCH_BYTES,
 };
 use crate::model::record::{number, Locator, Reference};
 use crate::rng::Rng;
@@ -174,7 +174,8 @@ pub fn in_bulk(sides: &Sides, call: &(ListCall, &str), list: &[(Locator, Finalit
     let mut middle = all.iter().rfind(|stretch| stretch.end - stretch.first.offset > 1).filter(|_| rng.once_in(4));
     loop {
         let rest = if after.is_none() { all.clone() } else { stretches(list, after) };
-        let (mut right, mut out) = (vec![0x19; STRETCHES_BYTES], vec![0x19; STRETCHES_BYTES]);
+        let room = 1 + rng.below(200) as usize;
+        let (mut right, mut out) = (vec![0x19; STRETCH_BYTES * room], vec![0x19; STRETCH_BYTES * room]);
         let after_bytes = after.map_or(Vec::new(), |locator: Locator| locator.bytes().to_vec());
         let got = bulk(&lent.stakes, &lent.store, &after_bytes, &mut out);
         same(name, "engine", got, Ok(write_stretches(&rest, &mut right)))?;
@@ -183,8 +184,8 @@ pub fn in_bulk(sides: &Sides, call: &(ListCall, &str), list: &[(Locator, Finalit
                 |bytes: &[u8]| bytes.chunks_exact(80).map(|c| c.chunks(8).map(number).collect()).collect::<Vec<Vec<_>>>();
             same("stretches", "engine", words(&out), words(&right))?;
         }
-        after = match (rest.get(MOST_STRETCHES), middle.take()) {
-            (Some(_), _) => Some(rest[MOST_STRETCHES - 1].last()),
+        after = match (rest.get(room), middle.take()) {
+            (Some(_), _) => Some(rest[room - 1].last()),
             (None, Some(stretch)) => Some(stretch.first),
             (None, None) => return Ok(()),
         };

@@ -4,7 +4,7 @@ use mathlib.Core.Logic.{_⊎_, inl, inr}
 use mathlib.Core.Bool.{Bool, true, false}
 use mathlib.Core.List.{List, [], _++_, map, map-append, append-nil}
 use mathlib.Core.Option.{Option}
-use Prim.Native.Nat.{ℕ, _/_}
+use Prim.Native.Nat.{ℕ}
 use native.Mathlib.Omega.{arith}
 use lib.ListN.{length}
 use Rattle.base.specs.Lists.{_∈_, allOf}
@@ -20,7 +20,7 @@ use Rattle.store_layout.specs.Shares.{isStoredShare}
 use Rattle.finality.specs.NextFinal.{AskedOn, nextFinalChecks}
 use Rattle.finality.specs.Finality.{blocksOf}
 use Rattle.stretches.specs.Stretches.{Listing, wide, FinalStretch, stretchLocators, stretchAt, stretches, reached, moreFollow}
-use Rattle.stretches.specs.Bulk.{listStretches, Given, givenAfter}
+use Rattle.stretches.specs.Bulk.{stretchRoom, listStretches, Given, givenAfter}
 use Rattle.stretches.specs.Claims.{Lawful, Gives, WideGives, Longest, Alike, Spread, StretchesAlike}
 use Rattle.stretches.proofs.Spreading.{begun, shown-ends, spread, longest}
 use Rattle.stretches.proofs.Wide.{wide-lawful, wide-gives, stretch-in, alike-at, stretches-alike}
@@ -31,7 +31,7 @@ use Rattle.stored_finals.proofs.Ordinary.{ordinary-lawful, ordinary-gives, goes
 use Rattle.bulk_statement.specs.Bulk.{held, Answered, StretchesOn, last, onward, spreadOut}
 
 -- the answer says whether more follow
-says-more : (c : Committee) (s : Bytes) (k : Listing) (out : List ℕ) (after : Option TransactionLocator) (more : Bool) → broken c ≡ false → storeInOrder c s ≡ true
+says-more : (c : Committee) (s : Bytes) (k : Listing) (out : Bytes) (after : Option TransactionLocator) (more : Bool) → broken c ≡ false → storeInOrder c s ≡ true
     → Answered c s k out after more → moreFollow k (reached after (held c s k out after)) ≡ more
 unfolding listStretches givenAfter nextFinalChecks checked passes allOf
 says-more c s k out after more b h e = let z : givenAfter k after (held c s k out after) ≡ record { stretches = length (held c s k out after); more = more } = cc in ap (λ (g : Given). g .more) z
@@ -48,8 +48,8 @@ module _ (c : Committee) (s : Bytes) (b : broken c ≡ false) (h : storeInOrder 
 
   module _ (k : Listing) (law : Lawful bs k) where
     -- what the single questions give after a locator, through the stretches that a slice holds
-    through : (out : List ℕ) (after : Option TransactionLocator) (ls : List TransactionLocator) → Gives k after ls → Spread k (length out / 10) after ls (held c s k out after)
-    through out after ls g = spread c bs k law (length out / 10) after ls g
+    through : (out : Bytes) (after : Option TransactionLocator) (ls : List TransactionLocator) → Gives k after ls → Spread k (stretchRoom out) after ls (held c s k out after)
+    through out after ls g = spread c bs k law (stretchRoom out) after ls g
 
     spread-on : {after : Option TransactionLocator} {ts : List FinalStretch} → StretchesOn c s k after ts → (ls : List TransactionLocator) → Gives k after ls → spreadOut ts ≡ ls
     unfolding spreadOut
@@ -64,11 +64,11 @@ module _ (c : Committee) (s : Bytes) (b : broken c ≡ false) (h : storeInOrder 
     -- what holds of every stretch that a slice holds, holds of all
     each-on : (P : FinalStretch → Type 0) → ((n : ℕ) (after : Option TransactionLocator) (x : FinalStretch) → x ∈ stretches c bs k n after → P x)
         → {after : Option TransactionLocator} {ts : List FinalStretch} → StretchesOn c s k after ts → (x : FinalStretch) → x ∈ ts → P x
-    each-on P f {after} (last out e) x m = f (length out / 10) after x m
+    each-on P f {after} (last out e) x m = f (stretchRoom out) after x m
     each-on P f {after} (onward {ts} out e on) x m = split (λ i. each-on P f on x i) (in-append (held c s k out after) m)
       where
         split : (x ∈ ts → P x) → (x ∈ held c s k out after) ⊎ (x ∈ ts) → P x
-        split later (inl i) = f (length out / 10) after x i
+        split later (inl i) = f (stretchRoom out) after x i
         split later (inr i) = later i
 
     pub longest-on : {after : Option TransactionLocator} {ts : List FinalStretch} → StretchesOn c s k after ts → (x : FinalStretch) → x ∈ ts → Longest bs k x

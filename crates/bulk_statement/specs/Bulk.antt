@@ -1,5 +1,4 @@
 -- The wide and the ordinary list in bulk after every list of feeds from a fresh engine. Assumes nothing: these are definitions.
-use Prim.Native.Nat.{ℕ, _/_}
 use mathlib.Core.Path.{_≡_}
 use mathlib.Core.Bool.{Bool, true, false}
 use mathlib.Core.List.{List, _++_, map, flatten}
@@ -14,24 +13,24 @@ use Rattle.store_layout.specs.Shares.{isStoredShare}
 use Rattle.finality.specs.Finality.{blocksOf}
 use Rattle.finality.specs.NextFinal.{FinalList}
 use Rattle.stretches.specs.Stretches.{Listing, wide, FinalStretch, stretchLocators, stretches, reached}
-use Rattle.stretches.specs.Bulk.{listStretches}
+use Rattle.stretches.specs.Bulk.{stretchRoom, listStretches}
 use Rattle.stretches.specs.Claims.{Longest, Alike}
 use Rattle.stored_finals.specs.FinalShares.{FinalShareList}
 use Rattle.stored_finals.specs.Ordinary.{ordinary}
 use Rattle.promises.specs.ThirdStatement.{Start, engineOf, SameRecords}
 
 -- the stretches of a list that a slice holds
-abbrev pub held : Committee → Bytes → Listing → List ℕ → Option TransactionLocator → List FinalStretch
-held c s k out after = stretches c (blocksOf s) k (length out / 10) after
+abbrev pub held : Committee → Bytes → Listing → Bytes → Option TransactionLocator → List FinalStretch
+held c s k out after = stretches c (blocksOf s) k (stretchRoom out) after
 
 -- the question in bulk is answered: so many stretches, and whether more locators follow
-abbrev pub Answered : Committee → Bytes → Listing → List ℕ → Option TransactionLocator → Bool → Type 0
+abbrev pub Answered : Committee → Bytes → Listing → Bytes → Option TransactionLocator → Bool → Type 0
 Answered c s k out after more = listStretches c s k out after .answer ≡ answered (record { stretches = length (held c s k out after); more = more })
 
 -- it is asked on, with whatever slices, each time after the last locator that it gave, until none follow: all its stretches
 pub data StretchesOn (c : Committee) (s : Bytes) (k : Listing) : Option TransactionLocator → List FinalStretch → Type 0 where
-  last : {after : Option TransactionLocator} (out : List ℕ) → Answered c s k out after false → StretchesOn c s k after (held c s k out after)
-  onward : {after : Option TransactionLocator} {ts : List FinalStretch} (out : List ℕ) → Answered c s k out after true
+  last : {after : Option TransactionLocator} (out : Bytes) → Answered c s k out after false → StretchesOn c s k after (held c s k out after)
+  onward : {after : Option TransactionLocator} {ts : List FinalStretch} (out : Bytes) → Answered c s k out after true
       → StretchesOn c s k (reached after (held c s k out after)) ts → StretchesOn c s k after (held c s k out after ++ ts)
 
 -- the stretches of the wide list, and of the ordinary one

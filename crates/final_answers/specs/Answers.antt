@@ -1,8 +1,9 @@
 -- How the questions about the lists and their answers cross. Assumes nothing: these are definitions.
-use Prim.Native.Nat.{ℕ, _+_, _*_, _≤_}
+use Prim.Native.Nat.{ℕ, _+_, _*_, _%_, _^_, _≤_, _<_}
 use mathlib.Core.Path.{_≡_}
+use mathlib.Core.Bool.{Bool, _&&_}
 use mathlib.Core.Option.{Option, none, some}
-use lib.Dec.{eqb}
+use lib.Dec.{eqb, leb}
 use lib.ListN.{length}
 use Rattle.base.specs.Lists.{pick}
 use Rattle.base.specs.Le.{Bytes}
@@ -42,6 +43,10 @@ foundIn out (answered (some l)) = record { answer = answered 1; found = locatorB
 foundIn out (answered none) = record { answer = answered 0; found = out }
 foundIn out (refused n) = record { answer = refused n; found = out }
 
+-- a slice for stretches is any whole number of them, at least one
+unfoldable pub wholeStretches : Bytes → Bool
+wholeStretches out = leb 80 (length out) && eqb (length out % 80) 0
+
 -- 2 · number of stretches, and 1 more where a locator of the list follows them
 unfoldable pub stretchesNumber : Answer Given → Answer ℕ
 stretchesNumber (answered g) = answered (2 * g .stretches + flag (g .more))
@@ -52,6 +57,6 @@ abbrev pub numberFits : Answer (Option TransactionLocator) → Type 0
 numberFits a = (n : ℕ) → a ≡ refused n → n ≤ 54
 
 abbrev pub countsFit : StretchesAnswer → Type 0
-countsFit (Last n) = n ≤ 128
-countsFit (More n) = n ≤ 128
+countsFit (Last n) = n < 2 ^ 62
+countsFit (More n) = n < 2 ^ 62
 countsFit (Refused n) = n ≤ 54

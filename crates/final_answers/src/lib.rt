@@ -8,7 +8,7 @@ ghost use lib.ListN.{length};
 ghost use Rattle.next_final.specs.Answers.{asNextFinal};
 ghost use Rattle.stretch_words.specs.Answers.{asStretches};
 ghost use Rattle.host_calls.specs.Calls.{encoded};
-ghost use Rattle.final_answers.specs.Answers.{afterOf, asAfter, foundIn, numberFits, stretchesNumber, countsFit};
+ghost use Rattle.final_answers.specs.Answers.{afterOf, asAfter, foundIn, numberFits, wholeStretches, stretchesNumber, countsFit};
 
 // Where a question goes on: after a locator, or from the start; or bytes that are neither.
 pub enum After {
@@ -35,11 +35,14 @@ pub fn holds_locator(bytes: &[u8]) -> bool
     bytes.len() == types::LOCATOR_BYTES
 }
 
-// Whether they are room for 128 stretches of ten words.
+// Whether they are room for stretches: at least one, and nothing over.
 pub fn holds_stretches(bytes: &[u8]) -> bool
-    ensures { λ r. ⌜ r ≡ eqb (length (now (bytes .entry))) 10240 ⌝ }
+    ensures { λ r. ⌜ r ≡ wholeStretches (now (bytes .entry)) ⌝ }
 {
-    bytes.len() == 10240
+    if bytes.len() < stretch_words::STRETCH_BYTES {
+        return false;
+    }
+    bytes.len() % stretch_words::STRETCH_BYTES == 0
 }
 
 // The next locator, in the room lent for it, and the answer's word.

@@ -3,7 +3,6 @@ use mathlib.Core.Path.{_≡_, ap}
 use mathlib.Core.Bool.{true, false}
 use mathlib.Core.List.{List}
 use mathlib.Core.Option.{Option}
-use Prim.Native.Nat.{ℕ, _/_}
 use lib.ListN.{length}
 use Rattle.base.specs.Lists.{allOf}
 use Rattle.base.specs.Le.{Bytes}
@@ -14,13 +13,13 @@ use Rattle.store_layout.specs.Store.{storeInOrder}
 use Rattle.finality.specs.NextFinal.{nextFinalChecks}
 use Rattle.finality.specs.Finality.{blocksOf}
 use Rattle.stretches.specs.Stretches.{Listing, stretches}
-use Rattle.stretches.specs.Bulk.{Given, givenAfter, wordsAfter, listStretches, finalStretches}
+use Rattle.stretches.specs.Bulk.{Given, givenAfter, stretchRoom, bytesAfter, listStretches, finalStretches}
 use Rattle.stored_finals.specs.Ordinary.{shareStretches}
 use Rattle.readings.specs.Readings.{old}
 use Rattle.reading_lists.specs.Lists.{listedStretches}
 use Rattle.reading_lists.proofs.Old.{old-wide, old-ordinary}
 
-module _ (c : Committee) (s : Bytes) (k : Listing) (out : List ℕ) (after : Option TransactionLocator) where
+module _ (c : Committee) (s : Bytes) (k : Listing) (out : Bytes) (after : Option TransactionLocator) where
   pub bulk-broken : broken c ≡ true → record { answer = refused 5; out = out } ≡ listStretches c s k out after
   unfolding listStretches nextFinalChecks checked passes refusal allOf
   bulk-broken h = rw h
@@ -30,13 +29,13 @@ module _ (c : Committee) (s : Bytes) (k : Listing) (out : List ℕ) (after : Opt
     unfolding listStretches nextFinalChecks checked passes refusal allOf
     bulk-disordered h = rw (b, h)
 
-    pub bulk-asked : storeInOrder c s ≡ true → (a : Answer Given) (ws : List ℕ) → a ≡ answered (givenAfter k after (stretches c (blocksOf s) k (length out / 10) after))
-        → ws ≡ wordsAfter (stretches c (blocksOf s) k (length out / 10) after) out → record { answer = a; out = ws } ≡ listStretches c s k out after
+    pub bulk-asked : storeInOrder c s ≡ true → (a : Answer Given) (bytes : Bytes) → a ≡ answered (givenAfter k after (stretches c (blocksOf s) k (stretchRoom out) after))
+        → bytes ≡ bytesAfter (stretches c (blocksOf s) k (stretchRoom out) after) out → record { answer = a; out = bytes } ≡ listStretches c s k out after
     unfolding listStretches nextFinalChecks checked passes refusal allOf
-    bulk-asked o a ws e f = rw (b, o, e, f)
+    bulk-asked o a bytes e f = rw (b, o, e, f)
 
 -- in the old reading these are the questions without one
-module _ (c : Committee) (s : Bytes) (out : List ℕ) (after : Option TransactionLocator) where
+module _ (c : Committee) (s : Bytes) (out : Bytes) (after : Option TransactionLocator) where
   pub old-shares : listedStretches true old c s out after ≡ shareStretches c s out after
   old-shares = ap (λ (k : Listing). listStretches c s k out after) (old-ordinary c (blocksOf s))
 

@@ -6,13 +6,12 @@ use vote_starts::MaybeLocator;
 use vote_table::TableSizes;
 ghost use mathlib.Core.Path.{_≡_};
 ghost use mathlib.Core.Bool.{true, false};
-ghost use Prim.Native.Nat.{_/_};
 ghost use lib.ListN.{length};
 ghost use Rattle.base.specs.Checks.{answered};
 ghost use Rattle.finality.specs.Finality.{blocksOf};
 ghost use Rattle.vote_starts.specs.Answers.{asMaybe};
 ghost use Rattle.stretches.specs.Stretches.{stretches};
-ghost use Rattle.stretches.specs.Bulk.{givenAfter, wordsAfter, finalStretches};
+ghost use Rattle.stretches.specs.Bulk.{givenAfter, stretchRoom, bytesAfter, finalStretches};
 ghost use Rattle.stored_finals.specs.Ordinary.{shareStretches};
 ghost use Rattle.readings.specs.Readings.{withdrawing, readingOf};
 ghost use Rattle.reading_lists.specs.Lists.{listing, listedStretches};
@@ -29,12 +28,12 @@ fn fill_large(
     order: &[u64],
     ordinary: bool,
     withdrawing: bool,
-    out: &mut [u64],
+    out: &mut [u8],
     after: MaybeLocator,
 ) -> StretchesAnswer
     requires { ⌜ Ready (now stakes) (total .0) (now store) (now order) ⌝ }
-    ensures { λ r. ⌜ asStretches r ≡ answered (givenAfter (listing ordinary (readingOf withdrawing) (now (stakes .entry)) (blocksOf (now (store .entry)))) (asMaybe after) (stretches (now (stakes .entry)) (blocksOf (now (store .entry))) (listing ordinary (readingOf withdrawing) (now (stakes .entry)) (blocksOf (now (store .entry)))) (length (now (out .entry)) / 10) (asMaybe after))) ⌝ }
-    ensures { λ r. ⌜ now (out .exit) ≡ wordsAfter (stretches (now (stakes .entry)) (blocksOf (now (store .entry))) (listing ordinary (readingOf withdrawing) (now (stakes .entry)) (blocksOf (now (store .entry)))) (length (now (out .entry)) / 10) (asMaybe after)) (now (out .entry)) ⌝ }
+    ensures { λ r. ⌜ asStretches r ≡ answered (givenAfter (listing ordinary (readingOf withdrawing) (now (stakes .entry)) (blocksOf (now (store .entry)))) (asMaybe after) (stretches (now (stakes .entry)) (blocksOf (now (store .entry))) (listing ordinary (readingOf withdrawing) (now (stakes .entry)) (blocksOf (now (store .entry)))) (stretchRoom (now (out .entry))) (asMaybe after))) ⌝ }
+    ensures { λ r. ⌜ now (out .exit) ≡ bytesAfter (stretches (now (stakes .entry)) (blocksOf (now (store .entry))) (listing ordinary (readingOf withdrawing) (now (stakes .entry)) (blocksOf (now (store .entry)))) (stretchRoom (now (out .entry))) (asMaybe after)) (now (out .entry)) ⌝ }
 {
     let mut table = [0u64; 40960];
     let sizes = vote_table::table_both(store, order, &mut table, withdrawing);
@@ -75,12 +74,12 @@ fn fill_small(
     order: &[u64],
     ordinary: bool,
     withdrawing: bool,
-    out: &mut [u64],
+    out: &mut [u8],
     after: MaybeLocator,
 ) -> StretchesAnswer
     requires { ⌜ Ready (now stakes) (total .0) (now store) (now order) ⌝ }
-    ensures { λ r. ⌜ asStretches r ≡ answered (givenAfter (listing ordinary (readingOf withdrawing) (now (stakes .entry)) (blocksOf (now (store .entry)))) (asMaybe after) (stretches (now (stakes .entry)) (blocksOf (now (store .entry))) (listing ordinary (readingOf withdrawing) (now (stakes .entry)) (blocksOf (now (store .entry)))) (length (now (out .entry)) / 10) (asMaybe after))) ⌝ }
-    ensures { λ r. ⌜ now (out .exit) ≡ wordsAfter (stretches (now (stakes .entry)) (blocksOf (now (store .entry))) (listing ordinary (readingOf withdrawing) (now (stakes .entry)) (blocksOf (now (store .entry)))) (length (now (out .entry)) / 10) (asMaybe after)) (now (out .entry)) ⌝ }
+    ensures { λ r. ⌜ asStretches r ≡ answered (givenAfter (listing ordinary (readingOf withdrawing) (now (stakes .entry)) (blocksOf (now (store .entry)))) (asMaybe after) (stretches (now (stakes .entry)) (blocksOf (now (store .entry))) (listing ordinary (readingOf withdrawing) (now (stakes .entry)) (blocksOf (now (store .entry)))) (stretchRoom (now (out .entry))) (asMaybe after))) ⌝ }
+    ensures { λ r. ⌜ now (out .exit) ≡ bytesAfter (stretches (now (stakes .entry)) (blocksOf (now (store .entry))) (listing ordinary (readingOf withdrawing) (now (stakes .entry)) (blocksOf (now (store .entry)))) (stretchRoom (now (out .entry))) (asMaybe after)) (now (out .entry)) ⌝ }
 {
     let mut table = [0u64; 512];
     let sizes = vote_table::table_both(store, order, &mut table, withdrawing);
@@ -133,7 +132,7 @@ pub fn list_stretches(
     store: &[u8],
     ordinary: bool,
     withdrawing: bool,
-    out: &mut [u64],
+    out: &mut [u8],
     after: MaybeLocator,
 ) -> StretchesAnswer
     ensures { λ r. ⌜ asStretches r ≡ listedStretches ordinary (readingOf withdrawing) (now (stakes .entry)) (now (store .entry)) (now (out .entry)) (asMaybe after) .answer ⌝ }
@@ -159,13 +158,13 @@ pub fn list_stretches(
     )
 }
 
-// The ordinary list, of the final stored shares, from the start or after a given locator on, as many stretches as the slice holds, ten words
-// each: author, round, the digest in four words with the first byte highest, first offset, end offset (excluded), number of certifying
-// blocks, their authors' stake. The words past them stay.
+// The ordinary list, of the final stored shares, from the start or after a given locator on, as many stretches as the slice holds, 80 bytes
+// each: the first locator as in a record, and three words, end offset (excluded), number of certifying blocks, their authors' stake. The
+// bytes past them stay.
 pub fn final_stretches(
     stakes: &[u64],
     store: &[u8],
-    out: &mut [u64],
+    out: &mut [u8],
     after: MaybeLocator,
 ) -> StretchesAnswer
     ensures { λ r. ⌜ asStretches r ≡ shareStretches (now (stakes .entry)) (now (store .entry)) (now (out .entry)) (asMaybe after) .answer ⌝ }
@@ -178,7 +177,7 @@ pub fn final_stretches(
 pub fn wide_stretches(
     stakes: &[u64],
     store: &[u8],
-    out: &mut [u64],
+    out: &mut [u8],
     after: MaybeLocator,
 ) -> StretchesAnswer
     ensures { λ r. ⌜ asStretches r ≡ finalStretches (now (stakes .entry)) (now (store .entry)) (now (out .entry)) (asMaybe after) .answer ⌝ }
@@ -191,7 +190,7 @@ pub fn wide_stretches(
 pub fn final_stretches_withdrawing(
     stakes: &[u64],
     store: &[u8],
-    out: &mut [u64],
+    out: &mut [u8],
     after: MaybeLocator,
 ) -> StretchesAnswer
     ensures { λ r. ⌜ asStretches r ≡ listedStretches true withdrawing (now (stakes .entry)) (now (store .entry)) (now (out .entry)) (asMaybe after) .answer ⌝ }
@@ -204,7 +203,7 @@ pub fn final_stretches_withdrawing(
 pub fn wide_stretches_withdrawing(
     stakes: &[u64],
     store: &[u8],
-    out: &mut [u64],
+    out: &mut [u8],
     after: MaybeLocator,
 ) -> StretchesAnswer
     ensures { λ r. ⌜ asStretches r ≡ listedStretches false withdrawing (now (stakes .entry)) (now (store .entry)) (now (out .entry)) (asMaybe after) .answer ⌝ }

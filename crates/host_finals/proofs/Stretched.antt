@@ -3,26 +3,24 @@ use mathlib.Core.Path.{_≡_, refl, sym, ap}
 use mathlib.Core.Bool.{Bool, true, false}
 use mathlib.Core.List.{List, _∷_}
 use mathlib.Core.Option.{Option, none, some}
-use Prim.Native.Nat.{ℕ, zero, suc, _≤_, _/_}
+use Prim.Native.Nat.{ℕ, zero, suc, _^_, _≤_, _<_}
 use native.Mathlib.Omega.{arith}
-use lib.Dec.{eqb}
 use lib.ListN.{length}
 use Rattle.base.specs.Lists.{pick, allOf}
 use Rattle.base.specs.Checks.{refusal, passes, Answer, refused, answered, checked}
 use Rattle.committee.specs.Committee.{Committee}
 use Rattle.blocks.specs.Reference.{TransactionLocator}
 use Rattle.blocks.specs.Block.{Block}
-use Rattle.words.specs.Words.{wordsIn, wordsOf, bytesOf}
 use Rattle.finality.specs.Finality.{blocksOf}
 use Rattle.finality.specs.NextFinal.{nextFinalChecks}
 use Rattle.stretch_words.specs.Answers.{asStretches}
 use Rattle.stretches.specs.Stretches.{Listing, lastLocator, stretchAt, fromFound, stretches}
-use Rattle.stretches.specs.Bulk.{Given, givenAfter, listStretches}
+use Rattle.stretches.specs.Bulk.{Given, givenAfter, stretchRoom, listStretches}
 use Rattle.stretch_words.specs.declared.StretchesAnswer.{StretchesAnswer}
 use Rattle.stretch_words.specs.declared.StretchesAnswer.the-variants.{Last, More, Refused}
 use Rattle.host_locators.specs.Locators.{refusalBefore}
 use Rattle.host_finals.specs.Stretches.{stretchesIn, askedStretches}
-use Rattle.final_answers.specs.Answers.{stretchesNumber, countsFit}
+use Rattle.final_answers.specs.Answers.{wholeStretches, countsFit}
 use Rattle.host_calls.proofs.Numbers.{checked-most}
 
 -- no more stretches than asked for
@@ -37,18 +35,18 @@ few-stretches c bs k (suc n) after = go (k .next after) (few-stretches c bs k n)
     go (some l) h = omega (arith, h (some (lastLocator (stretchAt c bs k l))))
 
 -- so the answer leaves room for the word
-given-few : (c : Committee) (s ws : List ℕ) (k : Listing) (after : Option TransactionLocator) (g : Given) → listStretches c s k ws after .answer ≡ answered g → g .stretches ≤ length ws / 10
+given-few : (c : Committee) (s ws : List ℕ) (k : Listing) (after : Option TransactionLocator) (g : Given) → listStretches c s k ws after .answer ≡ answered g → g .stretches ≤ stretchRoom ws
 unfolding listStretches checked givenAfter
 given-few c s ws k after g e = by (passes (nextFinalChecks c s)) e
   where
     told : Given
-    told = givenAfter k after (stretches c (blocksOf s) k (length ws / 10) after)
+    told = givenAfter k after (stretches c (blocksOf s) k (stretchRoom ws) after)
 
-    by : (t : Bool) → _≡_ {A = Answer Given} (pick t (answered told) (refused (refusal (nextFinalChecks c s)))) (answered g) → g .stretches ≤ length ws / 10
-    by true e = let z : told ≡ g = cc in omega (arith, ap (λ (x : Given). x .stretches) z, few-stretches c (blocksOf s) k (length ws / 10) after)
+    by : (t : Bool) → _≡_ {A = Answer Given} (pick t (answered told) (refused (refusal (nextFinalChecks c s)))) (answered g) → g .stretches ≤ stretchRoom ws
+    by true e = let z : told ≡ g = cc in omega (arith, ap (λ (x : Given). x .stretches) z, few-stretches c (blocksOf s) k (stretchRoom ws) after)
     by false e = let z : _≡_ {A = ℕ} 0 1 = cc in absurd (omega arith)
 
-pub counts-fit : (c : Committee) (s ws : List ℕ) (k : Listing) (after : Option TransactionLocator) (r : StretchesAnswer) → length ws ≡ 1280
+pub counts-fit : (c : Committee) (s ws : List ℕ) (k : Listing) (after : Option TransactionLocator) (r : StretchesAnswer) → length ws < 2 ^ 64
     → asStretches r ≡ listStretches c s k ws after .answer → countsFit r
 unfolding asStretches
 counts-fit c s ws k after (Last n) h e = omega (arith, given-few c s ws k after _ (sym e))
@@ -58,23 +56,16 @@ counts-fit c s ws k after (Refused n) h e = omega (arith, few-numbers n (sym e))
     few-numbers : (n : ℕ) → listStretches c s k ws after .answer ≡ refused n → n ≤ 10
     few-numbers n e = unfold listStretches nextFinalChecks allOf in checked-most 10 (nextFinalChecks c s) _ n refl e
 
--- as words
-pub stretches-in : (c : Committee) (s out : List ℕ) (k : Listing) (after : Option TransactionLocator) → length out ≡ 10240
-    → stretchesIn c s k after out
-    ≡ record { answer = stretchesNumber (listStretches c s k (wordsIn 1280 out) after .answer); stretches = bytesOf (listStretches c s k (wordsIn 1280 out) after .out) }
-unfolding stretchesIn wordsOf
-stretches-in c s out k after h = rw h
-
 module _ (c : Committee) (s : List ℕ) (k : Listing) (o : Option (Option TransactionLocator)) (out : List ℕ) where
   pub stretches-malformed : o ≡ none → askedStretches c s k o out ≡ record { answer = refused (refusalBefore 20 c s); stretches = out }
   unfolding askedStretches
   stretches-malformed e = rw e
 
-  pub stretches-unsized : (after : Option TransactionLocator) → o ≡ some after → eqb (length out) 10240 ≡ false
+  pub stretches-unsized : (after : Option TransactionLocator) → o ≡ some after → wholeStretches out ≡ false
       → askedStretches c s k o out ≡ record { answer = refused (refusalBefore 40 c s); stretches = out }
   unfolding askedStretches
   stretches-unsized after e h = rw (e, h)
 
-  pub stretches-asked : (after : Option TransactionLocator) → o ≡ some after → eqb (length out) 10240 ≡ true → askedStretches c s k o out ≡ stretchesIn c s k after out
+  pub stretches-asked : (after : Option TransactionLocator) → o ≡ some after → wholeStretches out ≡ true → askedStretches c s k o out ≡ stretchesIn c s k after out
   unfolding askedStretches
   stretches-asked after e h = rw (e, h)

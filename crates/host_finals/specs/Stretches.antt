@@ -2,14 +2,11 @@
 use Prim.Native.Nat.{ℕ}
 use mathlib.Core.Bool.{true, false}
 use mathlib.Core.Option.{Option, none, some}
-use lib.Dec.{eqb}
-use lib.ListN.{length}
 use Rattle.base.specs.Lists.{pick}
 use Rattle.base.specs.Le.{Bytes}
 use Rattle.base.specs.Checks.{Answer, refused}
 use Rattle.committee.specs.Committee.{Committee}
 use Rattle.blocks.specs.Reference.{TransactionLocator}
-use Rattle.words.specs.Words.{wordsOf, bytesOf}
 use Rattle.finality.specs.Finality.{blocksOf}
 use Rattle.stretches.specs.Stretches.{Listing, wide}
 use Rattle.stretches.specs.Bulk.{listStretches}
@@ -18,26 +15,26 @@ use Rattle.readings.specs.Readings.{withdrawing}
 use Rattle.reading_lists.specs.Lists.{listing}
 use Rattle.host_calls.specs.Calls.{committeeOf}
 use Rattle.host_locators.specs.Locators.{refusalBefore}
-use Rattle.final_answers.specs.Answers.{afterOf, stretchesNumber}
+use Rattle.final_answers.specs.Answers.{afterOf, wholeStretches, stretchesNumber}
 
 -- what the question answers, and the bytes that it was lent for the stretches afterwards
 pub record StretchesCall : Type 0 where
   pub answer : Answer ℕ
   pub stretches : Bytes
 
--- the engine's question with room for 128 stretches of ten words
+-- the engine's question
 unfoldable pub stretchesIn : Committee → Bytes → Listing → Option TransactionLocator → Bytes → StretchesCall
 stretchesIn c s k after out =
     record {
-      answer = stretchesNumber (listStretches c s k (wordsOf out) after .answer);
-      stretches = bytesOf (listStretches c s k (wordsOf out) after .out);
+      answer = stretchesNumber (listStretches c s k out after .answer);
+      stretches = listStretches c s k out after .out;
     }
 
--- 20 for bytes that are no place, then 40 for bytes that are not of that size
+-- 20 for bytes that are no place, then 40 for bytes that are no whole stretches
 unfoldable pub askedStretches : Committee → Bytes → Listing → Option (Option TransactionLocator) → Bytes → StretchesCall
 askedStretches c s k none out = record { answer = refused (refusalBefore 20 c s); stretches = out }
 askedStretches c s k (some after) out =
-    pick (eqb (length out) 10240) (stretchesIn c s k after out) (record { answer = refused (refusalBefore 40 c s); stretches = out })
+    pick (wholeStretches out) (stretchesIn c s k after out) (record { answer = refused (refusalBefore 40 c s); stretches = out })
 
 -- of the ordinary list
 unfoldable pub stretchesCall : Bytes → Bytes → Bytes → Bytes → StretchesCall

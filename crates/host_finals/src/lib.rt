@@ -1,16 +1,13 @@
 // What the host's calls about the ordinary and the wide list, in either reading of a reject, are made of, over byte slices.
 ghost use mathlib.Core.Path.{_≡_};
-ghost use lib.ListN.{length};
 ghost use Rattle.finality.specs.Finality.{blocksOf};
 ghost use Rattle.readings.specs.Readings.{readingOf};
 ghost use Rattle.reading_lists.specs.Lists.{listing};
 ghost use Rattle.host_calls.specs.Calls.{encoded};
 ghost use Rattle.final_answers.specs.Answers.{afterOf};
 ghost use Rattle.host_finals.specs.NextFinal.{askedNextFinal};
-ghost use Rattle.vote_starts.specs.Answers.{asMaybe};
-ghost use Rattle.host_finals.specs.Stretches.{stretchesIn, askedStretches};
+ghost use Rattle.host_finals.specs.Stretches.{askedStretches};
 use final_answers::After;
-use vote_starts::MaybeLocator;
 
 // ---- the next locator of a list
 
@@ -36,32 +33,6 @@ pub fn next_final_of(
 
 // ---- a list in bulk
 
-// The question itself, with the stretches as words.
-fn stretches_words(
-    stakes: &[u64],
-    store: &[u8],
-    ordinary: bool,
-    withdrawing: bool,
-    after: MaybeLocator,
-    out: &mut [u8],
-) -> u64
-    requires { ⌜ length (now out) ≡ 10240 ⌝ }
-    ensures { λ r. ⌜ (r ≡ encoded (stretchesIn (now (stakes .entry)) (now (store .entry)) (listing ordinary (readingOf withdrawing) (now (stakes .entry)) (blocksOf (now (store .entry)))) (asMaybe after) (now (out .entry)) .answer)) × (now (out .exit) ≡ stretchesIn (now (stakes .entry)) (now (store .entry)) (listing ordinary (readingOf withdrawing) (now (stakes .entry)) (blocksOf (now (store .entry)))) (asMaybe after) (now (out .entry)) .stretches) ⌝ }
-{
-    let mut words = [0u64; 1280];
-    words::words_of(out, &mut words);
-    let answer = final_list::list_stretches(
-        stakes,
-        store,
-        ordinary,
-        withdrawing,
-        &mut words,
-        after,
-    );
-    words::bytes_of(&words, out);
-    final_answers::stretches_number(answer)
-}
-
 pub fn stretches_of(
     stakes: &[u64],
     store: &[u8],
@@ -78,5 +49,6 @@ pub fn stretches_of(
     if !final_answers::holds_stretches(out) {
         return host_calls::REFUSED + host_locators::refusal_before(40, stakes, store);
     }
-    stretches_words(stakes, store, ordinary, withdrawing, place, out)
+    let answer = final_list::list_stretches(stakes, store, ordinary, withdrawing, out, place);
+    final_answers::stretches_number(answer)
 }

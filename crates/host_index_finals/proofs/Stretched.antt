@@ -3,9 +3,9 @@ use mathlib.Core.Path.{_≡_, refl, sym, ap}
 use mathlib.Core.Bool.{Bool, true, false}
 use mathlib.Core.List.{List, [], _∷_, _++_}
 use mathlib.Core.Option.{Option, none, some}
-use Prim.Native.Nat.{ℕ, _≤_, _/_}
+use Prim.Native.Nat.{ℕ, _^_, _≤_, _<_}
 use native.Mathlib.Omega.{arith}
-use lib.Dec.{eqb, lit<}
+use lib.Dec.{lit<}
 use lib.ListN.{length}
 use borrow.Author.Tests.{le-leb}
 use Rattle.base.specs.Lists.{pick, allOf}
@@ -14,17 +14,16 @@ use Rattle.base.proofs.Lists.{none-of, and}
 use Rattle.base.proofs.Refusals.{Numbered, refusal-first, refusal-then}
 use Rattle.committee.specs.Committee.{Committee}
 use Rattle.blocks.specs.Reference.{TransactionLocator}
-use Rattle.words.specs.Words.{wordsIn, wordsOf, bytesOf}
 use Rattle.finality.specs.Finality.{blocksOf}
 use Rattle.finality.specs.NextFinal.{nextFinalChecks}
 use Rattle.stretch_words.specs.Answers.{asStretches}
 use Rattle.stretch_words.specs.declared.StretchesAnswer.{StretchesAnswer}
 use Rattle.stretch_words.specs.declared.StretchesAnswer.the-variants.{Last, More, Refused}
 use Rattle.stretches.specs.Stretches.{Listing, stretches}
-use Rattle.stretches.specs.Bulk.{Given, givenAfter}
+use Rattle.stretches.specs.Bulk.{Given, givenAfter, stretchRoom}
 use Rattle.indexed_lists.specs.Indexed.{indexedChecks, listStretchesIndexed}
 use Rattle.host_calls.proofs.Numbers.{checked-most, refusal-most}
-use Rattle.final_answers.specs.Answers.{stretchesNumber, countsFit}
+use Rattle.final_answers.specs.Answers.{wholeStretches, countsFit}
 use Rattle.host_finals.proofs.Stretched.{few-stretches}
 use Rattle.host_index_finals.specs.Indexed.{refusalIndexed, stretchesIndexedIn, askedStretchesIndexed}
 
@@ -49,18 +48,18 @@ module _ (n : ℕ) (c : Committee) (s ix : List ℕ) where
 
 -- ---- counts
 
-given-few : (c : Committee) (s ix ws : List ℕ) (k : Listing) (after : Option TransactionLocator) (g : Given) → listStretchesIndexed c s ix k ws after .answer ≡ answered g → g .stretches ≤ length ws / 10
+given-few : (c : Committee) (s ix ws : List ℕ) (k : Listing) (after : Option TransactionLocator) (g : Given) → listStretchesIndexed c s ix k ws after .answer ≡ answered g → g .stretches ≤ stretchRoom ws
 unfolding listStretchesIndexed checked givenAfter
 given-few c s ix ws k after g e = by (passes (indexedChecks c s ix)) e
   where
     told : Given
-    told = givenAfter k after (stretches c (blocksOf s) k (length ws / 10) after)
+    told = givenAfter k after (stretches c (blocksOf s) k (stretchRoom ws) after)
 
-    by : (t : Bool) → _≡_ {A = Answer Given} (pick t (answered told) (refused (refusal (indexedChecks c s ix)))) (answered g) → g .stretches ≤ length ws / 10
-    by true e = let z : told ≡ g = cc in omega (arith, ap (λ (x : Given). x .stretches) z, few-stretches c (blocksOf s) k (length ws / 10) after)
+    by : (t : Bool) → _≡_ {A = Answer Given} (pick t (answered told) (refused (refusal (indexedChecks c s ix)))) (answered g) → g .stretches ≤ stretchRoom ws
+    by true e = let z : told ≡ g = cc in omega (arith, ap (λ (x : Given). x .stretches) z, few-stretches c (blocksOf s) k (stretchRoom ws) after)
     by false e = let z : _≡_ {A = ℕ} 0 1 = cc in absurd (omega arith)
 
-pub counts-fit : (c : Committee) (s ix ws : List ℕ) (k : Listing) (after : Option TransactionLocator) (r : StretchesAnswer) → length ws ≡ 1280
+pub counts-fit : (c : Committee) (s ix ws : List ℕ) (k : Listing) (after : Option TransactionLocator) (r : StretchesAnswer) → length ws < 2 ^ 64
     → asStretches r ≡ listStretchesIndexed c s ix k ws after .answer → countsFit r
 unfolding asStretches
 counts-fit c s ix ws k after (Last n) h e = omega (arith, given-few c s ix ws k after _ (sym e))
@@ -70,23 +69,16 @@ counts-fit c s ix ws k after (Refused n) h e = few-numbers n (sym e)
     few-numbers : (n : ℕ) → listStretchesIndexed c s ix k ws after .answer ≡ refused n → n ≤ 54
     few-numbers n e = unfold listStretchesIndexed indexedChecks nextFinalChecks allOf in checked-most 54 (indexedChecks c s ix) _ n refl e
 
--- as words
-pub stretches-in : (c : Committee) (s ix out : List ℕ) (k : Listing) (after : Option TransactionLocator) → length out ≡ 10240
-    → stretchesIndexedIn c s ix k after out
-    ≡ record { answer = stretchesNumber (listStretchesIndexed c s ix k (wordsIn 1280 out) after .answer); stretches = bytesOf (listStretchesIndexed c s ix k (wordsIn 1280 out) after .out) }
-unfolding stretchesIndexedIn wordsOf
-stretches-in c s ix out k after h = rw h
-
 module _ (c : Committee) (s ix : List ℕ) (k : Listing) (o : Option (Option TransactionLocator)) (out : List ℕ) where
   pub stretches-malformed : o ≡ none → askedStretchesIndexed c s ix k o out ≡ record { answer = refused (refusalIndexed 20 c s ix); stretches = out }
   unfolding askedStretchesIndexed
   stretches-malformed e = rw e
 
-  pub stretches-unsized : (after : Option TransactionLocator) → o ≡ some after → eqb (length out) 10240 ≡ false
+  pub stretches-unsized : (after : Option TransactionLocator) → o ≡ some after → wholeStretches out ≡ false
       → askedStretchesIndexed c s ix k o out ≡ record { answer = refused (refusalIndexed 40 c s ix); stretches = out }
   unfolding askedStretchesIndexed
   stretches-unsized after e h = rw (e, h)
 
-  pub stretches-asked : (after : Option TransactionLocator) → o ≡ some after → eqb (length out) 10240 ≡ true → askedStretchesIndexed c s ix k o out ≡ stretchesIndexedIn c s ix k after out
+  pub stretches-asked : (after : Option TransactionLocator) → o ≡ some after → wholeStretches out ≡ true → askedStretchesIndexed c s ix k o out ≡ stretchesIndexedIn c s ix k after out
   unfolding askedStretchesIndexed
   stretches-asked after e h = rw (e, h)

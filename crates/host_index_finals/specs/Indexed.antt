@@ -3,39 +3,36 @@ use Prim.Native.Nat.{ℕ}
 use mathlib.Core.Bool.{true}
 use mathlib.Core.List.{List, [], _∷_, _++_}
 use mathlib.Core.Option.{Option, none, some}
-use lib.Dec.{eqb}
-use lib.ListN.{length}
 use Rattle.base.specs.Lists.{pick}
 use Rattle.base.specs.Le.{Bytes}
 use Rattle.base.specs.Checks.{_⇒_, refusal, refused}
 use Rattle.committee.specs.Committee.{Committee}
 use Rattle.blocks.specs.Reference.{TransactionLocator}
-use Rattle.words.specs.Words.{wordsOf, bytesOf}
 use Rattle.finality.specs.Finality.{blocksOf}
 use Rattle.stretches.specs.Stretches.{Listing, wide}
 use Rattle.stored_finals.specs.Ordinary.{ordinary}
 use Rattle.indexed_lists.specs.Indexed.{indexedChecks, listStretchesIndexed}
 use Rattle.host_calls.specs.Calls.{committeeOf}
-use Rattle.final_answers.specs.Answers.{afterOf, stretchesNumber}
+use Rattle.final_answers.specs.Answers.{afterOf, wholeStretches, stretchesNumber}
 use Rattle.host_finals.specs.Stretches.{StretchesCall}
 
 -- the number of a refusal that applies in any case, after 5, 10 and 54
 unfoldable pub refusalIndexed : ℕ → Committee → Bytes → List ℕ → ℕ
 refusalIndexed n c s ix = refusal (indexedChecks c s ix ++ ((true ⇒ n) ∷ []))
 
--- the engine's question with room for 128 stretches of ten words; the index crosses as words
+-- the engine's question; the index crosses as words
 unfoldable pub stretchesIndexedIn : Committee → Bytes → List ℕ → Listing → Option TransactionLocator → Bytes → StretchesCall
 stretchesIndexedIn c s ix k after out =
     record {
-      answer = stretchesNumber (listStretchesIndexed c s ix k (wordsOf out) after .answer);
-      stretches = bytesOf (listStretchesIndexed c s ix k (wordsOf out) after .out);
+      answer = stretchesNumber (listStretchesIndexed c s ix k out after .answer);
+      stretches = listStretchesIndexed c s ix k out after .out;
     }
 
--- 54 before 20 for bytes that are no place, then 40 for bytes that are not of that size
+-- 54 before 20 for bytes that are no place, then 40 for bytes that are no whole stretches
 unfoldable pub askedStretchesIndexed : Committee → Bytes → List ℕ → Listing → Option (Option TransactionLocator) → Bytes → StretchesCall
 askedStretchesIndexed c s ix k none out = record { answer = refused (refusalIndexed 20 c s ix); stretches = out }
 askedStretchesIndexed c s ix k (some after) out =
-    pick (eqb (length out) 10240) (stretchesIndexedIn c s ix k after out) (record { answer = refused (refusalIndexed 40 c s ix); stretches = out })
+    pick (wholeStretches out) (stretchesIndexedIn c s ix k after out) (record { answer = refused (refusalIndexed 40 c s ix); stretches = out })
 
 -- of the ordinary list
 unfoldable pub stretchesIndexedCall : Bytes → Bytes → List ℕ → Bytes → Bytes → StretchesCall

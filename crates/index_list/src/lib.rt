@@ -8,7 +8,7 @@ use types::TransactionLocator;
 use vote_starts::MaybeLocator;
 ghost use mathlib.Core.Path.{_≡_};
 ghost use mathlib.Core.Bool.{true, false};
-ghost use Prim.Native.Nat.{_/_, _≤_, ℕ};
+ghost use Prim.Native.Nat.{_≤_, ℕ};
 ghost use lib.ListN.{length};
 ghost use Rattle.base.specs.Checks.{refusal, answered};
 ghost use Rattle.committee.specs.Committee.{totalStake};
@@ -16,7 +16,7 @@ ghost use Rattle.finality.specs.Finality.{blocksOf};
 ghost use Rattle.block_votes.specs.Walk.{Sorted};
 ghost use Rattle.vote_starts.specs.Answers.{asMaybe};
 ghost use Rattle.stretches.specs.Stretches.{wide, stretches};
-ghost use Rattle.stretches.specs.Bulk.{givenAfter, wordsAfter};
+ghost use Rattle.stretches.specs.Bulk.{givenAfter, stretchRoom, bytesAfter};
 ghost use Rattle.stored_finals.specs.Ordinary.{ordinary};
 ghost use Rattle.readings.specs.Readings.{old};
 ghost use Rattle.reading_lists.specs.Lists.{listing};
@@ -53,16 +53,16 @@ fn fill(
     owners: &[u64],
     cursors: &mut [u64],
     flags: &mut [u64],
-    out: &mut [u64],
+    out: &mut [u8],
     after: MaybeLocator,
 ) -> StretchesAnswer
     requires sorted { ⌜ ((order : List ℕ) × Sorted (now stakes) (now store) order) × (total .0 ≡ totalStake (now stakes)) ⌝ }
     requires room { ⌜ length (now flags) ≡ length (now ends) ⌝ }
     requires watched { ⌜ Watched (now stakes) (blocksOf (now store)) (now index) (now ends) (placeAfter (asMaybe after)) (now cursors) × Owners (blocksOf (now store)) (now owners) ⌝ }
-    ensures { λ r. ⌜ asStretches r ≡ answered (givenAfter (listing ordinary old (now (stakes .entry)) (blocksOf (now (store .entry)))) (asMaybe after) (stretches (now (stakes .entry)) (blocksOf (now (store .entry))) (listing ordinary old (now (stakes .entry)) (blocksOf (now (store .entry)))) (length (now (out .entry)) / 10) (asMaybe after))) ⌝ }
-    ensures { λ r. ⌜ now (out .exit) ≡ wordsAfter (stretches (now (stakes .entry)) (blocksOf (now (store .entry))) (listing ordinary old (now (stakes .entry)) (blocksOf (now (store .entry)))) (length (now (out .entry)) / 10) (asMaybe after)) (now (out .entry)) ⌝ }
+    ensures { λ r. ⌜ asStretches r ≡ answered (givenAfter (listing ordinary old (now (stakes .entry)) (blocksOf (now (store .entry)))) (asMaybe after) (stretches (now (stakes .entry)) (blocksOf (now (store .entry))) (listing ordinary old (now (stakes .entry)) (blocksOf (now (store .entry)))) (stretchRoom (now (out .entry))) (asMaybe after))) ⌝ }
+    ensures { λ r. ⌜ now (out .exit) ≡ bytesAfter (stretches (now (stakes .entry)) (blocksOf (now (store .entry))) (listing ordinary old (now (stakes .entry)) (blocksOf (now (store .entry)))) (stretchRoom (now (out .entry))) (asMaybe after)) (now (out .entry)) ⌝ }
 {
-    let room = out.len() / stretch_words::STRETCH_WORDS;
+    let room = out.len() / stretch_words::STRETCH_BYTES;
     let mut n: usize = 0;
     let mut last = after;
     loop {
@@ -122,14 +122,14 @@ fn fill_opened(
     cursors: &mut [u64],
     owners: &mut [u64],
     flags: &mut [u64],
-    out: &mut [u64],
+    out: &mut [u8],
     after: MaybeLocator,
 ) -> StretchesAnswer
     requires sorted { ⌜ Sorted (now stakes) (now store) (now order) × (total .0 ≡ totalStake (now stakes)) ⌝ }
     requires known { ⌜ Known (now store) (now order) (now index) (now starts) (blocksOf (now store)) ⌝ }
     requires room { ⌜ (length (now ends) ≡ length (now order)) × ((length (now cursors) ≡ length (now order)) × ((length (now owners) ≡ length (now order)) × (length (now flags) ≡ length (now order)))) ⌝ }
-    ensures { λ r. ⌜ asStretches r ≡ answered (givenAfter (listing ordinary old (now (stakes .entry)) (blocksOf (now (store .entry)))) (asMaybe after) (stretches (now (stakes .entry)) (blocksOf (now (store .entry))) (listing ordinary old (now (stakes .entry)) (blocksOf (now (store .entry)))) (length (now (out .entry)) / 10) (asMaybe after))) ⌝ }
-    ensures { λ r. ⌜ now (out .exit) ≡ wordsAfter (stretches (now (stakes .entry)) (blocksOf (now (store .entry))) (listing ordinary old (now (stakes .entry)) (blocksOf (now (store .entry)))) (length (now (out .entry)) / 10) (asMaybe after)) (now (out .entry)) ⌝ }
+    ensures { λ r. ⌜ asStretches r ≡ answered (givenAfter (listing ordinary old (now (stakes .entry)) (blocksOf (now (store .entry)))) (asMaybe after) (stretches (now (stakes .entry)) (blocksOf (now (store .entry))) (listing ordinary old (now (stakes .entry)) (blocksOf (now (store .entry)))) (stretchRoom (now (out .entry))) (asMaybe after))) ⌝ }
+    ensures { λ r. ⌜ now (out .exit) ≡ bytesAfter (stretches (now (stakes .entry)) (blocksOf (now (store .entry))) (listing ordinary old (now (stakes .entry)) (blocksOf (now (store .entry)))) (stretchRoom (now (out .entry))) (asMaybe after)) (now (out .entry)) ⌝ }
 {
     let place = place_after(after);
     index_opening::open_cursors(
@@ -168,13 +168,13 @@ fn fill_watched(
     ordinary: bool,
     index: &[u64],
     starts: &[u64],
-    out: &mut [u64],
+    out: &mut [u8],
     after: MaybeLocator,
 ) -> StretchesAnswer
     requires sorted { ⌜ (Sorted (now stakes) (now store) (now order) × (total .0 ≡ totalStake (now stakes))) × (length (now order) ≤ 1024) ⌝ }
     requires known { ⌜ Known (now store) (now order) (now index) (now starts) (blocksOf (now store)) ⌝ }
-    ensures { λ r. ⌜ asStretches r ≡ answered (givenAfter (listing ordinary old (now (stakes .entry)) (blocksOf (now (store .entry)))) (asMaybe after) (stretches (now (stakes .entry)) (blocksOf (now (store .entry))) (listing ordinary old (now (stakes .entry)) (blocksOf (now (store .entry)))) (length (now (out .entry)) / 10) (asMaybe after))) ⌝ }
-    ensures { λ r. ⌜ now (out .exit) ≡ wordsAfter (stretches (now (stakes .entry)) (blocksOf (now (store .entry))) (listing ordinary old (now (stakes .entry)) (blocksOf (now (store .entry)))) (length (now (out .entry)) / 10) (asMaybe after)) (now (out .entry)) ⌝ }
+    ensures { λ r. ⌜ asStretches r ≡ answered (givenAfter (listing ordinary old (now (stakes .entry)) (blocksOf (now (store .entry)))) (asMaybe after) (stretches (now (stakes .entry)) (blocksOf (now (store .entry))) (listing ordinary old (now (stakes .entry)) (blocksOf (now (store .entry)))) (stretchRoom (now (out .entry))) (asMaybe after))) ⌝ }
+    ensures { λ r. ⌜ now (out .exit) ≡ bytesAfter (stretches (now (stakes .entry)) (blocksOf (now (store .entry))) (listing ordinary old (now (stakes .entry)) (blocksOf (now (store .entry)))) (stretchRoom (now (out .entry))) (asMaybe after)) (now (out .entry)) ⌝ }
 {
     let n = order.len();
     let mut ends = [0u64; types::MAX_BLOCKS];
@@ -223,7 +223,7 @@ pub fn list_stretches_indexed(
     store: &[u8],
     ordinary: bool,
     index: &[u64],
-    out: &mut [u64],
+    out: &mut [u8],
     after: MaybeLocator,
 ) -> StretchesAnswer
     ensures { λ r. ⌜ asStretches r ≡ listStretchesIndexed (now (stakes .entry)) (now (store .entry)) (now (index .entry)) (listing ordinary old (now (stakes .entry)) (blocksOf (now (store .entry)))) (now (out .entry)) (asMaybe after) .answer ⌝ }
@@ -255,12 +255,12 @@ pub fn list_stretches_indexed(
 }
 
 // The ordinary list, of the final stored shares, with the index: from the start or after a given locator on, as many stretches as the slice
-// holds, ten words each as in `final_list`. The words past them stay.
+// holds, 80 bytes each as in `final_list`. The bytes past them stay.
 pub fn final_stretches_indexed(
     stakes: &[u64],
     store: &[u8],
     index: &[u64],
-    out: &mut [u64],
+    out: &mut [u8],
     after: MaybeLocator,
 ) -> StretchesAnswer
     ensures { λ r. ⌜ asStretches r ≡ listStretchesIndexed (now (stakes .entry)) (now (store .entry)) (now (index .entry)) (ordinary (now (stakes .entry)) (blocksOf (now (store .entry)))) (now (out .entry)) (asMaybe after) .answer ⌝ }
@@ -274,7 +274,7 @@ pub fn wide_stretches_indexed(
     stakes: &[u64],
     store: &[u8],
     index: &[u64],
-    out: &mut [u64],
+    out: &mut [u8],
     after: MaybeLocator,
 ) -> StretchesAnswer
     ensures { λ r. ⌜ asStretches r ≡ listStretchesIndexed (now (stakes .entry)) (now (store .entry)) (now (index .entry)) (wide (now (stakes .entry)) (blocksOf (now (store .entry)))) (now (out .entry)) (asMaybe after) .answer ⌝ }

@@ -4,7 +4,7 @@ use mathlib.Core.Logic.{_⊎_, inl, inr}
 use mathlib.Core.Bool.{true, false}
 use mathlib.Core.List.{List}
 use mathlib.Core.Option.{Option}
-use Prim.Native.Nat.{ℕ, _/_}
+use Prim.Native.Nat.{ℕ}
 use lib.ListN.{length}
 use Rattle.base.specs.Lists.{allOf}
 use Rattle.base.specs.Le.{Bytes}
@@ -16,7 +16,7 @@ use Rattle.store_layout.specs.Store.{storeInOrder}
 use Rattle.finality.specs.Finality.{blocksOf}
 use Rattle.finality.specs.NextFinal.{nextFinalChecks}
 use Rattle.stretches.specs.Stretches.{Listing, stretches}
-use Rattle.stretches.specs.Bulk.{Given, givenAfter, wordsAfter, listStretches}
+use Rattle.stretches.specs.Bulk.{Given, givenAfter, stretchRoom, bytesAfter, listStretches}
 use Rattle.voters_index.specs.Index.{indexAgrees}
 use Rattle.indexed_lists.specs.Indexed.{indexedChecks, listStretchesIndexed}
 
@@ -40,7 +40,7 @@ module _ (c : Committee) (s : Bytes) (ix : List ℕ) where
       unfolding indexedChecks nextFinalChecks refusal
       refusal-none h = rw (b, o, h)
 
-module _ (c : Committee) (s : Bytes) (ix : List ℕ) (k : Listing) (out : List ℕ) (after : Option TransactionLocator) where
+module _ (c : Committee) (s : Bytes) (ix : List ℕ) (k : Listing) (out : Bytes) (after : Option TransactionLocator) where
   pub indexed-broken : broken c ≡ true → record { answer = refused 5; out = out } ≡ listStretchesIndexed c s ix k out after
   unfolding listStretchesIndexed indexedChecks nextFinalChecks checked passes refusal allOf
   indexed-broken b = rw b
@@ -55,10 +55,10 @@ module _ (c : Committee) (s : Bytes) (ix : List ℕ) (k : Listing) (out : List �
       unfolding listStretchesIndexed indexedChecks nextFinalChecks checked passes refusal allOf
       indexed-disagrees h = rw (b, o, h)
 
-      pub indexed-asked : indexAgrees (blocksOf s) ix ≡ true → (a : Answer Given) (ws : List ℕ) → a ≡ answered (givenAfter k after (stretches c (blocksOf s) k (length out / 10) after))
-          → ws ≡ wordsAfter (stretches c (blocksOf s) k (length out / 10) after) out → record { answer = a; out = ws } ≡ listStretchesIndexed c s ix k out after
+      pub indexed-asked : indexAgrees (blocksOf s) ix ≡ true → (a : Answer Given) (bytes : Bytes) → a ≡ answered (givenAfter k after (stretches c (blocksOf s) k (stretchRoom out) after))
+          → bytes ≡ bytesAfter (stretches c (blocksOf s) k (stretchRoom out) after) out → record { answer = a; out = bytes } ≡ listStretchesIndexed c s ix k out after
       unfolding listStretchesIndexed indexedChecks nextFinalChecks checked passes refusal allOf
-      indexed-asked h a ws e f = rw (b, o, h, e, f)
+      indexed-asked h a bytes e f = rw (b, o, h, e, f)
 
   -- ---- beside the list without it
 

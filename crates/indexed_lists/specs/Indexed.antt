@@ -1,9 +1,8 @@
 -- A list of final locators in bulk, with the index. Assumes nothing: these are definitions.
-use Prim.Native.Nat.{ℕ, _/_}
+use Prim.Native.Nat.{ℕ}
 use mathlib.Core.Bool.{not}
 use mathlib.Core.List.{List, [], _∷_, _++_}
 use mathlib.Core.Option.{Option}
-use lib.ListN.{length}
 use Rattle.base.specs.Lists.{pick}
 use Rattle.base.specs.Le.{Bytes}
 use Rattle.base.specs.Checks.{Check, _⇒_, passes, checked}
@@ -12,7 +11,7 @@ use Rattle.blocks.specs.Reference.{TransactionLocator}
 use Rattle.finality.specs.Finality.{blocksOf}
 use Rattle.finality.specs.NextFinal.{nextFinalChecks}
 use Rattle.stretches.specs.Stretches.{Listing, FinalStretch, stretches}
-use Rattle.stretches.specs.Bulk.{givenAfter, wordsAfter, AskedBulk}
+use Rattle.stretches.specs.Bulk.{givenAfter, stretchRoom, bytesAfter, AskedBulk}
 use Rattle.voters_index.specs.Index.{indexAgrees}
 
 -- 01: "Queries check 5, 10"; 02: "An index that disagrees with the store answers 54": right after them
@@ -20,10 +19,10 @@ unfoldable pub indexedChecks : Committee → Bytes → List ℕ → List Check
 indexedChecks c s ix = nextFinalChecks c s ++ ((not (indexAgrees (blocksOf s) ix) ⇒ 54) ∷ [])
 
 -- as many stretches of a list over the stored blocks as the slice holds
-unfoldable pub listStretchesIndexed : Committee → Bytes → List ℕ → Listing → List ℕ → Option TransactionLocator → AskedBulk
+unfoldable pub listStretchesIndexed : Committee → Bytes → List ℕ → Listing → Bytes → Option TransactionLocator → AskedBulk
 listStretchesIndexed c s ix k out after =
-    let ts : List FinalStretch = stretches c (blocksOf s) k (length out / 10) after in
+    let ts : List FinalStretch = stretches c (blocksOf s) k (stretchRoom out) after in
     record {
       answer = checked (indexedChecks c s ix) (givenAfter k after ts);
-      out = pick (passes (indexedChecks c s ix)) (wordsAfter ts out) out;
+      out = pick (passes (indexedChecks c s ix)) (bytesAfter ts out) out;
     }

@@ -1,9 +1,5 @@
 // The ordinary list, or the wide one, printed as far as it goes.
-use committee::AuthorityIndex;
-use committee::RoundNumber;
 use stretch_words::StretchesAnswer;
-use types::BlockDigest;
-use types::BlockReference;
 use types::TransactionLocator;
 use vote_starts::MaybeLocator;
 ghost use mathlib.Core.Path.{_≡_};
@@ -25,41 +21,31 @@ pub struct Listed {
     more: bool,
 }
 
-// The words of n stretches, or all that there are, if these are fewer.
-fn stretch_words(n: u64) -> usize
-    ensures { λ r. ⌜ r ≤ 10240 ⌝ }
+// The bytes of n stretches, or all that there are, if these are fewer.
+fn stretch_bytes(n: u64) -> usize
+    ensures { λ r. ⌜ r ≤ 81920 ⌝ }
 {
     if 1024 < n {
-        return 10240;
+        return 81920;
     }
-    10 * (n as usize)
+    stretch_words::STRETCH_BYTES * (n as usize)
 }
 
 // The last locator of the stretch before a place.
-fn last_locator(stretches: &[u64], end: usize) -> MaybeLocator
+fn last_locator(stretches: &[u8], end: usize) -> MaybeLocator
     requires { ⌜ end ≤ length (now stretches) ⌝ }
 {
-    if end < 10 {
+    if end < stretch_words::STRETCH_BYTES {
         return MaybeLocator::Nothing;
     }
-    let i = end - 10;
-    let digest = BlockDigest(
-        stretches[i + 2],
-        stretches[i + 3],
-        stretches[i + 4],
-        stretches[i + 5],
-    );
-    let block = BlockReference {
-        authority: AuthorityIndex(stretches[i]),
-        round: RoundNumber(stretches[i + 1]),
-        digest,
-    };
-    let offset = std::num::wrapping_sub_u64(stretches[i + 7], 1);
+    let i = end - stretch_words::STRETCH_BYTES;
+    let block = reference_bytes::read_reference(stretches, i);
+    let offset = std::num::wrapping_sub_u64(base::read_u64(stretches, i + types::LOCATOR_BYTES), 1);
     MaybeLocator::Locator(TransactionLocator { block, offset })
 }
 
 // Prints the stretches that stand before `end`.
-fn list_stretches(out: &mut [u8], done: Listed, stretches: &[u64], end: usize, more: bool) -> Listed
+fn list_stretches(out: &mut [u8], done: Listed, stretches: &[u8], end: usize, more: bool) -> Listed
     requires { ⌜ (done .at ≤ length (now out)) × ((128 ≤ length (now out)) × (end ≤ length (now stretches))) ⌝ }
     ensures { λ r. ⌜ (r .at ≤ length (now (out .entry))) × (length (now (out .exit)) ≡ length (now (out .entry))) ⌝ }
 {
@@ -78,7 +64,7 @@ fn list_stretches(out: &mut [u8], done: Listed, stretches: &[u64], end: usize, m
 fn ask_on(
     stakes: &[u64],
     store: &[u8],
-    stretches: &mut [u64],
+    stretches: &mut [u8],
     last: MaybeLocator,
     wide: bool,
 ) -> StretchesAnswer
@@ -96,16 +82,16 @@ fn list_on(stakes: &[u64], store: &[u8], out: &mut [u8], done: Listed, wide: boo
     requires { ⌜ (done .at ≤ length (now out)) × (128 ≤ length (now out)) ⌝ }
     ensures { λ r. ⌜ (r .at ≤ length (now (out .entry))) × (length (now (out .exit)) ≡ length (now (out .entry))) ⌝ }
 {
-    let mut stretches = [0u64; 10240];
+    let mut stretches = [0u8; 81920];
     let last = done.last;
     let answer = ask_on(stakes, store, &mut stretches, last, wide);
     match answer {
         StretchesAnswer::Last(n) => {
-            let end = stretch_words(n);
+            let end = stretch_bytes(n);
             list_stretches(out, done, &stretches, end, false)
         }
         StretchesAnswer::More(n) => {
-            let end = stretch_words(n);
+            let end = stretch_bytes(n);
             list_stretches(out, done, &stretches, end, 0 < n)
         }
         StretchesAnswer::Refused(_) => Listed {

@@ -45,39 +45,40 @@ fn print_offsets(
     at
 }
 
-// Prints a stretch of final locators, ten words from i on: author, round, four words of the digest (the first byte highest), first
-// offset, end, certifying blocks, stake.
-fn print_stretch(out: &mut [u8], from: usize, stretches: &[u64], i: usize) -> usize
-    requires { ⌜ (from ≤ length (now out)) × ((128 ≤ length (now out)) × (i + 9 < length (now stretches))) ⌝ }
+// Prints a stretch of final locators, 80 bytes from i on: author, round, digest, first offset, end, certifying blocks, stake.
+fn print_stretch(out: &mut [u8], from: usize, stretches: &[u8], i: usize) -> usize
+    requires { ⌜ (from ≤ length (now out)) × ((128 ≤ length (now out)) × (i + 79 < length (now stretches))) ⌝ }
     ensures { λ r. ⌜ (r ≤ length (now (out .entry))) × (length (now (out .exit)) ≡ length (now (out .entry))) ⌝ }
 {
-    let digest = stretches[i + 2] / 4294967296;
+    let block = reference_bytes::read_reference(stretches, i);
+    let digest = block.digest;
     print_offsets(
         out,
         from,
-        stretches[i + 1],
-        stretches[i],
-        digest,
-        stretches[i + 6],
-        stretches[i + 7],
-        stretches[i + 8],
-        stretches[i + 9],
+        block.round.0,
+        block.authority.0,
+        digest.0 / 4294967296,
+        base::read_u64(stretches, i + 48),
+        base::read_u64(stretches, i + 56),
+        base::read_u64(stretches, i + 64),
+        base::read_u64(stretches, i + 72),
     )
 }
 
 // Prints stretches of final locators, and counts these.
-pub fn print_stretches(out: &mut [u8], from: usize, stretches: &[u64]) -> Printed
+pub fn print_stretches(out: &mut [u8], from: usize, stretches: &[u8]) -> Printed
     requires { ⌜ (from ≤ length (now out)) × (128 ≤ length (now out)) ⌝ }
     ensures { λ r. ⌜ (r .at ≤ length (now (out .entry))) × (length (now (out .exit)) ≡ length (now (out .entry))) ⌝ }
 {
     let mut at = from;
     let mut counted: u64 = 0;
     let mut i = 0;
-    while i + 9 < stretches.len() {
+    while i + 79 < stretches.len() {
         at = print_stretch(out, at, stretches, i);
-        let offsets = std::num::wrapping_sub_u64(stretches[i + 7], stretches[i + 6]);
-        counted = std::num::wrapping_add_u64(counted, offsets);
-        i += 10;
+        let first = base::read_u64(stretches, i + 48);
+        let end = base::read_u64(stretches, i + 56);
+        counted = std::num::wrapping_add_u64(counted, std::num::wrapping_sub_u64(end, first));
+        i += 80;
     }
     Printed { at, counted }
 }

@@ -55,7 +55,7 @@ pub record SameLists (shared : Bool) (c : Committee) (s : Bytes) : Type 0 where
   pub listing : listing shared withdrawing c (blocksOf s) ≡ listing shared old c (blocksOf s)
   pub all : allListed shared withdrawing c (blocksOf s) ≡ allListed shared old c (blocksOf s)
   pub next : (after : Option TransactionLocator) → nextListed shared withdrawing c s after ≡ nextListed shared old c s after
-  pub bulk : (out : List ℕ) (after : Option TransactionLocator) → listedStretches shared withdrawing c s out after ≡ listedStretches shared old c s out after
+  pub bulk : (out : Bytes) (after : Option TransactionLocator) → listedStretches shared withdrawing c s out after ≡ listedStretches shared old c s out after
 
 unfoldable pub SameWithoutRejects : Type 0
 SameWithoutRejects = (shared : Bool) (c : Committee) (s : Bytes) → NoRejects (blocksOf s) → SameLists shared c s

@@ -49,5 +49,5 @@ abbrev pub nextListed : Bool → Reading → Committee → Bytes → Option Tran
 nextListed ordinary reading c s after = listNext c s (listing ordinary reading c (blocksOf s)) after
 
 -- as many stretches as the slice holds
-abbrev pub listedStretches : Bool → Reading → Committee → Bytes → List ℕ → Option TransactionLocator → AskedBulk
+abbrev pub listedStretches : Bool → Reading → Committee → Bytes → Bytes → Option TransactionLocator → AskedBulk
 listedStretches ordinary reading c s out after = listStretches c s (listing ordinary reading c (blocksOf s)) out after

@@ -17,5 +17,5 @@ abbrev pub ordinary : Committee → List Block → Listing
 ordinary c bs = record { shows = isFinalShare c bs; certifies = certifies c bs; next = leastFinalShare c bs; edges = edgesBy spans bs }
 
 -- the final shares in bulk: as many stretches as the slice holds
-abbrev pub shareStretches : Committee → Bytes → List ℕ → Option TransactionLocator → AskedBulk
+abbrev pub shareStretches : Committee → Bytes → Bytes → Option TransactionLocator → AskedBulk
 shareStretches c s out after = listStretches c s (ordinary c (blocksOf s)) out after

@@ -7,14 +7,13 @@ use vote_starts::MaybeLocator;
 use vote_table::TableSizes;
 ghost use mathlib.Core.Path.{_≡_};
 ghost use mathlib.Core.Bool.{true};
-ghost use Prim.Native.Nat.{_/_};
 ghost use lib.ListN.{length};
 ghost use Rattle.base.specs.Checks.{answered};
 ghost use Rattle.finality.specs.Finality.{blocksOf};
 ghost use Rattle.vote_starts.specs.Answers.{asMaybe};
 ghost use Rattle.types.specs.Values.{asLocator};
 ghost use Rattle.stretches.specs.Stretches.{stretchEnd, stretches};
-ghost use Rattle.stretches.specs.Bulk.{givenAfter, wordsAfter};
+ghost use Rattle.stretches.specs.Bulk.{givenAfter, stretchRoom, bytesAfter};
 ghost use Rattle.readings.specs.Readings.{withdrawing, readingOf};
 ghost use Rattle.reading_lists.specs.Lists.{listing};
 ghost use Rattle.final_walk.specs.Walk.{Flags};
@@ -94,14 +93,14 @@ pub fn fill(
     noted: usize,
     ordinary: bool,
     withdrawing: bool,
-    out: &mut [u64],
+    out: &mut [u8],
     after: MaybeLocator,
 ) -> StretchesAnswer
     requires { ⌜ Ready (now stakes) (total .0) (now store) (now order) × Tables (now store) (now order) (now table) sizes (now places) noted ⌝ }
-    ensures { λ r. ⌜ asStretches r ≡ answered (givenAfter (listing ordinary (readingOf withdrawing) (now (stakes .entry)) (blocksOf (now (store .entry)))) (asMaybe after) (stretches (now (stakes .entry)) (blocksOf (now (store .entry))) (listing ordinary (readingOf withdrawing) (now (stakes .entry)) (blocksOf (now (store .entry)))) (length (now (out .entry)) / 10) (asMaybe after))) ⌝ }
-    ensures { λ r. ⌜ now (out .exit) ≡ wordsAfter (stretches (now (stakes .entry)) (blocksOf (now (store .entry))) (listing ordinary (readingOf withdrawing) (now (stakes .entry)) (blocksOf (now (store .entry)))) (length (now (out .entry)) / 10) (asMaybe after)) (now (out .entry)) ⌝ }
+    ensures { λ r. ⌜ asStretches r ≡ answered (givenAfter (listing ordinary (readingOf withdrawing) (now (stakes .entry)) (blocksOf (now (store .entry)))) (asMaybe after) (stretches (now (stakes .entry)) (blocksOf (now (store .entry))) (listing ordinary (readingOf withdrawing) (now (stakes .entry)) (blocksOf (now (store .entry)))) (stretchRoom (now (out .entry))) (asMaybe after))) ⌝ }
+    ensures { λ r. ⌜ now (out .exit) ≡ bytesAfter (stretches (now (stakes .entry)) (blocksOf (now (store .entry))) (listing ordinary (readingOf withdrawing) (now (stakes .entry)) (blocksOf (now (store .entry)))) (stretchRoom (now (out .entry))) (asMaybe after)) (now (out .entry)) ⌝ }
 {
-    let room = out.len() / stretch_words::STRETCH_WORDS;
+    let room = out.len() / stretch_words::STRETCH_BYTES;
     let mut certified = [0u64; types::MAX_BLOCKS];
     let mut n: usize = 0;
     let mut last = after;

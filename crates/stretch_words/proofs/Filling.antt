@@ -15,8 +15,9 @@ use Rattle.blocks.specs.Reference.{TransactionLocator}
 use Rattle.blocks.specs.Block.{Block, author}
 use Rattle.certifying_blocks.proofs.Finding.{written-more}
 use Rattle.stretches.specs.Stretches.{Listing, FinalStretch, lastLocator, stretchEnd, stretchAt, fromFound, stretches, reached, moreFollow}
-use Rattle.stretches.specs.Bulk.{digestWords, referenceWords, stretchWords, givenAfter, wordsAfter}
+use Rattle.stretches.specs.Bulk.{stretchBytes, givenAfter, bytesAfter}
 use Rattle.stretch_words.specs.Step.{finalStretch, Filled}
+use Rattle.stretch_words.proofs.Stretch.{eighty}
 
 -- ---- one stretch more, or none
 
@@ -49,33 +50,29 @@ unfolding reached
 reached-append after [] t = refl
 reached-append after (x ∷ ts) t = reached-append (some (lastLocator x)) ts t
 
--- ---- the words
+-- ---- the bytes
 
 pub stretch-parts : (c : Committee) (bs : List Block) (k : Listing) (l : TransactionLocator) (end blocks : ℕ) (stake : Stake) → end ≡ stretchEnd bs k l → blocks ≡ length (keep (k .certifies l) bs)
     → stake ≡ stakeOf c (setOf (map author (keep (k .certifies l) bs))) → finalStretch l end blocks stake ≡ stretchAt c bs k l
 unfolding finalStretch stretchAt
 stretch-parts c bs k l end blocks stake e f g = rw (e, f, g)
 
-ten-words : (t : FinalStretch) → length (stretchWords t) ≡ 10
-unfolding stretchWords referenceWords digestWords
-ten-words t = refl
-
 flatten-append : (xs ys : List (List ℕ)) → flatten (xs ++ ys) ≡ flatten xs ++ flatten ys
 unfolding flatten
 flatten-append [] ys = refl
 flatten-append (x ∷ xs) ys = ap (λ (l : List ℕ). x ++ l) (flatten-append xs ys) ∙ sym (append-assoc x (flatten xs) (flatten ys))
 
-words-length : (ts : List FinalStretch) → length (flatten (map stretchWords ts)) ≡ 10 * length ts
+bytes-length : (ts : List FinalStretch) → length (flatten (map stretchBytes ts)) ≡ 80 * length ts
 unfolding flatten
-words-length [] = refl
-words-length (t ∷ ts) = omega (arith, length-append (stretchWords t) (flatten (map stretchWords ts)), ten-words t, words-length ts)
+bytes-length [] = refl
+bytes-length (t ∷ ts) = omega (arith, length-append (stretchBytes t) (flatten (map stretchBytes ts)), eighty t, bytes-length ts)
 
-words-more : (ts : List FinalStretch) (t : FinalStretch) → flatten (map stretchWords (ts ++ (t ∷ []))) ≡ flatten (map stretchWords ts) ++ stretchWords t
+bytes-more : (ts : List FinalStretch) (t : FinalStretch) → flatten (map stretchBytes (ts ++ (t ∷ []))) ≡ flatten (map stretchBytes ts) ++ stretchBytes t
 unfolding flatten
-words-more ts t =
-    ap flatten (map-append stretchWords ts (t ∷ []))
-    ∙ flatten-append (map stretchWords ts) (stretchWords t ∷ [])
-    ∙ ap (λ (l : List ℕ). flatten (map stretchWords ts) ++ l) (append-nil (stretchWords t))
+bytes-more ts t =
+    ap flatten (map-append stretchBytes ts (t ∷ []))
+    ∙ flatten-append (map stretchBytes ts) (stretchBytes t ∷ [])
+    ∙ ap (λ (l : List ℕ). flatten (map stretchBytes ts) ++ l) (append-nil (stretchBytes t))
 
 -- a list written over a slice after another one
 written-all : (f v q : List ℕ) → length f + length v ≤ length q → sets (f ++ drop (length f) q) (length f) v ≡ (f ++ v) ++ drop (length (f ++ v)) q
@@ -94,18 +91,18 @@ module _ (c : Committee) (bs : List Block) (k : Listing) (room : ℕ) (after : O
   unfolding reached flatten
   fill-start =
       let z : room - 0 ≡ room = omega arith in
-      record { inside = omega arith; written = []; many = refl; splits = rw z; reaches = refl; words = refl; long = refl }
+      record { inside = omega arith; written = []; many = refl; splits = rw z; reaches = refl; bytes = refl; long = refl }
 
-  pub fill-more : (out : List ℕ) (last : Option TransactionLocator) (n : ℕ) → Filled c bs k room after out₀ out last n → n < room → 10 * room ≤ length out₀
+  pub fill-more : (out : List ℕ) (last : Option TransactionLocator) (n : ℕ) → Filled c bs k room after out₀ out last n → n < room → 80 * room ≤ length out₀
       → (l : TransactionLocator) → k .next last ≡ some l
-      → Filled c bs k room after out₀ (sets out (10 * n) (stretchWords (stretchAt c bs k l))) (some (lastLocator (stretchAt c bs k l))) (n + 1)
+      → Filled c bs k room after out₀ (sets out (80 * n) (stretchBytes (stretchAt c bs k l))) (some (lastLocator (stretchAt c bs k l))) (n + 1)
   fill-more out last n f h g l e =
       let t : FinalStretch = stretchAt c bs k l in
       let ts : List FinalStretch = f .written in
-      let w : List ℕ = flatten (map stretchWords ts) in
+      let w : List ℕ = flatten (map stretchBytes ts) in
       let one-less : room - n - 1 ≡ room - (n + 1) = omega arith in
-      let m : length w ≡ 10 * n = words-length ts ∙ ap (λ (i : ℕ). 10 * i) (f .many) in
-      let o : length (w ++ stretchWords t) ≡ 10 * (n + 1) = omega (arith, length-append w (stretchWords t), ten-words t) in
+      let m : length w ≡ 80 * n = bytes-length ts ∙ ap (λ (i : ℕ). 80 * i) (f .many) in
+      let o : length (w ++ stretchBytes t) ≡ 80 * (n + 1) = omega (arith, length-append w (stretchBytes t), eighty t) in
       record {
         inside = omega arith;
         written = ts ++ (t ∷ []);
@@ -115,22 +112,22 @@ module _ (c : Committee) (bs : List Block) (k : Listing) (room : ℕ) (after : O
             ∙ ap (λ (x : List FinalStretch). ts ++ x) (stretches-some c bs k (room - n) last l (omega arith) e ∙ ap (λ (i : ℕ). t ∷ stretches c bs k i (some (lastLocator t))) one-less)
             ∙ sym (append-assoc ts (t ∷ []) (stretches c bs k (room - (n + 1)) (some (lastLocator t))));
         reaches = reached-append after ts t;
-        words =
-            ap (λ (x : List ℕ). sets x (10 * n) (stretchWords t)) (f .words)
-            ∙ ap (λ (i : ℕ). sets (w ++ drop i out₀) i (stretchWords t)) (sym m)
-            ∙ written-all w (stretchWords t) out₀ (omega (arith, ten-words t))
-            ∙ ap (λ (i : ℕ). (w ++ stretchWords t) ++ drop i out₀) o
-            ∙ ap (λ (x : List ℕ). x ++ drop (10 * (n + 1)) out₀) (sym (words-more ts t));
-        long = length-sets out (10 * n) (stretchWords t) ∙ f .long;
+        bytes =
+            ap (λ (x : List ℕ). sets x (80 * n) (stretchBytes t)) (f .bytes)
+            ∙ ap (λ (i : ℕ). sets (w ++ drop i out₀) i (stretchBytes t)) (sym m)
+            ∙ written-all w (stretchBytes t) out₀ (omega (arith, eighty t))
+            ∙ ap (λ (i : ℕ). (w ++ stretchBytes t) ++ drop i out₀) o
+            ∙ ap (λ (x : List ℕ). x ++ drop (80 * (n + 1)) out₀) (sym (bytes-more ts t));
+        long = length-sets out (80 * n) (stretchBytes t) ∙ f .long;
       }
 
   module _ (out : List ℕ) (last : Option TransactionLocator) (n : ℕ) (f : Filled c bs k room after out₀ out last n) (none-left : stretches c bs k (room - n) last ≡ []) where
     all-written : f .written ≡ stretches c bs k room after
     all-written = sym (f .splits ∙ ap (λ (x : List FinalStretch). f .written ++ x) none-left ∙ append-nil (f .written))
 
-    pub fill-words : out ≡ wordsAfter (stretches c bs k room after) out₀
-    unfolding wordsAfter
-    fill-words = f .words ∙ ap (λ (i : ℕ). flatten (map stretchWords (f .written)) ++ drop (10 * i) out₀) (sym (f .many)) ∙ ap (λ (ts : List FinalStretch). flatten (map stretchWords ts) ++ drop (10 * length ts) out₀) all-written
+    pub fill-bytes : out ≡ bytesAfter (stretches c bs k room after) out₀
+    unfolding bytesAfter
+    fill-bytes = f .bytes ∙ ap (λ (i : ℕ). flatten (map stretchBytes (f .written)) ++ drop (80 * i) out₀) (sym (f .many)) ∙ ap (λ (ts : List FinalStretch). flatten (map stretchBytes ts) ++ drop (80 * length ts) out₀) all-written
 
     given : record { stretches = n; more = moreFollow k last } ≡ givenAfter k after (stretches c bs k room after)
     unfolding givenAfter

@@ -8,7 +8,7 @@ use Rattle.committee.specs.Committee.{Committee, Stake}
 use Rattle.blocks.specs.Reference.{TransactionLocator}
 use Rattle.blocks.specs.Block.{Block}
 use Rattle.stretches.specs.Stretches.{Listing, FinalStretch, stretches, reached}
-use Rattle.stretches.specs.Bulk.{stretchWords}
+use Rattle.stretches.specs.Bulk.{stretchBytes}
 
 -- a stretch from its parts
 unfoldable pub finalStretch : TransactionLocator → ℕ → ℕ → Stake → FinalStretch
@@ -22,4 +22,4 @@ pub record Filled (c : Committee) (bs : List Block) (k : Listing) (room : ℕ) (
   pub splits : stretches c bs k room after ≡ written ++ stretches c bs k (room - n) last
   pub reaches : reached after written ≡ last
   pub long : length out ≡ length out₀
-  pub words : out ≡ flatten (map stretchWords written) ++ drop (10 * n) out₀
+  pub bytes : out ≡ flatten (map stretchBytes written) ++ drop (80 * n) out₀

@@ -1,32 +1,26 @@
 -- A list asked for its next locator, and in bulk for as many stretches as a slice holds. Assumes nothing: these are definitions.
 use Prim.Native.Nat.{ℕ, _*_, _/_}
 use mathlib.Core.Bool.{Bool}
-use mathlib.Core.List.{List, [], _∷_, _++_, map, flatten, reverse}
+use mathlib.Core.List.{List, [], _∷_, _++_, map, flatten}
 use mathlib.Core.Option.{Option}
-use lib.ListN.{length, take, drop}
+use lib.ListN.{length, drop}
 use Rattle.base.specs.Lists.{pick}
-use Rattle.base.specs.Le.{Bytes, leNumber}
+use Rattle.base.specs.Le.{Bytes}
 use Rattle.base.specs.Checks.{passes, Answer, checked}
 use Rattle.committee.specs.Committee.{Committee}
-use Rattle.blocks.specs.Reference.{BlockReference, TransactionLocator}
+use Rattle.blocks.specs.Reference.{TransactionLocator}
+use Rattle.words.specs.Words.{wordsIn, bytesOf}
 use Rattle.finality.specs.Finality.{blocksOf}
 use Rattle.finality.specs.NextFinal.{nextFinalChecks}
 use Rattle.stretches.specs.Stretches.{Listing, wide, FinalStretch, stretches, reached, moreFollow}
 
--- the number that some bytes give, highest first
-unfoldable pub beNumber : Bytes → ℕ
-beNumber bs = leNumber (reverse bs)
-
--- a digest in four words, first byte highest
-unfoldable pub digestWords : Bytes → List ℕ
-digestWords d = beNumber (take 8 d) ∷ beNumber (take 8 (drop 8 d)) ∷ beNumber (take 8 (drop 16 d)) ∷ beNumber (take 8 (drop 24 d)) ∷ []
-
-unfoldable pub referenceWords : BlockReference → List ℕ
-referenceWords r = r .authority ∷ r .round ∷ digestWords (r .digest)
-
--- ten words: author, round, digest, first offset, end offset, certifying blocks, stake
+-- ten words: author, round, the digest in four, first offset, end offset, certifying blocks, stake
 unfoldable pub stretchWords : FinalStretch → List ℕ
-stretchWords t = referenceWords (t .block) ++ (t .first ∷ t .end ∷ t .blocks ∷ t .stake ∷ [])
+stretchWords t = t .block .authority ∷ t .block .round ∷ (wordsIn 4 (t .block .digest) ++ (t .first ∷ t .end ∷ t .blocks ∷ t .stake ∷ []))
+
+-- they cross as 80 bytes, of which the first 56 are the first locator as it stands in a record
+unfoldable pub stretchBytes : FinalStretch → Bytes
+stretchBytes t = bytesOf (stretchWords t)
 
 -- the least locator of a list after a given one, or none; 01: "Queries check 5, 10"
 unfoldable pub listNext : Committee → Bytes → Listing → Option TransactionLocator → Answer (Option TransactionLocator)
@@ -42,24 +36,28 @@ pub record Given : Type 0 where
 unfoldable pub givenAfter : Listing → Option TransactionLocator → List FinalStretch → Given
 givenAfter k after ts = record { stretches = length ts; more = moreFollow k (reached after ts) }
 
--- the words past them keep their content
-unfoldable pub wordsAfter : List FinalStretch → List ℕ → List ℕ
-wordsAfter ts out = flatten (map stretchWords ts) ++ drop (10 * length ts) out
+-- how many of them bytes hold
+abbrev pub stretchRoom : Bytes → ℕ
+stretchRoom out = length out / 80
+
+-- the bytes past them keep their content
+unfoldable pub bytesAfter : List FinalStretch → Bytes → Bytes
+bytesAfter ts out = flatten (map stretchBytes ts) ++ drop (80 * length ts) out
 
 -- what the question answers, and the slice that it was lent afterwards
 pub record AskedBulk : Type 0 where
   pub answer : Answer Given
-  pub out : List ℕ
+  pub out : Bytes
 
 -- as many stretches of a list over the stored blocks as the slice holds; 01: "Queries check 5, 10"
-unfoldable pub listStretches : Committee → Bytes → Listing → List ℕ → Option TransactionLocator → AskedBulk
+unfoldable pub listStretches : Committee → Bytes → Listing → Bytes → Option TransactionLocator → AskedBulk
 listStretches c s k out after =
-    let ts : List FinalStretch = stretches c (blocksOf s) k (length out / 10) after in
+    let ts : List FinalStretch = stretches c (blocksOf s) k (stretchRoom out) after in
     record {
       answer = checked (nextFinalChecks c s) (givenAfter k after ts);
-      out = pick (passes (nextFinalChecks c s)) (wordsAfter ts out) out;
+      out = pick (passes (nextFinalChecks c s)) (bytesAfter ts out) out;
     }
 
 -- the final list
-abbrev pub finalStretches : Committee → Bytes → List ℕ → Option TransactionLocator → AskedBulk
+abbrev pub finalStretches : Committee → Bytes → Bytes → Option TransactionLocator → AskedBulk
 finalStretches c s out after = listStretches c s (wide c (blocksOf s)) out after

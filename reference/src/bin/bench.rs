@@ -10,7 +10,7 @@ use reference::engine;
 use reference::graphs;
 use reference::list::List;
 use reference::model::lent::STRETCH_BYTES;
-use reference::model::record::{number, Block, Locator, Reference, Statement};
+use reference::model::record::{number, Block, Locator, Statement};
 #[cfg(has_rust)]
 use reference::rust::{Prepared, RustSide};
 
@@ -218,20 +218,11 @@ fn wide_list_indexed(memory: &Memory, index: &[u64]) -> u64 {
 }
 
 fn in_bulk(bulk: impl Fn(&[u8], &mut [u8]) -> engine::Answer) -> u64 {
-    let (mut after, mut out, mut count) = (Vec::new(), vec![0; 128 * STRETCH_BYTES], 0);
-    loop {
-        let answer = bulk(&after, &mut out).expect("a store in order");
-        for stretch in out.chunks(STRETCH_BYTES).take(answer as usize / 2) {
-            count += number(&stretch[56..64]) - number(&stretch[48..56]);
-        }
-        if answer % 2 == 0 {
-            return count;
-        }
-        let last: Vec<u64> = out[out.len() - STRETCH_BYTES..].chunks(8).map(number).collect();
-        let digest: Vec<u8> = last[2..6].iter().flat_map(|word| word.to_be_bytes()).collect();
-        let block = Reference { author: last[0], round: last[1], digest: digest.try_into().unwrap() };
-        after = Locator::new(block, last[7] - 1).bytes().to_vec();
-    }
+    let mut out = vec![0; 4096 * STRETCH_BYTES];
+    let answer = bulk(&[], &mut out).expect("a store in order");
+    assert_eq!(answer % 2, 0, "the whole list in one call");
+    let offsets = |stretch: &[u8]| number(&stretch[56..64]) - number(&stretch[48..56]);
+    out.chunks(STRETCH_BYTES).take(answer as usize / 2).map(offsets).sum()
 }
 
 #[cfg(has_rust)]

@@ -13,8 +13,6 @@ pub type Answer = Result<u64, u64>;
 
 pub const POSITION_BYTES: usize = 8 * 1024;
 pub const STRETCH_BYTES: usize = 80;
-pub const MOST_STRETCHES: usize = 128;
-pub const STRETCHES_BYTES: usize = STRETCH_BYTES * MOST_STRETCHES;
 
 pub fn new_committee(stakes: &[u8]) -> Answer {
     Ok(Committee::set_from_bytes(stakes)?.total)
@@ -174,12 +172,12 @@ pub fn wide_stretches(stakes: &[u8], store: &[u8], after: &[u8], out: &mut [u8])
     list_stretches(Reading::Old, Listed::Wide, stakes, store, after, out)
 }
 
-/// The same of a list in a reading of a reject: 5, 10, 20, 40 for a slice not of 128 stretches.
+/// The same of a list in a reading of a reject: 5, 10, 20, 40 for a slice that is no whole number of stretches, at least one.
 pub fn list_stretches(reading: Reading, list: Listed, stakes: &[u8], store: &[u8], after: &[u8], out: &mut [u8]) -> Answer {
     let committee = Committee::lent(stakes)?;
     let stores = Stores::read(&committee, store)?;
     let after = after_of(after)?;
-    if out.len() != STRETCHES_BYTES {
+    if out.is_empty() || out.len() % STRETCH_BYTES != 0 {
         return Err(40);
     }
     Ok(write_stretches(&stretches(&Graph::new(&committee, &stores).listed_in(reading, list), after), out))
@@ -187,9 +185,11 @@ pub fn list_stretches(reading: Reading, list: Listed, stakes: &[u8], store: &[u8
 
 /// Writes as many stretches as fit: twice their number, and 1 more where more follow.
 pub fn write_stretches(stretches: &[Stretch], out: &mut [u8]) -> u64 {
-    let fit = stretches.len().min(MOST_STRETCHES);
+    let fit = stretches.len().min(out.len() / STRETCH_BYTES);
     for (i, stretch) in stretches[..fit].iter().enumerate() {
-        put_words(&mut out[STRETCH_BYTES * i..], &stretch.words());
+        let bytes = &mut out[STRETCH_BYTES * i..STRETCH_BYTES * (i + 1)];
+        bytes[..56].copy_from_slice(&stretch.first.bytes());
+        put_words(&mut bytes[56..], &[stretch.end, stretch.blocks, stretch.stake]);
     }
     2 * fit as u64 + (fit < stretches.len()) as u64
 }
@@ -206,14 +206,6 @@ pub struct Stretch {
 impl Stretch {
     pub fn last(&self) -> Locator {
         Locator { offset: self.end - 1, ..self.first }
-    }
-
-    pub fn words(&self) -> [u64; 10] {
-        let block = self.first.block;
-        let digest = |i: usize| u64::from_be_bytes(block.digest[8 * i..8 * i + 8].try_into().unwrap());
-        let digest = [0, 1, 2, 3].map(digest);
-        let [a, b, c, d] = digest;
-        [block.author, block.round, a, b, c, d, self.first.offset, self.end, self.blocks, self.stake]
     }
 }
 

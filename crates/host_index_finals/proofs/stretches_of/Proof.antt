@@ -4,11 +4,11 @@ use Rattle.finality.specs.Finality.{blocksOf}
 use mathlib.Core.Path.{sym, ap, _∙_}
 use native.Mathlib.Omega.{arith}
 use Rattle.host_calls.specs.Calls.{encoded}
-use Rattle.final_answers.specs.Answers.{asAfter, afterOf}
+use Rattle.final_answers.specs.Answers.{asAfter, afterOf, stretchesNumber}
 use Rattle.host_finals.specs.Stretches.{StretchesCall}
-use Rattle.host_index_finals.proofs.Stretched.{indexed-most, stretches-malformed, stretches-unsized, stretches-asked}
-use lib.ListN.{length}
-use borrow.Author.Tests.{eqb-true, not-true, not-false}
+use Rattle.host_index_finals.specs.Indexed.{stretchesIndexedIn}
+use Rattle.host_index_finals.proofs.Stretched.{indexed-most, counts-fit, stretches-malformed, stretches-unsized, stretches-asked}
+use borrow.Author.Tests.{not-true, not-false}
 use borrow.Author.Needs.{needs}
 use Rattle.host_index_finals.proofs.stretches_of.Statement.{statement}
 use Rattle.host_index_finals.proofs.stretches_of.Tie as tie
@@ -57,21 +57,30 @@ returns-2 c =
     let e = stretches-unsized (start .stakes .now) (start .store .now) (start .index .now) (listing (start .ordinary) old (start .stakes .now) (blocksOf (start .store .now))) (afterOf (start .after .now)) (start .out .now) _ place room in
     (rw (c .refusal-indexed2 .ensures) (sym (ap (λ (x : StretchesCall). encoded (x .answer)) e)), sym (ap (λ (x : StretchesCall). x .stretches) e))
 
-indexed-words-requires : tie.Need-indexed-words-requires
-indexed-words-requires c κs = eqb-true (length (c .before .before .before .before .before .before .before .before .before .before .before .before .before .args .out .now)) 10240 (sym (c .before .before .holds-stretches .ensures) ∙ not-false _ (c .before .if1 .left))
+list-stretches-indexed-requires : tie.Need-list-stretches-indexed-requires
+list-stretches-indexed-requires c κs = search needs
+
+stretches-number-requires : tie.Need-stretches-number-requires
+stretches-number-requires c κs =
+    let start = c .before .before .before .before .before .before .before .before .before .before .before .before .before .before .before .before .args in
+    let told = c .before .before .list-stretches-indexed in
+    counts-fit (start .stakes .now) (start .store .now) (start .index .now) (start .out .now) (listing (start .ordinary) old (start .stakes .now) (blocksOf (start .store .now))) _ (told .result)
+    (omega (arith, c .before .before .before .before .before .before .before .before .before .before .before .before .before .before .before .before .good)) (told .ensures .0)
 
 same-length-2 : tie.Need-same-length-2
 same-length-2 c = search needs
 
 returns-3 : tie.Need-returns-3
-unfolding asAfter
+unfolding asAfter stretchesIndexedIn
 returns-3 c =
-    let start = c .before .before .before .before .before .before .before .before .before .before .before .before .before .before .before .before .args in
-    let place = sym (c .before .before .before .before .before .before .before .before .before .before .after-of .ensures) ∙ ap asAfter (c .before .before .before .before .before .before .before .before .place .given .1) in
-    let room = sym (c .before .before .before .before .before .holds-stretches .ensures) ∙ not-false _ (c .before .before .before .before .if1 .left) in
+    let start = c .before .before .before .before .before .before .before .before .before .before .before .before .before .before .before .before .before .args in
+    let place = sym (c .before .before .before .before .before .before .before .before .before .before .before .after-of .ensures) ∙ ap asAfter (c .before .before .before .before .before .before .before .before .before .place .given .1) in
+    let room = sym (c .before .before .before .before .before .before .holds-stretches .ensures) ∙ not-false _ (c .before .before .before .before .before .if1 .left) in
     let e = stretches-asked (start .stakes .now) (start .store .now) (start .index .now) (listing (start .ordinary) old (start .stakes .now) (blocksOf (start .store .now))) (afterOf (start .after .now)) (start .out .now) _ place room in
-    let told = c .before .before .indexed-words .ensures in
-    (told .0 ∙ sym (ap (λ (x : StretchesCall). encoded (x .answer)) e), told .1 ∙ sym (ap (λ (x : StretchesCall). x .stretches) e))
+    let told = c .before .before .before .list-stretches-indexed .ensures in (
+      c .stretches-number .ensures ∙ ap encoded (ap stretchesNumber (told .0) ∙ sym (ap (λ (x : StretchesCall). x .answer) e)),
+      told .1 ∙ sym (ap (λ (x : StretchesCall). x .stretches) e),
+    )
 
 pub stretches-of-spec : {M : Type 1} → statement M
 stretches-of-spec =
@@ -88,6 +97,7 @@ stretches-of-spec =
     add-result-2
     same-length
     returns-2
-    indexed-words-requires
+    list-stretches-indexed-requires
+    stretches-number-requires
     same-length-2
     returns-3)

@@ -1,6 +1,6 @@
 use mathlib.Core.Path.{_≡_, sym, ap, _∙_}
 use mathlib.Core.Option.{none, some}
-use Prim.Native.Nat.{_-_, _/_}
+use Prim.Native.Nat.{_-_}
 use native.Mathlib.Omega.{arith}
 use lib.ListN.{length}
 use borrow.Author.Needs.{needs}
@@ -10,13 +10,13 @@ use Rattle.blocks.specs.Reference.{locator}
 use Rattle.types.specs.Values.{asLocator}
 use Rattle.vote_starts.specs.Answers.{asMaybe}
 use Rattle.finality.specs.Finality.{blocksOf}
-use Rattle.stretches.specs.Bulk.{Given}
+use Rattle.stretches.specs.Bulk.{Given, stretchRoom}
 use Rattle.stretches.specs.Stretches.{lastLocator, stretchAt}
 use Rattle.readings.specs.Readings.{old}
 use Rattle.reading_lists.specs.Lists.{listing}
 use Rattle.stretch_words.specs.Answers.{asStretches}
 use Rattle.stretch_words.specs.Step.{Filled}
-use Rattle.stretch_words.proofs.Filling.{stretches-none, stretches-full, fill-start, fill-more, fill-words, given-last, given-more}
+use Rattle.stretch_words.proofs.Filling.{stretches-none, stretches-full, fill-start, fill-more, fill-bytes, given-last, given-more}
 use Rattle.index_watch.specs.Watch.{Watched}
 use Rattle.index_listed.specs.Shown.{ShownFrom}
 use Rattle.index_list.specs.After.{placeAfter}
@@ -38,7 +38,7 @@ loop-holds : tie.Need-loop-holds Inv-loop μ-loop
 loop-holds c =
     let a = (c .before .before .before .before .before .before .before .before .args) in
     let bs = blocksOf (a .store .now) in
-    ((c .before .before .before .before .before .before .before .before .pre .1 .0), ((c .before .before .before .before .before .before .before .before .pre .1 .1 .0 .long), ((c .before .before .before .before .before .before .before .before .pre .1 .1 .0), fill-start (a .stakes .now) bs (listing (a .ordinary) old (a .stakes .now) bs) (length (a .out .now) / 10) (asMaybe (a .after)) (a .out .now))))
+    ((c .before .before .before .before .before .before .before .before .pre .1 .0), ((c .before .before .before .before .before .before .before .before .pre .1 .1 .0 .long), ((c .before .before .before .before .before .before .before .before .pre .1 .1 .0), fill-start (a .stakes .now) bs (listing (a .ordinary) old (a .stakes .now) bs) (stretchRoom (a .out .now)) (asMaybe (a .after)) (a .out .now))))
 
 place-after-requires : tie.Need-place-after-requires Inv-loop μ-loop
 place-after-requires c κs = search needs
@@ -67,14 +67,14 @@ returns c =
     let a = (c .before .before .before .before .before .before .before .before .before .before .before .before .before .before .before .before .before .before .before .args) in
     let bs = blocksOf (a .store .now) in
     let k = listing (a .ordinary) old (a .stakes .now) bs in
-    let room = length (a .out .now) / 10 in
+    let room = stretchRoom (a .out .now) in
     let g = (c .before .before .before .before .before .before .before .before .before .before .loop) in
     let bytes = bytes-of (a .store .now) (λ i h. omega (arith, (c .before .before .before .before .before .before .before .before .before .before .before .before .before .before .before .before .before .shared-slice-known2 .given) i)) in
     let w = onward-start (a .stakes .now) (a .store .now) bytes (c .before .before .before .before .before .before .before .before .before .before .before .before .before .before .before .before .before .before .before .pre .0 .0 .1 .inOrder) (a .ordinary) (asMaybe (g .last)) in
     let sf = rw ((c .before .before .before .before .before .before .before .before .before .place-after .ensures), (c .enum-told .given .1)) at (c .before .before .before .before .before .before .listed-from .ensures) in
     let e : k .next (asMaybe (g .last)) ≡ none = next-none (a .stakes .now) (a .store .now) bytes (c .before .before .before .before .before .before .before .before .before .before .before .before .before .before .before .before .before .before .before .pre .0 .0 .1 .inOrder) (a .ordinary) (asMaybe (g .last)) (placeAfter (asMaybe (g .last))) w sf in
     let z = stretches-none (a .stakes .now) bs k (room - g .n) (asMaybe (g .last)) e in
-    (ap {B = Answer Given} answered (given-last (a .stakes .now) bs k room (asMaybe (a .after)) (a .out .now) (g .out) (asMaybe (g .last)) (g .n) (g .inv .1 .1 .1) z e), fill-words (a .stakes .now) bs k room (asMaybe (a .after)) (a .out .now) (g .out) (asMaybe (g .last)) (g .n) (g .inv .1 .1 .1) z)
+    (ap {B = Answer Given} answered (given-last (a .stakes .now) bs k room (asMaybe (a .after)) (a .out .now) (g .out) (asMaybe (g .last)) (g .n) (g .inv .1 .1 .1) z e), fill-bytes (a .stakes .now) bs k room (asMaybe (a .after)) (a .out .now) (g .out) (asMaybe (g .last)) (g .n) (g .inv .1 .1 .1) z)
 
 same-length-4 : tie.Need-same-length-4 Inv-loop μ-loop
 same-length-4 c = (c .before .before .before .before .before .before .before .before .listed-from .kept .1 .1 .1 .1 .1 .1 .1 .1 .0) ∙ (c .before .before .before .before .before .before .before .before .before .before .before .before .loop .inv .1 .0) ∙ sym (c .before .before .before .before .before .before .before .before .before .before .before .before .before .before .before .before .before .before .before .before .before .pre .1 .1 .0 .long)
@@ -91,7 +91,7 @@ returns-2 c =
     let a = (c .before .before .before .before .before .before .before .before .before .before .before .before .before .before .before .before .before .before .before .before .before .args) in
     let bs = blocksOf (a .store .now) in
     let k = listing (a .ordinary) old (a .stakes .now) bs in
-    let room = length (a .out .now) / 10 in
+    let room = stretchRoom (a .out .now) in
     let g = (c .before .before .before .before .before .before .before .before .before .before .before .before .loop) in
     let bytes = bytes-of (a .store .now) (λ i h. omega (arith, (c .before .before .before .before .before .before .before .before .before .before .before .before .before .before .before .before .before .before .before .shared-slice-known2 .given) i)) in
     let w = onward-start (a .stakes .now) (a .store .now) bytes (c .before .before .before .before .before .before .before .before .before .before .before .before .before .before .before .before .before .before .before .before .before .pre .0 .0 .1 .inOrder) (a .ordinary) (asMaybe (g .last)) in
@@ -99,7 +99,7 @@ returns-2 c =
     let l = asLocator (c .before .before .next .given .0 .0 .locator) in
     let e : k .next (asMaybe (g .last)) ≡ some l = next-some (a .stakes .now) (a .store .now) bytes (c .before .before .before .before .before .before .before .before .before .before .before .before .before .before .before .before .before .before .before .before .before .pre .0 .0 .1 .inOrder) (a .ordinary) (asMaybe (g .last)) (placeAfter (asMaybe (g .last))) w _ _ _ _ l _ _ _ _ sf in
     let z = stretches-full (a .stakes .now) bs k (room - g .n) (asMaybe (g .last)) (omega (arith, (c .if1 .taken))) in
-    (ap {B = Answer Given} answered (given-more (a .stakes .now) bs k room (asMaybe (a .after)) (a .out .now) (g .out) (asMaybe (g .last)) (g .n) (g .inv .1 .1 .1) z l e), fill-words (a .stakes .now) bs k room (asMaybe (a .after)) (a .out .now) (g .out) (asMaybe (g .last)) (g .n) (g .inv .1 .1 .1) z)
+    (ap {B = Answer Given} answered (given-more (a .stakes .now) bs k room (asMaybe (a .after)) (a .out .now) (g .out) (asMaybe (g .last)) (g .n) (g .inv .1 .1 .1) z l e), fill-bytes (a .stakes .now) bs k room (asMaybe (a .after)) (a .out .now) (g .out) (asMaybe (g .last)) (g .n) (g .inv .1 .1 .1) z)
 
 stake-of-requires : tie.Need-stake-of-requires Inv-loop μ-loop
 stake-of-requires c κs = (c .before .before .before .before .before .before .before .before .before .before .before .before .before .before .before .before .before .before .before .before .before .before .before .pre .0 .0 .1 .sound)
@@ -134,7 +134,7 @@ loop-again c =
     let a = (c .before .before .before .before .before .before .before .before .before .before .before .before .before .before .before .before .before .before .before .before .before .before .before .before .before .before .before .before .before .before .before .before .before .before .args) in
     let bs = blocksOf (a .store .now) in
     let k = listing (a .ordinary) old (a .stakes .now) bs in
-    let room = length (a .out .now) / 10 in
+    let room = stretchRoom (a .out .now) in
     let g = (c .before .before .before .before .before .before .before .before .before .before .before .before .before .before .before .before .before .before .before .before .before .before .before .before .before .loop) in
     let bytes = bytes-of (a .store .now) (λ i h. omega (arith, (c .before .before .before .before .before .before .before .before .before .before .before .before .before .before .before .before .before .before .before .before .before .before .before .before .before .before .before .before .before .before .before .before .shared-slice-known2 .given) i)) in
     let w = onward-start (a .stakes .now) (a .store .now) bytes (c .before .before .before .before .before .before .before .before .before .before .before .before .before .before .before .before .before .before .before .before .before .before .before .before .before .before .before .before .before .before .before .before .before .before .pre .0 .0 .1 .inOrder) (a .ordinary) (asMaybe (g .last)) in

@@ -21,24 +21,17 @@ add-loop c = search needs
 print-stretch-requires : tie.Need-print-stretch-requires Inv-loop μ-loop
 print-stretch-requires c κs = search needs
 
-add-wrapping-sub-u64 : tie.Need-add-wrapping-sub-u64 Inv-loop μ-loop
-add-wrapping-sub-u64 c = search needs
+add-read-u64 : tie.Need-add-read-u64 Inv-loop μ-loop
+add-read-u64 c = search needs
 
-mul-wrapping-sub-u64 : tie.Need-mul-wrapping-sub-u64 Inv-loop μ-loop
-mul-wrapping-sub-u64 c = search needs
+read-u64-requires : tie.Need-read-u64-requires Inv-loop μ-loop
+read-u64-requires c κs = search needs
 
-shared-slice-read-wrapping-sub-u64 : tie.Need-shared-slice-read-wrapping-sub-u64 Inv-loop μ-loop
-shared-slice-read-wrapping-sub-u64 c = search needs
+add-read-u64-2 : tie.Need-add-read-u64-2 Inv-loop μ-loop
+add-read-u64-2 c = search needs
 
-add-wrapping-sub-u64-2 : tie.Need-add-wrapping-sub-u64-2 Inv-loop μ-loop
-add-wrapping-sub-u64-2 c = search needs
-
-mul-wrapping-sub-u64-2 : tie.Need-mul-wrapping-sub-u64-2 Inv-loop μ-loop
-mul-wrapping-sub-u64-2 c = search needs
-
-shared-slice-read-wrapping-sub-u64-2 :
-    tie.Need-shared-slice-read-wrapping-sub-u64-2 Inv-loop μ-loop
-shared-slice-read-wrapping-sub-u64-2 c = search needs
+read-u64-requires-2 : tie.Need-read-u64-requires-2 Inv-loop μ-loop
+read-u64-requires-2 c κs = search needs
 
 wrapping-sub-u64-requires : tie.Need-wrapping-sub-u64-requires Inv-loop μ-loop
 wrapping-sub-u64-requires c κs = search needs
@@ -73,12 +66,10 @@ print-stretches-spec =
     loop-holds
     add-loop
     print-stretch-requires
-    add-wrapping-sub-u64
-    mul-wrapping-sub-u64
-    shared-slice-read-wrapping-sub-u64
-    add-wrapping-sub-u64-2
-    mul-wrapping-sub-u64-2
-    shared-slice-read-wrapping-sub-u64-2
+    add-read-u64
+    read-u64-requires
+    add-read-u64-2
+    read-u64-requires-2
     wrapping-sub-u64-requires
     wrapping-add-u64-requires
     add-i

@@ -1,4 +1,4 @@
-use Rattle.stretch_words.proofs.Filling.{stretches-none, stretches-full, stretch-parts, fill-start, fill-more, fill-words, given-last, given-more}
+use Rattle.stretch_words.proofs.Filling.{stretches-none, stretches-full, stretch-parts, fill-start, fill-more, fill-bytes, given-last, given-more}
 use Rattle.stretch_fill.proofs.Counts.{certifying-many}
 use Rattle.stretch_words.specs.Step.{Filled}
 use Rattle.stretch_words.specs.Answers.{asStretches}
@@ -8,7 +8,7 @@ use Rattle.readings.specs.Readings.{readingOf, certifiersIn}
 use Rattle.reading_lists.specs.Lists.{listing}
 use Rattle.reading_lists.proofs.Least.{lists-lawful}
 use Rattle.stretches.proofs.Spreading.{next-shown, shown-ends}
-use Rattle.stretches.specs.Bulk.{Given}
+use Rattle.stretches.specs.Bulk.{Given, stretchRoom}
 use Rattle.stretches.specs.Stretches.{lastLocator, stretchAt}
 use Rattle.vote_starts.specs.Answers.{asMaybe}
 use Rattle.finality.specs.Finality.{blocksOf}
@@ -20,7 +20,7 @@ use lib.ListN.{length}
 use native.Mathlib.Omega.{arith}
 use mathlib.Core.Option.{none, some}
 use mathlib.Core.Path.{_≡_, refl, sym, ap, _∙_}
-use Prim.Native.Nat.{_-_, _/_}
+use Prim.Native.Nat.{_-_}
 use borrow.Author.Needs.{needs}
 use Rattle.stretch_fill.proofs.fill.Statement.{statement}
 use Rattle.stretch_fill.proofs.fill.Tie as tie
@@ -32,7 +32,7 @@ abbrev μ-loop : tie.MeasureT-loop
 μ-loop stakes total store order table sizes places noted ordinary withdrawing out₀ room certified₀ n₀ last₀ out certified n last = room - n
 
 loop-holds : tie.Need-loop-holds Inv-loop μ-loop
-loop-holds c = let a = (c .before .before .before .before .before .before .args) in (refl, fill-start (a .stakes .now) (blocksOf (a .store .now)) (listing (a .ordinary) (readingOf (a .withdrawing)) (a .stakes .now) (blocksOf (a .store .now))) (length (a .out .now) / 10) (asMaybe (a .after)) (a .out .now))
+loop-holds c = let a = (c .before .before .before .before .before .before .args) in (refl, fill-start (a .stakes .now) (blocksOf (a .store .now)) (listing (a .ordinary) (readingOf (a .withdrawing)) (a .stakes .now) (blocksOf (a .store .now))) (stretchRoom (a .out .now)) (asMaybe (a .after)) (a .out .now))
 
 slice-aggregate-final-after : tie.Need-slice-aggregate-final-after Inv-loop μ-loop
 slice-aggregate-final-after c = sym (c .before .loop .inv .0)
@@ -54,11 +54,11 @@ unfolding asStretches asNext
 returns c = let a = (c .before .before .before .before .before .before .before .before .before .before .before .before .args) in
     let bs = blocksOf (a .store .now) in
     let k = listing (a .ordinary) (readingOf (a .withdrawing)) (a .stakes .now) bs in
-    let room = length (a .out .now) / 10 in
+    let room = stretchRoom (a .out .now) in
     let g = (c .before .before .before .before .before .loop) in
     let e : k .next (asMaybe (g .last)) ≡ none = sym (c .before .before .before .final-after .ensures .0) ∙ ap asNext (c .enum-told .given .1) in
     let z = stretches-none (a .stakes .now) bs k (room - g .n) (asMaybe (g .last)) e in
-    (ap {B = Answer Given} answered (given-last (a .stakes .now) bs k room (asMaybe (a .after)) (a .out .now) (g .out) (asMaybe (g .last)) (g .n) (g .inv .1) z e), fill-words (a .stakes .now) bs k room (asMaybe (a .after)) (a .out .now) (g .out) (asMaybe (g .last)) (g .n) (g .inv .1) z)
+    (ap {B = Answer Given} answered (given-last (a .stakes .now) bs k room (asMaybe (a .after)) (a .out .now) (g .out) (asMaybe (g .last)) (g .n) (g .inv .1) z e), fill-bytes (a .stakes .now) bs k room (asMaybe (a .after)) (a .out .now) (g .out) (asMaybe (g .last)) (g .n) (g .inv .1) z)
 
 same-length-2 : tie.Need-same-length-2 Inv-loop μ-loop
 same-length-2 c = c .before .before .before .before .before .before .before .loop .inv .1 .long
@@ -68,12 +68,12 @@ unfolding asStretches asNext
 returns-2 c = let a = (c .before .before .before .before .before .before .before .before .before .before .before .before .before .before .args) in
     let bs = blocksOf (a .store .now) in
     let k = listing (a .ordinary) (readingOf (a .withdrawing)) (a .stakes .now) bs in
-    let room = length (a .out .now) / 10 in
+    let room = stretchRoom (a .out .now) in
     let g = (c .before .before .before .before .before .before .before .loop) in
     let l = asLocator (c .before .before .next .given .0 .0 .locator) in
     let e : k .next (asMaybe (g .last)) ≡ some l = sym (c .before .before .before .before .before .final-after .ensures .0) ∙ ap asNext (c .before .before .next .given .1) in
     let z = stretches-full (a .stakes .now) bs k (room - g .n) (asMaybe (g .last)) (omega (arith, c .if1 .taken)) in
-    (ap {B = Answer Given} answered (given-more (a .stakes .now) bs k room (asMaybe (a .after)) (a .out .now) (g .out) (asMaybe (g .last)) (g .n) (g .inv .1) z l e), fill-words (a .stakes .now) bs k room (asMaybe (a .after)) (a .out .now) (g .out) (asMaybe (g .last)) (g .n) (g .inv .1) z)
+    (ap {B = Answer Given} answered (given-more (a .stakes .now) bs k room (asMaybe (a .after)) (a .out .now) (g .out) (asMaybe (g .last)) (g .n) (g .inv .1) z l e), fill-bytes (a .stakes .now) bs k room (asMaybe (a .after)) (a .out .now) (g .out) (asMaybe (g .last)) (g .n) (g .inv .1) z)
 
 stake-of-requires : tie.Need-stake-of-requires Inv-loop μ-loop
 stake-of-requires c κs = c .before .before .before .before .before .before .before .before .before .before .before .before .before .before .before .before .pre .0 .0 .0 .sound
@@ -86,7 +86,7 @@ unfolding asNext FoundRight
 stretch-end-requires c κs = let a = (c .before .before .before .before .before .before .before .before .before .before .before .before .before .before .before .before .before .before .args) in
     let bs = blocksOf (a .store .now) in
     let k = listing (a .ordinary) (readingOf (a .withdrawing)) (a .stakes .now) bs in
-    let room = length (a .out .now) / 10 in
+    let room = stretchRoom (a .out .now) in
     let g = (c .before .before .before .before .before .before .before .before .before .before .before .loop) in
     let l = asLocator (c .before .before .before .before .before .before .next .given .0 .0 .locator) in
     let e : k .next (asMaybe (g .last)) ≡ some l = sym (c .before .before .before .before .before .before .before .before .before .final-after .ensures .0) ∙ ap asNext (c .before .before .before .before .before .before .next .given .1) in
@@ -101,7 +101,7 @@ unfolding asNext asLocator locator
 sub-t35 c = let a = (c .before .before .before .before .before .before .before .before .before .before .before .before .before .before .before .before .before .before .before .before .before .before .before .before .args) in
     let bs = blocksOf (a .store .now) in
     let k = listing (a .ordinary) (readingOf (a .withdrawing)) (a .stakes .now) bs in
-    let room = length (a .out .now) / 10 in
+    let room = stretchRoom (a .out .now) in
     let g = (c .before .before .before .before .before .before .before .before .before .before .before .before .before .before .before .before .before .loop) in
     let l = asLocator (c .before .before .before .before .before .before .before .before .before .before .before .before .next .given .0 .0 .locator) in
     let e : k .next (asMaybe (g .last)) ≡ some l = sym (c .before .before .before .before .before .before .before .before .before .before .before .before .before .before .before .final-after .ensures .0) ∙ ap asNext (c .before .before .before .before .before .before .before .before .before .before .before .before .next .given .1) in
@@ -118,7 +118,7 @@ unfolding asMaybe asNext asLocator locator lastLocator stretchAt FoundRight Cert
 loop-again c = let a = (c .before .before .before .before .before .before .before .before .before .before .before .before .before .before .before .before .before .before .before .before .before .before .before .before .args) in
     let bs = blocksOf (a .store .now) in
     let k = listing (a .ordinary) (readingOf (a .withdrawing)) (a .stakes .now) bs in
-    let room = length (a .out .now) / 10 in
+    let room = stretchRoom (a .out .now) in
     let g = (c .before .before .before .before .before .before .before .before .before .before .before .before .before .before .before .before .before .loop) in
     let l = asLocator (c .before .before .before .before .before .before .before .before .before .before .before .before .next .given .0 .0 .locator) in
     let e : k .next (asMaybe (g .last)) ≡ some l = sym (c .before .before .before .before .before .before .before .before .before .before .before .before .before .before .before .final-after .ensures .0) ∙ ap asNext (c .before .before .before .before .before .before .before .before .before .before .before .before .next .given .1) in

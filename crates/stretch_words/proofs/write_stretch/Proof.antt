@@ -1,11 +1,5 @@
-use Prim.Native.Nat.{_*_}
-use native.Mathlib.Omega.{arith}
-use lib.ListN.{length-set}
-use Rattle.blocks.specs.Reference.{locator}
-use Rattle.types.specs.Values.{asReference, asLocator}
-use Rattle.stretches.specs.Bulk.{stretchWords}
-use Rattle.stretch_words.specs.Step.{finalStretch}
-use Rattle.stretch_words.proofs.Words.{rest-written}
+use mathlib.Core.Path.{_∙_}
+use Rattle.stretch_words.proofs.Stretch.{stretch-written}
 use borrow.Author.Needs.{needs}
 use Rattle.stretch_words.proofs.write_stretch.Statement.{statement}
 use Rattle.stretch_words.proofs.write_stretch.Tie as tie
@@ -13,70 +7,48 @@ use Rattle.stretch_words.proofs.write_stretch.Tie as tie
 mul-at : tie.Need-mul-at
 mul-at c = search needs
 
-write-reference-requires : tie.Need-write-reference-requires
-write-reference-requires c κs = search needs
+add-from : tie.Need-add-from
+add-from c = search needs
 
-add-out : tie.Need-add-out
-add-out c = search needs
+write-locator-requires : tie.Need-write-locator-requires
+write-locator-requires c κs = search needs
 
-mul-out : tie.Need-mul-out
-mul-out c = search needs
+write-u64-requires : tie.Need-write-u64-requires
+write-u64-requires c κs = search needs
 
-slice-write-out : tie.Need-slice-write-out
-slice-write-out c = search needs
+add-write-u64 : tie.Need-add-write-u64
+add-write-u64 c = search needs
 
-add-out-2 : tie.Need-add-out-2
-add-out-2 c = search needs
+write-u64-requires-2 : tie.Need-write-u64-requires-2
+write-u64-requires-2 c κs = search needs
 
-mul-out-2 : tie.Need-mul-out-2
-mul-out-2 c = search needs
+add-write-u64-2 : tie.Need-add-write-u64-2
+add-write-u64-2 c = search needs
 
-slice-write-out-2 : tie.Need-slice-write-out-2
-slice-write-out-2 c = simp length-set (omega arith)
-
-add-out-3 : tie.Need-add-out-3
-add-out-3 c = search needs
-
-mul-out-3 : tie.Need-mul-out-3
-mul-out-3 c = search needs
-
-slice-write-out-3 : tie.Need-slice-write-out-3
-slice-write-out-3 c = simp length-set (omega arith)
-
-add-out-4 : tie.Need-add-out-4
-add-out-4 c = search needs
-
-mul-out-4 : tie.Need-mul-out-4
-mul-out-4 c = search needs
-
-slice-write-out-4 : tie.Need-slice-write-out-4
-slice-write-out-4 c = simp length-set (omega arith)
+write-u64-requires-3 : tie.Need-write-u64-requires-3
+write-u64-requires-3 c κs = search needs
 
 same-length : tie.Need-same-length
 same-length c = search needs
 
 returns : tie.Need-returns
-unfolding stretchWords finalStretch asLocator locator
-returns c = let a = c .before .before .before .before .before .args in
-    rw (c .before .before .write-reference .ensures) (rest-written (a .out .now) (asReference (a .locator .block)) (10 * a .n) (a .locator .offset) (a .end) (a .blocks) (a .stake .0))
+returns c =
+    let a = c .before .before .before .before .before .before .before .before .before .before .before .before .before .before .before .before .before .args in
+    c .before .before .write-u643 .ensures
+    ∙ rw (c .before .before .before .before .before .before .write-u642 .ensures, c .before .before .before .before .before .before .before .before .before .before .write-u64 .ensures, c .before .before .before .before .before .before .before .before .before .before .before .before .before .before .write-locator .ensures)
+    (stretch-written (a .out .now) _ (a .locator) (a .end) (a .blocks) (a .stake .0))
 
 pub write-stretch-spec : {M : Type 1} → statement M
 write-stretch-spec =
     tie.close
     (tie.spec
     mul-at
-    write-reference-requires
-    add-out
-    mul-out
-    slice-write-out
-    add-out-2
-    mul-out-2
-    slice-write-out-2
-    add-out-3
-    mul-out-3
-    slice-write-out-3
-    add-out-4
-    mul-out-4
-    slice-write-out-4
+    add-from
+    write-locator-requires
+    write-u64-requires
+    add-write-u64
+    write-u64-requires-2
+    add-write-u64-2
+    write-u64-requires-3
     same-length
     returns)
