@@ -8,11 +8,11 @@
 
 #include "lomkhvide.h"
 
-#if LOMKHVIDE_CALLS != 1
+#if LOMKHVIDE_CALLS != 2
 #error "this host was written for another version of the calls"
 #endif
 
-enum { OWNERS = 4, MOST_RECORDS = 16, STRETCH_LEN = 80 };
+enum { OWNERS = 4, MOST_RECORDS = 16 };
 
 /* What the engine is lent belongs to the host. */
 static uint8_t stakes[8 * OWNERS], store[65536], table[LOMKHVIDE_TABLE_LEN], events[LOMKHVIDE_EVENTS_LEN];
@@ -104,17 +104,25 @@ static void ask(const uint8_t *change) {
     printf("its payload: %.*s\n", (int)length, (const char *)(store + start));
 }
 
-/* The list in one call: 128 stretches are more than this store has. Without a locator to go on after, `after` has no bytes. */
+/* The list, asked on after the last locator of the last stretch until no more follow. At first there is none: `after` has no bytes. */
 static void list(void) {
-    static uint8_t stretches[LOMKHVIDE_STRETCHES_LEN];
-    uint64_t told = answered("final_stretches", lomkhvide_final_stretches(stakes, sizeof stakes, store, sizeof store, stakes, 0, stretches,
-                                                                         sizeof stretches));
-    for (uint64_t i = 0; i < told / 2; i++) {
-        const uint8_t *stretch = stretches + STRETCH_LEN * i;
-        printf("final: round %" PRIu64 ", owner %" PRIu64 ", offsets %" PRIu64 " to %" PRIu64 ", by %" PRIu64 " blocks, stake %" PRIu64 "\n",
-               word_at(stretch + 8), word_at(stretch), word_at(stretch + 48), word_at(stretch + 56), word_at(stretch + 64), word_at(stretch + 72));
-    }
-    printf("%s\n", told % 2 == 1 ? "and more follow" : "that is all");
+    static uint8_t stretches[16 * LOMKHVIDE_STRETCH_LEN];
+    uint8_t after[LOMKHVIDE_LOCATOR_LEN];
+    size_t after_len = 0;
+    uint64_t told;
+    do {
+        told = answered("final_stretches", lomkhvide_final_stretches(stakes, sizeof stakes, store, sizeof store, after, after_len, stretches,
+                                                                    sizeof stretches));
+        for (uint64_t i = 0; i < told / 2; i++) {
+            const uint8_t *stretch = stretches + LOMKHVIDE_STRETCH_LEN * i, *digest = stretch + 16;
+            printf("final: %" PRIu64 "/%" PRIu64 "/%02x%02x%02x%02x/%" PRIu64 " to %" PRIu64 ", by %" PRIu64 " blocks, stake %" PRIu64 "\n",
+                   word_at(stretch + 8), word_at(stretch), digest[0], digest[1], digest[2], digest[3], word_at(stretch + 48),
+                   word_at(stretch + 56), word_at(stretch + 64), word_at(stretch + 72));
+            memcpy(after, stretch, LOMKHVIDE_REFERENCE_LEN);
+            put_word(after + LOMKHVIDE_REFERENCE_LEN, word_at(stretch + 56) - 1);
+            after_len = sizeof after;
+        }
+    } while (told % 2 == 1);
 }
 
 /* The node writes the slip; the station reads it with the records alone. */

@@ -25,8 +25,9 @@ extern "C" {
 #endif
 
 /* The version of these calls. It is raised where bytes or numbers of a call change that was there before, not where a call is added; a host
- * that was written for one version says #if LOMKHVIDE_CALLS != 1, #error. */
-#define LOMKHVIDE_CALLS 1
+ * that was written for one version says #if LOMKHVIDE_CALLS != 2, #error.
+ * 2: a stretch begins with its first locator as it is everywhere, and a list is lent room for any number of stretches. */
+#define LOMKHVIDE_CALLS 2
 
 /* The most stack that each call needs, in KB of 1,024 bytes: LOMKHVIDE_STACKS(X) is X(name without lomkhvide_, KB) for each, and
  * LOMKHVIDE_STACK is enough for every call, in bytes. A thread that calls needs as much beside what it uses itself. */

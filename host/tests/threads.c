@@ -12,7 +12,7 @@ enum { THREADS = 4, ROUNDS = 60, STORE = 16384 };
 
 /* What a thread is lent and what it was answered. */
 struct work {
-    uint8_t store[STORE], table[LOMKHVIDE_TABLE_LEN], events[LOMKHVIDE_EVENTS_LEN], stretches[LOMKHVIDE_STRETCHES_LEN];
+    uint8_t store[STORE], table[LOMKHVIDE_TABLE_LEN], events[LOMKHVIDE_EVENTS_LEN], stretches[8 * LOMKHVIDE_STRETCH_LEN];
     uint8_t positions[LOMKHVIDE_POSITIONS_LEN], slip[8192];
     uint64_t answers[ROUNDS + 3];
 };

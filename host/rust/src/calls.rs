@@ -98,7 +98,7 @@ macro_rules! each_call {
 
 /// The version of the calls that this crate is written for: `LOMKHVIDE_CALLS` of `lomkhvide.h`. It is raised where bytes or numbers of a call
 /// change that was there before.
-pub const VERSION: u64 = 1;
+pub const VERSION: u64 = 2;
 
 /// Enough stack for every call, in bytes: `LOMKHVIDE_STACK` of `lomkhvide.h`.
 pub const STACK: usize = 524_288;

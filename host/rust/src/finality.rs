@@ -62,7 +62,7 @@ pub struct Finality {
 /// # use lomkhvide::*;
 /// // One owner, who has shared a change in round 1.
 /// let Sample { committee, store, share, .. } = sample();
-/// let list = committee.stretches(&store, Listed::Ordinary, Reading::Old, None)?;
+/// let list = committee.stretches(&store, Listed::Ordinary, Reading::Old, None, 128)?;
 /// assert_eq!(list.stretches[0], Stretch { first: share, end: 1, blocks: 1, stake: Stake(1) });
 /// # Ok::<(), Refusal>(())
 /// ```
@@ -101,7 +101,7 @@ impl Stretch {
 /// # use lomkhvide::*;
 /// // One owner, who has shared a change in round 1.
 /// let Sample { committee, store, .. } = sample();
-/// let list = committee.stretches(&store, Listed::Ordinary, Reading::Old, None)?;
+/// let list = committee.stretches(&store, Listed::Ordinary, Reading::Old, None, 128)?;
 /// assert!(list.stretches.len() == 1 && !list.more);
 /// # Ok::<(), Refusal>(())
 /// ```
@@ -132,24 +132,18 @@ pub struct Reply {
 /// The words that a question is lent for positions.
 const POSITIONS: usize = 1024;
 
-/// The words of a stretch: author, round, four of the digest, first offset, end, number of certifying blocks, their authors' stake.
-const STRETCH_WORDS: usize = 10;
+/// The bytes of a stretch: its first locator, and words for end, number of certifying blocks and their authors' stake.
+const STRETCH_LEN: usize = 80;
 
-/// The stretches that a list is lent room for.
-const MOST_STRETCHES: usize = 128;
-
-/// The stretches that a call has written, by its answer.
+/// The stretches that a call has written, by its answer: each its first locator, then three words.
 fn stretches_in(number: u64, bytes: &[u8]) -> Stretches {
-    let words = words_of(&bytes[..8 * STRETCH_WORDS * (number / 2) as usize]);
-    let stretch = |words: &[u64]| {
-        let mut bytes = [0; 56];
-        for (bytes, (i, word)) in bytes.chunks_exact_mut(8).zip(words.iter().enumerate()) {
-            let is_digest = (2..6).contains(&i);
-            bytes.copy_from_slice(&if is_digest { word.to_be_bytes() } else { word.to_le_bytes() });
-        }
-        Stretch { first: Locator::from_bytes(&bytes), end: words[7], blocks: words[8], stake: Stake(words[9]) }
+    let stretch = |bytes: &[u8; STRETCH_LEN]| {
+        let (first, words) = bytes.split_first_chunk().expect("a stretch begins with a locator");
+        let words = words_of(words);
+        Stretch { first: Locator::from_bytes(first), end: words[0], blocks: words[1], stake: Stake(words[2]) }
     };
-    Stretches { stretches: words.chunks_exact(STRETCH_WORDS).map(stretch).collect(), more: number % 2 == 1 }
+    let stretches = bytes.as_chunks().0.iter().take((number / 2) as usize).map(stretch).collect();
+    Stretches { stretches, more: number % 2 == 1 }
 }
 
 /// A locator to go on after, or none, as it crosses.
@@ -207,14 +201,14 @@ impl Committee {
         Ok(is_found.then(|| Locator::from_bytes(&found)))
     }
 
-    /// A list after a given locator, or from the start, up to 128 stretches of it; or 5, 10.
+    /// A list after a given locator, or from the start, up to that many stretches of it, one at least; or 5, 10.
     #[doc = stack!(wide_stretches_withdrawing)]
     ///
     /// ```
     /// # use lomkhvide::*;
     /// // One owner, who has shared a change in round 1.
     /// let Sample { committee, store, share, .. } = sample();
-    /// let list = |after| committee.stretches(&store, Listed::Ordinary, Reading::Old, after);
+    /// let list = |after| committee.stretches(&store, Listed::Ordinary, Reading::Old, after, 128);
     /// assert_eq!(list(None)?.stretches[0].first, share);
     /// assert!(list(Some(&share))?.stretches.is_empty());
     /// # Ok::<(), Refusal>(())
@@ -225,6 +219,7 @@ impl Committee {
         listed: Listed,
         reading: Reading,
         after: Option<&Locator>,
+        most: usize,
     ) -> Result<Stretches, Refusal> {
         let call = match (listed, reading) {
             (Listed::Ordinary, Reading::Old) => calls::final_stretches,
@@ -232,7 +227,7 @@ impl Committee {
             (Listed::Ordinary, Reading::Withdrawing) => calls::final_stretches_withdrawing,
             (Listed::Wide, Reading::Withdrawing) => calls::wide_stretches_withdrawing,
         };
-        let mut stretches = vec![0; 8 * STRETCH_WORDS * MOST_STRETCHES];
+        let mut stretches = vec![0; STRETCH_LEN * most.max(1)];
         let number = call(self.stakes(), store, &bytes_after(after), &mut stretches)?;
         Ok(stretches_in(number, &stretches))
     }
@@ -244,7 +239,7 @@ impl Committee {
     /// ```
     /// # use lomkhvide::*;
     /// let committee = Committee::new(&[Stake(1)])?;
-    /// let list = |index: &[u64]| committee.stretches_indexed(&fresh_store(16), index, Listed::Ordinary, None);
+    /// let list = |index: &[u64]| committee.stretches_indexed(&fresh_store(16), index, Listed::Ordinary, None, 1);
     /// assert!(list(&fresh_index(1))?.stretches.is_empty());
     /// assert_eq!(list(&[]), Err(Refusal::IndexDisagrees));
     /// # Ok::<(), Refusal>(())
@@ -255,12 +250,13 @@ impl Committee {
         index: &[u64],
         listed: Listed,
         after: Option<&Locator>,
+        most: usize,
     ) -> Result<Stretches, Refusal> {
         let call = match listed {
             Listed::Ordinary => calls::final_stretches_indexed,
             Listed::Wide => calls::wide_stretches_indexed,
         };
-        let mut stretches = vec![0; 8 * STRETCH_WORDS * MOST_STRETCHES];
+        let mut stretches = vec![0; STRETCH_LEN * most.max(1)];
         let number = call(self.stakes(), store, index, &bytes_after(after), &mut stretches)?;
         Ok(stretches_in(number, &stretches))
     }

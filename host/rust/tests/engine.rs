@@ -5,7 +5,7 @@ mod common;
 use common::{Chance, graph};
 use lomkhvide::{
     AuthorityIndex, Committee, Engine, Event, Listed, Locator, Outcome, Owners, Parts, Pending, Reading, Record, Refusal,
-    RoundNumber, Slip, Stake, fresh_store, fresh_table,
+    RoundNumber, Slip, Stake, Stretch, fresh_store, fresh_table,
 };
 
 const ROOM: usize = 1 << 20;
@@ -42,7 +42,48 @@ fn thin_calls() {
     }
 }
 
-/// The list comes whole, also where it takes many calls.
+/// A part of a list has as many stretches as are asked for, and asked on after its end it gives the whole, with the index too.
+#[test]
+fn lists_in_parts() {
+    let mut engine = Engine::with_index(Committee::new(&[Stake(1); 4]).unwrap(), ROOM);
+    engine.feed_all(graph(4, 12)).unwrap();
+    let (committee, store, index) = (engine.committee(), engine.store(), engine.parts().index.unwrap());
+    let whole = engine.finals(Listed::Wide, Reading::Old).collect::<Result<Vec<_>, _>>().unwrap();
+    for most in [0, 1, 2, 7, whole.len() - 1, whole.len(), 1000] {
+        let mut listed = Vec::new();
+        let mut more = true;
+        while more {
+            let after = listed.last().and_then(|last: &Stretch| last.locators().last());
+            let part = committee.stretches(store, Listed::Wide, Reading::Old, after.as_ref(), most).unwrap();
+            assert_eq!(committee.stretches_indexed(store, index, Listed::Wide, after.as_ref(), most), Ok(part.clone()));
+            assert!(part.stretches.len() == most.max(1) || !part.more, "more follow a full slice only");
+            listed.extend(part.stretches);
+            more = part.more;
+        }
+        assert_eq!(listed, whole, "{most} at a time");
+    }
+}
+
+/// More stretches than one call has room for at first: a sole owner's shares with votes between them for what nobody has sent.
+#[test]
+fn lists_in_several_calls() {
+    let (mut engine, unsent) = (Engine::new(Committee::new(&[Stake(1)]).unwrap(), ROOM), "0/0/00000009/0".parse().unwrap());
+    let mut before = Record::builder(RoundNumber(0), AuthorityIndex(0), [1; 32]).finish().unwrap();
+    engine.feed(&before).unwrap();
+    for round in 1..3 {
+        let begun = Record::builder(RoundNumber(round), AuthorityIndex(0), [1; 32]).include(before.reference());
+        before = (0..512).fold(begun, |record, _| record.share(b"").accept(unsent)).finish().unwrap();
+        engine.feed(&before).unwrap();
+    }
+    for reading in [Reading::Old, Reading::Withdrawing] {
+        assert_eq!(engine.finals(Listed::Ordinary, reading).count(), 1024);
+        let wide = engine.finals(Listed::Wide, reading).collect::<Result<Vec<_>, _>>().unwrap();
+        assert_eq!((wide.len(), wide[0].first), (1025, unsent));
+        assert!(wide.is_sorted_by_key(|stretch| stretch.first));
+    }
+}
+
+/// The list is what one by one is asked for.
 #[test]
 fn long_lists() {
     let records = graph(4, 60);

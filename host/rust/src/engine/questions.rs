@@ -10,6 +10,10 @@ use crate::{Finality, Listed, Locator, Owners, Pending, Reading, Reference, Refu
 /// The words of a run of the index: author, round, four of the digest, first offset, end, voters low and high.
 const RUN_WORDS: usize = 10;
 
+/// The stretches that a list is first asked for, and the most at a time: 80 KB and 20 MB.
+const FIRST_STRETCHES: usize = 1024;
+const MOST_STRETCHES: usize = 1 << 18;
+
 /// An item of the pending table: neighbouring shares of a block that have the same votes so far.
 ///
 /// ```
@@ -48,8 +52,8 @@ impl Engine {
         self.committee.finality(&self.store, locator, reading)
     }
 
-    /// A list of final locators, ascending, in stretches of neighbouring ones; the engine is asked for 128 of them at a time, in the old reading
-    /// with the index where it has one.
+    /// A list of final locators, ascending, in stretches of neighbouring ones, in the old reading with the index where it has one. The engine is
+    /// asked for 1,024 stretches first, and for ever more where more follow.
     #[doc = stack!(wide_stretches_withdrawing)]
     ///
     /// ```
@@ -75,7 +79,8 @@ impl Engine {
     /// # Ok::<(), Box<dyn std::error::Error>>(())
     /// ```
     pub fn finals(&self, listed: Listed, reading: Reading) -> Finals<'_> {
-        Finals { engine: self, listed, reading, ready: Vec::new().into_iter(), after: None, more: true }
+        let room = FIRST_STRETCHES;
+        Finals { engine: self, listed, reading, room, ready: Vec::new().into_iter(), after: None, more: true }
     }
 
     /// The least locator of a list after a given one, or from the start.
@@ -313,6 +318,8 @@ pub struct Finals<'a> {
     engine: &'a Engine,
     listed: Listed,
     reading: Reading,
+    /// How many stretches the next call has room for.
+    room: usize,
     ready: std::vec::IntoIter<Stretch>,
     after: Option<Locator>,
     more: bool,
@@ -324,9 +331,10 @@ impl Finals<'_> {
         let Engine { committee, store, index, .. } = self.engine;
         let after = self.after.as_ref();
         let part = match (self.reading, index) {
-            (Reading::Old, Some(index)) => committee.stretches_indexed(store, index, self.listed, after)?,
-            _ => committee.stretches(store, self.listed, self.reading, after)?,
+            (Reading::Old, Some(index)) => committee.stretches_indexed(store, index, self.listed, after, self.room)?,
+            _ => committee.stretches(store, self.listed, self.reading, after, self.room)?,
         };
+        self.room = (4 * self.room).min(MOST_STRETCHES);
         self.after = part.stretches.last().map(|last| last.first.reference().at(last.end - 1));
         self.more = part.more;
         self.ready = part.stretches.into_iter();

@@ -56,22 +56,22 @@ fn payloads() {
     assert_eq!(listed, shares);
     let stretch = |offset: usize| Stretch { first: shares[offset], end: 3, blocks: 1, stake: committee.total_stake() };
     let all = Stretches { stretches: vec![stretch(0)], more: false };
-    assert_eq!(committee.stretches(&store, Listed::Ordinary, Reading::Old, None), Ok(all));
+    assert_eq!(committee.stretches(&store, Listed::Ordinary, Reading::Old, None, 128), Ok(all));
     let last = Stretches { stretches: vec![stretch(2)], more: false };
-    assert_eq!(committee.stretches(&store, Listed::Ordinary, Reading::Old, Some(&shares[1])), Ok(last));
+    assert_eq!(committee.stretches(&store, Listed::Ordinary, Reading::Old, Some(&shares[1]), 128), Ok(last));
     assert_eq!(
-        committee.stretches(&store, Listed::Wide, Reading::Old, None),
-        committee.stretches(&store, Listed::Ordinary, Reading::Old, None),
+        committee.stretches(&store, Listed::Wide, Reading::Old, None, 128),
+        committee.stretches(&store, Listed::Ordinary, Reading::Old, None, 128),
         "every final locator is a share"
     );
     assert_eq!(
-        committee.stretches(&store, Listed::Ordinary, Reading::Withdrawing, None),
-        committee.stretches(&store, Listed::Ordinary, Reading::Old, None),
+        committee.stretches(&store, Listed::Ordinary, Reading::Withdrawing, None, 128),
+        committee.stretches(&store, Listed::Ordinary, Reading::Old, None, 128),
         "nobody withdraws"
     );
     assert_eq!(
-        committee.stretches(&store, Listed::Wide, Reading::Withdrawing, None),
-        committee.stretches(&store, Listed::Wide, Reading::Old, None),
+        committee.stretches(&store, Listed::Wide, Reading::Withdrawing, None, 128),
+        committee.stretches(&store, Listed::Wide, Reading::Old, None, 128),
         "nobody withdraws"
     );
     let mut table = fresh_table();
@@ -118,8 +118,8 @@ fn a_mistyped_vote() {
     assert_eq!(committee.next(&store, Listed::Ordinary, Reading::Old, None), Ok(Some(share)));
     assert_eq!(committee.next(&store, Listed::Ordinary, Reading::Old, Some(&share)), Ok(None));
     let firsts = |list: Result<Stretches, Refusal>| list.unwrap().stretches.iter().map(|one| one.first).collect::<Vec<_>>();
-    assert_eq!(firsts(committee.stretches(&store, Listed::Ordinary, Reading::Old, None)), [share]);
-    assert_eq!(firsts(committee.stretches(&store, Listed::Wide, Reading::Old, None)), [mistyped, share]);
+    assert_eq!(firsts(committee.stretches(&store, Listed::Ordinary, Reading::Old, None, 128)), [share]);
+    assert_eq!(firsts(committee.stretches(&store, Listed::Wide, Reading::Old, None, 128)), [mistyped, share]);
     // The first block votes for nothing; the second for its share and for the other locator.
     let run = |locator: &Locator, start: u64| {
         let mut words = words_of(&locator.to_bytes()[..48]);
@@ -128,20 +128,20 @@ fn a_mistyped_vote() {
     };
     let index: Vec<u64> = [vec![23, 0, 2], run(&mistyped, 5), run(&share, 0), vec![7; 3]].concat();
     assert_eq!(
-        committee.stretches_indexed(&store, &index, Listed::Ordinary, None),
-        committee.stretches(&store, Listed::Ordinary, Reading::Old, None)
+        committee.stretches_indexed(&store, &index, Listed::Ordinary, None, 128),
+        committee.stretches(&store, Listed::Ordinary, Reading::Old, None, 128)
     );
     assert_eq!(
-        committee.stretches_indexed(&store, &index, Listed::Wide, None),
-        committee.stretches(&store, Listed::Wide, Reading::Old, None)
+        committee.stretches_indexed(&store, &index, Listed::Wide, None, 128),
+        committee.stretches(&store, Listed::Wide, Reading::Old, None, 128)
     );
     assert_eq!(
-        committee.stretches_indexed(&store, &index, Listed::Wide, Some(&mistyped)),
-        committee.stretches(&store, Listed::Wide, Reading::Old, Some(&mistyped))
+        committee.stretches_indexed(&store, &index, Listed::Wide, Some(&mistyped), 128),
+        committee.stretches(&store, Listed::Wide, Reading::Old, Some(&mistyped), 128)
     );
     for length in 0..23 {
         assert_eq!(
-            committee.stretches_indexed(&store, &index[..length], Listed::Wide, None),
+            committee.stretches_indexed(&store, &index[..length], Listed::Wide, None, 128),
             Err(Refusal::IndexDisagrees),
             "{length} words of the index"
         );
@@ -150,7 +150,7 @@ fn a_mistyped_vote() {
         let mut other = index.clone();
         other[at] += 1;
         assert_eq!(
-            committee.stretches_indexed(&store, &other, Listed::Ordinary, None),
+            committee.stretches_indexed(&store, &other, Listed::Ordinary, None, 128),
             Err(Refusal::IndexDisagrees),
             "another word {at}"
         );
@@ -179,7 +179,7 @@ fn a_withdrawn_share() {
     let runs =
         |list: Result<Stretches, Refusal>| list.unwrap().stretches.iter().map(|one| (one.first, one.end)).collect::<Vec<_>>();
     let apart = [(shares[0], 1), (shares[2], 3)];
-    assert_eq!(runs(committee.stretches(&store, Listed::Ordinary, Reading::Withdrawing, None)), apart);
-    assert_eq!(runs(committee.stretches(&store, Listed::Wide, Reading::Withdrawing, None)), apart);
-    assert_eq!(runs(committee.stretches(&store, Listed::Ordinary, Reading::Old, None)), [(shares[0], 3)]);
+    assert_eq!(runs(committee.stretches(&store, Listed::Ordinary, Reading::Withdrawing, None, 128)), apart);
+    assert_eq!(runs(committee.stretches(&store, Listed::Wide, Reading::Withdrawing, None, 128)), apart);
+    assert_eq!(runs(committee.stretches(&store, Listed::Ordinary, Reading::Old, None, 128)), [(shares[0], 3)]);
 }
