@@ -158,8 +158,16 @@ static void is_loadable(void) {
     answer = lomkhvide_is_loadable(one, sizeof one, chain, sizeof chain, shared, sizeof shared);
 }
 
+static void is_loadable_withdrawing(void) {
+    answer = lomkhvide_is_loadable_withdrawing(one, sizeof one, chain, sizeof chain, shared, sizeof shared);
+}
+
 static void loadable(void) {
     answer = lomkhvide_loadable(one, sizeof one, chain, sizeof chain, places, 2);
+}
+
+static void loadable_withdrawing(void) {
+    answer = lomkhvide_loadable_withdrawing(one, sizeof one, chain, sizeof chain, places, 2);
 }
 
 static uint8_t next[56], stretches[LOMKHVIDE_STRETCHES_LEN];
@@ -279,7 +287,9 @@ int main(void) {
     at_most("finality", finality, 2 * 1023 + 1, 98304);
     at_most("finality_withdrawing", finality_withdrawing, 2 * 1023 + 1, 98304);
     at_most("is_loadable", is_loadable, 1, 98304);
+    at_most("is_loadable_withdrawing", is_loadable_withdrawing, 1, 98304);
     at_most("loadable", loadable, 1, 507904);
+    at_most("loadable_withdrawing", loadable_withdrawing, 1, 507904);
     at_most("next_final", next_final, 1, 98304);
     at_most("next_wide", next_wide, 1, 98304);
     at_most("final_stretches", final_stretches, 2, 491520);

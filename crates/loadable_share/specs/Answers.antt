@@ -7,7 +7,8 @@ use Rattle.committee.specs.Committee.{Committee}
 use Rattle.blocks.specs.Reference.{TransactionLocator}
 use Rattle.blocks.specs.Block.{Block}
 use Rattle.types.specs.Values.{asLocator}
-use Rattle.loadable.specs.Loadable.{isLoadable}
+use Rattle.readings.specs.Readings.{Reading}
+use Rattle.loadable.specs.Loadable.{isLoadableIn}
 use Rattle.loadable_share.specs.declared.Sight.{Sight}
 use Rattle.loadable_share.specs.declared.Sight.the-variants.{No, Yes, Needs}
 use Rattle.loadable_share.specs.declared.LoadableAnswer.{LoadableAnswer}
@@ -21,10 +22,10 @@ asLoadable (Refused n) = refused n
 
 -- ---- machinery for the contracts of private functions
 -- what a look says of a share: it is loadable or not, or as another is
-unfoldable pub seenBy : Committee → List Block → Sight → Bool
-seenBy c bs No = false
-seenBy c bs Yes = true
-seenBy c bs (Needs l) = isLoadable c bs (asLocator l)
+unfoldable pub seenBy : Reading → Committee → List Block → Sight → Bool
+seenBy reading c bs No = false
+seenBy reading c bs Yes = true
+seenBy reading c bs (Needs l) = isLoadableIn reading c bs (asLocator l)
 
 -- that one is of a lower round
 unfoldable pub falls : TransactionLocator → Sight → Bool

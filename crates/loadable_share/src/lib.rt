@@ -1,4 +1,4 @@
-// Whether a stored share is loadable, walking down the changes that are needed.
+// Whether a stored share is loadable, in either reading of a reject, walking down the changes that are needed.
 use committee::NewCommittee;
 use committee::Stake;
 use needed_change::Needed;
@@ -10,11 +10,11 @@ ghost use Prim.Native.Nat.{_≤_};
 ghost use lib.ListN.{length};
 ghost use Rattle.committee.specs.Committee.{totalStake};
 ghost use Rattle.types.specs.Values.{asLocator};
-ghost use Rattle.finality.specs.Voters.{isFinal};
 ghost use Rattle.finality.specs.Finality.{blocksOf};
+ghost use Rattle.readings.specs.Readings.{old, withdrawing, readingOf, isFinalIn};
 ghost use Rattle.block_votes.specs.Walk.{Sorted};
-ghost use Rattle.loadable.specs.Loadable.{isLoadable};
-ghost use Rattle.loadable.specs.Question.{loadableQuestion};
+ghost use Rattle.loadable.specs.Loadable.{isLoadableIn};
+ghost use Rattle.loadable.specs.Question.{loadableQuestionIn};
 ghost use Rattle.loadable_share.specs.Answers.{seenBy, falls, asLoadable};
 
 // What one look at a share says: whether it is loadable, or the change of a lower round of which that depends.
@@ -37,18 +37,20 @@ fn is_final(
     total: Stake,
     store: &[u8],
     order: &[u64],
+    withdrawing: bool,
     locator: TransactionLocator,
 ) -> bool
     requires { ⌜ (Sorted (now stakes) (now store) (now order) × (total .0 ≡ totalStake (now stakes))) × (length (now order) ≤ 1024) ⌝ }
-    ensures { λ r. ⌜ r ≡ isFinal (now (stakes .entry)) (blocksOf (now (store .entry))) (asLocator locator) ⌝ }
+    ensures { λ r. ⌜ r ≡ isFinalIn (readingOf withdrawing) (now (stakes .entry)) (blocksOf (now (store .entry))) (asLocator locator) ⌝ }
 {
     let mut positions = [0u64; types::MAX_BLOCKS];
-    let found = certifying_blocks::certifying_blocks(
+    let found = certifying_blocks::certifying_blocks_in(
         stakes,
         total,
         store,
         order,
         locator,
+        withdrawing,
         &mut positions,
     );
     committee::is_quorum(total, authority_set::stake_of(stakes, found.authors))
@@ -60,16 +62,17 @@ fn look(
     total: Stake,
     store: &[u8],
     order: &[u64],
+    withdrawing: bool,
     locator: TransactionLocator,
 ) -> Sight
     requires { ⌜ (Sorted (now stakes) (now store) (now order) × (total .0 ≡ totalStake (now stakes))) × (length (now order) ≤ 1024) ⌝ }
-    ensures { λ r. ⌜ isLoadable (now (stakes .entry)) (blocksOf (now (store .entry))) (asLocator locator) ≡ seenBy (now (stakes .entry)) (blocksOf (now (store .entry))) r ⌝ }
+    ensures { λ r. ⌜ isLoadableIn (readingOf withdrawing) (now (stakes .entry)) (blocksOf (now (store .entry))) (asLocator locator) ≡ seenBy (readingOf withdrawing) (now (stakes .entry)) (blocksOf (now (store .entry))) r ⌝ }
     ensures { λ r. ⌜ falls (asLocator locator) r ≡ true ⌝ }
 {
     let SharePlace::Payload(start, len) = payload::stored_payload(store, locator) else {
         return Sight::No;
     };
-    if !is_final(stakes, total, store, order, locator) {
+    if !is_final(stakes, total, store, order, withdrawing, locator) {
         return Sight::No;
     }
     let end = start + len;
@@ -89,14 +92,15 @@ fn walk_down(
     total: Stake,
     store: &[u8],
     order: &[u64],
+    withdrawing: bool,
     locator: TransactionLocator,
 ) -> bool
     requires { ⌜ (Sorted (now stakes) (now store) (now order) × (total .0 ≡ totalStake (now stakes))) × (length (now order) ≤ 1024) ⌝ }
-    ensures { λ r. ⌜ r ≡ isLoadable (now (stakes .entry)) (blocksOf (now (store .entry))) (asLocator locator) ⌝ }
+    ensures { λ r. ⌜ r ≡ isLoadableIn (readingOf withdrawing) (now (stakes .entry)) (blocksOf (now (store .entry))) (asLocator locator) ⌝ }
 {
     let mut change = locator;
     loop {
-        let seen = look(stakes, total, store, order, change);
+        let seen = look(stakes, total, store, order, withdrawing, change);
         match seen {
             Sight::No => {
                 return false;
@@ -111,9 +115,14 @@ fn walk_down(
     }
 }
 
-// Whether the locator names a loadable stored share (5, 10).
-pub fn is_loadable(stakes: &[u64], store: &[u8], locator: TransactionLocator) -> LoadableAnswer
-    ensures { λ r. ⌜ asLoadable r ≡ loadableQuestion (now (stakes .entry)) (now (store .entry)) (asLocator locator) ⌝ }
+// Whether the locator names a loadable stored share in the reading that is asked for (5, 10).
+pub fn is_loadable_in(
+    stakes: &[u64],
+    store: &[u8],
+    withdrawing: bool,
+    locator: TransactionLocator,
+) -> LoadableAnswer
+    ensures { λ r. ⌜ asLoadable r ≡ loadableQuestionIn (readingOf withdrawing) (now (stakes .entry)) (now (store .entry)) (asLocator locator) ⌝ }
 {
     let NewCommittee::Taken(total) = committee::new_committee(stakes) else {
         return LoadableAnswer::Refused(5);
@@ -123,8 +132,26 @@ pub fn is_loadable(stakes: &[u64], store: &[u8], locator: TransactionLocator) ->
     }
     let mut order = [0u64; types::MAX_BLOCKS];
     let count = block_votes::sorted_positions(store, &mut order);
-    if walk_down(stakes, total, store, &order[..count], locator) {
+    if walk_down(stakes, total, store, &order[..count], withdrawing, locator) {
         return LoadableAnswer::Loadable;
     }
     LoadableAnswer::NotLoadable
+}
+
+// The same in the old reading.
+pub fn is_loadable(stakes: &[u64], store: &[u8], locator: TransactionLocator) -> LoadableAnswer
+    ensures { λ r. ⌜ asLoadable r ≡ loadableQuestionIn old (now (stakes .entry)) (now (store .entry)) (asLocator locator) ⌝ }
+{
+    is_loadable_in(stakes, store, false, locator)
+}
+
+// The same where owners may withdraw.
+pub fn is_loadable_withdrawing(
+    stakes: &[u64],
+    store: &[u8],
+    locator: TransactionLocator,
+) -> LoadableAnswer
+    ensures { λ r. ⌜ asLoadable r ≡ loadableQuestionIn withdrawing (now (stakes .entry)) (now (store .entry)) (asLocator locator) ⌝ }
+{
+    is_loadable_in(stakes, store, true, locator)
 }

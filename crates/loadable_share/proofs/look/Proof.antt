@@ -9,6 +9,7 @@ use Rattle.blocks.specs.Reference.{locator}
 use Rattle.types.specs.Values.{asReference, asLocator}
 use Rattle.payload.specs.Answers.{asShare, shareWithin}
 use Rattle.finality.proofs.Asked.{in-order-stored}
+use Rattle.readings.specs.Readings.{readingOf}
 use Rattle.loadable.specs.Needs.{neededBy}
 use Rattle.loadable.proofs.Payloads.{payload-nowhere, payload-where}
 use Rattle.loadable.proofs.Looks.{no-share, not-final, needs-nothing, needs-late, needs-earlier}
@@ -34,7 +35,7 @@ returns c =
     let order = c .before .before .before .before .before .before .pre .0 .0 .inOrder in
     let l = asLocator (a .locator) in
     let bytes = bytes-of (a .store .now) (λ j h. omega (arith, c .before .before .before .before .shared-slice-known2 .given j)) in
-    (no-share (a .stakes .now) (in-order-stored (a .stakes .now) (a .store .now) order) l (payload-nowhere (a .stakes .now) (a .store .now) bytes order l (sym (c .before .before .stored-payload .ensures .0) ∙ ap asShare (c .enum-told .given .1))), refl)
+    (no-share (readingOf (a .withdrawing)) (a .stakes .now) (in-order-stored (a .stakes .now) (a .store .now) order) l (payload-nowhere (a .stakes .now) (a .store .now) bytes order l (sym (c .before .before .stored-payload .ensures .0) ∙ ap asShare (c .enum-told .given .1))), refl)
 
 is-final-requires : tie.Need-is-final-requires
 is-final-requires c κs = search needs
@@ -43,7 +44,7 @@ returns-2 : tie.Need-returns-2
 unfolding seenBy falls
 returns-2 c =
     let a = c .before .before .before .before .before .before .before .before .before .args in
-    (not-final (a .stakes .now) (in-order-stored (a .stakes .now) (a .store .now) (c .before .before .before .before .before .before .before .before .before .pre .0 .0 .inOrder)) (asLocator (a .locator)) (sym (c .before .is-final .ensures) ∙ not-true _ (c .if1 .taken)), refl)
+    (not-final (readingOf (a .withdrawing)) (a .stakes .now) (in-order-stored (a .stakes .now) (a .store .now) (c .before .before .before .before .before .before .before .before .before .pre .0 .0 .inOrder)) (asLocator (a .locator)) (sym (c .before .is-final .ensures) ∙ not-true _ (c .if1 .taken)), refl)
 
 add-end : tie.Need-add-end
 unfolding shareWithin
@@ -87,7 +88,7 @@ returns-3 c =
     let held = payload-where (a .stakes .now) (a .store .now) bytes order l (record { start = start; count = count }) (sym (c .before .before .before .before .before .before .before .before .before .stored-payload .ensures .0) ∙ ap asShare (found .1)) in
     let part = ap (λ n. neededBy (take n (drop start (a .store .now)))) (add-sub-cancel-left start count) in
     let nothing = sym part ∙ sym (c .before .before .needed-by .ensures) ∙ ap asNeeded (c .enum-told2 .given .1) in
-    (needs-nothing (a .stakes .now) (in-order-stored (a .stakes .now) (a .store .now) order) l _ held (sym (c .before .before .before .before .before .is-final .ensures) ∙ not-false _ (c .before .before .before .before .if1 .left)) nothing, refl)
+    (needs-nothing (readingOf (a .withdrawing)) (a .stakes .now) (in-order-stored (a .stakes .now) (a .store .now) order) l _ held (sym (c .before .before .before .before .before .is-final .ensures) ∙ not-false _ (c .before .before .before .before .if1 .left)) nothing, refl)
 
 returns-4 : tie.Need-returns-4
 unfolding seenBy falls asShare asNeeded asLocator locator asReference
@@ -102,7 +103,7 @@ returns-4 c =
     let held = payload-where (a .stakes .now) (a .store .now) bytes order l (record { start = start; count = count }) (sym (c .before .before .before .before .before .before .before .before .before .before .before .before .before .stored-payload .ensures .0) ∙ ap asShare (found .1)) in
     let part = ap (λ n. neededBy (take n (drop start (a .store .now)))) (add-sub-cancel-left start count) in
     let change = sym part ∙ sym (c .before .before .before .before .before .before .needed-by .ensures) ∙ ap asNeeded (c .before .before .before .before .needed .given .1) in
-    (needs-late (a .stakes .now) (in-order-stored (a .stakes .now) (a .store .now) order) l _ held (asLocator (c .before .before .before .before .needed .given .0 .0)) change (c .if2 .taken), refl)
+    (needs-late (readingOf (a .withdrawing)) (a .stakes .now) (in-order-stored (a .stakes .now) (a .store .now) order) l _ held (asLocator (c .before .before .before .before .needed .given .0 .0)) change (c .if2 .taken), refl)
 
 returns-5 : tie.Need-returns-5
 unfolding seenBy falls asShare asNeeded asLocator locator asReference
@@ -118,7 +119,7 @@ returns-5 c =
     let part = ap (λ n. neededBy (take n (drop start (a .store .now)))) (add-sub-cancel-left start count) in
     let change = sym part ∙ sym (c .before .before .before .before .before .before .needed-by .ensures) ∙ ap asNeeded (c .before .before .before .before .needed .given .1) in
     let m = c .before .before .before .before .needed .given .0 .0 in (
-      needs-earlier (a .stakes .now) (in-order-stored (a .stakes .now) (a .store .now) order) l _ held (asLocator m) (sym (c .before .before .before .before .before .before .before .before .before .is-final .ensures) ∙ not-false _ (c .before .before .before .before .before .before .before .before .if1 .left)) change (omega arith),
+      needs-earlier (readingOf (a .withdrawing)) (a .stakes .now) (in-order-stored (a .stakes .now) (a .store .now) order) l _ held (asLocator m) (sym (c .before .before .before .before .before .before .before .before .before .is-final .ensures) ∙ not-false _ (c .before .before .before .before .before .before .before .before .if1 .left)) change (omega arith),
       lt-ltb (m .block .round .0) (a .locator .block .round .0) (omega arith),
     )
 

@@ -1,10 +1,11 @@
+use Rattle.readings.specs.Readings.{readingOf}
 use mathlib.Core.Path.{sym}
 use native.Mathlib.Omega.{arith}
 use lib.Seq.{length-take-le}
 use Rattle.host_loadable.proofs.Told.{told-yes, told-no, told-refusal}
 use borrow.Author.Needs.{needs}
-use Rattle.host_loadable.proofs.is_loadable.Statement.{statement}
-use Rattle.host_loadable.proofs.is_loadable.Tie as tie
+use Rattle.host_loadable.proofs.is_loadable_in.Statement.{statement}
+use Rattle.host_loadable.proofs.is_loadable_in.Tie as tie
 
 slice-aggregate-stakes-of : tie.Need-slice-aggregate-stakes-of
 slice-aggregate-stakes-of c = search needs
@@ -36,28 +37,28 @@ add-result : tie.Need-add-result
 add-result c =
     let a = c .before .before .before .before .before .before .before .before .before .before .before .args in
     let w = c .before .before .before .is-loadable-of in
-    omega (arith, told-refusal (a .stakes .now) (a .store .now) (a .locator .now) _ (c .before .before .before .before .before .before .stakes-of .ensures .1) (w .result) (w .ensures) (c .before .number .given .0 .0) (c .before .number .given .1) .0)
+    omega (arith, told-refusal (readingOf (a .withdrawing)) (a .stakes .now) (a .store .now) (a .locator .now) _ (c .before .before .before .before .before .before .stakes-of .ensures .1) (w .result) (w .ensures) (c .before .number .given .0 .0) (c .before .number .given .1) .0)
 
 returns : tie.Need-returns
 returns c =
     let a = c .before .before .before .before .before .before .before .before .before .before .args in
     let w = c .before .before .is-loadable-of in
-    told-yes (a .stakes .now) (a .store .now) (a .locator .now) _ (c .before .before .before .before .before .stakes-of .ensures .1) (w .result) (w .ensures) (c .enum-told .given .1)
+    told-yes (readingOf (a .withdrawing)) (a .stakes .now) (a .store .now) (a .locator .now) _ (c .before .before .before .before .before .stakes-of .ensures .1) (w .result) (w .ensures) (c .enum-told .given .1)
 
 returns-2 : tie.Need-returns-2
 returns-2 c =
     let a = c .before .before .before .before .before .before .before .before .before .before .args in
     let w = c .before .before .is-loadable-of in
-    told-no (a .stakes .now) (a .store .now) (a .locator .now) _ (c .before .before .before .before .before .stakes-of .ensures .1) (w .result) (w .ensures) (c .enum-told2 .given .1)
+    told-no (readingOf (a .withdrawing)) (a .stakes .now) (a .store .now) (a .locator .now) _ (c .before .before .before .before .before .stakes-of .ensures .1) (w .result) (w .ensures) (c .enum-told2 .given .1)
 
 returns-3 : tie.Need-returns-3
 returns-3 c =
     let a = c .before .before .before .before .before .before .before .before .before .before .before .args in
     let w = c .before .before .before .is-loadable-of in
-    told-refusal (a .stakes .now) (a .store .now) (a .locator .now) _ (c .before .before .before .before .before .before .stakes-of .ensures .1) (w .result) (w .ensures) (c .before .number .given .0 .0) (c .before .number .given .1) .1
+    told-refusal (readingOf (a .withdrawing)) (a .stakes .now) (a .store .now) (a .locator .now) _ (c .before .before .before .before .before .before .stakes-of .ensures .1) (w .result) (w .ensures) (c .before .number .given .0 .0) (c .before .number .given .1) .1
 
-pub is-loadable-spec : {M : Type 1} → statement M
-is-loadable-spec =
+pub is-loadable-in-spec : {M : Type 1} → statement M
+is-loadable-in-spec =
     tie.close
     (tie.spec
     slice-aggregate-stakes-of

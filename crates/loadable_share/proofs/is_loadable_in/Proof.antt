@@ -9,11 +9,12 @@ use Rattle.types.specs.Values.{asLocator}
 use Rattle.store_layout.specs.Store.{storeInOrder}
 use Rattle.store_layout.proofs.Check.{order-laid}
 use Rattle.block_votes.proofs.Along.{sorted-count}
+use Rattle.readings.specs.Readings.{readingOf}
 use Rattle.loadable.proofs.Asking.{question-broken, question-disordered, question-asked}
 use Rattle.loadable_share.specs.Answers.{asLoadable}
 use borrow.Author.Needs.{needs}
-use Rattle.loadable_share.proofs.is_loadable.Statement.{statement}
-use Rattle.loadable_share.proofs.is_loadable.Tie as tie
+use Rattle.loadable_share.proofs.is_loadable_in.Statement.{statement}
+use Rattle.loadable_share.proofs.is_loadable_in.Tie as tie
 
 new-committee-requires : tie.Need-new-committee-requires
 new-committee-requires c κs = search needs
@@ -29,7 +30,7 @@ unfolding asLoadable
 returns c =
     let a = c .before .before .before .before .before .args in
     let told = c .enum-told .given in
-    question-broken (a .stakes .now) (a .store .now) (asLocator (a .locator)) (broken-sound (a .stakes .now) (told .0 .0) (ap asNewCommittee (sym (told .1)) ∙ c .before .before .new-committee .ensures))
+    question-broken (readingOf (a .withdrawing)) (a .stakes .now) (a .store .now) (asLocator (a .locator)) (broken-sound (a .stakes .now) (told .0 .0) (ap asNewCommittee (sym (told .1)) ∙ c .before .before .new-committee .ensures))
 
 in-order-requires : tie.Need-in-order-requires
 in-order-requires c κs =
@@ -42,7 +43,7 @@ returns-2 c =
     let a = c .before .before .before .before .before .before .before .before .args in
     let told = c .before .before .before .total .given in
     let t = taken-sound (a .stakes .now) (told .0 .0) (ap asNewCommittee (sym (told .1)) ∙ c .before .before .before .before .before .new-committee .ensures) in
-    question-disordered (a .stakes .now) (a .store .now) (asLocator (a .locator)) (t .0) (sym (c .before .in-order .ensures) ∙ not-true _ (c .if1 .taken))
+    question-disordered (readingOf (a .withdrawing)) (a .stakes .now) (a .store .now) (asLocator (a .locator)) (t .0) (sym (c .before .in-order .ensures) ∙ not-true _ (c .if1 .taken))
 
 slice-aggregate-sorted-positions : tie.Need-slice-aggregate-sorted-positions
 slice-aggregate-sorted-positions c = search needs
@@ -77,7 +78,7 @@ returns-3 c =
     let a = c .before .before .before .before .before .before .before .before .before .before .before .before .before .before .args in
     let told = c .before .before .before .before .before .before .before .before .before .total .given in
     let t = taken-sound (a .stakes .now) (told .0 .0) (ap asNewCommittee (sym (told .1)) ∙ c .before .before .before .before .before .before .before .before .before .before .before .new-committee .ensures) in
-    question-asked (a .stakes .now) (a .store .now) (asLocator (a .locator)) (t .0) (sym (c .before .before .before .before .before .before .before .in-order .ensures) ∙ not-false _ (c .before .before .before .before .before .before .if1 .left)) _ (sym (c .if2 .taken) ∙ c .before .walk-down .ensures)
+    question-asked (readingOf (a .withdrawing)) (a .stakes .now) (a .store .now) (asLocator (a .locator)) (t .0) (sym (c .before .before .before .before .before .before .before .in-order .ensures) ∙ not-false _ (c .before .before .before .before .before .before .if1 .left)) _ (sym (c .if2 .taken) ∙ c .before .walk-down .ensures)
 
 returns-4 : tie.Need-returns-4
 unfolding asLoadable
@@ -85,10 +86,10 @@ returns-4 c =
     let a = c .before .before .before .before .before .before .before .before .before .before .before .before .before .before .args in
     let told = c .before .before .before .before .before .before .before .before .before .total .given in
     let t = taken-sound (a .stakes .now) (told .0 .0) (ap asNewCommittee (sym (told .1)) ∙ c .before .before .before .before .before .before .before .before .before .before .before .new-committee .ensures) in
-    question-asked (a .stakes .now) (a .store .now) (asLocator (a .locator)) (t .0) (sym (c .before .before .before .before .before .before .before .in-order .ensures) ∙ not-false _ (c .before .before .before .before .before .before .if1 .left)) _ (sym (c .if2 .left) ∙ c .before .walk-down .ensures)
+    question-asked (readingOf (a .withdrawing)) (a .stakes .now) (a .store .now) (asLocator (a .locator)) (t .0) (sym (c .before .before .before .before .before .before .before .in-order .ensures) ∙ not-false _ (c .before .before .before .before .before .before .if1 .left)) _ (sym (c .if2 .left) ∙ c .before .walk-down .ensures)
 
-pub is-loadable-spec : {M : Type 1} → statement M
-is-loadable-spec =
+pub is-loadable-in-spec : {M : Type 1} → statement M
+is-loadable-in-spec =
     tie.close
     (tie.spec
     new-committee-requires
