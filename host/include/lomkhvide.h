@@ -310,7 +310,7 @@ uint64_t lomkhvide_write_slip_withdrawing(const uint8_t *stakes, size_t stakes_l
 
 /* Whether a locator names a loadable stored share: 1 or 0.
  * Refused, in this order: 5; 10; 20 a locator not of 56 bytes.
- * It needs at most 96 KB of stack. */
+ * It needs at most 496 KB of stack. */
 uint64_t lomkhvide_is_loadable(const uint8_t *stakes, size_t stakes_len, const uint8_t *store, size_t store_len, const uint8_t *locator,
                                size_t locator_len);
 

@@ -162,6 +162,17 @@ static void is_loadable_withdrawing(void) {
     answer = lomkhvide_is_loadable_withdrawing(one, sizeof one, chain, sizeof chain, shared, sizeof shared);
 }
 
+/* The same blocks, and above them one with a share that needs the lowest share: yes or no goes along the list. */
+static uint8_t needing[1 << 17], top[56];
+
+static void is_loadable_chain(void) {
+    answer = lomkhvide_is_loadable(one, sizeof one, needing, sizeof needing, top, sizeof top);
+}
+
+static void is_loadable_withdrawing_chain(void) {
+    answer = lomkhvide_is_loadable_withdrawing(one, sizeof one, needing, sizeof needing, top, sizeof top);
+}
+
 static void loadable(void) {
     answer = lomkhvide_loadable(one, sizeof one, chain, sizeof chain, places, 2);
 }
@@ -241,6 +252,21 @@ static void grow(void) {
     shared[8] = 1;
 }
 
+/* Before the table and the store of `grow` change: the block of the last round with a share that needs the one of round 1. */
+static void need(void) {
+    static uint8_t kept[LOMKHVIDE_TABLE_LEN];
+    uint8_t record[104 + 3 + 57] = {0};
+    memcpy(needing, chain, sizeof needing);
+    memcpy(kept, table, sizeof kept);
+    memcpy(record, last, 104);
+    record[51] = 1;
+    record[105] = 57;
+    record[107] = 1;
+    memcpy(record + 108, shared, 56);
+    memcpy(top, record, 48);
+    lomkhvide_feed(one, sizeof one, needing, sizeof needing, kept, sizeof kept, events, sizeof events, record, sizeof record);
+}
+
 /* The list is the share of the first owner, over the blocks that `share` fed: an empty part for each of round 0, and one run. */
 static uint64_t kept_index[140] = {140, [129] = 1, [131] = 1, [137] = 1, [138] = 1}, replies[3];
 
@@ -283,11 +309,14 @@ int main(void) {
     at_most("write_slip", write_slip, 118, 491520);
     at_most("write_slip_withdrawing", write_slip_withdrawing, 118, 491520);
     grow();
+    need();
     at_most("feed_indexed", feed_indexed, 0, 262144);
     at_most("finality", finality, 2 * 1023 + 1, 98304);
     at_most("finality_withdrawing", finality_withdrawing, 2 * 1023 + 1, 98304);
     at_most("is_loadable", is_loadable, 1, 98304);
+    at_most("is_loadable, of a share that needs another", is_loadable_chain, 1, 507904);
     at_most("is_loadable_withdrawing", is_loadable_withdrawing, 1, 98304);
+    at_most("is_loadable_withdrawing, of a share that needs another", is_loadable_withdrawing_chain, 1, 507904);
     at_most("loadable", loadable, 1, 507904);
     at_most("loadable_withdrawing", loadable_withdrawing, 1, 507904);
     at_most("next_final", next_final, 1, 98304);

@@ -1,7 +1,7 @@
 -- What is left of the ordinary list after each stretch. Assumes nothing.
 use mathlib.Core.Path.{_≡_, refl, sym, ap, subst, _∙_}
 use mathlib.Core.Bool.{Bool, true, false}
-use mathlib.Core.List.{List, [], _∷_, _++_, flatten, append-nil}
+use mathlib.Core.List.{List, [], _∷_, _++_, flatten, append-assoc, append-nil}
 use mathlib.Core.Option.{Option, none, some}
 use Prim.Native.Nat.{ℕ, _≤_, _<_}
 use native.Mathlib.Omega.{arith}
@@ -10,7 +10,9 @@ use Rattle.base.specs.Lists.{pick, keep, _∈_, here, there}
 use Rattle.base.specs.Le.{Bytes}
 use Rattle.base.proofs.Tests.{fails, not-both}
 use Rattle.committee.specs.Committee.{Committee, broken}
-use Rattle.blocks.specs.Reference.{TransactionLocator, locator, locatorBefore}
+use Rattle.blocks.specs.Reference.{TransactionLocator, TransactionLocatorRange, locator, locatorBefore, newRange, locators}
+use Rattle.types.specs.Values.{asRange}
+use Rattle.types.specs.declared.TransactionLocatorRange as ranges
 use Rattle.blocks.proofs.References.{Precedes, byBlock, byOffset, precedes, is-before, locator-irrefl}
 use Rattle.store_layout.specs.Store.{storeInOrder}
 use Rattle.finality.specs.Finality.{blocksOf}
@@ -23,7 +25,10 @@ use Rattle.readings.specs.Readings.{Reading}
 use Rattle.reading_lists.specs.Lists.{isListed, listing, allListed}
 use Rattle.reading_lists.proofs.Least.{least-listed, lists-lawful}
 use Rattle.reading_lists.proofs.Whole.{all-in, asked-whole, gives-whole}
-use Rattle.final_along.specs.Along.{shareList, ahead}
+use Rattle.vote_starts.specs.Answers.{asMaybe}
+use Rattle.final_along.specs.Along.{shareList, ahead, Held, Found}
+use Rattle.final_along.specs.declared.Along.{Along}
+use Rattle.final_along.specs.declared.Ahead.the-variants.{Stretch, Ended}
 use Rattle.final_along.proofs.Buffers.{stretch-longer}
 
 -- of two tests the stricter one keeps fewer, where one passes the other only
@@ -121,3 +126,77 @@ module _ (reading : Reading) (c : Committee) (s : Bytes) where
           split : Precedes (lastLocator t) y → Precedes l y
           split (byBlock b) = byBlock b
           split (byOffset f b) = byOffset f (omega (arith, longer))
+
+-- ---- the list gone along
+
+module _ (reading : Reading) (c : Committee) (s : Bytes) where
+  -- what was passed, and what is left; the buffer as it was filled
+  pub record Passing (buffer : List ℕ) (along : Along) (gone : List TransactionLocator) : Type 0 where
+    pub rest : List TransactionLocator
+    pub splits : finals reading c s ≡ gone ++ rest
+    pub gives : Gives (shareList reading c s) (asMaybe (along .after)) rest
+    pub held : Held reading c s buffer along
+    pub long : length buffer ≡ 1280
+
+  pub passing-start : broken c ≡ false → storeInOrder c s ≡ true → (buffer : List ℕ) (along : Along) → asMaybe (along .after) ≡ none → Held reading c s buffer along → length buffer ≡ 1280
+      → Passing buffer along []
+  passing-start b h buffer along e held long =
+      record {
+        rest = finals reading c s;
+        splits = refl;
+        gives = subst (λ (o : Option TransactionLocator). Gives (shareList reading c s) o (finals reading c s)) (sym e) (gives-all reading c s b h);
+        held = held;
+        long = long;
+      }
+
+  module _ (buffer : List ℕ) (along : Along) (gone : List TransactionLocator) (w : Passing buffer along gone) where
+    -- where none is left, all were passed
+    pub passing-end : (last : Option TransactionLocator) → Found reading c s (asMaybe (along .after)) last Ended → gone ≡ finals reading c s
+    unfolding Found
+    passing-end last e =
+        sym (w .splits ∙ ap (λ (ls : List TransactionLocator). gone ++ ls) (none-left reading c s (asMaybe (along .after)) (w .rest) (w .gives) e) ∙ append-nil gone)
+
+    module _ (q : ranges.TransactionLocatorRange) (last : Option TransactionLocator) (f : Found reading c s (asMaybe (along .after)) last (Stretch q)) where
+      record Next : Type 0 where
+        stretch : FinalStretch
+        comes : ahead reading c s 1 (asMaybe (along .after)) ≡ stretch ∷ []
+        range : asRange q ≡ newRange (stretch .block) (stretch .first) (stretch .end)
+        after : last ≡ some (lastLocator stretch)
+
+      next : Next
+      unfolding Found
+      next = record { stretch = f .0; comes = f .1; range = f .2; after = f .3 }
+
+      on : Onward reading c s (asMaybe (along .after)) (w .rest) (w .gives) (next .stretch)
+      on = stretch-next reading c s (asMaybe (along .after)) (w .rest) (w .gives) (next .stretch) (next .comes)
+
+      pub later : List TransactionLocator
+      later = on .later
+
+      pub passing-splits : finals reading c s ≡ gone ++ (locators (asRange q) ++ later)
+      unfolding stretchLocators later
+      passing-splits =
+          w .splits
+          ∙ ap (λ (ls : List TransactionLocator). gone ++ ls) (on .splits ∙ ap (λ (ls : List TransactionLocator). ls ++ on .later) (ap locators (sym (next .range))))
+
+      pub passing-longer : asRange q .start < asRange q .end
+      unfolding newRange
+      passing-longer =
+          subst (λ (x : TransactionLocatorRange). x .start < x .end) (sym (next .range))
+          (stretch-longer reading c s 1 (asMaybe (along .after)) (next .stretch) (subst (λ (ts : List FinalStretch). next .stretch ∈ ts) (sym (next .comes)) here))
+
+      pub passing-next : (buffer' : List ℕ) (along' : Along) → asMaybe (along' .after) ≡ last → Held reading c s buffer' along' → length buffer' ≡ 1280 → Passing buffer' along' (gone ++ locators (asRange q))
+      unfolding later
+      passing-next buffer' along' e held long =
+          record {
+            rest = on .later;
+            splits = passing-splits ∙ sym (append-assoc gone (locators (asRange q)) (on .later));
+            gives = subst (λ (o : Option TransactionLocator). Gives (shareList reading c s) o (on .later)) (sym (e ∙ next .after)) (on .gives);
+            held = held;
+            long = long;
+          }
+
+      pub passing-less : (along' : Along) → asMaybe (along' .after) ≡ last → leftAfter reading c s (asMaybe (along' .after)) < leftAfter reading c s (asMaybe (along .after))
+      passing-less along' e =
+          subst (λ (o : Option TransactionLocator). leftAfter reading c s o < leftAfter reading c s (asMaybe (along .after))) (sym (e ∙ next .after))
+          (left-less reading c s (asMaybe (along .after)) (next .stretch) (next .comes))

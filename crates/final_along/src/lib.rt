@@ -21,8 +21,8 @@ ghost use Rattle.readings.specs.Readings.{Reading, readingOf};
 ghost use Rattle.final_search.specs.Search.{Ready};
 ghost use Rattle.final_along.specs.Along.{ahead, rangeFrom, Held, Found};
 
-// The words of the buffer: 256 stretches.
-pub const BUFFER_WORDS: usize = 2560;
+// The words of the buffer: 128 stretches.
+pub const BUFFER_WORDS: usize = 1280;
 
 // How far the list was gone along: the stretch of the buffer that comes next, how many there are in it, whether more follow these, and the last
 // locator that was passed.

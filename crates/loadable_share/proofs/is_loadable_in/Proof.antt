@@ -54,15 +54,15 @@ sorted-positions-requires c κs = (order-laid (c .before .before .before .before
 array-share-prefix-order : tie.Need-array-share-prefix-order
 array-share-prefix-order c = search needs
 
-slice-aggregate-walk-down : tie.Need-slice-aggregate-walk-down
-slice-aggregate-walk-down c =
+slice-aggregate-asked-ready : tie.Need-slice-aggregate-asked-ready
+slice-aggregate-asked-ready c =
     let a = c .before .before .before .before .before .before .before .before .before .before .before .before .args in
     let q = c .before .before .sorted-positions .ensures in
     let laid = order-laid (a .stakes .now) (a .store .now) (sym (c .before .before .before .before .before .in-order .ensures) ∙ not-false _ (c .before .before .before .before .if1 .left)) in
     q .1 .0 ∙ sym (ap length (q .1 .1) ∙ sorted-count (a .store .now) laid)
 
-walk-down-requires : tie.Need-walk-down-requires
-walk-down-requires c κs =
+asked-ready-requires : tie.Need-asked-ready-requires
+asked-ready-requires c κs =
     let a = c .before .before .before .before .before .before .before .before .before .before .before .before .args in
     let told = c .before .before .before .before .before .before .before .total .given in
     let t = taken-sound (a .stakes .now) (told .0 .0) (ap asNewCommittee (sym (told .1)) ∙ c .before .before .before .before .before .before .before .before .before .new-committee .ensures) in
@@ -78,7 +78,7 @@ returns-3 c =
     let a = c .before .before .before .before .before .before .before .before .before .before .before .before .before .before .args in
     let told = c .before .before .before .before .before .before .before .before .before .total .given in
     let t = taken-sound (a .stakes .now) (told .0 .0) (ap asNewCommittee (sym (told .1)) ∙ c .before .before .before .before .before .before .before .before .before .before .before .new-committee .ensures) in
-    question-asked (readingOf (a .withdrawing)) (a .stakes .now) (a .store .now) (asLocator (a .locator)) (t .0) (sym (c .before .before .before .before .before .before .before .in-order .ensures) ∙ not-false _ (c .before .before .before .before .before .before .if1 .left)) _ (sym (c .if2 .taken) ∙ c .before .walk-down .ensures)
+    question-asked (readingOf (a .withdrawing)) (a .stakes .now) (a .store .now) (asLocator (a .locator)) (t .0) (sym (c .before .before .before .before .before .before .before .in-order .ensures) ∙ not-false _ (c .before .before .before .before .before .before .if1 .left)) _ (sym (c .if2 .taken) ∙ c .before .asked-ready .ensures)
 
 returns-4 : tie.Need-returns-4
 unfolding asLoadable
@@ -86,7 +86,7 @@ returns-4 c =
     let a = c .before .before .before .before .before .before .before .before .before .before .before .before .before .before .args in
     let told = c .before .before .before .before .before .before .before .before .before .total .given in
     let t = taken-sound (a .stakes .now) (told .0 .0) (ap asNewCommittee (sym (told .1)) ∙ c .before .before .before .before .before .before .before .before .before .before .before .new-committee .ensures) in
-    question-asked (readingOf (a .withdrawing)) (a .stakes .now) (a .store .now) (asLocator (a .locator)) (t .0) (sym (c .before .before .before .before .before .before .before .in-order .ensures) ∙ not-false _ (c .before .before .before .before .before .before .if1 .left)) _ (sym (c .if2 .left) ∙ c .before .walk-down .ensures)
+    question-asked (readingOf (a .withdrawing)) (a .stakes .now) (a .store .now) (asLocator (a .locator)) (t .0) (sym (c .before .before .before .before .before .before .before .in-order .ensures) ∙ not-false _ (c .before .before .before .before .before .before .if1 .left)) _ (sym (c .if2 .left) ∙ c .before .asked-ready .ensures)
 
 pub is-loadable-in-spec : {M : Type 1} → statement M
 is-loadable-in-spec =
@@ -101,7 +101,7 @@ is-loadable-in-spec =
     slice-aggregate-sorted-positions
     sorted-positions-requires
     array-share-prefix-order
-    slice-aggregate-walk-down
-    walk-down-requires
+    slice-aggregate-asked-ready
+    asked-ready-requires
     returns-3
     returns-4)
