@@ -387,6 +387,13 @@ uint64_t lomkhvide_is_loadable(const uint8_t *stakes, size_t stakes_len, const u
 uint64_t lomkhvide_loadable(const uint8_t *stakes, size_t stakes_len, const uint8_t *store, size_t store_len, uint64_t *places,
                             size_t places_len);
 
+/* Both in the reading in which an owner may withdraw: a share and the change that it needs are judged in that reading. With the same slices, refusals
+ * and stack. */
+uint64_t lomkhvide_is_loadable_withdrawing(const uint8_t *stakes, size_t stakes_len, const uint8_t *store, size_t store_len,
+                                           const uint8_t *locator, size_t locator_len);
+uint64_t lomkhvide_loadable_withdrawing(const uint8_t *stakes, size_t stakes_len, const uint8_t *store, size_t store_len, uint64_t *places,
+                                        size_t places_len);
+
 /* Answers a list of locators, each the 56 bytes that it has in a record, in ascending order, equal ones included: the number of locators.
  * At the front of `replies` each has three words: 1 if it is final, else 0, and the set of the authors of its certifying blocks, low and high,
  * author i the bit i of the low word, or i - 64 of the high one. The words after them keep their content. `index` is the index that was kept

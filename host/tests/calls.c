@@ -1391,6 +1391,57 @@ static void loadable_shares(void) {
         free(places);
     }
     same("the store is as it was", memcmp(store, kept, sizeof store), 0);
+    /* without rejects both readings answer the same, refusals too */
+    same("withdrawing, the program", lomkhvide_is_loadable_withdrawing(one, 8, store, sizeof store, locator, 56), 1);
+    same("withdrawing, no locator", lomkhvide_is_loadable_withdrawing(one, 8, store, sizeof store, locator, 55), refused(20));
+    same("withdrawing, no committee", lomkhvide_is_loadable_withdrawing(one, 7, store, sizeof store, locator, 3), refused(5));
+    same("withdrawing, no store", lomkhvide_is_loadable_withdrawing(one, 8, store, 15, locator, 3), refused(10));
+    uint64_t places[9] = {7, 7, 7, 7, 7, 7, 7, 7, 7};
+    same("withdrawing, too few places", lomkhvide_loadable_withdrawing(one, 8, store, sizeof store, places, 7), refused(58));
+    same("withdrawing, the list", lomkhvide_loadable_withdrawing(one, 8, store, sizeof store, places, 9), 3);
+    for (size_t i = 0; i < 9; i++) {
+        same("withdrawing, a word", places[i], i < 6 ? listed[i] : 7);
+    }
+    /* in round 3 the owner rejects his program: that block does not certify it in the second reading, and those of rounds 1 and 2 do still; so
+     * what was loadable stays so */
+    uint8_t rejecting[256];
+    memset(given, 0, sizeof given);
+    given[0] = 2;
+    memcpy(given + 1, program, 48);
+    n = lomkhvide_write_record(0, 3, digest, 32, 0, tables, 48, given, 58, rejecting, sizeof rejecting);
+    same("a reject is fed", lomkhvide_feed(one, 8, store, sizeof store, table, sizeof table, events, sizeof events, rejecting, n), 0);
+    same("what was loadable stays so", lomkhvide_is_loadable_withdrawing(one, 8, store, sizeof store, locator, 56), 1);
+    same("in the old reading too", lomkhvide_is_loadable(one, 8, store, sizeof store, locator, 56), 1);
+}
+
+/* A sole owner whose program is rejected in the block that shares it: by the old rule the program and the table that needs it are loadable, and where
+ * an owner may withdraw neither is. */
+static void loadable_withdrawn(void) {
+    static uint8_t store[2048], table[LOMKHVIDE_TABLE_LEN], events[LOMKHVIDE_EVENTS_LEN];
+    uint8_t one[8], first[56] = {0}, digest[32] = {0}, given[256] = {0}, program[256], tables[256], locator[56] = {0};
+    put_word(one, 1);
+    store[4] = 16;
+    lomkhvide_feed(one, 8, store, sizeof store, table, sizeof table, events, sizeof events, first, 56);
+    /* a share without bytes, and a reject of it: kind, author, round, digest, offset, and no other locator */
+    given[5] = 2;
+    given[5 + 1 + 8] = 1;
+    uint64_t n = lomkhvide_write_record(0, 1, digest, 32, 0, first, 48, given, 5 + 58, program, sizeof program);
+    same("a program and its reject are fed", lomkhvide_feed(one, 8, store, sizeof store, table, sizeof table, events, sizeof events, program, n), 0);
+    memset(given, 0, sizeof given);
+    given[1] = 57;
+    given[5] = 1;
+    memcpy(given + 6, program, 48);
+    n = lomkhvide_write_record(0, 2, digest, 32, 0, program, 48, given, 62, tables, sizeof tables);
+    same("a table is fed", lomkhvide_feed(one, 8, store, sizeof store, table, sizeof table, events, sizeof events, tables, n), 0);
+    uint64_t places[4];
+    memcpy(locator, tables, 48);
+    same("a table by the old rule", lomkhvide_is_loadable(one, 8, store, sizeof store, locator, 56), 1);
+    same("a table whose program is withdrawn", lomkhvide_is_loadable_withdrawing(one, 8, store, sizeof store, locator, 56), 0);
+    memcpy(locator, program, 48);
+    same("a program by the old rule", lomkhvide_is_loadable(one, 8, store, sizeof store, locator, 56), 1);
+    same("a program withdrawn", lomkhvide_is_loadable_withdrawing(one, 8, store, sizeof store, locator, 56), 0);
+    same("both by the old rule", lomkhvide_loadable(one, 8, store, sizeof store, places, 4), 2);
+    same("neither where owners may withdraw", lomkhvide_loadable_withdrawing(one, 8, store, sizeof store, places, 4), 0);
 }
 
 /* ---- sorted lists */
@@ -1462,6 +1513,7 @@ int main(void) {
     payloads();
     withdrawn();
     loadable_shares();
+    loadable_withdrawn();
     feeding();
     many();
     indexing();

@@ -205,6 +205,21 @@ static void is_loadable(void) {
     answer = lomkhvide_is_loadable(one, sizeof one, chain, sizeof chain, shared, sizeof shared);
 }
 
+static void is_loadable_withdrawing(void) {
+    answer = lomkhvide_is_loadable_withdrawing(one, sizeof one, chain, sizeof chain, shared, sizeof shared);
+}
+
+/* The same blocks, and above them one with a share that needs the lowest share: yes or no goes along the list. */
+static uint8_t needing[1 << 17], top[56];
+
+static void is_loadable_chain(void) {
+    answer = lomkhvide_is_loadable(one, sizeof one, needing, sizeof needing, top, sizeof top);
+}
+
+static void is_loadable_withdrawing_chain(void) {
+    answer = lomkhvide_is_loadable_withdrawing(one, sizeof one, needing, sizeof needing, top, sizeof top);
+}
+
 static void loadable(void) {
     answer = lomkhvide_loadable(one, sizeof one, chain, sizeof chain, places, 2);
 }
@@ -307,6 +322,21 @@ static void grow(void) {
     shared[8] = 1;
     memcpy(last + 105, shared, sizeof shared);
     frame(last, sizeof last);
+}
+
+/* Before the table and the store of `grow` change: the block of the last round with a share that needs the one of round 1. */
+static void need(void) {
+    static uint8_t kept[LOMKHVIDE_TABLE_LEN];
+    uint8_t record[104 + 3 + 57] = {0};
+    memcpy(needing, chain, sizeof needing);
+    memcpy(kept, table, sizeof kept);
+    memcpy(record, last, 104);
+    record[51] = 1;
+    record[105] = 57;
+    record[107] = 1;
+    memcpy(record + 108, shared, 56);
+    memcpy(top, record, 48);
+    lomkhvide_feed(one, sizeof one, needing, sizeof needing, kept, sizeof kept, events, sizeof events, record, sizeof record);
 }
 
 /* The list is the share of the first owner, over the blocks that `share` fed: an empty part for each of round 0, and one run. */

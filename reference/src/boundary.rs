@@ -254,15 +254,29 @@ fn cases() -> Vec<Case> {
         },
         Case {
             name: "is_loadable",
-            slices: vec![stakes.clone(), store.clone(), locator],
+            slices: vec![stakes.clone(), store.clone(), locator.clone()],
             engine: over!(|stakes, store, locator| engine::is_loadable(stakes, store, locator)),
-            model: over!(|stakes, store, locator| loading::is_loadable_call(stakes, store, locator)),
+            model: over!(|stakes, store, locator| loading::is_loadable_call(Reading::Old, stakes, store, locator)),
+        },
+        Case {
+            name: "is_loadable_withdrawing",
+            slices: vec![stakes.clone(), store.clone(), locator],
+            engine: over!(|stakes, store, locator| engine::is_loadable_withdrawing(stakes, store, locator)),
+            model: over!(|stakes, store, locator| loading::is_loadable_call(Reading::Withdrawing, stakes, store, locator)),
         },
         Case {
             name: "loadable",
             slices: vec![stakes.clone(), store.clone(), ("places", vec![5; 96], 120)],
             engine: over!(|stakes, store, places| over_words(places, |words| engine::loadable(stakes, store, words))),
-            model: over!(|stakes, store, places| over_words(places, |words| loading::loadable_call(stakes, store, words))),
+            model: over!(|stakes, store, places| over_words(places, |words| loading::loadable_call(Reading::Old, stakes, store, words))),
+        },
+        Case {
+            name: "loadable_withdrawing",
+            slices: vec![stakes.clone(), store.clone(), ("places", vec![5; 96], 120)],
+            engine: over!(|stakes, store, places| over_words(places, |words| engine::loadable_withdrawing(stakes, store, words))),
+            model: over!(|stakes, store, places| over_words(places, |words| {
+                loading::loadable_call(Reading::Withdrawing, stakes, store, words)
+            })),
         },
         Case {
             name: "next_final",

@@ -5,7 +5,7 @@ use crate::damage::damaged;
 use crate::engine;
 use crate::generate;
 use crate::list::List;
-use crate::model::finality::Graph;
+use crate::model::finality::{Graph, Reading};
 use crate::model::loading;
 use crate::model::record::{Block, Locator};
 use crate::model::store::Stores;
@@ -20,7 +20,28 @@ pub struct Loaded {
     pub loadable: u64,
     /// Of these, those that need another.
     pub following: u64,
+    /// Shares that are loadable in the old reading alone.
+    pub withdrawn: u64,
     pub damaged: u64,
+}
+
+/// Both readings of a reject.
+const READINGS: [Reading; 2] = [Reading::Old, Reading::Withdrawing];
+
+/// The engine's yes or no in a reading.
+fn is_loadable(reading: Reading, stakes: &[u8], store: &[u8], locator: &[u8]) -> Result<u64, u64> {
+    match reading {
+        Reading::Old => engine::is_loadable(stakes, store, locator),
+        Reading::Withdrawing => engine::is_loadable_withdrawing(stakes, store, locator),
+    }
+}
+
+/// The engine's list in a reading.
+fn loadable(reading: Reading, stakes: &[u8], store: &[u8], places: &mut [u64]) -> Result<u64, u64> {
+    match reading {
+        Reading::Old => engine::loadable(stakes, store, places),
+        Reading::Withdrawing => engine::loadable_withdrawing(stakes, store, places),
+    }
 }
 
 /// List n: questions after some of its records, after all of them, after another order of arrival, and over damaged stores.
@@ -31,12 +52,15 @@ pub fn compare(seed: u64, n: u64, loaded: &mut Loaded) -> Outcome {
     let asked = rng.below(list.records.len() as u64 + 1) as usize;
     for (i, record) in list.records.iter().enumerate() {
         if i == asked {
-            ask(&sides, &mut rng, loaded).map_err(|text| format!("after {i} records: {text}"))?;
+            ask_both(&sides, &mut rng, loaded).map_err(|text| format!("after {i} records: {text}"))?;
         }
         sides.feed(record, &mut Tally::default()).map_err(|text| format!("record {}: {text}", i + 1))?;
     }
-    let found = ask(&sides, &mut rng, loaded).map_err(|text| format!("at the end: {text}"))?;
-    same("in another order of arrival", "engine", ascending(&list.stakes, &sides.state.stores)?, found)?;
+    let found = ask_both(&sides, &mut rng, loaded).map_err(|text| format!("at the end: {text}"))?;
+    for (reading, found) in READINGS.into_iter().zip(found) {
+        let told = ascending(reading, &list.stakes, &sides.state.stores)?;
+        same(&format!("in another order of arrival, {reading:?}"), "engine", told, found)?;
+    }
     let lent = &sides.engine;
     for _ in 0..3 {
         let store = damaged(&lent.store, &mut rng);
@@ -47,21 +71,30 @@ pub fn compare(seed: u64, n: u64, loaded: &mut Loaded) -> Outcome {
     both(&damaged(&lent.stakes, &mut rng), &lent.store, &[0; 55], 4)
 }
 
+/// The questions in both readings. Answers both lists; what is loadable where owners may withdraw is loadable where they cannot.
+fn ask_both(sides: &Sides, rng: &mut Rng, loaded: &mut Loaded) -> Result<[Vec<Locator>; 2], String> {
+    let old = ask(Reading::Old, sides, rng, loaded)?;
+    let new = ask(Reading::Withdrawing, sides, rng, loaded)?;
+    same("loadable in both readings", "engine", new.iter().all(|share| old.contains(share)), true)?;
+    loaded.withdrawn += (old.len() - new.len()) as u64;
+    Ok([old, new])
+}
+
 /// Every stored share and some other locators; the list with places around as many as it needs. Answers the list.
-fn ask(sides: &Sides, rng: &mut Rng, loaded: &mut Loaded) -> Result<Vec<Locator>, String> {
+fn ask(reading: Reading, sides: &Sides, rng: &mut Rng, loaded: &mut Loaded) -> Result<Vec<Locator>, String> {
     let stores = &sides.state.stores;
     let graph = Graph::new(&sides.committee, stores);
     let lent = &sides.engine;
     let shares = loading::stored_shares(stores);
-    let found = loading::loadable(&graph, stores);
+    let found = loading::loadable(reading, &graph, stores);
     loaded.shares += shares.len() as u64;
     loaded.loadable += found.len() as u64;
     let others: Vec<Locator> = (0..6).map(|_| questions::some_locator(sides, rng)).collect();
     for locator in shares.iter().chain(&others) {
-        let right = loading::is_loadable(&graph, stores, locator);
+        let right = loading::is_loadable(reading, &graph, stores, locator);
         same("the list has it", "model", found.contains(locator), right)?;
-        let told = engine::is_loadable(&lent.stakes, &lent.store, &locator.bytes());
-        same(&format!("is_loadable of {locator:?}"), "engine", told, Ok(right as u64))?;
+        let told = is_loadable(reading, &lent.stakes, &lent.store, &locator.bytes());
+        same(&format!("is_loadable of {locator:?}, {reading:?}"), "engine", told, Ok(right as u64))?;
     }
     for (i, share) in found.iter().enumerate() {
         let (start, length) = stores.payload(share).expect("a stored share");
@@ -73,36 +106,38 @@ fn ask(sides: &Sides, rng: &mut Rng, loaded: &mut Loaded) -> Result<Vec<Locator>
     }
     let words = 2 * shares.len();
     for length in [words, words + 1, words + 7, words.saturating_sub(1), words.saturating_sub(2), 0] {
-        list(&lent.stakes, &lent.store, length)?;
+        list(reading, &lent.stakes, &lent.store, length)?;
     }
     Ok(found)
 }
 
-/// Both questions over any bytes.
+/// Both questions over any bytes, in both readings.
 fn both(stakes: &[u8], store: &[u8], locator: &[u8], length: usize) -> Outcome {
-    let right = loading::is_loadable_call(stakes, store, locator);
-    same("is_loadable over damaged memory", "engine", engine::is_loadable(stakes, store, locator), right)?;
-    list(stakes, store, length)
+    READINGS.into_iter().try_for_each(|reading| {
+        let right = loading::is_loadable_call(reading, stakes, store, locator);
+        same("is_loadable over damaged memory", "engine", is_loadable(reading, stakes, store, locator), right)?;
+        list(reading, stakes, store, length)
+    })
 }
 
 /// The list with so many words, between words that have to stay.
-fn list(stakes: &[u8], store: &[u8], length: usize) -> Outcome {
+fn list(reading: Reading, stakes: &[u8], store: &[u8], length: usize) -> Outcome {
     const STAYS: u64 = 0x3c3c_3c3c_3c3c_3c3c;
     let (mut got, mut right) = (vec![STAYS; length + 8], vec![STAYS; length + 8]);
-    let told = engine::loadable(stakes, store, &mut got[4..length + 4]);
-    let answer = loading::loadable_call(stakes, store, &mut right[4..length + 4]);
-    same(&format!("loadable with {length} words"), "engine", told, answer)?;
-    same(&format!("places of loadable with {length} words"), "engine", got, right)
+    let told = loadable(reading, stakes, store, &mut got[4..length + 4]);
+    let answer = loading::loadable_call(reading, stakes, store, &mut right[4..length + 4]);
+    same(&format!("loadable with {length} words, {reading:?}"), "engine", told, answer)?;
+    same(&format!("places of loadable with {length} words, {reading:?}"), "engine", got, right)
 }
 
 /// The engine's list, as locators, where the same records arrive in ascending order of reference.
-fn ascending(stakes: &[u64], stores: &Stores) -> Result<Vec<Locator>, String> {
+fn ascending(reading: Reading, stakes: &[u64], stores: &Stores) -> Result<Vec<Locator>, String> {
     let blocks: Vec<&Block> = stores.index.values().map(|i| &stores.blocks[*i].block).collect();
     let again = List::roomy(stakes.to_vec(), blocks.iter().map(|block| block.encode()).collect());
     let mut sides = set(&again)?.expect("the same committee");
     again.records.iter().try_for_each(|record| sides.feed(record, &mut Tally::default()).map(drop))?;
     let mut places = vec![0; 2 * loading::stored_shares(stores).len()];
-    let count = engine::loadable(&sides.engine.stakes, &sides.engine.store, &mut places)
+    let count = loadable(reading, &sides.engine.stakes, &sides.engine.store, &mut places)
         .map_err(|number| format!("refused with {number} in another order"))?;
     let named = |place: &[u64]| Locator::new(sides.state.stores.at(place[0]).expect("an entry").block.reference, place[1]);
     Ok(places.chunks_exact(2).take(count as usize).map(named).collect())

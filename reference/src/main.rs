@@ -269,8 +269,9 @@ fn loading(count: u64, seed: u64) {
             println!("graph {n} of seed {seed} failed: {text}");
         }
     }
-    let Loaded { shares, loadable, following, damaged } = loaded;
-    println!("{shares} stored shares, {loadable} loadable, {following} of them after another; {damaged} damaged stores");
+    let Loaded { shares, loadable, following, withdrawn, damaged } = loaded;
+    println!("in both readings {shares} stored shares, {loadable} loadable, {following} of them after another; {damaged} damaged stores");
+    println!("{withdrawn} loadable in the old reading alone");
     end(count, failed);
 }
 

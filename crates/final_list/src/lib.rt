@@ -67,7 +67,7 @@ fn holds_all(sizes: TableSizes, n: usize, withdrawing: bool) -> bool {
 }
 
 // The same with tables of 128 votes and rejects and of 256 includes, where these reach: zeroing more would cost a small store more than the question.
-fn fill_small(
+pub fn fill_small(
     stakes: &[u64],
     total: Stake,
     store: &[u8],

@@ -137,18 +137,43 @@ pub extern "C" fn lomkhvide_creation_time(
 // Whether a locator names a loadable stored share: 1 or 0.
 #[no_mangle]
 pub extern "C" fn lomkhvide_is_loadable(stakes: &[u8], store: &[u8], locator: &[u8]) -> u64
-    ensures { λ r. ⌜ r ≡ encoded (isLoadableCall (now (stakes .entry)) (now (store .entry)) (now (locator .entry))) ⌝ }
+    ensures { λ r. ⌜ r ≡ encoded (isLoadableCall old (now (stakes .entry)) (now (store .entry)) (now (locator .entry))) ⌝ }
 {
     host_loadable::is_loadable(stakes, store, locator)
+}
+
+// The same where owners may withdraw.
+#[no_mangle]
+pub extern "C" fn lomkhvide_is_loadable_withdrawing(
+    stakes: &[u8],
+    store: &[u8],
+    locator: &[u8],
+) -> u64
+    ensures { λ r. ⌜ r ≡ encoded (isLoadableCall withdrawing (now (stakes .entry)) (now (store .entry)) (now (locator .entry))) ⌝ }
+{
+    host_loadable::is_loadable_withdrawing(stakes, store, locator)
 }
 
 // All loadable stored shares in ascending order: their number; they stand at the front of the places, two words each.
 #[no_mangle]
 pub extern "C" fn lomkhvide_loadable(stakes: &[u8], store: &[u8], places: &mut [u64]) -> u64
-    ensures { λ r. ⌜ r ≡ encoded (loadableCall (now (stakes .entry)) (now (store .entry)) (now (places .entry)) .answer) ⌝ }
-    ensures { λ r. ⌜ now (places .exit) ≡ loadableCall (now (stakes .entry)) (now (store .entry)) (now (places .entry)) .places ⌝ }
+    ensures { λ r. ⌜ r ≡ encoded (loadableCall old (now (stakes .entry)) (now (store .entry)) (now (places .entry)) .answer) ⌝ }
+    ensures { λ r. ⌜ now (places .exit) ≡ loadableCall old (now (stakes .entry)) (now (store .entry)) (now (places .entry)) .places ⌝ }
 {
     host_loadable::loadable(stakes, store, places)
+}
+
+// The same where owners may withdraw.
+#[no_mangle]
+pub extern "C" fn lomkhvide_loadable_withdrawing(
+    stakes: &[u8],
+    store: &[u8],
+    places: &mut [u64],
+) -> u64
+    ensures { λ r. ⌜ r ≡ encoded (loadableCall withdrawing (now (stakes .entry)) (now (store .entry)) (now (places .entry)) .answer) ⌝ }
+    ensures { λ r. ⌜ now (places .exit) ≡ loadableCall withdrawing (now (stakes .entry)) (now (store .entry)) (now (places .entry)) .places ⌝ }
+{
+    host_loadable::loadable_withdrawing(stakes, store, places)
 }
 
 // Answers an ascending list of locators with the index: the number of locators, and three words each in front of `replies`.

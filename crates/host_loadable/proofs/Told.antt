@@ -10,8 +10,9 @@ use Rattle.committee.specs.Committee.{Committee}
 use Rattle.blocks.specs.Reference.{TransactionLocator}
 use Rattle.finality.specs.Finality.{blocksOf}
 use Rattle.finality.specs.NextFinal.{nextFinalChecks}
-use Rattle.loadable.specs.Loadable.{isLoadable, loadableList}
-use Rattle.loadable.specs.Question.{loadableQuestion, listChecks, loadableQuestions}
+use Rattle.readings.specs.Readings.{Reading}
+use Rattle.loadable.specs.Loadable.{isLoadableIn, loadableListIn}
+use Rattle.loadable.specs.Question.{loadableQuestionIn, listChecks, loadableQuestionsIn}
 use Rattle.loadable_share.specs.Answers.{asLoadable}
 use Rattle.loadable_share.specs.declared.LoadableAnswer as one
 use Rattle.loadable_share.specs.declared.LoadableAnswer.the-variants.{Loadable, NotLoadable, Refused}
@@ -26,44 +27,44 @@ use Rattle.host_loadable.specs.Loading.{flagged, isLoadableCall, loadabl
 
 -- ---- yes or no
 
-question-most : (c : Committee) (s : Bytes) (l : TransactionLocator) (n : ℕ) → loadableQuestion c s l ≡ refused n → n ≤ 41
-unfolding loadableQuestion nextFinalChecks allOf
-question-most c s l n e = checked-most 41 (nextFinalChecks c s) (isLoadable c (blocksOf s) l) n refl e
+question-most : (reading : Reading) (c : Committee) (s : Bytes) (l : TransactionLocator) (n : ℕ) → loadableQuestionIn reading c s l ≡ refused n → n ≤ 41
+unfolding loadableQuestionIn nextFinalChecks allOf
+question-most reading c s l n e = checked-most 41 (nextFinalChecks c s) (isLoadableIn reading c (blocksOf s) l) n refl e
 
-module _ (stakes s b : Bytes) (c : Committee) (h : c ≡ committeeOf stakes) (r : one.LoadableAnswer) (e : asLoadable r ≡ asked c s (loadableQuestion c s) (locatorOf b)) where
-  same-call : flagged (asLoadable r) ≡ isLoadableCall stakes s b
+module _ (reading : Reading) (stakes s b : Bytes) (c : Committee) (h : c ≡ committeeOf stakes) (r : one.LoadableAnswer) (e : asLoadable r ≡ asked c s (loadableQuestionIn reading c s) (locatorOf b)) where
+  same-call : flagged (asLoadable r) ≡ isLoadableCall reading stakes s b
   unfolding isLoadableCall
-  same-call = ap flagged e ∙ ap (λ (d : Committee). flagged (asked d s (loadableQuestion d s) (locatorOf b))) h
+  same-call = ap flagged e ∙ ap (λ (d : Committee). flagged (asked d s (loadableQuestionIn reading d s) (locatorOf b))) h
 
-  pub told-yes : r ≡ Loadable → 1 ≡ encoded (isLoadableCall stakes s b)
+  pub told-yes : r ≡ Loadable → 1 ≡ encoded (isLoadableCall reading stakes s b)
   unfolding asLoadable encoded flagged flag
   told-yes k = rw (← same-call, k)
 
-  pub told-no : r ≡ NotLoadable → 0 ≡ encoded (isLoadableCall stakes s b)
+  pub told-no : r ≡ NotLoadable → 0 ≡ encoded (isLoadableCall reading stakes s b)
   unfolding asLoadable encoded flagged flag
   told-no k = rw (← same-call, k)
 
-  pub told-refusal : (n : ℕ) → r ≡ Refused n → (n ≤ 41) × (9223372036854775808 + n ≡ encoded (isLoadableCall stakes s b))
+  pub told-refusal : (n : ℕ) → r ≡ Refused n → (n ≤ 41) × (9223372036854775808 + n ≡ encoded (isLoadableCall reading stakes s b))
   unfolding asLoadable encoded flagged
-  told-refusal n k = (asked-most c s (loadableQuestion c s) (locatorOf b) n (question-most c s) (sym e ∙ ap asLoadable k), rw (← same-call, k))
+  told-refusal n k = (asked-most c s (loadableQuestionIn reading c s) (locatorOf b) n (question-most reading c s) (sym e ∙ ap asLoadable k), rw (← same-call, k))
 
 -- ---- the list
 
-list-most : (c : Committee) (s : Bytes) (ps : List ℕ) (n : ℕ) → loadableQuestions c s ps .answer ≡ refused n → n ≤ 58
-unfolding loadableQuestions listChecks allOf
-list-most c s ps n e = checked-most 58 (listChecks c s ps) (length (loadableList c (blocksOf s))) n refl e
+list-most : (reading : Reading) (c : Committee) (s : Bytes) (ps : List ℕ) (n : ℕ) → loadableQuestionsIn reading c s ps .answer ≡ refused n → n ≤ 58
+unfolding loadableQuestionsIn listChecks allOf
+list-most reading c s ps n e = checked-most 58 (listChecks c s ps) (length (loadableListIn reading c (blocksOf s))) n refl e
 
-pub list-same : (stakes s : Bytes) (ps : List ℕ) (c : Committee) → c ≡ committeeOf stakes → loadableQuestions c s ps ≡ loadableCall stakes s ps
+pub list-same : (reading : Reading) (stakes s : Bytes) (ps : List ℕ) (c : Committee) → c ≡ committeeOf stakes → loadableQuestionsIn reading c s ps ≡ loadableCall reading stakes s ps
 unfolding loadableCall
-list-same stakes s ps c h = rw h
+list-same reading stakes s ps c h = rw h
 
-module _ (stakes s : Bytes) (ps : List ℕ) (r : all.LoadableList) (e : asLoadableList r ≡ loadableCall stakes s ps .answer) (n : ℕ) where
-  pub told-number : r ≡ Places n → n ≡ encoded (loadableCall stakes s ps .answer)
+module _ (reading : Reading) (stakes s : Bytes) (ps : List ℕ) (r : all.LoadableList) (e : asLoadableList r ≡ loadableCall reading stakes s ps .answer) (n : ℕ) where
+  pub told-number : r ≡ Places n → n ≡ encoded (loadableCall reading stakes s ps .answer)
   unfolding asLoadableList encoded
   told-number k = rw (← e, k)
 
-  pub told-denied : r ≡ Denied n → (n ≤ 58) × (9223372036854775808 + n ≡ encoded (loadableCall stakes s ps .answer))
+  pub told-denied : r ≡ Denied n → (n ≤ 58) × (9223372036854775808 + n ≡ encoded (loadableCall reading stakes s ps .answer))
   unfolding asLoadableList encoded loadableCall
   told-denied k =
-      let z : loadableQuestions (committeeOf stakes) s ps .answer ≡ refused n = sym e ∙ ap asLoadableList k in
-      (list-most (committeeOf stakes) s ps n z, rw z)
+      let z : loadableQuestionsIn reading (committeeOf stakes) s ps .answer ≡ refused n = sym e ∙ ap asLoadableList k in
+      (list-most reading (committeeOf stakes) s ps n z, rw z)

@@ -1,11 +1,12 @@
--- The questions about loadable shares, for a host. Assumes nothing: these are definitions.
+-- The questions about loadable shares, for a host, in either reading of a reject. Assumes nothing: these are definitions.
 use Prim.Native.Nat.{ℕ}
 use mathlib.Core.Bool.{Bool}
 use mathlib.Core.List.{List}
 use Rattle.base.specs.Le.{Bytes}
 use Rattle.base.specs.Checks.{Answer, refused, answered}
 use Rattle.committee.specs.Committee.{Committee}
-use Rattle.loadable.specs.Question.{AskedList, loadableQuestion, loadableQuestions}
+use Rattle.readings.specs.Readings.{Reading}
+use Rattle.loadable.specs.Question.{AskedList, loadableQuestionIn, loadableQuestionsIn}
 use Rattle.host_calls.specs.Calls.{flag, committeeOf}
 use Rattle.host_locators.specs.Locators.{locatorOf, asked}
 
@@ -15,11 +16,11 @@ flagged (answered t) = answered (flag t)
 flagged (refused n) = refused n
 
 -- 02: "Give yes or no for a locator": 5, 10, 20 for bytes that are no locator
-unfoldable pub isLoadableCall : Bytes → Bytes → Bytes → Answer ℕ
-isLoadableCall stakes s b =
+unfoldable pub isLoadableCall : Reading → Bytes → Bytes → Bytes → Answer ℕ
+isLoadableCall reading stakes s b =
     let c : Committee = committeeOf stakes in
-    flagged (asked c s (loadableQuestion c s) (locatorOf b))
+    flagged (asked c s (loadableQuestionIn reading c s) (locatorOf b))
 
 -- 02: "the list of all loadable stored shares": 5, 10, 58; the places cross as words
-unfoldable pub loadableCall : Bytes → Bytes → List ℕ → AskedList
-loadableCall stakes s ps = loadableQuestions (committeeOf stakes) s ps
+unfoldable pub loadableCall : Reading → Bytes → Bytes → List ℕ → AskedList
+loadableCall reading stakes s ps = loadableQuestionsIn reading (committeeOf stakes) s ps

@@ -14,44 +14,45 @@ use Rattle.store_layout.specs.Layout.{entries}
 use Rattle.store_layout.specs.Store.{recordsOf, storeInOrder}
 use Rattle.finality.specs.Finality.{blocksOf}
 use Rattle.finality.specs.NextFinal.{nextFinalChecks}
+use Rattle.readings.specs.Readings.{Reading}
 use Rattle.stored_finals.specs.Shares.{storedShares}
-use Rattle.loadable.specs.Loadable.{isLoadable, loadableList}
-use Rattle.loadable.specs.Question.{loadableQuestion, placeWords, listChecks, loadableQuestions}
+use Rattle.loadable.specs.Loadable.{isLoadableIn, loadableListIn}
+use Rattle.loadable.specs.Question.{loadableQuestionIn, placeWords, listChecks, loadableQuestionsIn}
 
 -- ---- yes or no
 
-module _ (c : Committee) (s : Bytes) (l : TransactionLocator) where
-  pub question-broken : broken c ≡ true → refused 5 ≡ loadableQuestion c s l
-  unfolding loadableQuestion nextFinalChecks checked passes refusal allOf
+module _ (reading : Reading) (c : Committee) (s : Bytes) (l : TransactionLocator) where
+  pub question-broken : broken c ≡ true → refused 5 ≡ loadableQuestionIn reading c s l
+  unfolding loadableQuestionIn nextFinalChecks checked passes refusal allOf
   question-broken h = rw h
 
-  pub question-disordered : broken c ≡ false → storeInOrder c s ≡ false → refused 10 ≡ loadableQuestion c s l
-  unfolding loadableQuestion nextFinalChecks checked passes refusal allOf
+  pub question-disordered : broken c ≡ false → storeInOrder c s ≡ false → refused 10 ≡ loadableQuestionIn reading c s l
+  unfolding loadableQuestionIn nextFinalChecks checked passes refusal allOf
   question-disordered h k = rw (h, k)
 
-  pub question-asked : broken c ≡ false → storeInOrder c s ≡ true → (t : Bool) → t ≡ isLoadable c (blocksOf s) l → answered t ≡ loadableQuestion c s l
-  unfolding loadableQuestion nextFinalChecks checked passes refusal allOf
+  pub question-asked : broken c ≡ false → storeInOrder c s ≡ true → (t : Bool) → t ≡ isLoadableIn reading c (blocksOf s) l → answered t ≡ loadableQuestionIn reading c s l
+  unfolding loadableQuestionIn nextFinalChecks checked passes refusal allOf
   question-asked h k t e = rw (h, k, e)
 
 -- ---- the list
 
-module _ (c : Committee) (s : Bytes) (ps : List ℕ) where
-  pub list-broken : broken c ≡ true → record { answer = refused 5; places = ps } ≡ loadableQuestions c s ps
-  unfolding loadableQuestions listChecks checked passes refusal allOf
+module _ (reading : Reading) (c : Committee) (s : Bytes) (ps : List ℕ) where
+  pub list-broken : broken c ≡ true → record { answer = refused 5; places = ps } ≡ loadableQuestionsIn reading c s ps
+  unfolding loadableQuestionsIn listChecks checked passes refusal allOf
   list-broken h = rw h
 
   module _ (b : broken c ≡ false) where
-    pub list-disordered : storeInOrder c s ≡ false → record { answer = refused 10; places = ps } ≡ loadableQuestions c s ps
-    unfolding loadableQuestions listChecks checked passes refusal allOf
+    pub list-disordered : storeInOrder c s ≡ false → record { answer = refused 10; places = ps } ≡ loadableQuestionsIn reading c s ps
+    unfolding loadableQuestionsIn listChecks checked passes refusal allOf
     list-disordered h = rw (b, h)
 
     module _ (o : storeInOrder c s ≡ true) where
-      pub list-short : length ps / 2 < length (storedShares (blocksOf s)) → record { answer = refused 58; places = ps } ≡ loadableQuestions c s ps
-      unfolding loadableQuestions listChecks checked passes refusal allOf
+      pub list-short : length ps / 2 < length (storedShares (blocksOf s)) → record { answer = refused 58; places = ps } ≡ loadableQuestionsIn reading c s ps
+      unfolding loadableQuestionsIn listChecks checked passes refusal allOf
       list-short h = rw (b, o, lt-ltb (length ps / 2) (length (storedShares (blocksOf s))) h)
 
-      pub list-asked : length (storedShares (blocksOf s)) ≤ length ps / 2 → (n : ℕ) (qs : List ℕ) → n ≡ length (loadableList c (blocksOf s))
-          → qs ≡ flatten (map (placeWords (entries (recordsOf s))) (loadableList c (blocksOf s))) ++ drop (2 * length (loadableList c (blocksOf s))) ps
-          → record { answer = answered n; places = qs } ≡ loadableQuestions c s ps
-      unfolding loadableQuestions listChecks checked passes refusal allOf
+      pub list-asked : length (storedShares (blocksOf s)) ≤ length ps / 2 → (n : ℕ) (qs : List ℕ) → n ≡ length (loadableListIn reading c (blocksOf s))
+          → qs ≡ flatten (map (placeWords (entries (recordsOf s))) (loadableListIn reading c (blocksOf s))) ++ drop (2 * length (loadableListIn reading c (blocksOf s))) ps
+          → record { answer = answered n; places = qs } ≡ loadableQuestionsIn reading c s ps
+      unfolding loadableQuestionsIn listChecks checked passes refusal allOf
       list-asked h n qs e f = rw (b, o, le-ltb (length ps / 2) (length (storedShares (blocksOf s))) h, e, f)

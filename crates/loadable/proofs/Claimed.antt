@@ -1,10 +1,11 @@
 -- The claims, each from its law. Assumes nothing.
-use Rattle.finality.proofs.Claimed.{well-stored}
-use Rattle.loadable.specs.Claims.{NeedsWhatIsWritten, LoadableMeant, ListsLoadable, AnyOrder, WalkedShares, WalkedFinals, PayloadsUnseen, StaysLoadable, PlacesName, PlacesFit, PlacesRead, PayloadGiven, Claims}
+use Rattle.finality.proofs.Claimed.{well-stored, small-authors}
+use Rattle.loadable.specs.Claims.{NeedsWhatIsWritten, LoadableMeant, OldLoading, ListsLoadable, AnyOrder, LoadableInBoth, SameWithoutRejects, WalkedShares, WalkedFinals, PayloadsUnseen, StaysLoadable, PlacesName, PlacesFit, PlacesRead, PayloadGiven, Claims}
 use Rattle.loadable.proofs.Payloads.{payload-shared, shared-payload, payload-stored, payload-given}
-use Rattle.loadable.proofs.Meaning.{loadable-stays, loadable-is, is-loadable}
+use Rattle.loadable.proofs.Meaning.{old-loading, loadable-in-both, loadable-stays, loadable-is, is-loadable}
 use Rattle.loadable.proofs.Lists.{list-meant, same-loadable}
 use Rattle.loadable.proofs.Walking.{walked-shares, walked-finals}
+use Rattle.loadable.proofs.Rejectless.{same-loading}
 use Rattle.loadable.proofs.Unseen.{unseen}
 use Rattle.loadable.proofs.Places.{place-names, places-fit, places-read}
 use Rattle.loadable.proofs.Needed.{needs-written}
@@ -15,23 +16,35 @@ needs-meant = needs-written
 
 loadable-meant : LoadableMeant
 unfolding LoadableMeant
-loadable-meant c bs h l = (loadable-is c (well-stored c bs h) l, is-loadable c (well-stored c bs h) l)
+loadable-meant reading c bs h l = (loadable-is reading c (well-stored c bs h) l, is-loadable reading c (well-stored c bs h) l)
+
+old-meant : OldLoading
+unfolding OldLoading
+old-meant = old-loading
 
 lists-loadable : ListsLoadable
 unfolding ListsLoadable
-lists-loadable c bs h = list-meant c (well-stored c bs h)
+lists-loadable reading c bs h = list-meant reading c (well-stored c bs h)
 
 any-order : AnyOrder
 unfolding AnyOrder
-any-order c bs cs h k e = same-loadable c (well-stored c bs h) (well-stored c cs k) e
+any-order reading c bs cs h k e = same-loadable reading c (well-stored c bs h) (well-stored c cs k) (small-authors c bs h) (small-authors c cs k) e
+
+in-both : LoadableInBoth
+unfolding LoadableInBoth
+in-both c bs h l = loadable-in-both c (well-stored c bs h) l
+
+no-rejects : SameWithoutRejects
+unfolding SameWithoutRejects
+no-rejects = same-loading
 
 shares-walked : WalkedShares
 unfolding WalkedShares
-shares-walked c bs h = walked-shares c (well-stored c bs h)
+shares-walked reading c bs h = walked-shares reading c (well-stored c bs h)
 
 finals-walked : WalkedFinals
 unfolding WalkedFinals
-finals-walked c bs h = walked-finals c (well-stored c bs h)
+finals-walked reading c bs h = walked-finals reading c (well-stored c bs h)
 
 payloads-unseen : PayloadsUnseen
 unfolding PayloadsUnseen
@@ -39,7 +52,7 @@ payloads-unseen = unseen
 
 stays-loadable : StaysLoadable
 unfolding StaysLoadable
-stays-loadable c bs cs f l x = loadable-stays c f x
+stays-loadable reading c bs cs h k f l x = loadable-stays reading c (well-stored c bs h) (well-stored c cs k) (small-authors c bs h) (small-authors c cs k) f x
 
 places-name : PlacesName
 unfolding PlacesName
@@ -63,8 +76,11 @@ claimed =
       needs = needs-meant;
       payload = λ c bs h l. record { exactly = λ p. (payload-shared bs l p, shared-payload (well-stored c bs h)); stored = payload-stored (well-stored c bs h) l };
       loadable = loadable-meant;
+      old = old-meant;
       list = lists-loadable;
       anyOrder = any-order;
+      both = in-both;
+      noRejects = no-rejects;
       walkedShares = shares-walked;
       walkedFinals = finals-walked;
       unseen = payloads-unseen;

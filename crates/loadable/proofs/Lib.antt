@@ -5,6 +5,7 @@ pub mod Meaning
 pub mod Looks
 pub mod Lists
 pub mod Walking
+pub mod Rejectless
 pub mod Unseen
 pub mod Places
 pub mod Asking

@@ -11,32 +11,32 @@ use Rattle.committee.specs.Committee.{Committee}
 use Rattle.blocks.specs.Reference.{TransactionLocator}
 use Rattle.blocks.specs.Block.{Block}
 use Rattle.store_layout.proofs.Stored.{WellStored}
-use Rattle.finality.specs.Voters.{isFinal}
+use Rattle.readings.specs.Readings.{Reading, isFinalIn}
 use Rattle.loadable.specs.Needs.{neededBy, payloadIn}
-use Rattle.loadable.specs.Loadable.{met, loadableBy, isLoadable}
+use Rattle.loadable.specs.Loadable.{met, loadableBy, isLoadableIn}
 use Rattle.loadable.proofs.Meaning.{by-test}
 
-module _ (c : Committee) {bs : List Block} (w : WellStored bs) (l : TransactionLocator) where
-  by-own : isLoadable c bs l ≡ loadableBy (isLoadable c bs) c bs l
-  by-own = by-test c w (isLoadable c bs) l (λ m r. refl)
+module _ (reading : Reading) (c : Committee) {bs : List Block} (w : WellStored bs) (l : TransactionLocator) where
+  by-own : isLoadableIn reading c bs l ≡ loadableBy (isLoadableIn reading c bs) reading c bs l
+  by-own = by-test reading c w (isLoadableIn reading c bs) l (λ m r. refl)
 
-  pub no-share : payloadIn bs l ≡ none → isLoadable c bs l ≡ false
+  pub no-share : payloadIn bs l ≡ none → isLoadableIn reading c bs l ≡ false
   unfolding loadableBy holds
-  no-share e = by-own ∙ rw e (and-false (isFinal c bs l))
+  no-share e = by-own ∙ rw e (and-false (isFinalIn reading c bs l))
 
-  pub not-final : isFinal c bs l ≡ false → isLoadable c bs l ≡ false
+  pub not-final : isFinalIn reading c bs l ≡ false → isLoadableIn reading c bs l ≡ false
   unfolding loadableBy
   not-final e = by-own ∙ rw e
 
   module _ (p : Bytes) (e : payloadIn bs l ≡ some p) where
-    pub needs-nothing : isFinal c bs l ≡ true → neededBy p ≡ none → isLoadable c bs l ≡ true
+    pub needs-nothing : isFinalIn reading c bs l ≡ true → neededBy p ≡ none → isLoadableIn reading c bs l ≡ true
     unfolding loadableBy holds met
     needs-nothing f k = by-own ∙ rw (f, e, k)
 
-    pub needs-late : (m : TransactionLocator) → neededBy p ≡ some m → l .block .round ≤ m .block .round → isLoadable c bs l ≡ false
+    pub needs-late : (m : TransactionLocator) → neededBy p ≡ some m → l .block .round ≤ m .block .round → isLoadableIn reading c bs l ≡ false
     unfolding loadableBy holds met
-    needs-late m k h = by-own ∙ rw (e, k, le-ltb (m .block .round) (l .block .round) h) (and-false (isFinal c bs l))
+    needs-late m k h = by-own ∙ rw (e, k, le-ltb (m .block .round) (l .block .round) h) (and-false (isFinalIn reading c bs l))
 
-    pub needs-earlier : (m : TransactionLocator) → isFinal c bs l ≡ true → neededBy p ≡ some m → m .block .round < l .block .round → isLoadable c bs l ≡ isLoadable c bs m
+    pub needs-earlier : (m : TransactionLocator) → isFinalIn reading c bs l ≡ true → neededBy p ≡ some m → m .block .round < l .block .round → isLoadableIn reading c bs l ≡ isLoadableIn reading c bs m
     unfolding loadableBy holds met
     needs-earlier m f k h = by-own ∙ rw (f, e, k, lt-ltb (m .block .round) (l .block .round) h)

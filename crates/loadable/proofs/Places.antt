@@ -26,13 +26,14 @@ use Rattle.store_layout.proofs.Check.{order-laid}
 use Rattle.store_layout.proofs.Search.{laid-out}
 use Rattle.store_layout.proofs.Loops.{block-of-entry}
 use Rattle.finality.specs.Finality.{blocksOf}
+use Rattle.readings.specs.Readings.{Reading}
 use Rattle.stored_finals.specs.Shares.{storedShares}
 use Rattle.store_layout.specs.Shares.{isStoredShare}
 use Rattle.store_layout.proofs.Chain.{distinct}
 use Rattle.store_layout.proofs.Shares.{share-stored, blocks-entered, share-looked-up}
 use Rattle.stored_finals.proofs.Shares.{all-in}
-use Rattle.loadable.specs.Loadable.{isLoadable, loadableList}
-use Rattle.loadable.specs.Question.{placeWords, namedBy, listChecks, loadableQuestions}
+use Rattle.loadable.specs.Loadable.{isLoadableIn, loadableListIn}
+use Rattle.loadable.specs.Question.{placeWords, namedBy, listChecks, loadableQuestionsIn}
 use Rattle.loadable.specs.Claims.{PlaceNames}
 
 -- the entry of a stored share
@@ -72,13 +73,13 @@ read-back c s h (l ∷ ls) f rest =
     let e = place-block c s h l (f l here) in
     ap₂ {C = List TransactionLocator} (λ x xs. x ∷ xs) (λ i. record { block = e i; offset = l .offset }) (read-back c s h ls (λ x m. f x (there m)) rest)
 
-pub places-read : (c : Committee) (s : Bytes) (ps : List ℕ) → passes (listChecks c s ps) ≡ true
-    → namedBy s (length (loadableList c (blocksOf s))) (loadableQuestions c s ps .places) ≡ loadableList c (blocksOf s)
-unfolding loadableQuestions
-places-read c s ps h =
+pub places-read : (reading : Reading) (c : Committee) (s : Bytes) (ps : List ℕ) → passes (listChecks c s ps) ≡ true
+    → namedBy s (length (loadableListIn reading c (blocksOf s))) (loadableQuestionsIn reading c s ps .places) ≡ loadableListIn reading c (blocksOf s)
+unfolding loadableQuestionsIn
+places-read reading c s ps h =
     rw h
-    (read-back c s (in-order-too h) (loadableList c (blocksOf s)) (λ l m. unfold loadableList in keep-in (isLoadable c (blocksOf s)) (storedShares (blocksOf s)) m .0)
-    (drop (2 * length (loadableList c (blocksOf s))) ps))
+    (read-back c s (in-order-too h) (loadableListIn reading c (blocksOf s)) (λ l m. unfold loadableListIn in keep-in (isLoadableIn reading c (blocksOf s)) (storedShares (blocksOf s)) m .0)
+    (drop (2 * length (loadableListIn reading c (blocksOf s))) ps))
   where
     in-order-too : passes (listChecks c s ps) ≡ true → storeInOrder c s ≡ true
     in-order-too k = unfold listChecks in not-false (storeInOrder c s) (passes-first _ _ (passes-others _ _ k))
@@ -90,18 +91,18 @@ unfolding flatten placeWords
 length-places es [] = omega arith
 length-places es (l ∷ ls) = omega (arith, length-places es ls)
 
-enough : (c : Committee) (s : Bytes) (ps : List ℕ) → passes (listChecks c s ps) ≡ true → 2 * length (loadableList c (blocksOf s)) ≤ length ps
-unfolding listChecks loadableList
-enough c s ps h =
+enough : (reading : Reading) (c : Committee) (s : Bytes) (ps : List ℕ) → passes (listChecks c s ps) ≡ true → 2 * length (loadableListIn reading c (blocksOf s)) ≤ length ps
+unfolding listChecks loadableListIn
+enough reading c s ps h =
     let k = ltb-false (length ps / 2) (length (storedShares (blocksOf s))) (passes-first _ _ (passes-others _ _ (passes-others _ _ h))) in
-    omega (arith, k, mul-div-le (length ps) 2, length-keep (isLoadable c (blocksOf s)) (storedShares (blocksOf s)))
+    omega (arith, k, mul-div-le (length ps) 2, length-keep (isLoadableIn reading c (blocksOf s)) (storedShares (blocksOf s)))
 
-pub places-fit : (c : Committee) (s : Bytes) (ps : List ℕ) → length (loadableQuestions c s ps .places) ≡ length ps
-unfolding loadableQuestions
-places-fit c s ps = go (passes (listChecks c s ps)) refl
+pub places-fit : (reading : Reading) (c : Committee) (s : Bytes) (ps : List ℕ) → length (loadableQuestionsIn reading c s ps .places) ≡ length ps
+unfolding loadableQuestionsIn
+places-fit reading c s ps = go (passes (listChecks c s ps)) refl
   where
     found : List TransactionLocator
-    found = loadableList c (blocksOf s)
+    found = loadableListIn reading c (blocksOf s)
 
     go : (t : Bool) → passes (listChecks c s ps) ≡ t
         → length (pick t (flatten (map (placeWords (entries (recordsOf s))) found) ++ drop (2 * length found) ps) ps) ≡ length ps
@@ -109,7 +110,7 @@ places-fit c s ps = go (passes (listChecks c s ps)) refl
     go true e =
         omega (
           arith,
-          enough c s ps e,
+          enough reading c s ps e,
           length-append (flatten (map (placeWords (entries (recordsOf s))) found)) (drop (2 * length found) ps),
           length-places (entries (recordsOf s)) found,
           length-drop (2 * length found) ps,

@@ -1,4 +1,5 @@
--- Which stored shares are loadable, and the list of them, over a list of blocks, the newest first. Assumes nothing: these are definitions.
+-- Which stored shares are loadable, in either reading of a reject, and the list of them, over a list of blocks, the newest first.
+-- Assumes nothing: these are definitions.
 use Prim.Native.Nat.{ℕ, zero, suc, _<_}
 use mathlib.Core.Path.{_≡_}
 use mathlib.Core.Bool.{Bool, true, false, _&&_}
@@ -11,16 +12,25 @@ use Rattle.committee.specs.Committee.{Committee}
 use Rattle.blocks.specs.Reference.{TransactionLocator, sameLocator}
 use Rattle.blocks.specs.Block.{Block}
 use Rattle.finality.specs.Ancestry.{Final}
-use Rattle.finality.specs.Voters.{isFinal}
+use Rattle.readings.specs.Readings.{Reading, isFinalIn}
+use Rattle.readings.specs.Withdrawing.{FinalIn}
 use Rattle.stored_finals.specs.Shares.{storedShares}
 use Rattle.loadable.specs.Needs.{neededBy, SharedAs, payloadIn}
 
 -- 02: "Only a stored share is loadable: when it is final, and the change it needs, if any, is a stored share of a lower round that is itself
--- loadable"
-pub data Loadable (c : Committee) (bs : List Block) : TransactionLocator → Type 0 where
-  alone : {l : TransactionLocator} {p : Bytes} → SharedAs bs l p → Final c bs l → neededBy p ≡ none → Loadable c bs l
-  following : {l m : TransactionLocator} {p : Bytes} → SharedAs bs l p → Final c bs l → neededBy p ≡ some m
-      → m .block .round < l .block .round → Loadable c bs m → Loadable c bs l
+-- loadable"; what is final is given
+pub data LoadableGiven (final : TransactionLocator → Type 0) (bs : List Block) : TransactionLocator → Type 0 where
+  alone : {l : TransactionLocator} {p : Bytes} → SharedAs bs l p → final l → neededBy p ≡ none → LoadableGiven final bs l
+  following : {l m : TransactionLocator} {p : Bytes} → SharedAs bs l p → final l → neededBy p ≡ some m
+      → m .block .round < l .block .round → LoadableGiven final bs m → LoadableGiven final bs l
+
+-- by the rule in which an owner cannot withdraw: final as 01 says it
+abbrev pub Loadable : Committee → List Block → TransactionLocator → Type 0
+Loadable c bs = LoadableGiven (Final c bs) bs
+
+-- in either reading: a share and what it needs are judged in the same one
+abbrev pub LoadableIn : Reading → Committee → List Block → TransactionLocator → Type 0
+LoadableIn reading c bs = LoadableGiven (FinalIn reading c bs) bs
 
 -- ---- the same, computed
 
@@ -30,29 +40,29 @@ met loaded l none = true
 met loaded l (some m) = ltb (m .block .round) (l .block .round) && loaded m
 
 -- a final stored share that needs nothing, or what passes the test
-unfoldable pub loadableBy : (TransactionLocator → Bool) → Committee → List Block → TransactionLocator → Bool
-loadableBy loaded c bs l = isFinal c bs l && holds (λ p. met loaded l (neededBy p)) (payloadIn bs l)
+unfoldable pub loadableBy : (TransactionLocator → Bool) → Reading → Committee → List Block → TransactionLocator → Bool
+loadableBy loaded reading c bs l = isFinalIn reading c bs l && holds (λ p. met loaded l (neededBy p)) (payloadIn bs l)
 
 -- with at most n shares, one needing the next
-unfoldable pub loadableWithin : ℕ → Committee → List Block → TransactionLocator → Bool
-loadableWithin zero c bs l = false
-loadableWithin (suc n) c bs l = loadableBy (loadableWithin n c bs) c bs l
+unfoldable pub loadableWithin : ℕ → Reading → Committee → List Block → TransactionLocator → Bool
+loadableWithin zero reading c bs l = false
+loadableWithin (suc n) reading c bs l = loadableBy (loadableWithin n reading c bs) reading c bs l
 
 -- 02: "Give yes or no for a locator": rounds fall, so there are no more shares than rounds
-unfoldable pub isLoadable : Committee → List Block → TransactionLocator → Bool
-isLoadable c bs l = loadableWithin (suc (l .block .round)) c bs l
+unfoldable pub isLoadableIn : Reading → Committee → List Block → TransactionLocator → Bool
+isLoadableIn reading c bs l = loadableWithin (suc (l .block .round)) reading c bs l
 
 -- 02: "the list of all loadable stored shares in ascending locator order"
-unfoldable pub loadableList : Committee → List Block → List TransactionLocator
-loadableList c bs = keep (isLoadable c bs) (storedShares bs)
+unfoldable pub loadableListIn : Reading → Committee → List Block → List TransactionLocator
+loadableListIn reading c bs = keep (isLoadableIn reading c bs) (storedShares bs)
 
--- ---- the same, one stored share after the other in ascending order
+-- ---- the same, one share after the other in ascending order
 
 -- whether the next one is loadable, by those found so far
-unfoldable pub loadableAfter : Committee → List Block → List TransactionLocator → TransactionLocator → Bool
-loadableAfter c bs found l = loadableBy (λ m. anyOf (sameLocator m) found) c bs l
+unfoldable pub loadableAfter : Reading → Committee → List Block → List TransactionLocator → TransactionLocator → Bool
+loadableAfter reading c bs found l = loadableBy (λ m. anyOf (sameLocator m) found) reading c bs l
 
 -- those found among the next ones too
-unfoldable pub foundOn : Committee → List Block → List TransactionLocator → List TransactionLocator → List TransactionLocator
-foundOn c bs found [] = found
-foundOn c bs found (l ∷ ls) = foundOn c bs (pick (loadableAfter c bs found l) (found ++ l ∷ []) found) ls
+unfoldable pub foundOn : Reading → Committee → List Block → List TransactionLocator → List TransactionLocator → List TransactionLocator
+foundOn reading c bs found [] = found
+foundOn reading c bs found (l ∷ ls) = foundOn reading c bs (pick (loadableAfter reading c bs found l) (found ++ l ∷ []) found) ls

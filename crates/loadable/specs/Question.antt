@@ -1,4 +1,4 @@
--- The two questions over a store. Assumes nothing: these are definitions.
+-- The two questions over a store, in either reading of a reject. Assumes nothing: these are definitions.
 use Prim.Native.Nat.{ℕ, zero, suc, _*_, _/_}
 use mathlib.Core.Bool.{Bool, not}
 use mathlib.Core.List.{List, [], _∷_, _++_, map, flatten}
@@ -14,12 +14,13 @@ use Rattle.store_layout.specs.Store.{recordsOf, storeInOrder}
 use Rattle.store_layout.specs.Entry.{blockAt}
 use Rattle.finality.specs.Finality.{blocksOf}
 use Rattle.finality.specs.NextFinal.{nextFinalChecks}
+use Rattle.readings.specs.Readings.{Reading}
 use Rattle.stored_finals.specs.Shares.{storedShares}
-use Rattle.loadable.specs.Loadable.{isLoadable, loadableList}
+use Rattle.loadable.specs.Loadable.{isLoadableIn, loadableListIn}
 
 -- 02: "Give yes or no for a locator"; 5, 10
-unfoldable pub loadableQuestion : Committee → Bytes → TransactionLocator → Answer Bool
-loadableQuestion c s l = checked (nextFinalChecks c s) (isLoadable c (blocksOf s) l)
+unfoldable pub loadableQuestionIn : Reading → Committee → Bytes → TransactionLocator → Answer Bool
+loadableQuestionIn reading c s l = checked (nextFinalChecks c s) (isLoadableIn reading c (blocksOf s) l)
 
 -- 02: "entry position and offset a place"
 unfoldable pub placeWords : List Entry → TransactionLocator → List ℕ
@@ -44,9 +45,9 @@ pub record AskedList : Type 0 where
   pub places : List ℕ
 
 -- the number of places, and the places; words past them keep their content
-unfoldable pub loadableQuestions : Committee → Bytes → List ℕ → AskedList
-loadableQuestions c s ps =
-    let found : List TransactionLocator = loadableList c (blocksOf s) in
+unfoldable pub loadableQuestionsIn : Reading → Committee → Bytes → List ℕ → AskedList
+loadableQuestionsIn reading c s ps =
+    let found : List TransactionLocator = loadableListIn reading c (blocksOf s) in
     record {
       answer = checked (listChecks c s ps) (length found);
       places = pick (passes (listChecks c s ps)) (flatten (map (placeWords (entries (recordsOf s))) found) ++ drop (2 * length found) ps) ps;

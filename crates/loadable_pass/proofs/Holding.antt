@@ -1,4 +1,4 @@
--- The places while the stored shares are gone through. Assumes nothing.
+-- The places while the final stored shares are gone through. Assumes nothing.
 use mathlib.Core.Path.{_≡_, refl, sym, ap, ap₂, subst, _∙_}
 use mathlib.Core.Bool.{Bool, true, false}
 use mathlib.Core.List.{List, [], _∷_, _++_, map, map-append, append-assoc, flatten, append-nil}
@@ -7,25 +7,31 @@ use Prim.Native.Nat.{ℕ, _+_, _-_, _*_, _≤_}
 use native.Mathlib.Omega.{arith}
 use lib.ListN.{length, take, drop, length-append, take-append-drop}
 use lib.Seq.{sets, sets-eq, length-sets, length-take-le, take-at, drop-at, drop-drop}
-use Rattle.base.specs.Lists.{pick, anyOf, keep, holds, _∈_}
+use Rattle.base.specs.Lists.{pick, anyOf, keep, holds, _∈_, here}
 use Rattle.base.specs.Le.{Bytes}
 use Rattle.base.proofs.Lists.{keep-append, length-keep, flatten-append}
-use Rattle.base.proofs.Members.{in-left, keep-in}
+use Rattle.base.proofs.Tests.{and-both, and-left, and-right}
+use Rattle.base.proofs.Members.{in-left, in-right, in-keep, keep-in}
 use Rattle.committee.specs.Committee.{Committee}
 use Rattle.blocks.specs.Reference.{TransactionLocator, sameLocator}
+use Rattle.blocks.specs.Block.{Block}
 use Rattle.store_layout.specs.Layout.{entries, positionOf, lookup}
 use Rattle.store_layout.specs.Store.{recordsOf, storeInOrder}
-use Rattle.finality.specs.Voters.{isFinal}
 use Rattle.finality.specs.Finality.{blocksOf}
 use Rattle.finality.proofs.Asked.{in-order-stored}
-use Rattle.finality.proofs.FinalList.{Ascending, none-left, and-then, keep-ascending}
+use Rattle.finality.proofs.FinalList.{Ascending, none-left, and-then, ascending-unique, keep-ascending}
+use Rattle.readings.specs.Readings.{Reading, isFinalIn}
 use Rattle.stored_finals.specs.Shares.{storedShares}
-use Rattle.stored_finals.proofs.Shares.{all-ascending}
+use Rattle.stored_finals.proofs.Shares.{all-ascending as shares-ascending, in-all-shares, all-in as shares-in}
+use Rattle.store_layout.specs.Shares.{isStoredShare}
+use Rattle.store_layout.proofs.Shares.{stored-share, share-stored}
+use Rattle.reading_lists.specs.Lists.{isListed, allListed}
+use Rattle.reading_lists.proofs.Whole.{all-ascending, all-in}
 use Rattle.loadable.specs.Needs.{neededBy, payloadIn}
-use Rattle.loadable.specs.Loadable.{met, loadableBy, isLoadable, loadableList, loadableAfter}
+use Rattle.loadable.specs.Loadable.{met, loadableBy, isLoadableIn, loadableListIn, loadableAfter}
 use Rattle.loadable.specs.Question.{placeWords, namedBy}
 use Rattle.loadable.proofs.Places.{read-back}
-use Rattle.loadable.proofs.Walking.{walked-shares}
+use Rattle.loadable.proofs.Walking.{walked-finals}
 use Rattle.loadable_places.specs.Listed.{Listed, metBy}
 use Rattle.loadable_places.proofs.Listing.{listed-from}
 use Rattle.loadable_pass.specs.Holding.{Holding, Past}
@@ -85,31 +91,47 @@ module _ (ps : List ℕ) (n at o : ℕ) (fits : 2 * n + 2 ≤ length ps) where
 -- ---- what the places hold
 
 -- before any share
-pub holding-start : (c : Committee) (s : Bytes) (ps : List ℕ) → 2 * length (storedShares (blocksOf s)) ≤ length ps → Holding c s [] ps 0
+pub holding-start : (reading : Reading) (c : Committee) (s : Bytes) (ps : List ℕ) → 2 * length (allListed true reading c (blocksOf s)) ≤ length ps → Holding reading c s [] ps 0
 unfolding keep flatten
-holding-start c s ps h = record { rest = storedShares (blocksOf s); splits = refl; many = refl; words = refl; room = h }
+holding-start reading c s ps h = record { rest = allListed true reading c (blocksOf s); splits = refl; many = refl; words = refl; room = h }
 
 -- after the last one
-pub holding-all : (c : Committee) (s : Bytes) (ps qs : List ℕ) (n : ℕ) → Holding c s (storedShares (blocksOf s)) qs n → Past ps qs n
-    → (n ≡ length (loadableList c (blocksOf s))) × (qs ≡ flatten (map (placeWords (entries (recordsOf s))) (loadableList c (blocksOf s))) ++ drop (2 * length (loadableList c (blocksOf s))) ps)
-unfolding loadableList
-holding-all c s ps qs n g p =
-    let found : List TransactionLocator = loadableList c (blocksOf s) in (
-      g .many,
+pub holding-all : (reading : Reading) (c : Committee) (s : Bytes) → storeInOrder c s ≡ true → (ps qs : List ℕ) (n : ℕ) → Holding reading c s (allListed true reading c (blocksOf s)) qs n → Past ps qs n
+    → (n ≡ length (loadableListIn reading c (blocksOf s)))
+    × (qs ≡ flatten (map (placeWords (entries (recordsOf s))) (loadableListIn reading c (blocksOf s))) ++ drop (2 * length (loadableListIn reading c (blocksOf s))) ps)
+holding-all reading c s o ps qs n g p =
+    let found : List TransactionLocator = loadableListIn reading c (blocksOf s) in
+    let all : keep (isLoadableIn reading c (blocksOf s)) (allListed true reading c (blocksOf s)) ≡ found = walked-finals reading c (in-order-stored c s o) .kept in
+    let many : n ≡ length found = g .many ∙ ap length all in (
+      many,
       sym (take-append-drop (2 * n) qs)
-          ∙ ap₂ (λ (ws rest : List ℕ). ws ++ rest) (g .words) (p .same)
-          ∙ ap (λ (m : ℕ). flatten (map (placeWords (entries (recordsOf s))) found) ++ drop (2 * m) ps) (g .many),
+          ∙ ap₂ (λ (ws rest : List ℕ). ws ++ rest) (g .words ∙ ap (λ (ls : List TransactionLocator). flatten (map (placeWords (entries (recordsOf s))) ls)) all) (p .same)
+          ∙ ap (λ (m : ℕ). flatten (map (placeWords (entries (recordsOf s))) found) ++ drop (2 * m) ps) many,
     )
 
-module _ (c : Committee) (s : Bytes) (order : storeInOrder c s ≡ true) (xs : List TransactionLocator) (ps : List ℕ) (n : ℕ) (g : Holding c s xs ps n) where
+-- the final shares are the final ones among the stored shares, so there are no more of them
+finals-kept : (reading : Reading) (c : Committee) (bs : List Block) → allListed true reading c bs ≡ keep (isFinalIn reading c bs) (storedShares bs)
+unfolding isListed
+finals-kept reading c bs =
+    ascending-unique (all-ascending true reading c bs) (keep-ascending (isFinalIn reading c bs) (shares-ascending bs))
+    (λ l m. let k = all-in true reading c bs l .0 m in in-keep (isFinalIn reading c bs) (storedShares bs) (in-all-shares bs l (stored-share bs l (and-left _ _ k))) (and-right (isStoredShare bs l) _ k))
+    (λ l m. let k = keep-in (isFinalIn reading c bs) (storedShares bs) m in all-in true reading c bs l .1 (and-both _ _ (share-stored bs l (shares-in bs l (k .0))) (k .1)))
+
+pub few-finals : (reading : Reading) (c : Committee) (bs : List Block) → length (allListed true reading c bs) ≤ length (storedShares bs)
+few-finals reading c bs = omega (arith, ap length (finals-kept reading c bs), length-keep (isFinalIn reading c bs) (storedShares bs))
+
+module _ (reading : Reading) (c : Committee) (s : Bytes) (order : storeInOrder c s ≡ true) (xs : List TransactionLocator) (ps : List ℕ) (n : ℕ) (g : Holding reading c s xs ps n) where
   abbrev found : List TransactionLocator
-  found = keep (isLoadable c (blocksOf s)) xs
+  found = keep (isLoadableIn reading c (blocksOf s)) xs
+
+  pub final-stored : (l : TransactionLocator) → l ∈ allListed true reading c (blocksOf s) → l ∈ storedShares (blocksOf s)
+  final-stored l m = keep-in (isFinalIn reading c (blocksOf s)) (storedShares (blocksOf s)) (subst (λ (ls : List TransactionLocator). l ∈ ls) (finals-kept reading c (blocksOf s)) m) .0
 
   found-stored : (l : TransactionLocator) → l ∈ found → l ∈ storedShares (blocksOf s)
-  found-stored l m = subst (λ (ls : List TransactionLocator). l ∈ ls) (sym (g .splits)) (in-left (g .rest) (keep-in (isLoadable c (blocksOf s)) xs m .0))
+  found-stored l m = final-stored l (subst (λ (ls : List TransactionLocator). l ∈ ls) (sym (g .splits)) (in-left (g .rest) (keep-in (isLoadableIn reading c (blocksOf s)) xs m .0)))
 
   found-ascends : Ascending found
-  found-ascends = keep-ascending (isLoadable c (blocksOf s)) (ascending-left xs (g .rest) (subst Ascending (g .splits) (all-ascending (blocksOf s))))
+  found-ascends = keep-ascending (isLoadableIn reading c (blocksOf s)) (ascending-left xs (g .rest) (subst Ascending (g .splits) (all-ascending true reading c (blocksOf s))))
 
   pub whole : ps ≡ flatten (map (placeWords (entries (recordsOf s))) found) ++ drop (2 * n) ps
   whole = sym (take-append-drop (2 * n) ps) ∙ ap (λ (ws : List ℕ). ws ++ drop (2 * n) ps) (g .words)
@@ -124,27 +146,31 @@ module _ (c : Committee) (s : Bytes) (order : storeInOrder c s ≡ true) (xs : L
 
   -- ---- the next share
 
-  module _ (l : TransactionLocator) (ys : List TransactionLocator) (e : storedShares (blocksOf s) ≡ xs ++ l ∷ ys) where
+  module _ (l : TransactionLocator) (ys : List TransactionLocator) (e : allListed true reading c (blocksOf s) ≡ xs ++ l ∷ ys) where
     pub holding-room : 2 * n + 2 ≤ length ps
     holding-room =
-        omega (arith, g .room, g .many, length-keep (isLoadable c (blocksOf s)) xs, ap length e, length-append xs (l ∷ ys))
+        omega (arith, g .room, g .many, length-keep (isLoadableIn reading c (blocksOf s)) xs, ap length e, length-append xs (l ∷ ys))
 
-    -- a final one is loadable exactly if what it needs is at one of the places
-    pub by-places : (p : Bytes) → isFinal c (blocksOf s) l ≡ true → payloadIn (blocksOf s) l ≡ some p → isLoadable c (blocksOf s) l ≡ metBy s n ps l p
+    final-here : isFinalIn reading c (blocksOf s) l ≡ true
+    unfolding isListed
+    final-here = and-right (isStoredShare (blocksOf s) l) _ (all-in true reading c (blocksOf s) l .0 (subst (λ (ls : List TransactionLocator). l ∈ ls) (sym e) (in-right xs here)))
+
+    -- it is loadable exactly if what it needs is at one of the places
+    pub by-places : (p : Bytes) → payloadIn (blocksOf s) l ≡ some p → isLoadableIn reading c (blocksOf s) l ≡ metBy s n ps l p
     unfolding loadableAfter loadableBy holds metBy
-    by-places p f q =
-        walked-shares c (in-order-stored c s order) .step xs l ys e
-        ∙ rw (f, q) (ap (λ (ls : List TransactionLocator). met (λ m. anyOf (sameLocator m) ls) l (neededBy p)) (sym named))
+    by-places p q =
+        walked-finals reading c (in-order-stored c s order) .step xs l ys e
+        ∙ rw (final-here, q) (ap (λ (ls : List TransactionLocator). met (λ m. anyOf (sameLocator m) ls) l (neededBy p)) (sym named))
 
-    later : storedShares (blocksOf s) ≡ (xs ++ l ∷ []) ++ ys
+    later : allListed true reading c (blocksOf s) ≡ (xs ++ l ∷ []) ++ ys
     later = e ∙ sym (append-assoc xs (l ∷ []) ys)
 
-    kept : (t : Bool) → isLoadable c (blocksOf s) l ≡ t → keep (isLoadable c (blocksOf s)) (xs ++ l ∷ []) ≡ pick t (found ++ l ∷ []) found
+    kept : (t : Bool) → isLoadableIn reading c (blocksOf s) l ≡ t → keep (isLoadableIn reading c (blocksOf s)) (xs ++ l ∷ []) ≡ pick t (found ++ l ∷ []) found
     unfolding keep
-    kept true k = keep-append (isLoadable c (blocksOf s)) xs (l ∷ []) ∙ rw k
-    kept false k = keep-append (isLoadable c (blocksOf s)) xs (l ∷ []) ∙ rw k (append-nil found)
+    kept true k = keep-append (isLoadableIn reading c (blocksOf s)) xs (l ∷ []) ∙ rw k
+    kept false k = keep-append (isLoadableIn reading c (blocksOf s)) xs (l ∷ []) ∙ rw k (append-nil found)
 
-    pub holding-skip : isLoadable c (blocksOf s) l ≡ false → Holding c s (xs ++ l ∷ []) ps n
+    holding-skip : isLoadableIn reading c (blocksOf s) l ≡ false → Holding reading c s (xs ++ l ∷ []) ps n
     holding-skip k =
         record {
           rest = ys;
@@ -162,7 +188,7 @@ module _ (c : Committee) (s : Bytes) (order : storeInOrder c s ≡ true) (xs : L
           ∙ flatten-append (map (placeWords (entries (recordsOf s))) found) (placeWords (entries (recordsOf s)) l ∷ [])
           ∙ ap (λ (q : ℕ). flatten (map (placeWords (entries (recordsOf s))) found) ++ q ∷ l .offset ∷ []) (sym place)
 
-      pub holding-more : isLoadable c (blocksOf s) l ≡ true → Holding c s (xs ++ l ∷ []) (sets ps (2 * n) (at ∷ l .offset ∷ [])) (n + 1)
+      pub holding-more : isLoadableIn reading c (blocksOf s) l ≡ true → Holding reading c s (xs ++ l ∷ []) (sets ps (2 * n) (at ∷ l .offset ∷ [])) (n + 1)
       holding-more k =
           record {
             rest = ys;
@@ -178,10 +204,10 @@ module _ (c : Committee) (s : Bytes) (order : storeInOrder c s ≡ true) (xs : L
 
       -- after a final share, as it is listed
       pub record Listing (t : Bool) : Type 0 where
-        pub holds-on : Holding c s (xs ++ l ∷ []) (pick t (sets ps (2 * n) (at ∷ l .offset ∷ [])) ps) (pick t (n + 1) n)
+        pub holds-on : Holding reading c s (xs ++ l ∷ []) (pick t (sets ps (2 * n) (at ∷ l .offset ∷ [])) ps) (pick t (n + 1) n)
         pub past : Past ps (pick t (sets ps (2 * n) (at ∷ l .offset ∷ [])) ps) (pick t (n + 1) n)
         pub onward : n ≤ pick t (n + 1) n
 
-      pub listing : (t : Bool) → isLoadable c (blocksOf s) l ≡ t → Listing t
+      pub listing : (t : Bool) → isLoadableIn reading c (blocksOf s) l ≡ t → Listing t
       listing true k = record { holds-on = holding-more k; past = after-past ps n at (l .offset) holding-room; onward = omega arith }
       listing false k = record { holds-on = holding-skip k; past = past-none ps n; onward = omega arith }

@@ -1,3 +1,4 @@
-pub mod Holding
 pub mod Statements
-pub mod Going
+pub mod Holding
+pub mod Running
+pub mod Listings

@@ -1,75 +1,118 @@
-// The stored shares gone through in ascending order, and the loadable ones listed.
+// The ordinary list gone along, and its loadable shares listed.
 use committee::Stake;
-use loadable_runs::FinalRun;
+use final_along::Ahead;
 use payload::SharePlace;
+use statement_cursor::StatementCursor;
 use types::TransactionLocator;
-use vote_table::TableSizes;
+use types::TransactionLocatorRange;
 ghost use mathlib.Core.Path.{_≡_};
-ghost use Prim.Native.Nat.{_+_, _*_, _≤_, _<_};
-ghost use lib.ListN.{length, getD};
-ghost use Rattle.store_layout.specs.Entry.{recordAt};
+ghost use mathlib.Core.Bool.{true};
+ghost use Prim.Native.Nat.{_*_, _≤_};
+ghost use lib.ListN.{length};
+ghost use Rattle.types.specs.Values.{asRange, asReference};
+ghost use Rattle.store_layout.specs.Layout.{entries, positionOf, lookup};
+ghost use Rattle.store_layout.specs.Store.{recordsOf};
+ghost use Rattle.store_layout.specs.Entry.{recordAt, isEntry};
+ghost use Rattle.statement_cursor.specs.Cursor.{cursorAt};
 ghost use Rattle.finality.specs.Finality.{blocksOf};
-ghost use Rattle.stored_finals.specs.Shares.{storedShares};
-ghost use Rattle.final_search.specs.Search.{Ready, Tables};
-ghost use Rattle.share_count.specs.Through.{sharesThrough};
-ghost use Rattle.loadable_pass.specs.Holding.{Holding, Past};
+ghost use Rattle.readings.specs.Readings.{readingOf};
+ghost use Rattle.reading_lists.specs.Lists.{allListed};
+ghost use Rattle.block_votes.specs.Walk.{SortedStore};
+ghost use Rattle.final_search.specs.Search.{Ready};
+ghost use Rattle.loadable_pass.specs.Holding.{Holding, Past, Coming, Read, Listed};
 
-// Puts the loadable shares of the block of a record, which stands at a place of the order, after the first n places; the answer is how many
-// there are then.
-fn list_record(
-    stakes: &[u64],
-    total: Stake,
+// Up to which statement the block of the entry at a position was read.
+pub struct ReadUp {
+    pub at: usize,
+    pub cursor: StatementCursor,
+}
+
+// How many places are listed, and up to which statement was read.
+pub struct Reached {
+    pub found: usize,
+    pub read: ReadUp,
+}
+
+// Puts the loadable shares of a stretch after the first n places, going on in the record of its block from a statement that is not past it.
+fn list_run(
     store: &[u8],
-    order: &[u64],
-    table: &[u64],
-    sizes: TableSizes,
-    includes: &[u64],
-    noted: usize,
+    rec: &[u8],
+    read: ReadUp,
+    range: TransactionLocatorRange,
     places: &mut [u64],
     n: usize,
-    k: usize,
-    rec: &[u8],
-) -> usize
-    requires { ⌜ ((Ready (now stakes) (total .0) (now store) (now order) × Tables (now store) (now order) (now table) sizes (now includes) noted) × ((k < length (now order)) × (now rec ≡ recordAt (now store) (getD (now order) k 0)))) × Holding (now stakes) (now store) (sharesThrough (now store) (now order) k) (now places) n ⌝ }
-    ensures { λ r. ⌜ Holding (now (stakes .entry)) (now (store .entry)) (sharesThrough (now (store .entry)) (now (order .entry)) (k + 1)) (now (places .exit)) r × (Past (now (places .entry)) (now (places .exit)) r × (n ≤ r)) ⌝ }
+) -> Reached
+    requires { ⌜ Coming (now store) (asRange range) (now places) n × ((read .at ≡ positionOf (lookup (entries (recordsOf (now store))) (asReference (range .block)))) × ((now rec ≡ recordAt (now store) (read .at)) × ((read .cursor ≡ cursorAt (now rec) (read .cursor .index)) × (read .cursor .index ≤ range .«offset_start_inclusive»)))) ⌝ }
+    ensures { λ r. ⌜ Listed (now (store .entry)) (asRange range) (now (places .entry)) n (now (places .exit)) (r .found) × Read (now (store .entry)) (r .read) ⌝ }
 {
-    let at = order[k] as usize;
-    let block = block_record::reference(rec);
-    let count = block_record::statement_count(rec);
-    let mut cursor = statement_cursor::first_statement(rec);
-    let mut run = FinalRun {
-        end: 0,
-        finals: false,
-    };
+    let at = read.at;
+    let mut cursor = read.cursor;
     let mut found = n;
-    while cursor.index < count {
+    while (cursor.index as u64) < range.offset_end_exclusive {
         let offset = cursor.index as u64;
         let next = statement_cursor::next_statement(rec, cursor);
         cursor = next.next;
-        let statement = next.statement;
-        let SharePlace::Payload(start, len) = payload::share_place(statement) else {
-            continue;
-        };
-        let share = TransactionLocator { block, offset };
-        run = loadable_runs::run_at(
-            stakes,
-            total,
-            store,
-            order,
-            table,
-            sizes,
-            includes,
-            noted,
-            run,
-            share,
-        );
-        if !run.finals {
+        if offset < range.offset_start_inclusive {
             continue;
         }
+        let statement = next.statement;
+        let SharePlace::Payload(start, len) = payload::share_place(statement) else {
+            // Never so: the stretch holds shares.
+            continue;
+        };
+        let block = range.block;
         let end = start + len;
-        found = loadable_places::list_share(store, places, found, at, share, &rec[start..end]);
+        found = loadable_places::list_share(
+            store,
+            places,
+            found,
+            at,
+            TransactionLocator { block, offset },
+            &rec[start..end],
+        );
     }
-    found
+    Reached {
+        found,
+        read: ReadUp { at, cursor },
+    }
+}
+
+// Where to go on in the record of the entry at a position for an offset: from where it was read up to, or from its first statement.
+fn read_from(store: &[u8], rec: &[u8], read: ReadUp, at: usize, offset: u64) -> ReadUp
+    requires { ⌜ Read (now store) read × ((isEntry (now store) at ≡ true) × (now rec ≡ recordAt (now store) at)) ⌝ }
+    ensures { λ r. ⌜ (r .at ≡ at) × ((r .cursor ≡ cursorAt (now (rec .entry)) (r .cursor .index)) × (r .cursor .index ≤ offset)) ⌝ }
+{
+    let cursor = read.cursor;
+    if read.at == at {
+        if cursor.index as u64 <= offset {
+            return read;
+        }
+    }
+    ReadUp {
+        at,
+        cursor: statement_cursor::first_statement(rec),
+    }
+}
+
+// Puts the loadable shares of a stretch of the ordinary list after the first n places.
+fn list_stretch(
+    store: &[u8],
+    order: &[u64],
+    read: ReadUp,
+    range: TransactionLocatorRange,
+    places: &mut [u64],
+    n: usize,
+) -> Reached
+    requires { ⌜ Coming (now store) (asRange range) (now places) n × (SortedStore (now store) (now order) × Read (now store) read) ⌝ }
+    ensures { λ r. ⌜ Listed (now (store .entry)) (asRange range) (now (places .entry)) n (now (places .exit)) (r .found) × Read (now (store .entry)) (r .read) ⌝ }
+{
+    let block = range.block;
+    let at = store_entries::find_ordered(store, order, block);
+    let from = at + 8;
+    let end = store_entries::record_end(store, at);
+    let rec = &store[from..end];
+    let begun = read_from(store, rec, read, at, range.offset_start_inclusive);
+    list_run(store, rec, begun, range, places, n)
 }
 
 // Puts all loadable shares at the front of the places; the answer is how many there are.
@@ -78,36 +121,36 @@ pub fn list_all(
     total: Stake,
     store: &[u8],
     order: &[u64],
-    table: &[u64],
-    sizes: TableSizes,
-    includes: &[u64],
-    noted: usize,
+    withdrawing: bool,
     places: &mut [u64],
 ) -> usize
-    requires { ⌜ (Ready (now stakes) (total .0) (now store) (now order) × Tables (now store) (now order) (now table) sizes (now includes) noted) × (2 * length (storedShares (blocksOf (now store))) ≤ length (now places)) ⌝ }
-    ensures { λ r. ⌜ Holding (now (stakes .entry)) (now (store .entry)) (storedShares (blocksOf (now (store .entry)))) (now (places .exit)) r × Past (now (places .entry)) (now (places .exit)) r ⌝ }
+    requires { ⌜ Ready (now stakes) (total .0) (now store) (now order) × (2 * length (allListed true (readingOf withdrawing) (now stakes) (blocksOf (now store))) ≤ length (now places)) ⌝ }
+    ensures { λ r. ⌜ Holding (readingOf withdrawing) (now (stakes .entry)) (now (store .entry)) (allListed true (readingOf withdrawing) (now (stakes .entry)) (blocksOf (now (store .entry)))) (now (places .exit)) r × Past (now (places .entry)) (now (places .exit)) r ⌝ }
 {
+    let mut buffer = [0u64; final_along::BUFFER_WORDS];
+    let mut along = final_along::at_start();
+    let mut read = ReadUp {
+        at: 0,
+        cursor: StatementCursor { at: 0, index: 0 },
+    };
     let mut n: usize = 0;
-    let mut k: usize = 0;
-    while k < order.len() {
-        let at = order[k] as usize;
-        let from = at + 8;
-        let end = store_entries::record_end(store, at);
-        n = list_record(
+    loop {
+        let step = final_along::next_stretch(
             stakes,
             total,
             store,
             order,
-            table,
-            sizes,
-            includes,
-            noted,
-            places,
-            n,
-            k,
-            &store[from..end],
+            withdrawing,
+            &mut buffer,
+            along,
         );
-        k += 1;
+        let ahead = step.ahead;
+        let Ahead::Stretch(range) = ahead else {
+            return n;
+        };
+        let reached = list_stretch(store, order, read, range, places, n);
+        n = reached.found;
+        read = reached.read;
+        along = step.along;
     }
-    n
 }

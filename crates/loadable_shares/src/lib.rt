@@ -1,14 +1,8 @@
-// The list of all loadable stored shares.
+// The list of all loadable stored shares, in either reading of a reject.
 use committee::NewCommittee;
-use committee::Stake;
 ghost use mathlib.Core.Path.{_≡_};
-ghost use Prim.Native.Nat.{_*_, _≤_};
-ghost use lib.ListN.{length};
-ghost use Rattle.finality.specs.Finality.{blocksOf};
-ghost use Rattle.stored_finals.specs.Shares.{storedShares};
-ghost use Rattle.final_search.specs.Search.{Ready};
-ghost use Rattle.loadable.specs.Question.{loadableQuestions};
-ghost use Rattle.loadable_pass.specs.Holding.{Holding, Past};
+ghost use Rattle.readings.specs.Readings.{old, withdrawing, readingOf};
+ghost use Rattle.loadable.specs.Question.{loadableQuestionsIn};
 ghost use Rattle.loadable_shares.specs.Answers.{asLoadableList};
 
 // The number of places that were written, or the refusal number.
@@ -17,40 +11,16 @@ pub enum LoadableList {
     Refused(u64),
 }
 
-// Puts all loadable shares at the front of the places, with the votes and the places of includes of the first blocks in tables of 12,288 and
-// 4,096, which with the rest stay below 512 KB of stack; the answer is how many there are.
-fn list_tabled(
+// All loadable stored shares in ascending locator order, in the reading that is asked for, two words each: the position of the block's entry and
+// the offset. The words past them stay (5, 10, 58).
+pub fn loadable_in(
     stakes: &[u64],
-    total: Stake,
     store: &[u8],
-    order: &[u64],
+    withdrawing: bool,
     places: &mut [u64],
-) -> usize
-    requires { ⌜ Ready (now stakes) (total .0) (now store) (now order) × (2 * length (storedShares (blocksOf (now store))) ≤ length (now places)) ⌝ }
-    ensures { λ r. ⌜ Holding (now (stakes .entry)) (now (store .entry)) (storedShares (blocksOf (now (store .entry)))) (now (places .exit)) r × Past (now (places .entry)) (now (places .exit)) r ⌝ }
-{
-    let mut table = [0u64; 49152];
-    let sizes = vote_table::table_both(store, order, &mut table, false);
-    let mut includes = [0u64; 4096];
-    let noted = include_places::note_places(store, order, &mut includes);
-    loadable_pass::list_all(
-        stakes,
-        total,
-        store,
-        order,
-        &table,
-        sizes,
-        &includes,
-        noted,
-        places,
-    )
-}
-
-// All loadable stored shares in ascending locator order, two words each: the position of the block's entry and the offset. The words past
-// them stay (5, 10, 58).
-pub fn loadable(stakes: &[u64], store: &[u8], places: &mut [u64]) -> LoadableList
-    ensures { λ r. ⌜ asLoadableList r ≡ loadableQuestions (now (stakes .entry)) (now (store .entry)) (now (places .entry)) .answer ⌝ }
-    ensures { λ r. ⌜ now (places .exit) ≡ loadableQuestions (now (stakes .entry)) (now (store .entry)) (now (places .entry)) .places ⌝ }
+) -> LoadableList
+    ensures { λ r. ⌜ asLoadableList r ≡ loadableQuestionsIn (readingOf withdrawing) (now (stakes .entry)) (now (store .entry)) (now (places .entry)) .answer ⌝ }
+    ensures { λ r. ⌜ now (places .exit) ≡ loadableQuestionsIn (readingOf withdrawing) (now (stakes .entry)) (now (store .entry)) (now (places .entry)) .places ⌝ }
 {
     let NewCommittee::Taken(total) = committee::new_committee(stakes) else {
         return LoadableList::Refused(5);
@@ -63,6 +33,22 @@ pub fn loadable(stakes: &[u64], store: &[u8], places: &mut [u64]) -> LoadableLis
     if places.len() / 2 < share_count::count_shares(stakes, store, &order[..count]) {
         return LoadableList::Refused(58);
     }
-    let n = list_tabled(stakes, total, store, &order[..count], places);
+    let n = loadable_pass::list_all(stakes, total, store, &order[..count], withdrawing, places);
     LoadableList::Places(n as u64)
+}
+
+// The same in the old reading.
+pub fn loadable(stakes: &[u64], store: &[u8], places: &mut [u64]) -> LoadableList
+    ensures { λ r. ⌜ asLoadableList r ≡ loadableQuestionsIn old (now (stakes .entry)) (now (store .entry)) (now (places .entry)) .answer ⌝ }
+    ensures { λ r. ⌜ now (places .exit) ≡ loadableQuestionsIn old (now (stakes .entry)) (now (store .entry)) (now (places .entry)) .places ⌝ }
+{
+    loadable_in(stakes, store, false, places)
+}
+
+// The same where owners may withdraw.
+pub fn loadable_withdrawing(stakes: &[u64], store: &[u8], places: &mut [u64]) -> LoadableList
+    ensures { λ r. ⌜ asLoadableList r ≡ loadableQuestionsIn withdrawing (now (stakes .entry)) (now (store .entry)) (now (places .entry)) .answer ⌝ }
+    ensures { λ r. ⌜ now (places .exit) ≡ loadableQuestionsIn withdrawing (now (stakes .entry)) (now (store .entry)) (now (places .entry)) .places ⌝ }
+{
+    loadable_in(stakes, store, true, places)
 }

@@ -4,13 +4,17 @@ use Rattle.loadable.proofs.Meaning.{loadable-stays, loadable-is, is-loadable}
 use Rattle.promises.specs.Feeds.{run}
 use Rattle.trust.specs.Loads.{LoadablesStay}
 use Rattle.trust.proofs.Growing.{run-grows}
-use Rattle.trust.proofs.Naming.{more-blocks}
+use Rattle.trust.proofs.Naming.{small, more-blocks}
 
 pub loadables-stay : LoadablesStay
 loadables-stay =
     record {
-      loadable = λ c b g h fs l x.
+      loadable = λ reading c b g h fs l x.
+          let s = g .store in
+          let t = run c g fs .store in
           let k = run-grows c g fs h in
-          is-loadable c (in-order-stored c (run c g fs .store) (k .order)) l
-          (loadable-stays c (more-blocks c (g .store) (run c g fs .store) b h k) (loadable-is c (in-order-stored c (g .store) h) l x));
+          let v = in-order-stored c s h in
+          let w = in-order-stored c t (k .order) in
+          is-loadable reading c w l
+          (loadable-stays reading c v w (small c s t b h k s h) (small c s t b h k t (k .order)) (more-blocks c s t b h k) (loadable-is reading c v l x));
     }

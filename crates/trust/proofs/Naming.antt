@@ -34,7 +34,7 @@ module _ (c : Committee) (s t : Bytes) (b : broken c ≡ false) (h : storeInOrde
   well : (x : Bytes) → storeInOrder c x ≡ true → WellStored (blocksOf x)
   well x k = well-stored c (blocksOf x) (accepted x k)
 
-  small : (x : Bytes) → storeInOrder c x ≡ true → (d : Block) → d ∈ blocksOf x → author d < 128
+  pub small : (x : Bytes) → storeInOrder c x ≡ true → (d : Block) → d ∈ blocksOf x → author d < 128
   small x k = small-authors c (blocksOf x) (accepted x k)
 
   pub more-blocks : (x : Block) → x ∈ blocksOf s → x ∈ blocksOf t

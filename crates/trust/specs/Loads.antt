@@ -6,10 +6,11 @@ use Rattle.committee.specs.Committee.{Committee, broken}
 use Rattle.blocks.specs.Reference.{TransactionLocator}
 use Rattle.store_layout.specs.Store.{storeInOrder}
 use Rattle.finality.specs.Finality.{blocksOf}
-use Rattle.loadable.specs.Loadable.{isLoadable}
+use Rattle.readings.specs.Readings.{Reading}
+use Rattle.loadable.specs.Loadable.{isLoadableIn}
 use Rattle.promises.specs.Feeds.{Feed, Engine, run}
 
--- a share that is loadable, with the changes that it needs, is loadable after every further list of feeds
+-- a share that is loadable, with the changes that it needs, is loadable after every further list of feeds, in both readings
 pub record LoadablesStay : Type 0 where
-  pub loadable : (c : Committee) → broken c ≡ false → (g : Engine) → storeInOrder c (g .store) ≡ true → (fs : List Feed) (l : TransactionLocator)
-      → isLoadable c (blocksOf (g .store)) l ≡ true → isLoadable c (blocksOf (run c g fs .store)) l ≡ true
+  pub loadable : (reading : Reading) (c : Committee) → broken c ≡ false → (g : Engine) → storeInOrder c (g .store) ≡ true → (fs : List Feed) (l : TransactionLocator)
+      → isLoadableIn reading c (blocksOf (g .store)) l ≡ true → isLoadableIn reading c (blocksOf (run c g fs .store)) l ≡ true

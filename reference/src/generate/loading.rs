@@ -29,7 +29,22 @@ pub fn loading(rng: &mut Rng) -> List {
             }
         }
     }
+    if rng.once_in(2) {
+        withdraw(rng, &mut blocks);
+    }
     List::roomy(stakes, blocks.iter().map(Block::encode).collect())
+}
+
+/// Some blocks reject, after their other statements, what they or others vote for.
+fn withdraw(rng: &mut Rng, blocks: &mut [Block]) {
+    let shares: Vec<Locator> = blocks.iter().flat_map(shares_of).collect();
+    let often = rng.within(2, 8);
+    for block in blocks {
+        let earlier: Vec<Locator> = shares.iter().filter(|share| share.block.round <= block.reference.round).copied().collect();
+        if !earlier.is_empty() && rng.once_in(often) {
+            block.statements.push(Statement::Reject(*rng.pick(&earlier), None));
+        }
+    }
 }
 
 fn shares_of(block: &Block) -> Vec<Locator> {

@@ -175,7 +175,7 @@ fn following(page: &str) -> Result<(), String> {
                 .map_err(|number| format!("a record is refused: {number}"))?;
         }
         let table = *loading::stored_shares(&state.stores).last().expect("the table");
-        let right = loading::is_loadable(&Graph::new(&committee, &state.stores), &state.stores, &table);
+        let right = loading::is_loadable(Reading::Old, &Graph::new(&committee, &state.stores), &state.stores, &table);
         if cells[2] != if right { "yes" } else { "no" } {
             return Err(format!("docs/COURSE.md has another answer for the payload {}: {right}", cells[1]));
         }

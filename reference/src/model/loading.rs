@@ -1,7 +1,8 @@
-//! 02, "Seven": a gain table after its program. What a payload needs, which stored shares are loadable, and the list of them.
+//! 02, "Seven": a gain table after its program. What a payload needs, which stored shares are loadable, and the list of them, in both readings of
+//! "An owner may withdraw".
 
 use super::committee::Committee;
-use super::finality::Graph;
+use super::finality::{Graph, Reading};
 use super::lent::Answer;
 use super::record::{locator_of, Locator, Statement};
 use super::store::Stores;
@@ -23,13 +24,13 @@ fn payload<'a>(stores: &'a Stores, locator: &Locator) -> Option<&'a [u8]> {
     }
 }
 
-/// A stored share that is final, and whose needed change, if any, is a stored share of a lower round that is itself loadable.
-pub fn is_loadable(graph: &Graph, stores: &Stores, locator: &Locator) -> bool {
+/// A stored share that is final, and whose needed change, if any, is a stored share of a lower round that is itself loadable, in the same reading.
+pub fn is_loadable(reading: Reading, graph: &Graph, stores: &Stores, locator: &Locator) -> bool {
     let Some(payload) = payload(stores, locator) else { return false };
-    if !graph.finality(locator).is_final {
+    if !graph.finality_in(reading, locator).is_final {
         return false;
     }
-    needed(payload).is_none_or(|change| change.block.round < locator.block.round && is_loadable(graph, stores, &change))
+    needed(payload).is_none_or(|change| change.block.round < locator.block.round && is_loadable(reading, graph, stores, &change))
 }
 
 /// Every stored share, in ascending order.
@@ -43,28 +44,28 @@ pub fn stored_shares(stores: &Stores) -> Vec<Locator> {
 }
 
 /// The list of all loadable stored shares.
-pub fn loadable(graph: &Graph, stores: &Stores) -> Vec<Locator> {
-    stored_shares(stores).into_iter().filter(|share| is_loadable(graph, stores, share)).collect()
+pub fn loadable(reading: Reading, graph: &Graph, stores: &Stores) -> Vec<Locator> {
+    stored_shares(stores).into_iter().filter(|share| is_loadable(reading, graph, stores, share)).collect()
 }
 
 // ---- as the host calls them
 
 /// 5, 10, 20 for a locator not of 56 bytes.
-pub fn is_loadable_call(stakes: &[u8], store: &[u8], locator: &[u8]) -> Answer {
+pub fn is_loadable_call(reading: Reading, stakes: &[u8], store: &[u8], locator: &[u8]) -> Answer {
     let committee = Committee::lent(stakes)?;
     let stores = Stores::read(&committee, store)?;
     let locator = locator_of(locator).ok_or(20u64)?;
-    Ok(is_loadable(&Graph::new(&committee, &stores), &stores, &locator) as u64)
+    Ok(is_loadable(reading, &Graph::new(&committee, &stores), &stores, &locator) as u64)
 }
 
 /// 5, 10, 58 for fewer places than stored shares; a place is the position of the block's entry and the offset.
-pub fn loadable_call(stakes: &[u8], store: &[u8], places: &mut [u64]) -> Answer {
+pub fn loadable_call(reading: Reading, stakes: &[u8], store: &[u8], places: &mut [u64]) -> Answer {
     let committee = Committee::lent(stakes)?;
     let stores = Stores::read(&committee, store)?;
     if places.len() / 2 < stored_shares(&stores).len() {
         return Err(58);
     }
-    let found = loadable(&Graph::new(&committee, &stores), &stores);
+    let found = loadable(reading, &Graph::new(&committee, &stores), &stores);
     for (place, share) in places.chunks_exact_mut(2).zip(&found) {
         place.copy_from_slice(&[stores.get(&share.block).unwrap().position, share.offset]);
     }

@@ -17,14 +17,14 @@ returns c = rw (locator-none (c .before .before .before .before .before .args .l
 read-locator-requires : tie.Need-read-locator-requires
 read-locator-requires c κs = search needs
 
-is-loadable-requires : tie.Need-is-loadable-requires
-is-loadable-requires c κs = search needs
+is-loadable-in-requires : tie.Need-is-loadable-in-requires
+is-loadable-in-requires c κs = search needs
 
 returns-2 : tie.Need-returns-2
 unfolding asked
-returns-2 c = rw (locator-read (c .before .before .before .before .before .before .args .locator .now) (c .before .before .if1 .left), ← c .before .read-locator .ensures) (c .is-loadable .ensures)
+returns-2 c = rw (locator-read (c .before .before .before .before .before .before .args .locator .now) (c .before .before .if1 .left), ← c .before .read-locator .ensures) (c .is-loadable-in .ensures)
 
 pub is-loadable-of-spec : {M : Type 1} → statement M
 is-loadable-of-spec =
     tie.close
-    (tie.spec refusal-before-requires returns read-locator-requires is-loadable-requires returns-2)
+    (tie.spec refusal-before-requires returns read-locator-requires is-loadable-in-requires returns-2)

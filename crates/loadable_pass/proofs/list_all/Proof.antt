@@ -1,90 +1,87 @@
-use mathlib.Core.Path.{_≡_, sym, ap, subst, _∙_}
-use mathlib.Core.List.{List}
-use Prim.Native.Nat.{ℕ, _-_, _≤_}
+use mathlib.Core.Path.{_≡_, refl, subst, _∙_}
 use native.Mathlib.Omega.{arith}
-use lib.ListN.{length, getD}
 use borrow.Author.Needs.{needs}
-use Rattle.blocks.specs.Reference.{TransactionLocator}
-use Rattle.store_layout.proofs.Loops.{entry-room, record-part}
-use Rattle.block_votes.proofs.Sorting.{some-committee, place-entry}
-use Rattle.share_count.specs.Through.{sharesThrough}
-use Rattle.loadable_pass.specs.Holding.{Holding, Past}
-use Rattle.share_count.proofs.Through.{through-none, through-all}
-use Rattle.loadable_pass.proofs.Holding.{past-none, past-on, holding-start}
+use Rattle.readings.specs.Readings.{readingOf}
+use Rattle.vote_starts.specs.Answers.{asMaybe}
+use Rattle.block_votes.proofs.Sorting.{some-committee}
+use Rattle.final_along.specs.Along.{Found}
+use Rattle.final_along.specs.declared.Ahead.{Ahead}
+use Rattle.final_along.proofs.Going.{leftAfter, passing-less}
+use Rattle.loadable_pass.proofs.Listings.{Walking, walking-start, walking-end, walking-coming, walking-next}
 use Rattle.loadable_pass.proofs.list_all.Statement.{statement}
 use Rattle.loadable_pass.proofs.list_all.Tie as tie
+use Rattle.loadable_pass.proofs.list_all.Reads as reads
+use Rattle.loadable_pass.proofs.list_all.Lts as lts
+use Rattle.final_along.proofs.at_start.Reads as at-start-reads
+use Rattle.final_along.proofs.next_stretch.Reads as next-stretch-reads
+use Rattle.loadable_pass.proofs.list_stretch.Reads as list-stretch-reads
 
 abbrev Inv-loop : tie.InvT-loop
-Inv-loop stakes total store order table sizes includes noted places₀ n₀ k₀ places n k = (k ≤ length order) × Holding stakes store (sharesThrough store order k) places n × Past places₀ places n
+Inv-loop stakes total store order withdrawing places₀ buffer₀ along₀ read₀ n₀ places buffer along read n =
+    Walking (readingOf withdrawing) stakes store places₀ places buffer along read n
 
 abbrev μ-loop : tie.MeasureT-loop
-μ-loop stakes total store order table sizes includes noted places₀ n₀ k₀ places n k = length order - k
+μ-loop stakes total store order withdrawing places₀ buffer₀ along₀ read₀ n₀ places buffer along read n =
+    leftAfter (readingOf withdrawing) stakes store (asMaybe (along .after))
+
+at-start-requires : tie.Need-at-start-requires Inv-loop μ-loop
+at-start-requires c κs = search needs
 
 loop-holds : tie.Need-loop-holds Inv-loop μ-loop
 loop-holds c =
-    let a = c .before .before .before .before .before .before .args in
-    (omega arith, subst (λ (ls : List TransactionLocator). Holding (a .stakes .now) (a .store .now) ls (a .places .now) 0) (sym (through-none (a .store .now) (a .order .now))) (holding-start (a .stakes .now) (a .store .now) (a .places .now) (c .before .before .before .before .before .before .pre .1)), past-none (a .places .now) 0)
+    let a = c .before .before .before .before .before .args in
+    let o = c .before .before .before .before .before .pre .0 .0 .0 in
+    let st = c .at-start .ensures in
+    walking-start (readingOf (a .withdrawing)) (a .stakes .now) (a .store .now) (o .sound) (o .inOrder) (a .places .now) _ (c .at-start .result) _ (st .0) (st .1 _ _ _ _) refl refl (c .before .before .before .before .before .pre .1)
 
-mul-at : tie.Need-mul-at Inv-loop μ-loop
-mul-at c = search needs
+slice-aggregate-next-stretch : tie.Need-slice-aggregate-next-stretch Inv-loop μ-loop
+slice-aggregate-next-stretch c = search needs
 
-shared-slice-read-at : tie.Need-shared-slice-read-at Inv-loop μ-loop
-shared-slice-read-at c = search needs
+next-stretch-requires : tie.Need-next-stretch-requires Inv-loop μ-loop
+next-stretch-requires c κs =
+    let l = c .before .loop in
+    ((c .before .before .before .before .before .before .before .pre .0, omega (arith, l .inv .passing .long)), l .inv .passing .held)
 
-add-from : tie.Need-add-from Inv-loop μ-loop
-add-from c =
-    let a = c .before .before .before .before .before .before .before .before .before .args in
-    let k = c .before .before .loop .k in
-    omega (arith, entry-room (a .store .now) (getD (a .order .now) k 0) (place-entry (a .store .now) (a .order .now) (some-committee (c .before .before .before .before .before .before .before .before .before .pre .0 .0 .0 .0)) k (c .before .loop-test .taken)) .inside)
+enum-known-ahead : tie.Need-enum-known-ahead Inv-loop μ-loop
+enum-known-ahead c = search needs
 
-record-end-requires : tie.Need-record-end-requires Inv-loop μ-loop
-record-end-requires c κs =
-    let a = c .before .before .before .before .before .before .before .before .before .args in
-    let k = c .before .before .loop .k in
-    place-entry (a .store .now) (a .order .now) (some-committee (c .before .before .before .before .before .before .before .before .before .pre .0 .0 .0 .0)) k (c .before .loop-test .taken)
-
-sub-list-record : tie.Need-sub-list-record Inv-loop μ-loop
-sub-list-record c = omega (arith, c .before .record-end .ensures)
-
-part-list-record-start : tie.Need-part-list-record-start Inv-loop μ-loop
-part-list-record-start c = search needs
-
-part-list-record-end : tie.Need-part-list-record-end Inv-loop μ-loop
-part-list-record-end c =
-    let a = c .before .before .before .before .before .before .before .before .before .before .before .args in
-    let k = c .before .before .before .before .loop .k in
-    omega (arith, entry-room (a .store .now) (getD (a .order .now) k 0) (place-entry (a .store .now) (a .order .now) (some-committee (c .before .before .before .before .before .before .before .before .before .before .before .pre .0 .0 .0 .0)) k (c .before .before .before .loop-test .taken)) .inside, c .before .record-end .ensures)
-
-list-record-requires : tie.Need-list-record-requires Inv-loop μ-loop
-list-record-requires c κs =
-    let a = c .before .before .before .before .before .before .before .before .before .before .before .before .args in
-    let l = c .before .before .before .before .before .loop in
-    ((c .before .before .before .before .before .before .before .before .before .before .before .before .pre .0, (c .before .before .before .before .loop-test .taken, record-part (a .store .now) (getD (a .order .now) (l .k) 0) (c .before .before .record-end .result) (c .before .before .record-end .ensures))), l .inv .1)
-
-add-k : tie.Need-add-k Inv-loop μ-loop
-add-k c = search needs
-
-loop-less : tie.Need-loop-less Inv-loop μ-loop
-loop-less c = search needs
-
-loop-again : tie.Need-loop-again Inv-loop μ-loop
-loop-again c =
-    let a = c .before .before .before .before .before .before .before .before .before .before .before .before .before .before .before .args in
-    let l = c .before .before .before .before .before .before .before .before .loop in
-    let e = c .before .before .list-record .ensures in
-    (omega arith, e .0, past-on (a .places .now) (l .places) (c .before .before .list-record .last .1 .1 .1 .1 .1 .1 .1 .1 .0) (l .n) (c .before .before .list-record .result) (e .1 .1) (l .inv .2) (e .1 .0))
+enum-told : tie.Need-enum-told Inv-loop μ-loop
+enum-told c = search needs
 
 same-length : tie.Need-same-length Inv-loop μ-loop
-same-length c = c .before .loop .inv .2 .long
+same-length c = c .before .before .before .before .before .loop .inv .past .long
 
 returns : tie.Need-returns Inv-loop μ-loop
 returns c =
-    let a = c .before .before .before .before .before .before .before .before .args in
-    let l = c .before .loop in
-    let all : l .k ≡ length (a .order .now) = omega (arith, l .inv .0, c .loop-test .left) in (
-      subst (λ (ls : List TransactionLocator). Holding (a .stakes .now) (a .store .now) ls (l .places) (l .n)) (ap (λ (j : ℕ). sharesThrough (a .store .now) (a .order .now) j) all ∙ sym (through-all (a .stakes .now) (a .store .now) (a .order .now) (c .before .before .before .before .before .before .before .before .pre .0 .0 .0 .0))) (l .inv .1),
-      l .inv .2,
-    )
+    let a = c .before .before .before .before .before .before .before .before .before .before .before .args in
+    let l = c .before .before .before .before .before .loop in
+    let last = asMaybe (c .before .before .before .next-stretch .result .along .after) in
+    let f = subst (λ (x : Ahead). Found (readingOf (a .withdrawing)) (a .stakes .now) (a .store .now) (asMaybe (l .along .after)) last x) (c .enum-told .given .1) (c .before .before .before .next-stretch .ensures .1) in
+    (walking-end (readingOf (a .withdrawing)) (a .stakes .now) (a .store .now) (a .places .now) (l .places) (l .buffer) (l .along) (l .read) (l .n) (l .inv) last f, l .inv .past)
+
+list-stretch-requires : tie.Need-list-stretch-requires Inv-loop μ-loop
+list-stretch-requires c κs =
+    let a = c .before .before .before .before .before .before .before .before .before .before .before .before .before .args in
+    let l = c .before .before .before .before .before .before .before .loop in
+    let last = asMaybe (c .before .before .before .before .before .next-stretch .result .along .after) in
+    let f = subst (λ (x : Ahead). Found (readingOf (a .withdrawing)) (a .stakes .now) (a .store .now) (asMaybe (l .along .after)) last x) (c .before .before .ahead .given .1) (c .before .before .before .before .before .next-stretch .ensures .1) in
+    (walking-coming (readingOf (a .withdrawing)) (a .stakes .now) (a .store .now) (a .places .now) (l .places) (l .buffer) (l .along) (l .read) (l .n) (l .inv) (c .before .before .ahead .given .0 .0) last f (c .before .before .before .before .before .before .before .before .before .before .before .before .before .pre .0 .0 .0 .inOrder), (some-committee (c .before .before .before .before .before .before .before .before .before .before .before .before .before .pre .0 .0 .0), l .inv .reads))
+
+loop-less : tie.Need-loop-less Inv-loop μ-loop
+loop-less c =
+    let a = c .before .before .before .before .before .before .before .before .before .before .before .before .before .before .before .before .before .before .args in
+    let l = c .before .before .before .before .before .before .before .before .before .before .before .before .loop in
+    let last = asMaybe (c .before .before .before .before .before .before .before .before .before .before .next-stretch .result .along .after) in
+    let f = subst (λ (x : Ahead). Found (readingOf (a .withdrawing)) (a .stakes .now) (a .store .now) (asMaybe (l .along .after)) last x) (c .before .before .before .before .before .before .before .ahead .given .1) (c .before .before .before .before .before .before .before .before .before .before .next-stretch .ensures .1) in
+    passing-less (readingOf (a .withdrawing)) (a .stakes .now) (a .store .now) (l .buffer) (l .along) (l .inv .gone) (l .inv .passing) (c .before .before .before .before .before .before .before .ahead .given .0 .0) last f (c .before .before .before .before .before .before .before .before .before .before .next-stretch .result .along) refl
+
+loop-again : tie.Need-loop-again Inv-loop μ-loop
+loop-again c =
+    let a = c .before .before .before .before .before .before .before .before .before .before .before .before .before .before .before .before .before .before .args in
+    let l = c .before .before .before .before .before .before .before .before .before .before .before .before .loop in
+    let last = asMaybe (c .before .before .before .before .before .before .before .before .before .before .next-stretch .result .along .after) in
+    let f = subst (λ (x : Ahead). Found (readingOf (a .withdrawing)) (a .stakes .now) (a .store .now) (asMaybe (l .along .after)) last x) (c .before .before .before .before .before .before .before .ahead .given .1) (c .before .before .before .before .before .before .before .before .before .before .next-stretch .ensures .1) in
+    walking-next (readingOf (a .withdrawing)) (a .stakes .now) (a .store .now) (a .places .now) (l .places) (l .buffer) (l .along) (l .read) (l .n) (l .inv) (c .before .before .before .before .before .before .before .ahead .given .0 .0) last f (c .before .before .before .before .before .before .before .before .before .before .before .before .before .before .before .before .before .before .pre .0 .0 .0 .inOrder) _ _ (c .before .before .before .before .before .before .before .before .before .before .next-stretch .result .along) (c .before .before .before .before .list-stretch .result .read) (c .before .before .before .before .list-stretch .result .found) refl (c .before .before .before .before .before .before .before .before .before .before .next-stretch .ensures .0) (c .before .before .before .before .before .before .before .before .before .before .next-stretch .kept .1 .1 .1 .1 .1 .0 ∙ l .inv .passing .long) (c .before .before .before .before .list-stretch .ensures .0) (c .before .before .before .before .list-stretch .ensures .1)
 
 pub list-all-spec : {M : Type 1} → statement M
 list-all-spec =
@@ -92,17 +89,14 @@ list-all-spec =
     (tie.spec
     Inv-loop
     μ-loop
+    at-start-requires
     loop-holds
-    mul-at
-    shared-slice-read-at
-    add-from
-    record-end-requires
-    sub-list-record
-    part-list-record-start
-    part-list-record-end
-    list-record-requires
-    add-k
-    loop-less
-    loop-again
+    slice-aggregate-next-stretch
+    next-stretch-requires
+    enum-known-ahead
+    enum-told
     same-length
-    returns)
+    returns
+    list-stretch-requires
+    loop-less
+    loop-again)
