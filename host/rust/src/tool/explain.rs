@@ -15,7 +15,7 @@ pub fn explain(run: &Run, locator: &Locator, reachable: Owners, out: &mut dyn Wr
     if !account.is_final {
         return missing(run, &account, reachable, out);
     }
-    let loadable = run.engine.is_loadable(locator).map_err(refused)?;
+    let loadable = run.engine.is_loadable(locator, run.reading()).map_err(refused)?;
     writeln!(out, "{}.", if loadable { "A station may load it" } else { "No station may load it" })?;
     certificates(run, &account, out)
 }
