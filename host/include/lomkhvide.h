@@ -60,8 +60,10 @@ extern "C" {
     X(answer_sorted, 48) \
     X(payload_length, 32) \
     X(payload_start, 32) \
-    X(is_loadable, 96) \
+    X(is_loadable, 496) \
     X(loadable, 496) \
+    X(is_loadable_withdrawing, 496) \
+    X(loadable_withdrawing, 496) \
     X(write_slip, 480) \
     X(write_slip_withdrawing, 480) \
     X(read_slip, 32) \

@@ -224,6 +224,14 @@ static void loadable(void) {
     answer = lomkhvide_loadable(one, sizeof one, chain, sizeof chain, places, 2);
 }
 
+static void is_loadable_withdrawing(void) {
+    answer = lomkhvide_is_loadable_withdrawing(one, sizeof one, chain, sizeof chain, shared, sizeof shared);
+}
+
+static void loadable_withdrawing(void) {
+    answer = lomkhvide_loadable_withdrawing(one, sizeof one, chain, sizeof chain, places, 2);
+}
+
 static uint8_t next[56], stretches[128 * LOMKHVIDE_STRETCH_LEN];
 
 static void next_final(void) {
@@ -432,6 +440,8 @@ int main(void) {
     AT_MOST(finality_withdrawing, 2 * 1023 + 1);
     AT_MOST(is_loadable, 1);
     AT_MOST(loadable, 1);
+    AT_MOST(is_loadable_withdrawing, 1);
+    AT_MOST(loadable_withdrawing, 1);
     AT_MOST(next_final, 1);
     AT_MOST(next_wide, 1);
     AT_MOST(final_stretches, 2);

@@ -73,8 +73,10 @@ macro_rules! each_call {
 
             payload_length = lomkhvide_payload_length(stakes: &[u8], store: &[u8], locator: &[u8]) stack 32;
             payload_start = lomkhvide_payload_start(stakes: &[u8], store: &[u8], locator: &[u8]) stack 32;
-            is_loadable = lomkhvide_is_loadable(stakes: &[u8], store: &[u8], locator: &[u8]) stack 96;
+            is_loadable = lomkhvide_is_loadable(stakes: &[u8], store: &[u8], locator: &[u8]) stack 496;
             loadable = lomkhvide_loadable(stakes: &[u8], store: &[u8], places: &mut [u64]) stack 496;
+            is_loadable_withdrawing = lomkhvide_is_loadable_withdrawing(stakes: &[u8], store: &[u8], locator: &[u8]) stack 496;
+            loadable_withdrawing = lomkhvide_loadable_withdrawing(stakes: &[u8], store: &[u8], places: &mut [u64]) stack 496;
 
             write_slip = lomkhvide_write_slip(stakes: &[u8], store: &[u8], locator: &[u8], out: &mut [u8]) stack 480;
             write_slip_withdrawing = lomkhvide_write_slip_withdrawing(

@@ -143,7 +143,7 @@ fn of_questions() -> Vec<Option<Refusal>> {
         calls::finality(committee.stakes(), store, &mut [0; 8], &share.to_bytes()).err(),
         engine.payload(&nowhere()).err(),
         engine.pending(&nowhere()).err(),
-        committee.loadable(store, &mut [0; 1]).err(),
+        committee.loadable(store, Reading::Old, &mut [0; 1]).err(),
         three.ring(&above.reference().at(0), Owners(0)).err(),
         sorted.replies(&[block(1, 0).at(0), nowhere()]).err(),
         calls::answer_sorted(committee.stakes(), sorted.store(), &[1], &share.to_bytes(), &mut [0; 2]).err(),

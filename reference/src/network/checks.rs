@@ -75,7 +75,7 @@ pub fn look(world: &mut World, n: usize) -> Outcome {
         }
     }
     let loadable = loadable(&graph, stores);
-    let got = node.plain.loadable().map(|list| list.iter().map(HostLocator::to_bytes).collect()).map_err(Refusal::number);
+    let got = node.plain.loadable(lomkhvide::Reading::Old).map(|list| list.iter().map(HostLocator::to_bytes).collect()).map_err(Refusal::number);
     same(&format!("node {n}, loadable"), "engine", got, Ok(bytes(&loadable)))?;
     let blocks: Vec<Reference> = stores.index.keys().copied().collect();
     shares(world, n)?;

@@ -216,22 +216,22 @@ impl Engine {
         self.committee.payload(&self.store, locator)
     }
 
-    /// Whether a station may load a change: a final stored share whose needed change, if any, may be loaded too.
-    #[doc = stack!(is_loadable)]
+    /// Whether a station may load a change: a stored share that is final in a reading and whose needed change, if any, may be loaded too.
+    #[doc = stack!(is_loadable_withdrawing)]
     ///
     /// ```
     /// # use lomkhvide::*;
     /// // One owner, who has shared a change in round 1.
     /// let Sample { engine, share, .. } = sample();
-    /// assert!(engine.is_loadable(&share)?);
+    /// assert!(engine.is_loadable(&share, Reading::Old)?);
     /// # Ok::<(), Refusal>(())
     /// ```
-    pub fn is_loadable(&self, locator: &Locator) -> Result<bool, Refusal> {
-        self.committee.is_loadable(&self.store, locator)
+    pub fn is_loadable(&self, locator: &Locator, reading: Reading) -> Result<bool, Refusal> {
+        self.committee.is_loadable(&self.store, locator, reading)
     }
 
-    /// All changes that a station may load, ascending: what one needs stands before it.
-    #[doc = stack!(loadable)]
+    /// All changes that a station may load in a reading, ascending: what one needs stands before it.
+    #[doc = stack!(loadable_withdrawing)]
     ///
     /// ```
     /// # use lomkhvide::*;
@@ -242,10 +242,10 @@ impl Engine {
     /// let table = Record::builder(RoundNumber(2), AuthorityIndex(0), [3; 32]).include(share.reference()).share(&needs);
     /// let table = table.finish()?;
     /// engine.feed(&table)?;
-    /// assert_eq!(engine.loadable()?, [share, table.reference().at(0)]);
+    /// assert_eq!(engine.loadable(Reading::Old)?, [share, table.reference().at(0)]);
     /// # Ok::<(), Refusal>(())
     /// ```
-    pub fn loadable(&self) -> Result<Vec<Locator>, Refusal> {
+    pub fn loadable(&self, reading: Reading) -> Result<Vec<Locator>, Refusal> {
         let mut blocks = HashMap::new();
         let mut shares = 0;
         for (position, record) in self.records() {
@@ -253,7 +253,7 @@ impl Engine {
             blocks.insert(position, record.reference());
         }
         let mut places = vec![0; 2 * shares];
-        let count = self.committee.loadable(&self.store, &mut places)?;
+        let count = self.committee.loadable(&self.store, reading, &mut places)?;
         Ok(places[..2 * count].chunks_exact(2).filter_map(|place| Some(blocks.get(&place[0])?.at(place[1]))).collect())
     }
 

@@ -3,7 +3,7 @@
 use lomkhvide::{Locator, Owners, PendingItem, Stake};
 
 use super::Fault;
-use super::ask::{Fewest, Known, fewest};
+use super::ask::{Fewest, fewest};
 use super::json::{Json, object};
 use super::members::Tally;
 use super::run::{Run, Voice};
@@ -123,11 +123,7 @@ impl Account {
             Some((found, stake)) => object([("owners", owners(found)), ("stake", stake.into())]),
             None => "out of reach".into(),
         };
-        let loadable = match (self.is_final, run.loadable(&self.locator)?) {
-            (false, _) => Json::Bool(false),
-            (true, Known::Told(told)) => Json::Bool(told),
-            (true, Known::Unknown) => "unknown".into(),
-        };
+        let loadable = Json::Bool(self.is_final && run.loadable(&self.locator)?);
         let stage = match self.stage() {
             Stage::Final => "final",
             Stage::Certificates => "certificates missing",

@@ -1,4 +1,4 @@
-//! The questions to the engine, in the reading that was asked for. What a question cannot be asked about is said to be unknown.
+//! The questions to the engine, in the reading that was asked for.
 
 use std::collections::BTreeSet;
 
@@ -11,13 +11,6 @@ use super::run::Run;
 /// A refusal of a question that the engine cannot refuse over its own memory.
 pub fn refused(refusal: Refusal) -> Fault {
     Fault::Unreadable(format!("the engine refused a question: {refusal}"))
-}
-
-/// An answer that there may be no call for.
-#[derive(Clone, Copy, Debug, PartialEq, Eq)]
-pub enum Known<T> {
-    Told(T),
-    Unknown,
 }
 
 /// The fewest owners who bring voters to quorum, and their stake; none where all who can be reached and have not spoken are too few.
@@ -49,19 +42,13 @@ impl Run<'_> {
     }
 
     /// Whether a station may load a change.
-    pub fn loadable(&self, locator: &Locator) -> Result<Known<bool>, Fault> {
-        match self.withdrawing() {
-            false => Ok(Known::Told(self.engine.is_loadable(locator).map_err(refused)?)),
-            true => Ok(Known::Unknown),
-        }
+    pub fn loadable(&self, locator: &Locator) -> Result<bool, Fault> {
+        self.engine.is_loadable(locator, self.reading).map_err(refused)
     }
 
     /// All changes that a station may load.
-    pub fn loadable_list(&self) -> Result<Known<BTreeSet<Locator>>, Fault> {
-        match self.withdrawing() {
-            false => Ok(Known::Told(self.engine.loadable().map_err(refused)?.into_iter().collect())),
-            true => Ok(Known::Unknown),
-        }
+    pub fn loadable_list(&self) -> Result<BTreeSet<Locator>, Fault> {
+        Ok(self.engine.loadable(self.reading).map_err(refused)?.into_iter().collect())
     }
 
     /// Every final locator, also where nobody sent its block.

@@ -7,7 +7,6 @@ use lomkhvide::{Locator, Reference, Statement, Stretch};
 
 use super::Fault;
 use super::account::{Account, Stage};
-use super::ask::Known;
 use super::explain::{Manner, ring_line};
 use super::json::{Json, object};
 use super::run::Run;
@@ -157,22 +156,18 @@ struct Told {
     facts: Json,
 }
 
-fn told_final(run: &Run, part: &Offsets, stretch: &Stretch, loadable: &Known<BTreeSet<Locator>>) -> Told {
+fn told_final(run: &Run, part: &Offsets, stretch: &Stretch, loadable: &BTreeSet<Locator>) -> Told {
     let (blocks, total) = (stretch.blocks, run.members.total());
     let certify = if blocks == 1 { "1 block certifies".into() } else { format!("{blocks} blocks certify") };
-    let may = |offset: u64| match loadable {
-        Known::Told(list) => Some(list.contains(&part.block.at(offset))),
-        Known::Unknown => None,
-    };
+    let may = |offset: u64| loadable.contains(&part.block.at(offset));
     let (first, same) = (may(part.start), (part.start..part.end).all(|offset| may(offset) == may(part.start)));
     let load = match (first, same) {
-        (Some(true), true) => "a station may load it",
-        (Some(false), true) => "no station may load it",
-        (Some(_), false) => "a station may load some of them",
-        (None, _) => "whether a station may load it in this reading is not known here",
+        (true, true) => "a station may load it",
+        (false, true) => "no station may load it",
+        (_, false) => "a station may load some of them",
     };
     let words = format!("{}{}: {certify} it, stake {} of {total}; {load}.", part.name(), of_record(run, part), stretch.stake);
-    let loads: Json = (part.start..part.end).map(|offset| may(offset).map_or(Json::from("unknown"), Json::Bool)).collect();
+    let loads: Json = (part.start..part.end).map(|offset| Json::Bool(may(offset))).collect();
     let facts = object([
         ("locator", part.block.at(part.start).to_string().into()),
         ("end", part.end.into()),

@@ -7,7 +7,6 @@ use lomkhvide::{AuthorityIndex, Certifier, Locator, Owners, Voter};
 
 use super::Fault;
 use super::account::{Account, Stage, blocks_certify};
-use super::ask::Known;
 use super::json::{Json, object};
 use super::run::{Run, voice};
 
@@ -53,11 +52,8 @@ pub fn explain(run: &Run, locator: &Locator, manner: &Manner, out: &mut dyn Writ
 /// Whether a station may load a final change.
 fn loading(run: &Run, locator: &Locator) -> Result<&'static str, Fault> {
     Ok(match run.loadable(locator)? {
-        Known::Told(true) => "A station may load it",
-        Known::Told(false) => "No station may load it",
-        Known::Unknown => {
-            "Whether a station may load it in this reading is not known here: the engine at hand has no call for it"
-        }
+        true => "A station may load it",
+        false => "No station may load it",
     })
 }
 
