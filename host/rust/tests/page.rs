@@ -299,6 +299,43 @@ fn a_hundred_and_twenty_eight_owners() {
     assert_eq!(shown.matches("<span class=\"part\"").count(), 255);
 }
 
+/// The mistaken lines stand beside the engine's, as far as the records have come, and where they differ it shows.
+#[test]
+fn mistaken_lines_beside() {
+    let folder = folder("beside");
+    let lines = folder.join("a vote on the item that starts at 3");
+    fs::write(&lines, "processed 11 0 3\nprocessed 11 0 4\nlate 16 0 3\nend 16 0 2 6 0\n").unwrap();
+    let file = runs().join("data/empty_range.bin");
+    let page = told(&["draw", "--beside", lines.to_str().unwrap(), file.to_str().unwrap()]);
+    let path = write(&folder.join("page.html"), &page);
+    for (address, cells, differing) in [
+        ("@10", "the enginea vote on the item that starts at 3", 0),
+        ("@11", "the enginea vote on the item that starts at 3processed 11 0 3processed 11 0 4", 2),
+        (
+            "@16",
+            "the enginea vote on the item that starts at 3processed 11 0 3processed 11 0 4processed 16 0 3late 16 0 3\
+             end 16 0 1 7 0end 16 0 2 6 0",
+            4,
+        ),
+    ] {
+        let Some(shown) = in_browser(&folder, &path, address, "1280,800") else { return };
+        assert_eq!(text_of(&shown, "beside"), cells, "{address}");
+        assert_eq!(shown.matches("<tr class=\"differs").count(), differing, "{address}");
+    }
+}
+
+/// Lines that are none of `listing`'s are refused.
+#[test]
+fn lines_of_another_sort() {
+    let lines = folder("no-lines").join("lines");
+    fs::write(&lines, "processed 11 0 3\nnonsense\n").unwrap();
+    let file = runs().join("data/empty_range.bin");
+    let words = ["draw", "--beside", lines.to_str().unwrap(), file.to_str().unwrap()];
+    let output = Command::new(env!("CARGO_BIN_EXE_lomkhvide")).args(words).output().unwrap();
+    assert_eq!(output.status.code(), Some(2));
+    assert!(String::from_utf8_lossy(&output.stderr).ends_with("'nonsense' is no line of listing\n"));
+}
+
 /// English: one owner holds, one byte.
 #[test]
 fn one_of_a_kind() {

@@ -92,9 +92,6 @@ fn unreadable<T>(text: impl Into<String>) -> Result<T, Fault> {
     Err(Fault::Unreadable(text.into()))
 }
 
-/// What follows the line about refused records.
-const CHECK_TELLS_MORE: &str = " 'lomkhvide check' tells more.";
-
 /// Does what is asked.
 pub fn answer(asked: &Asked, out: &mut dyn Write) -> Result<Whole, Fault> {
     if asked.command == Command::Stakes {
@@ -103,11 +100,7 @@ pub fn answer(asked: &Asked, out: &mut dyn Write) -> Result<Whole, Fault> {
     let whole = answer_bytes(asked, &input::read_file(&asked.file)?, out)?;
     if asked.command == Command::Draw && whole == Whole::Part {
         // A page mostly goes to a file: who makes it should know before it is opened.
-        let _ = writeln!(
-            io::stderr(),
-            "lomkhvide: {}: some records were refused, and the drawing says so;{CHECK_TELLS_MORE}",
-            asked.file
-        );
+        let _ = writeln!(io::stderr(), "lomkhvide: {}: some records were refused, as the drawing says", asked.file);
     }
     Ok(whole)
 }
@@ -147,9 +140,9 @@ fn text_answer(asked: &Asked, input: &Input, run: &Run, out: &mut dyn Write) -> 
     let manner = manner(asked, run)?;
     let locator = if asked.rest.is_empty() { None } else { Some(locate::locate(run, &asked.rest)?) };
     if !asked.listing && asked.command != Command::Draw {
-        if let Some(line) = run.refused_line() {
-            let more = if asked.command == Command::Check { "" } else { CHECK_TELLS_MORE };
-            writeln!(out, "{line}{more}")?;
+        let line = if asked.command == Command::Check { run.refused_first() } else { run.refused_line() };
+        if let Some(line) = line {
+            writeln!(out, "{line}")?;
         }
     }
     match (asked.command, locator) {

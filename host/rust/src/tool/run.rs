@@ -207,8 +207,13 @@ impl<'a> Run<'a> {
         format!("record {number} (round {round}, {}, stake {})", self.members.owner(owner), self.members.stake(owner))
     }
 
-    /// The line with which an answer begins where records were refused: how many, and why the first.
+    /// The line with which an answer begins where records were refused: how many, why the first, and that `check` tells more.
     pub fn refused_line(&self) -> Option<String> {
+        Some(format!("{} 'lomkhvide check' tells more.", self.refused_first()?))
+    }
+
+    /// How many records were refused, and why the first.
+    pub fn refused_first(&self) -> Option<String> {
         let first = self.refused.first()?;
         let (count, all) = (self.refused.len(), self.count);
         let records = if all == 1 { "record" } else { "records" };

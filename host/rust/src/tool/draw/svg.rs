@@ -30,8 +30,8 @@ const LEGEND_HEIGHT: usize = 44;
 /// The whole drawing.
 pub fn drawing(run: &Run, scene: &Scene, view: Option<&View>) -> String {
     let width = (LABELS + scene.width).max(LABELS + LEGEND_WIDTH - 60) + 16;
-    let refused = run.refused_line().map(|line| format!("<text class=\"refused\" x=\"12\" y=\"20\">{}</text>\n", text(&line)));
-    let top = if refused.is_some() { 24 } else { 0 };
+    let refused = run.refused_line().map(|line| refused_of(&line));
+    let top = if refused.is_some() { 44 } else { 0 };
     let (graph, bars) = (top + 92, top + 92 + scene.height + 12);
     let legend = bars + BARS_HEIGHT;
     let height = legend + LEGEND_HEIGHT;
@@ -61,6 +61,17 @@ pub fn drawing(run: &Run, scene: &Scene, view: Option<&View>) -> String {
         legend_of(scene, view.is_some_and(|view| !view.ways.is_empty())),
     );
     out
+}
+
+/// The line about refused records, which is longer than a drawing is wide, in two; whole for whoever reads the file.
+fn refused_of(line: &str) -> String {
+    let (count, first) = line.split_once("; ").unwrap_or((line, ""));
+    format!(
+        "<desc>{}</desc>\n<text class=\"refused\" x=\"12\" y=\"20\">{};</text>\n<text class=\"refused\" x=\"12\" y=\"40\">{}</text>\n",
+        text(line),
+        text(count),
+        text(first)
+    )
 }
 
 /// The owners' names and stakes.
