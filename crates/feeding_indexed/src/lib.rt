@@ -44,7 +44,7 @@ pub fn feed_indexed(
 }
 
 // Feeds a record to a store and a table in order, with an index that agrees.
-fn feed_agreed(
+pub fn feed_agreed(
     stakes: &[u64],
     store: &mut [u8],
     order: &[u64],

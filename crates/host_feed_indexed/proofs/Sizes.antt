@@ -23,50 +23,15 @@ use Rattle.indexed_feeds.specs.IndexedFeed.{indexedLentChecks, roomChecks, inde
 use Rattle.indexed_refusals.specs.Refusals.{earlyIndexedChecks}
 use Rattle.host_locators.specs.Locators.{refusalBefore}
 use Rattle.host_locators.proofs.Locators.{before-most}
-use Rattle.feed_bytes.proofs.Feeds.{Below, numbered, below, record-ordinary, rules-ordinary}
+use Rattle.feed_bytes.proofs.Feeds.{Below, numbered, below, rules-ordinary}
+use Rattle.feed_records_indexed.proofs.Numbers.{ordinary, feed-below, work-free}
 use Rattle.host_feed_indexed.specs.IndexedFeed.{IndexedCall, refusedCall, fedCall, fedWith, feedIndexedOf}
 
 -- ---- the numbers are below 56
 
-ordinary : (ks : List Check) → Below 31 ks → Below 56 ks
-ordinary ks h = every (λ k l. (l .0, omega (arith, l .1))) ks h
-
-room-below : (m : Lent) (ix : List ℕ) (o : Option Record) → Below 56 (roomChecks m ix o)
-unfolding roomChecks
-room-below m ix none = none-of
-room-below m ix (some r) = and (lit< tt, lit< tt) none-of
-
-checks-below : (c : Committee) (m : Lent) (ix : List ℕ) (o : Option Record) → Below 56 (indexedChecks c m ix o)
-unfolding indexedChecks indexedLentChecks pendingChecks
-checks-below c m ix o =
-    and (lit< tt, lit< tt) (and (lit< tt, lit< tt) (and (lit< tt, lit< tt) (and (lit< tt, lit< tt) (and (lit< tt, lit< tt)
-    (every-append (recordChecks c m o) _ (ordinary _ (record-ordinary c m o)) (room-below m ix o))))))
-
 early-below : (c : Committee) (s : Bytes) (t ix : List ℕ) (rec : Bytes) → Below 56 (earlyIndexedChecks c s t ix rec)
 unfolding earlyIndexedChecks indexedLentChecks pendingChecks
 early-below c s t ix rec = and (lit< tt, lit< tt) (and (lit< tt, lit< tt) (and (lit< tt, lit< tt) (and (lit< tt, lit< tt) (ordinary _ (rules-ordinary c s (readRecord rec))))))
-
-feed-below : (c : Committee) (m : Lent) (ix : List ℕ) (rec : Bytes) (n : ℕ) → feedIndexed c m ix rec .fed .answer ≡ refused n → n < 56
-unfolding feedIndexed feedIndexedRecord refusedIndexed acceptedIndexed refusedFeed acceptedFeed
-feed-below c m ix rec n e = by (readRecord rec) e
-  where
-    by : (o : Option Record) → feedIndexedRecord c m ix o .fed .answer ≡ refused n → n < 56
-    by none e = let z : refusal (indexedChecks c m ix none) ≡ n = cc in omega (arith, below 56 (lit< tt) (indexedChecks c m ix none) (checks-below c m ix none))
-    by (some r) e = go (passes (indexedChecks c m ix (some r))) e
-      where
-        go : (t : Bool) → pick t (acceptedIndexed c m ix r) (refusedIndexed m ix (refusal (indexedChecks c m ix (some r)))) .fed .answer ≡ refused n → n < 56
-        go true e = let z : _≡_ {A = ℕ} 0 1 = cc in absurd (omega arith)
-        go false e = let z : refusal (indexedChecks c m ix (some r)) ≡ n = cc in omega (arith, below 56 (lit< tt) (indexedChecks c m ix (some r)) (checks-below c m ix (some r)))
-
--- ---- the work slice: no answer reads it
-
-work-free : (c : Committee) (s : Bytes) (t w u v ix : List ℕ) (rec : Bytes) → length w ≡ length u → feedIndexed c (lentOf s t w v) ix rec ≡ feedIndexed c (lentOf s t u v) ix rec
-unfolding feedIndexed feedIndexedRecord indexedChecks roomChecks recordChecks processed refusedIndexed acceptedIndexed refusedFeed acceptedFeed
-work-free c s t w u v ix rec e = by (readRecord rec)
-  where
-    by : (o : Option Record) → feedIndexedRecord c (lentOf s t w v) ix o ≡ feedIndexedRecord c (lentOf s t u v) ix o
-    by none = rw e
-    by (some r) = rw e
 
 -- the events as bytes
 pub fed-lent : (c : Committee) (s : Bytes) (t w u ix : List ℕ) (v rec : Bytes) → length w ≡ length t → length v ≡ 65536 → u ≡ wordsIn 8192 v

@@ -1,0 +1,4 @@
+pub mod Inserted
+pub mod Standing
+pub mod Moving
+pub mod Knowing
