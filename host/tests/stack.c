@@ -329,6 +329,6 @@ int main(void) {
     at_most("next_wide_withdrawing", next_wide_withdrawing, 1, 98304);
     at_most("final_stretches_withdrawing", final_stretches_withdrawing, 2, 491520);
     at_most("wide_stretches_withdrawing", wide_stretches_withdrawing, 2, 491520);
-    printf("%d passed, %d failed\n", 26 - failed, failed);
+    printf("%d passed, %d failed\n", 30 - failed, failed);
     return failed != 0;
 }
