@@ -268,12 +268,19 @@ fn cases() -> Vec<Case> {
             name: "loadable",
             slices: vec![stakes.clone(), store.clone(), ("places", vec![5; 96], 120)],
             engine: over!(|stakes, store, places| over_words(places, |words| engine::loadable(stakes, store, words))),
-            model: over!(|stakes, store, places| over_words(places, |words| loading::loadable_call(Reading::Old, stakes, store, words))),
+            model: over!(|stakes, store, places| over_words(places, |words| loading::loadable_call(
+                Reading::Old,
+                stakes,
+                store,
+                words
+            ))),
         },
         Case {
             name: "loadable_withdrawing",
             slices: vec![stakes.clone(), store.clone(), ("places", vec![5; 96], 120)],
-            engine: over!(|stakes, store, places| over_words(places, |words| engine::loadable_withdrawing(stakes, store, words))),
+            engine: over!(|stakes, store, places| over_words(places, |words| engine::loadable_withdrawing(
+                stakes, store, words
+            ))),
             model: over!(|stakes, store, places| over_words(places, |words| {
                 loading::loadable_call(Reading::Withdrawing, stakes, store, words)
             })),

@@ -1,8 +1,8 @@
 -- The buffer while the ordinary list is gone along. Assumes nothing.
 use mathlib.Core.Path.{_≡_, refl, sym, ap, subst, _∙_}
-use mathlib.Core.Bool.{Bool, true, false, not}
+use mathlib.Core.Bool.{true, false}
 use mathlib.Core.List.{List, [], _∷_, _++_, map, flatten, append-assoc}
-use mathlib.Core.Option.{Option, none, some, Option·some-injective}
+use mathlib.Core.Option.{Option, none, some}
 use Prim.Native.Nat.{ℕ, zero, suc, _+_, _*_, _/_, _≤_, _<_}
 use native.Mathlib.Nat.{le-div-iff-mul-le}
 use native.Mathlib.Omega.{arith}
@@ -20,14 +20,13 @@ use Rattle.store_layout.specs.Shares.{isStoredShare}
 use Rattle.store_layout.proofs.Shares.{stored-share}
 use Rattle.finality.specs.Finality.{blocksOf}
 use Rattle.finality.proofs.Fits.{block-fits}
-use Rattle.stretches.specs.Stretches.{FinalStretch, lastLocator, stretchEnd, stretchAt, fromFound, stretches, reached, moreFollow}
+use Rattle.stretches.specs.Stretches.{FinalStretch, lastLocator, stretchAt, fromFound, stretches, reached, moreFollow}
 use Rattle.stretches.specs.Bulk.{Given, digestWords, referenceWords, stretchWords, givenAfter, wordsAfter}
 use Rattle.stretches.proofs.Spreading.{begun, longest}
 use Rattle.readings.specs.Readings.{Reading, isFinalIn}
 use Rattle.reading_lists.specs.Lists.{isListed, listing}
 use Rattle.reading_lists.proofs.Least.{lists-lawful}
 use Rattle.vote_starts.specs.Answers.{asMaybe}
-use Rattle.vote_starts.specs.declared.MaybeLocator.the-variants.{Locator, Nothing}
 use Rattle.final_along.specs.Along.{shareList, ahead, rangeFrom, Held}
 use Rattle.final_along.specs.declared.Along.{Along}
 use Rattle.final_along.proofs.Words.{range-back}

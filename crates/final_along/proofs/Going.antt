@@ -18,7 +18,7 @@ use Rattle.store_layout.specs.Store.{storeInOrder}
 use Rattle.finality.specs.Finality.{blocksOf}
 use Rattle.finality.specs.NextFinal.{isAfter, LeastOf, least}
 use Rattle.finality.proofs.Asked.{later-after}
-use Rattle.stretches.specs.Stretches.{FinalStretch, stretchLocators, lastLocator, stretchAt, fromFound, stretches, reached, moreFollow}
+use Rattle.stretches.specs.Stretches.{FinalStretch, stretchLocators, lastLocator, stretchAt, fromFound, stretches, reached}
 use Rattle.stretches.specs.Claims.{Gives, Spread}
 use Rattle.stretches.proofs.Spreading.{spread}
 use Rattle.readings.specs.Readings.{Reading}

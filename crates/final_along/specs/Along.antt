@@ -1,6 +1,6 @@
 -- The ordinary list as it is gone along: what the buffer holds, and what comes next. Machinery for the contracts of inner functions. Assumes nothing:
 -- these are definitions.
-use Prim.Native.Nat.{ℕ, _+_, _*_, _≤_}
+use Prim.Native.Nat.{ℕ, _+_, _*_}
 use mathlib.Core.Path.{_≡_}
 use mathlib.Core.Bool.{true, false}
 use mathlib.Core.List.{List, [], _∷_, _++_, map, flatten}

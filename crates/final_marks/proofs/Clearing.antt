@@ -1,25 +1,24 @@
 -- Marks taken away, stretch by stretch. Assumes nothing.
 use mathlib.Core.Path.{_≡_, refl, sym, ap, subst, _∙_}
-use mathlib.Core.Logic.{_⊎_, inl, inr}
 use mathlib.Core.Bool.{Bool, true, false, _||_}
-use mathlib.Core.List.{List, [], _∷_, _++_}
+use mathlib.Core.List.{List, [], _++_}
 use mathlib.Core.Option.{Option, none}
 use Prim.Native.Nat.{ℕ, zero, suc, _+_, _≤_, _<_}
 use native.Mathlib.Decide.{ℕ-discrete, decLt}
 use native.Mathlib.Omega.{arith}
 use lib.ListN.{length, getD, set, length-set}
 use lib.Seq.{getD-set-same, getD-set-other}
-use Rattle.base.specs.Lists.{pick, anyOf, _∈_, here}
+use Rattle.base.specs.Lists.{pick, anyOf, _∈_}
 use Rattle.base.specs.Le.{Bytes}
 use Rattle.base.proofs.Tests.{fails, and-left}
 use Rattle.base.proofs.Lists.{any-append}
 use Rattle.base.proofs.Members.{any-in, in-any, in-left, in-right}
-use Rattle.committee.specs.Committee.{Committee, broken}
+use Rattle.committee.specs.Committee.{Committee}
 use Rattle.blocks.specs.Reference.{BlockReference, TransactionLocator, TransactionLocatorRange, locator, sameLocator, locators}
 use Rattle.blocks.proofs.References.{locator-same, same-locator, reference-irrefl}
 use Rattle.types.specs.Values.{asRange}
 use Rattle.types.specs.declared.TransactionLocatorRange as ranges
-use Rattle.store_layout.specs.Store.{recordsOf, storeInOrder}
+use Rattle.store_layout.specs.Store.{recordsOf}
 use Rattle.store_layout.specs.Accept.{isStored}
 use Rattle.store_layout.specs.Shares.{isStoredShare}
 use Rattle.store_layout.proofs.Search.{referenceIn, order-rises}
@@ -31,7 +30,7 @@ use Rattle.reading_lists.specs.Lists.{isListed, allListed}
 use Rattle.reading_lists.proofs.Whole.{all-in}
 use Rattle.block_votes.specs.Walk.{SortedStore, blockAtPlace}
 use Rattle.vote_starts.specs.Answers.{asMaybe}
-use Rattle.final_along.specs.Along.{Held, Found}
+use Rattle.final_along.specs.Along.{Found}
 use Rattle.final_along.specs.declared.Along.{Along}
 use Rattle.final_along.specs.declared.Ahead.the-variants.{Stretch, Ended}
 use Rattle.final_along.proofs.Going.{Passing, passing-end, later, passing-splits, passing-longer}

@@ -1,18 +1,18 @@
 -- Going through the shares of a stretch of the ordinary list. Assumes nothing.
-use mathlib.Core.Path.{_≡_, refl, sym, ap, subst, _∙_}
+use mathlib.Core.Path.{_≡_, sym, ap, subst, _∙_}
 use mathlib.Core.Bool.{Bool, true}
 use mathlib.Core.List.{List, [], _∷_, _++_, map, map-append, append-assoc, append-nil}
-use mathlib.Core.Option.{Option, none, some, Option·some-injective, Option·none-ne-some}
-use Prim.Native.Nat.{ℕ, zero, suc, _+_, _-_, _*_, _≤_, _<_}
+use mathlib.Core.Option.{Option, some, Option·some-injective}
+use Prim.Native.Nat.{ℕ, suc, _+_, _-_, _*_, _≤_, _<_}
 use native.Mathlib.Omega.{arith}
 use lib.ListN.{length, getElem?}
 use lib.Seq.{sets}
-use Rattle.base.specs.Lists.{pick, countFrom, holds, _∈_, here}
+use Rattle.base.specs.Lists.{pick, countFrom, _∈_, here}
 use Rattle.base.specs.Le.{Bytes}
 use Rattle.base.proofs.Lists.{countFrom-add, holds-some}
 use Rattle.base.proofs.Members.{in-right}
 use Rattle.blocks.specs.Reference.{TransactionLocator, TransactionLocatorRange, locator, offsets, locators}
-use Rattle.blocks.specs.Block.{Statement, share, isShare, isShareAt, Block}
+use Rattle.blocks.specs.Block.{share, isShare, isShareAt, Block}
 use Rattle.blocks.specs.Record.{wellFormed, blockIn}
 use Rattle.statement_cursor.specs.Cursor.{cursorAt}
 use Rattle.statement_cursor.specs.declared.StatementCursor.{StatementCursor}
@@ -29,6 +29,7 @@ use Rattle.reading_lists.specs.Lists.{allListed}
 use Rattle.loadable.specs.Needs.{payloadIn}
 use Rattle.loadable.proofs.Payloads.{shared-payload}
 use Rattle.loadable.proofs.Places.{found-entry}
+use Rattle.needed_chain.proofs.Looking.{element-below}
 use Rattle.loadable_places.specs.Listed.{Listed as Looked, metBy}
 use Rattle.loadable_pass.specs.Holding.{Holding, Past, Coming, Listed}
 use Rattle.loadable_pass.proofs.Holding.{past-none, past-on, final-stored, holding-listed, holding-room, by-places, Listing, listing}
@@ -65,11 +66,6 @@ upto-splits q i h k =
     ∙ ap (map (locator (q .block))) (countFrom-add (q .start) (i - q .start) (suc (q .end - i - 1)))
     ∙ map-append (locator (q .block)) (countFrom (q .start) (i - q .start)) (countFrom (q .start + (i - q .start)) (suc (q .end - i - 1)))
     ∙ ap (λ (m : ℕ). map (locator (q .block)) (countFrom (q .start) (i - q .start)) ++ map (locator (q .block)) (countFrom m (suc (q .end - i - 1)))) at
-
-element-below : {A : Type 0} (xs : List A) (p : ℕ) (x : A) → getElem? xs p ≡ some x → p < length xs
-element-below [] p x h = absurd (Option·none-ne-some x h)
-element-below (y ∷ xs) zero x h = omega arith
-element-below (y ∷ xs) (suc p) x h = omega (arith, element-below xs p x h)
 
 module _ (s : Bytes) (q : TransactionLocatorRange) (ps₀ : List ℕ) (n : ℕ) where
   -- ---- the next locator

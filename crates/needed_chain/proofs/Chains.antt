@@ -1,30 +1,24 @@
 -- The marks of a chain, member by member. Assumes nothing.
-use mathlib.Core.Path.{_≡_, refl, sym, ap, subst, _∙_}
+use mathlib.Core.Path.{_≡_, sym, ap, subst, _∙_}
 use mathlib.Core.Logic.{_⊎_, inl, inr, _↔_}
-use mathlib.Core.Bool.{Bool, true, false, _&&_}
+use mathlib.Core.Bool.{true, _&&_}
 use mathlib.Core.List.{List}
-use mathlib.Core.Option.{Option, some}
 use Prim.Native.Nat.{ℕ, suc, _+_, _≤_, _<_}
 use native.Mathlib.Numerals.{add-one}
 use native.Mathlib.Omega.{arith}
 use native.Mathlib.Decide.{ℕ-discrete}
-use lib.ListN.{length, getD, set, getElem?}
+use lib.ListN.{length, getD, set}
 use lib.Seq.{getD-set-same, getD-set-other}
-use Rattle.base.specs.Lists.{_∈_}
 use Rattle.base.specs.Le.{Bytes}
 use Rattle.base.proofs.Tests.{and-both, and-left, and-right, fails, not-both}
-use Rattle.base.proofs.Lists.{holds-some}
-use Rattle.base.proofs.Le.{AllBytes}
 use Rattle.committee.specs.Committee.{Committee}
 use Rattle.blocks.specs.Reference.{BlockReference, TransactionLocator, locator}
-use Rattle.blocks.specs.Block.{isShare, isShareAt}
 use Rattle.store_layout.specs.Store.{storeInOrder, recordsOf}
 use Rattle.store_layout.specs.Accept.{isStored}
 use Rattle.store_layout.specs.Shares.{isStoredShare}
 use Rattle.store_layout.proofs.Shares.{stored-share}
 use Rattle.store_layout.proofs.Lookups.{block-entry, stored-entry}
 use Rattle.finality.specs.Finality.{blocksOf}
-use Rattle.finality.proofs.Fits.{block-fits}
 use Rattle.readings.specs.Readings.{Reading, isFinalIn}
 use Rattle.block_votes.specs.Walk.{blockAtPlace}
 use Rattle.loadable.specs.Loadable.{isLoadableIn}

@@ -1,5 +1,5 @@
 -- One look at a share, in whichever reading. Assumes nothing.
-use mathlib.Core.Path.{_≡_, refl, sym, ap, _∙_}
+use mathlib.Core.Path.{_≡_, refl}
 use mathlib.Core.Bool.{Bool, true, false, _&&_}
 use mathlib.Core.List.{List, [], _∷_}
 use mathlib.Core.Option.{none, some, Option·none-ne-some}
@@ -27,7 +27,7 @@ use Rattle.loadable.proofs.Payloads.{payload-shared, shared-stored, payload-now
 use Rattle.loadable.proofs.Looks.{no-share, not-final, needs-nothing, needs-late, needs-earlier}
 use Rattle.needed_chain.specs.Chain.{Placed, Never}
 
-element-below : {A : Type 0} (xs : List A) (p : ℕ) (x : A) → getElem? xs p ≡ some x → p < length xs
+pub element-below : {A : Type 0} (xs : List A) (p : ℕ) (x : A) → getElem? xs p ≡ some x → p < length xs
 element-below [] p x h = absurd (Option·none-ne-some x h)
 element-below (y ∷ xs) zero x h = omega arith
 element-below (y ∷ xs) (suc p) x h = omega (arith, element-below xs p x h)

@@ -30,7 +30,8 @@ pub fn is_loadable(reading: Reading, graph: &Graph, stores: &Stores, locator: &L
     if !graph.finality_in(reading, locator).is_final {
         return false;
     }
-    needed(payload).is_none_or(|change| change.block.round < locator.block.round && is_loadable(reading, graph, stores, &change))
+    needed(payload)
+        .is_none_or(|change| change.block.round < locator.block.round && is_loadable(reading, graph, stores, &change))
 }
 
 /// Every stored share, in ascending order.

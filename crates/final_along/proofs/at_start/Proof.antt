@@ -3,8 +3,6 @@ use Rattle.vote_starts.specs.Answers.{asMaybe}
 use Rattle.final_along.proofs.Buffers.{held-start}
 use Rattle.final_along.proofs.at_start.Statement.{statement}
 use Rattle.final_along.proofs.at_start.Tie as tie
-use Rattle.final_along.proofs.at_start.Reads as reads
-use Rattle.final_along.proofs.at_start.Lts as lts
 
 returns : tie.Need-returns
 unfolding asMaybe

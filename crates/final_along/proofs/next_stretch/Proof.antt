@@ -1,6 +1,6 @@
 use mathlib.Core.Option.{Option, some}
 use Prim.Native.Nat.{_<_}
-use mathlib.Core.Path.{_≡_, refl, sym, ap, _∙_}
+use mathlib.Core.Path.{refl, sym, ap, _∙_}
 use native.Mathlib.Omega.{arith}
 use Rattle.base.proofs.Le.{bytes-of}
 use Rattle.blocks.specs.Reference.{TransactionLocator}
@@ -12,10 +12,6 @@ use Rattle.final_along.proofs.Buffers.{at-front, held-inside, held-long
 use borrow.Author.Needs.{needs}
 use Rattle.final_along.proofs.next_stretch.Statement.{statement}
 use Rattle.final_along.proofs.next_stretch.Tie as tie
-use Rattle.final_along.proofs.next_stretch.Reads as reads
-use Rattle.final_along.proofs.next_stretch.Lts as lts
-use Rattle.final_along.proofs.read_stretch.Reads as read-stretch-reads
-use Rattle.final_along.proofs.refill.Reads as refill-reads
 
 refill-requires : tie.Need-refill-requires
 refill-requires c κs = search needs

@@ -1,12 +1,8 @@
-use mathlib.Core.Path.{_≡_, refl, _∙_}
-use Rattle.types.specs.Values.{digestBytes, asReference, asRange}
+use Rattle.types.specs.Values.{digestBytes, asReference}
 use Rattle.final_along.specs.Along.{referenceFrom, rangeFrom}
 use borrow.Author.Needs.{needs}
 use Rattle.final_along.proofs.read_stretch.Statement.{statement}
 use Rattle.final_along.proofs.read_stretch.Tie as tie
-use Rattle.final_along.proofs.read_stretch.Reads as reads
-use Rattle.final_along.proofs.read_stretch.Lts as lts
-use Rattle.types.proofs.TransactionLocatorRange.new.Reads as new-reads
 
 mul-at : tie.Need-mul-at
 mul-at c = search needs

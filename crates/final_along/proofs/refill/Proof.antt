@@ -1,4 +1,4 @@
-use mathlib.Core.Path.{_≡_, refl, sym, ap, _∙_}
+use mathlib.Core.Path.{refl, sym, ap, _∙_}
 use native.Mathlib.Omega.{arith}
 use borrow.Author.Tests.{not-true}
 use Rattle.readings.specs.Readings.{readingOf}
@@ -8,9 +8,6 @@ use Rattle.final_along.proofs.Buffers.{never-refused, refilled, held-la
 use borrow.Author.Needs.{needs}
 use Rattle.final_along.proofs.refill.Statement.{statement}
 use Rattle.final_along.proofs.refill.Tie as tie
-use Rattle.final_along.proofs.refill.Reads as reads
-use Rattle.final_along.proofs.refill.Lts as lts
-use Rattle.final_list.proofs.fill_small.Reads as fill-small-reads
 
 returns : tie.Need-returns
 returns c = (c .before .before .before .before .before .before .pre .1, (refl, λ e. absurd (omega (arith, c .if1 .taken))))

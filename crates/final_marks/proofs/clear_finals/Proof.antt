@@ -1,4 +1,4 @@
-use mathlib.Core.Path.{_≡_, refl, subst, _∙_}
+use mathlib.Core.Path.{refl, subst, _∙_}
 use native.Mathlib.Omega.{arith}
 use mathlib.Core.List.{[]}
 use borrow.Author.Needs.{needs}
@@ -13,11 +13,6 @@ use Rattle.final_along.proofs.Going.{leftAfter, passing-start, passing-next, pa
 use Rattle.final_marks.proofs.Clearing.{stretch-stored, cleared-none, cleared-more, Clearing, clearing-end}
 use Rattle.final_marks.proofs.clear_finals.Statement.{statement}
 use Rattle.final_marks.proofs.clear_finals.Tie as tie
-use Rattle.final_marks.proofs.clear_finals.Reads as reads
-use Rattle.final_marks.proofs.clear_finals.Lts as lts
-use Rattle.final_along.proofs.at_start.Reads as at-start-reads
-use Rattle.final_along.proofs.next_stretch.Reads as next-stretch-reads
-use Rattle.final_marks.proofs.clear_mark.Reads as clear-mark-reads
 
 abbrev Inv-loop : tie.InvT-loop
 Inv-loop stakes total store order withdrawing marks₀ buffer₀ along₀ marks buffer along =

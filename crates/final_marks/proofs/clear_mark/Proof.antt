@@ -5,9 +5,6 @@ use Rattle.final_marks.proofs.Clearing.{stretch-past, stretch-taken}
 use borrow.Author.Needs.{needs}
 use Rattle.final_marks.proofs.clear_mark.Statement.{statement}
 use Rattle.final_marks.proofs.clear_mark.Tie as tie
-use Rattle.final_marks.proofs.clear_mark.Reads as reads
-use Rattle.final_marks.proofs.clear_mark.Lts as lts
-use Rattle.block_votes.proofs.place_of.Reads as place-of-reads
 
 place-of-requires : tie.Need-place-of-requires
 place-of-requires c κs = search needs

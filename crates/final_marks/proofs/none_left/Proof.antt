@@ -1,5 +1,5 @@
 use Prim.Native.Nat.{ℕ, _-_, _≤_, _<_}
-use mathlib.Core.Path.{_≡_, ap, _∙_}
+use mathlib.Core.Path.{_≡_}
 use native.Mathlib.Omega.{arith}
 use lib.ListN.{getD}
 use borrow.Author.Needs.{needs}
@@ -7,8 +7,6 @@ use Rattle.final_marks.specs.Marks.{NoneLeft}
 use Rattle.final_marks.proofs.Clearing.{none-more}
 use Rattle.final_marks.proofs.none_left.Statement.{statement}
 use Rattle.final_marks.proofs.none_left.Tie as tie
-use Rattle.final_marks.proofs.none_left.Reads as reads
-use Rattle.final_marks.proofs.none_left.Lts as lts
 
 abbrev Inv-loop : tie.InvT-loop
 Inv-loop marks n k₀ k = (k ≤ n) × ((j : ℕ) → j < k → getD marks j 0 ≡ 0)

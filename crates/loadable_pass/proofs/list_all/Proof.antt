@@ -1,4 +1,4 @@
-use mathlib.Core.Path.{_≡_, refl, subst, _∙_}
+use mathlib.Core.Path.{refl, subst, _∙_}
 use native.Mathlib.Omega.{arith}
 use borrow.Author.Needs.{needs}
 use Rattle.readings.specs.Readings.{readingOf}
@@ -11,10 +11,6 @@ use Rattle.loadable_pass.proofs.Listings.{Walking, walking-start, walki
 use Rattle.loadable_pass.proofs.list_all.Statement.{statement}
 use Rattle.loadable_pass.proofs.list_all.Tie as tie
 use Rattle.loadable_pass.proofs.list_all.Reads as reads
-use Rattle.loadable_pass.proofs.list_all.Lts as lts
-use Rattle.final_along.proofs.at_start.Reads as at-start-reads
-use Rattle.final_along.proofs.next_stretch.Reads as next-stretch-reads
-use Rattle.loadable_pass.proofs.list_stretch.Reads as list-stretch-reads
 
 abbrev Inv-loop : tie.InvT-loop
 Inv-loop stakes total store order withdrawing places₀ buffer₀ along₀ read₀ n₀ places buffer along read n =

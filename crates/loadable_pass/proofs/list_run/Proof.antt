@@ -1,4 +1,4 @@
-use mathlib.Core.Path.{_≡_, refl, sym, ap, ap₂, subst, _∙_}
+use mathlib.Core.Path.{_≡_, sym, ap, subst, _∙_}
 use mathlib.Core.Bool.{true}
 use mathlib.Core.List.{[], _∷_}
 use mathlib.Core.Option.{some}
@@ -13,16 +13,14 @@ use Rattle.base.specs.Le.{Bytes}
 use Rattle.base.proofs.Le.{bytes-of}
 use Rattle.base.proofs.Tests.{not-both}
 use Rattle.blocks.specs.Reference.{locator, newRange}
-use Rattle.blocks.specs.Block.{share, isShare, isShareAt}
+use Rattle.blocks.specs.Block.{share, isShareAt}
 use Rattle.blocks.specs.Record.{wellFormed, blockIn}
 use Rattle.types.specs.Values.{asLocator, asRange}
 use Rattle.statement_reader.specs.Step.{payloadBetween}
 use Rattle.statement_reader.specs.Values.{asStatement}
-use Rattle.statement_reader.specs.declared.BaseStatement.{BaseStatement}
 use Rattle.statement_reader.specs.declared.BaseStatement.the-variants.{Share}
 use Rattle.statement_cursor.specs.Cursor.{cursorAt}
 use Rattle.statement_cursor.specs.declared.StatementCursor.{StatementCursor}
-use Rattle.store_layout.specs.Entry.{recordAt}
 use Rattle.share_count.proofs.Statements.{share-here}
 use Rattle.loadable_places.specs.Listed.{metBy}
 use Rattle.loadable_pass.specs.Holding.{Read}
@@ -30,11 +28,6 @@ use Rattle.loadable_pass.proofs.Statements.{payload-here, told-other, t
 use Rattle.loadable_pass.proofs.Running.{coming-formed, coming-share, coming-below, coming-payload, Going, going-start, going-before, going-looked, going-room, going-listed, going-end}
 use Rattle.loadable_pass.proofs.list_run.Statement.{statement}
 use Rattle.loadable_pass.proofs.list_run.Tie as tie
-use Rattle.loadable_pass.proofs.list_run.Reads as reads
-use Rattle.loadable_pass.proofs.list_run.Lts as lts
-use Rattle.loadable_places.proofs.list_share.Reads as list-share-reads
-use Rattle.payload.proofs.share_place.Reads as share-place-reads
-use Rattle.statement_cursor.proofs.next_statement.Reads as next-statement-reads
 
 abbrev Inv-loop : tie.InvT-loop
 Inv-loop store rec range places₀ n at cursor₀ found₀ places cursor found = Going store (asRange range) places₀ n rec places cursor found

@@ -1,11 +1,8 @@
-use mathlib.Core.Path.{_≡_, refl, sym, ap, subst, _∙_}
+use mathlib.Core.Path.{_≡_, sym, ap, _∙_}
 use mathlib.Core.Bool.{true}
-use Prim.Native.Nat.{ℕ}
 use native.Mathlib.Omega.{arith}
-use Rattle.base.specs.Le.{Bytes}
 use Rattle.blocks.specs.Reference.{newRange}
 use Rattle.types.specs.Values.{asRange}
-use Rattle.statement_cursor.specs.Cursor.{cursorAt}
 use Rattle.store_layout.specs.Entry.{recordAt, isEntry}
 use Rattle.store_layout.proofs.Loops.{entry-room, record-part}
 use Rattle.block_votes.specs.Walk.{SortedStore}
@@ -13,12 +10,6 @@ use Rattle.loadable_pass.proofs.Running.{coming-entry}
 use borrow.Author.Needs.{needs}
 use Rattle.loadable_pass.proofs.list_stretch.Statement.{statement}
 use Rattle.loadable_pass.proofs.list_stretch.Tie as tie
-use Rattle.loadable_pass.proofs.list_stretch.Reads as reads
-use Rattle.loadable_pass.proofs.list_stretch.Lts as lts
-use Rattle.loadable_pass.proofs.list_run.Reads as list-run-reads
-use Rattle.loadable_pass.proofs.read_from.Reads as read-from-reads
-use Rattle.store_entries.proofs.find_ordered.Reads as find-ordered-reads
-use Rattle.store_entries.proofs.record_end.Reads as record-end-reads
 
 find-ordered-requires : tie.Need-find-ordered-requires
 unfolding SortedStore

@@ -11,9 +11,6 @@ use Rattle.store_layout.proofs.Loops.{entry-room}
 use Rattle.loadable_pass.specs.Holding.{Read}
 use Rattle.loadable_pass.proofs.read_from.Statement.{statement}
 use Rattle.loadable_pass.proofs.read_from.Tie as tie
-use Rattle.loadable_pass.proofs.read_from.Reads as reads
-use Rattle.loadable_pass.proofs.read_from.Lts as lts
-use Rattle.statement_cursor.proofs.first_statement.Reads as first-statement-reads
 
 returns : tie.Need-returns
 unfolding Read

@@ -1,4 +1,4 @@
-use mathlib.Core.Path.{_≡_, sym, subst, _∙_}
+use mathlib.Core.Path.{sym, subst, _∙_}
 use Rattle.types.specs.Values.{asLocator}
 use Rattle.readings.specs.Readings.{readingOf}
 use Rattle.block_votes.proofs.Sorting.{some-committee}
@@ -7,11 +7,6 @@ use Rattle.needed_chain.specs.declared.Sight.{Sight}
 use borrow.Author.Needs.{needs}
 use Rattle.loadable_share.proofs.asked_ready.Statement.{statement}
 use Rattle.loadable_share.proofs.asked_ready.Tie as tie
-use Rattle.loadable_share.proofs.asked_ready.Reads as reads
-use Rattle.loadable_share.proofs.asked_ready.Lts as lts
-use Rattle.loadable_share.proofs.by_chain.Reads as by-chain-reads
-use Rattle.loadable_share.proofs.is_final.Reads as is-final-reads
-use Rattle.needed_chain.proofs.look.Reads as look-reads
 
 look-requires : tie.Need-look-requires
 look-requires c κs = some-committee (c .before .before .before .pre .0 .0)

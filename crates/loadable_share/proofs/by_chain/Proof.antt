@@ -1,5 +1,5 @@
-use mathlib.Core.Path.{_≡_, sym, subst, _∙_}
-use mathlib.Core.Bool.{Bool, true, false}
+use mathlib.Core.Path.{sym, subst}
+use mathlib.Core.Bool.{Bool}
 use native.Mathlib.Omega.{arith}
 use borrow.Author.Tests.{not-true, not-false}
 use Rattle.base.proofs.Lists.{zeros-at}
@@ -11,11 +11,6 @@ use Rattle.loadable_share.proofs.Deciding.{decided}
 use borrow.Author.Needs.{needs}
 use Rattle.loadable_share.proofs.by_chain.Statement.{statement}
 use Rattle.loadable_share.proofs.by_chain.Tie as tie
-use Rattle.loadable_share.proofs.by_chain.Reads as reads
-use Rattle.loadable_share.proofs.by_chain.Lts as lts
-use Rattle.final_marks.proofs.clear_finals.Reads as clear-finals-reads
-use Rattle.final_marks.proofs.none_left.Reads as none-left-reads
-use Rattle.needed_chain.proofs.mark_chain.Reads as mark-chain-reads
 
 slice-aggregate-mark-chain : tie.Need-slice-aggregate-mark-chain
 slice-aggregate-mark-chain c = search needs

@@ -1,6 +1,6 @@
 use Prim.Native.Nat.{ℕ, _+_}
 use mathlib.Core.Path.{_≡_, sym, ap, _∙_}
-use mathlib.Core.Option.{none, some}
+use mathlib.Core.Option.{some}
 use native.Mathlib.Omega.{arith}
 use native.Mathlib.Nat.{add-sub-cancel-left}
 use lib.ListN.{take, drop}
@@ -19,11 +19,6 @@ use Rattle.needed_chain.proofs.Looking.{looked-nowhere, looked-stored, 
 use borrow.Author.Needs.{needs}
 use Rattle.needed_chain.proofs.look.Statement.{statement}
 use Rattle.needed_chain.proofs.look.Tie as tie
-use Rattle.needed_chain.proofs.look.Reads as reads
-use Rattle.needed_chain.proofs.look.Lts as lts
-use Rattle.block_votes.proofs.place_of.Reads as place-of-reads
-use Rattle.needed_change.proofs.needed_by.Reads as needed-by-reads
-use Rattle.payload.proofs.stored_payload.Reads as stored-payload-reads
 
 stored-payload-requires : tie.Need-stored-payload-requires
 unfolding SortedStore
@@ -119,7 +114,7 @@ returns-3 c =
     let part = ap (λ (n : ℕ). neededBy (take n (drop start (a .store .now)))) (add-sub-cancel-left start count) in
     let m = c .before .before .before .before .needed .given .0 .0 in
     let change = sym part ∙ sym (c .before .before .before .before .before .before .needed-by .ensures) ∙ ap asNeeded (c .before .before .before .before .needed .given .1) in
-    looked-late (a .store .now) bytes l t held (asLocator m) change (c .if1 .taken)
+    looked-late (a .store .now) bytes l t held (asLocator m) change (omega (arith, c .if1 .taken))
 
 returns-4 : tie.Need-returns-4
 unfolding SortedStore Seen asShare asNeeded asLocator locator asReference

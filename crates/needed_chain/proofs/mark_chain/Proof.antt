@@ -1,18 +1,15 @@
-use mathlib.Core.Path.{_≡_, refl, sym, subst, _∙_}
+use mathlib.Core.Path.{_≡_, refl, subst, _∙_}
 use Prim.Native.Nat.{_+_}
 use native.Mathlib.Omega.{arith}
 use lib.ListN.{length, length-set}
 use borrow.Author.Needs.{needs}
-use Rattle.types.specs.Values.{asReference, asLocator}
+use Rattle.types.specs.Values.{asLocator}
 use Rattle.blocks.specs.Reference.{locator}
 use Rattle.needed_chain.specs.Chain.{Seen, Collected}
 use Rattle.needed_chain.specs.declared.Sight.{Sight}
 use Rattle.needed_chain.proofs.Chains.{Collecting, collecting-start, collecting-never, collected, collecting-on}
 use Rattle.needed_chain.proofs.mark_chain.Statement.{statement}
 use Rattle.needed_chain.proofs.mark_chain.Tie as tie
-use Rattle.needed_chain.proofs.mark_chain.Reads as reads
-use Rattle.needed_chain.proofs.mark_chain.Lts as lts
-use Rattle.needed_chain.proofs.look.Reads as look-reads
 
 abbrev Inv-loop : tie.InvT-loop
 Inv-loop store order marks₀ change₀ marks change = Collecting store order (asLocator change₀) marks (asLocator change) × (length marks ≡ length marks₀)
