@@ -224,10 +224,6 @@ static void loadable(void) {
     answer = lomkhvide_loadable(one, sizeof one, chain, sizeof chain, places, 2);
 }
 
-static void is_loadable_withdrawing(void) {
-    answer = lomkhvide_is_loadable_withdrawing(one, sizeof one, chain, sizeof chain, shared, sizeof shared);
-}
-
 static void loadable_withdrawing(void) {
     answer = lomkhvide_loadable_withdrawing(one, sizeof one, chain, sizeof chain, places, 2);
 }
@@ -439,8 +435,10 @@ int main(void) {
     AT_MOST(finality, 2 * 1023 + 1);
     AT_MOST(finality_withdrawing, 2 * 1023 + 1);
     AT_MOST(is_loadable, 1);
+    at_most("is_loadable", is_loadable_chain, 1);
     AT_MOST(loadable, 1);
     AT_MOST(is_loadable_withdrawing, 1);
+    at_most("is_loadable_withdrawing", is_loadable_withdrawing_chain, 1);
     AT_MOST(loadable_withdrawing, 1);
     AT_MOST(next_final, 1);
     AT_MOST(next_wide, 1);
