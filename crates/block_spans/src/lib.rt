@@ -27,7 +27,7 @@ pub struct NextSpan {
 }
 
 // A rejected locator as a range. No vote reaches the last offset, so a reject of it counts for nothing.
-fn rejected_range(locator: TransactionLocator) -> VotedRange
+pub fn rejected_range(locator: TransactionLocator) -> VotedRange
     ensures { λ r. ⌜ votedBy r ≡ rejectedRange (asLocator locator) ⌝ }
 {
     if locator.offset == types::LAST_OFFSET {
@@ -37,7 +37,7 @@ fn rejected_range(locator: TransactionLocator) -> VotedRange
 }
 
 // What a reject rejects: its first locator. Nothing else does.
-fn rejected(statement: BaseStatement) -> VotedRange
+pub fn rejected(statement: BaseStatement) -> VotedRange
     ensures { λ r. ⌜ ((s : Bytes) → votedBy r ≡ rejectRanges (asStatement s statement)) ⌝ }
 {
     match statement {
