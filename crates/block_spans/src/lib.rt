@@ -27,7 +27,7 @@ pub struct NextSpan {
 }
 
 // A rejected locator as a range. No vote reaches the last offset, so a reject of it counts for nothing.
-pub fn rejected_range(locator: TransactionLocator) -> VotedRange
+fn rejected_range(locator: TransactionLocator) -> VotedRange
     ensures { λ r. ⌜ votedBy r ≡ rejectedRange (asLocator locator) ⌝ }
 {
     if locator.offset == types::LAST_OFFSET {
