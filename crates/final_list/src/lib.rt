@@ -21,7 +21,7 @@ ghost use Rattle.stretch_words.specs.Answers.{asStretches};
 
 // ---- the question in bulk
 
-// The same with tables of 10,240 votes and rejects, and of 8,192 includes.
+// The same with tables of 10,240 votes and rejects, and with the sets of includes.
 fn fill_large(
     stakes: &[u64],
     total: Stake,
@@ -38,8 +38,8 @@ fn fill_large(
 {
     let mut table = [0u64; 40960];
     let sizes = vote_table::table_both(store, order, &mut table, withdrawing);
-    let mut places = [0u64; 8192];
-    let noted = include_places::note_places(store, order, &mut places);
+    let mut sets = [0u64; include_sets::WORDS];
+    include_sets::note_includes(store, order, &mut sets);
     stretch_fill::fill(
         stakes,
         total,
@@ -47,8 +47,7 @@ fn fill_large(
         order,
         &table,
         sizes,
-        &places,
-        noted,
+        &sets,
         ordinary,
         withdrawing,
         out,
@@ -67,7 +66,7 @@ fn holds_all(sizes: TableSizes, n: usize, withdrawing: bool) -> bool {
     n <= sizes.rejecting
 }
 
-// The same with tables of 128 votes and rejects and of 256 includes, where these reach: zeroing more would cost a small store more than the question.
+// The same with tables of 128 votes and rejects and of the includes of 64 blocks, where these reach: zeroing more would cost a small store more than the question.
 fn fill_small(
     stakes: &[u64],
     total: Stake,
@@ -96,9 +95,7 @@ fn fill_small(
             after,
         );
     }
-    let mut places = [0u64; 256];
-    let noted = include_places::note_places(store, order, &mut places);
-    if noted < order.len() {
+    if 64 < order.len() {
         return fill_large(
             stakes,
             total,
@@ -110,6 +107,8 @@ fn fill_small(
             after,
         );
     }
+    let mut sets = [0u64; 1088];
+    include_sets::note_includes(store, order, &mut sets);
     stretch_fill::fill(
         stakes,
         total,
@@ -117,8 +116,7 @@ fn fill_small(
         order,
         &table,
         sizes,
-        &places,
-        noted,
+        &sets,
         ordinary,
         withdrawing,
         out,

@@ -24,13 +24,12 @@ fn list_record(
     table: &[u64],
     sizes: TableSizes,
     includes: &[u64],
-    noted: usize,
     places: &mut [u64],
     n: usize,
     k: usize,
     rec: &[u8],
 ) -> usize
-    requires { ⌜ ((Ready (now stakes) (total .0) (now store) (now order) × Tables (now store) (now order) (now table) sizes (now includes) noted) × ((k < length (now order)) × (now rec ≡ recordAt (now store) (getD (now order) k 0)))) × Holding (now stakes) (now store) (sharesThrough (now store) (now order) k) (now places) n ⌝ }
+    requires { ⌜ ((Ready (now stakes) (total .0) (now store) (now order) × Tables (now store) (now order) (now table) sizes (now includes)) × ((k < length (now order)) × (now rec ≡ recordAt (now store) (getD (now order) k 0)))) × Holding (now stakes) (now store) (sharesThrough (now store) (now order) k) (now places) n ⌝ }
     ensures { λ r. ⌜ Holding (now (stakes .entry)) (now (store .entry)) (sharesThrough (now (store .entry)) (now (order .entry)) (k + 1)) (now (places .exit)) r × (Past (now (places .entry)) (now (places .exit)) r × (n ≤ r)) ⌝ }
 {
     let at = order[k] as usize;
@@ -59,7 +58,6 @@ fn list_record(
             table,
             sizes,
             includes,
-            noted,
             run,
             share,
         );
@@ -81,10 +79,9 @@ pub fn list_all(
     table: &[u64],
     sizes: TableSizes,
     includes: &[u64],
-    noted: usize,
     places: &mut [u64],
 ) -> usize
-    requires { ⌜ (Ready (now stakes) (total .0) (now store) (now order) × Tables (now store) (now order) (now table) sizes (now includes) noted) × (2 * length (storedShares (blocksOf (now store))) ≤ length (now places)) ⌝ }
+    requires { ⌜ (Ready (now stakes) (total .0) (now store) (now order) × Tables (now store) (now order) (now table) sizes (now includes)) × (2 * length (storedShares (blocksOf (now store))) ≤ length (now places)) ⌝ }
     ensures { λ r. ⌜ Holding (now (stakes .entry)) (now (store .entry)) (storedShares (blocksOf (now (store .entry)))) (now (places .exit)) r × Past (now (places .entry)) (now (places .exit)) r ⌝ }
 {
     let mut n: usize = 0;
@@ -101,7 +98,6 @@ pub fn list_all(
             table,
             sizes,
             includes,
-            noted,
             places,
             n,
             k,

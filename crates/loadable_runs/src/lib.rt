@@ -25,10 +25,9 @@ fn final_run(
     table: &[u64],
     sizes: TableSizes,
     includes: &[u64],
-    noted: usize,
     share: TransactionLocator,
 ) -> FinalRun
-    requires { ⌜ (Ready (now stakes) (total .0) (now store) (now order) × Tables (now store) (now order) (now table) sizes (now includes) noted) × (share .offset < 18446744073709551615) ⌝ }
+    requires { ⌜ (Ready (now stakes) (total .0) (now store) (now order) × Tables (now store) (now order) (now table) sizes (now includes)) × (share .offset < 18446744073709551615) ⌝ }
     ensures { λ r. ⌜ (share .offset < r .end) × Told (now (stakes .entry)) (now (store .entry)) (asReference (share .block)) (share .offset) r ⌝ }
 {
     let mut certified = [0u64; types::MAX_BLOCKS];
@@ -40,7 +39,6 @@ fn final_run(
         table,
         sizes,
         includes,
-        noted,
         false,
         share,
         &mut certified,
@@ -74,25 +72,14 @@ pub fn run_at(
     table: &[u64],
     sizes: TableSizes,
     includes: &[u64],
-    noted: usize,
     run: FinalRun,
     share: TransactionLocator,
 ) -> FinalRun
-    requires { ⌜ ((Ready (now stakes) (total .0) (now store) (now order) × Tables (now store) (now order) (now table) sizes (now includes) noted) × (share .offset < 18446744073709551615)) × Told (now stakes) (now store) (asReference (share .block)) (share .offset) run ⌝ }
+    requires { ⌜ ((Ready (now stakes) (total .0) (now store) (now order) × Tables (now store) (now order) (now table) sizes (now includes)) × (share .offset < 18446744073709551615)) × Told (now stakes) (now store) (asReference (share .block)) (share .offset) run ⌝ }
     ensures { λ r. ⌜ (isFinal (now (stakes .entry)) (blocksOf (now (store .entry))) (asLocator share) ≡ r .finals) × Told (now (stakes .entry)) (now (store .entry)) (asReference (share .block)) (share .offset) r ⌝ }
 {
     if share.offset < run.end {
         return run;
     }
-    final_run(
-        stakes,
-        total,
-        store,
-        order,
-        table,
-        sizes,
-        includes,
-        noted,
-        share,
-    )
+    final_run(stakes, total, store, order, table, sizes, includes, share)
 }

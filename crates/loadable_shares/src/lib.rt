@@ -17,8 +17,8 @@ pub enum LoadableList {
     Refused(u64),
 }
 
-// Puts all loadable shares at the front of the places, with the votes and the places of includes of the first blocks in tables of 12,288 and
-// 4,096, which with the rest stay below 512 KB of stack; the answer is how many there are.
+// Puts all loadable shares at the front of the places, with the votes of the first blocks in a table of 9,216 and the includes
+// as sets, which with the rest stay below 512 KB of stack; the answer is how many there are.
 fn list_tabled(
     stakes: &[u64],
     total: Stake,
@@ -29,10 +29,10 @@ fn list_tabled(
     requires { ⌜ Ready (now stakes) (total .0) (now store) (now order) × (2 * length (storedShares (blocksOf (now store))) ≤ length (now places)) ⌝ }
     ensures { λ r. ⌜ Holding (now (stakes .entry)) (now (store .entry)) (storedShares (blocksOf (now (store .entry)))) (now (places .exit)) r × Past (now (places .entry)) (now (places .exit)) r ⌝ }
 {
-    let mut table = [0u64; 49152];
+    let mut table = [0u64; 36864];
     let sizes = vote_table::table_both(store, order, &mut table, false);
-    let mut includes = [0u64; 4096];
-    let noted = include_places::note_places(store, order, &mut includes);
+    let mut includes = [0u64; include_sets::WORDS];
+    include_sets::note_includes(store, order, &mut includes);
     loadable_pass::list_all(
         stakes,
         total,
@@ -41,7 +41,6 @@ fn list_tabled(
         &table,
         sizes,
         &includes,
-        noted,
         places,
     )
 }

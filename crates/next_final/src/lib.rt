@@ -38,7 +38,7 @@ pub fn next_listed(
     }
     let mut order = [0u64; types::MAX_BLOCKS];
     let count = block_votes::sorted_positions(store, &mut order);
-    // Nothing is put into tables for one locator: the blocks are read from the store.
+    // No votes are put into a table for one locator: they are read from the store.
     let table = [0u64; 1];
     let sizes = TableSizes {
         voting: 0,
@@ -46,7 +46,8 @@ pub fn next_listed(
         rejecting: 0,
         rejects: 0,
     };
-    let places = [0u64; 1];
+    let mut sets = [0u64; include_sets::WORDS];
+    include_sets::note_includes(store, &order[..count], &mut sets);
     let mut certified = [0u64; types::MAX_BLOCKS];
     let next = final_search::final_after(
         stakes,
@@ -55,8 +56,7 @@ pub fn next_listed(
         &order[..count],
         &table,
         sizes,
-        &places,
-        0,
+        &sets,
         ordinary,
         withdrawing,
         after,

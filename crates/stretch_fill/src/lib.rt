@@ -32,14 +32,13 @@ fn stretch_end(
     order: &[u64],
     table: &[u64],
     sizes: TableSizes,
-    places: &[u64],
-    noted: usize,
+    sets: &[u64],
     ordinary: bool,
     withdrawing: bool,
     locator: TransactionLocator,
     certified: &[u64],
 ) -> u64
-    requires { ⌜ ((Ready (now stakes) (total .0) (now store) (now order) × (length (now certified) ≡ 1024)) × Tables (now store) (now order) (now table) sizes (now places) noted) × ((listing ordinary (readingOf withdrawing) (now stakes) (blocksOf (now store)) .shows (asLocator locator) ≡ true) × Flags (readingOf withdrawing) (now stakes) (now store) (now order) (asLocator locator) (now certified)) ⌝ }
+    requires { ⌜ ((Ready (now stakes) (total .0) (now store) (now order) × (length (now certified) ≡ 1024)) × Tables (now store) (now order) (now table) sizes (now sets)) × ((listing ordinary (readingOf withdrawing) (now stakes) (blocksOf (now store)) .shows (asLocator locator) ≡ true) × Flags (readingOf withdrawing) (now stakes) (now store) (now order) (asLocator locator) (now certified)) ⌝ }
     ensures { λ r. ⌜ r ≡ stretchEnd (blocksOf (now (store .entry))) (listing ordinary (readingOf withdrawing) (now (stakes .entry)) (blocksOf (now (store .entry)))) (asLocator locator) ⌝ }
 {
     let mut other = [0u64; types::MAX_BLOCKS];
@@ -62,8 +61,7 @@ fn stretch_end(
             order,
             table,
             sizes,
-            places,
-            noted,
+            sets,
             ordinary,
             withdrawing,
             at,
@@ -90,14 +88,13 @@ pub fn fill(
     order: &[u64],
     table: &[u64],
     sizes: TableSizes,
-    places: &[u64],
-    noted: usize,
+    sets: &[u64],
     ordinary: bool,
     withdrawing: bool,
     out: &mut [u64],
     after: MaybeLocator,
 ) -> StretchesAnswer
-    requires { ⌜ Ready (now stakes) (total .0) (now store) (now order) × Tables (now store) (now order) (now table) sizes (now places) noted ⌝ }
+    requires { ⌜ Ready (now stakes) (total .0) (now store) (now order) × Tables (now store) (now order) (now table) sizes (now sets) ⌝ }
     ensures { λ r. ⌜ asStretches r ≡ answered (givenAfter (listing ordinary (readingOf withdrawing) (now (stakes .entry)) (blocksOf (now (store .entry)))) (asMaybe after) (stretches (now (stakes .entry)) (blocksOf (now (store .entry))) (listing ordinary (readingOf withdrawing) (now (stakes .entry)) (blocksOf (now (store .entry)))) (length (now (out .entry)) / 10) (asMaybe after))) ⌝ }
     ensures { λ r. ⌜ now (out .exit) ≡ wordsAfter (stretches (now (stakes .entry)) (blocksOf (now (store .entry))) (listing ordinary (readingOf withdrawing) (now (stakes .entry)) (blocksOf (now (store .entry)))) (length (now (out .entry)) / 10) (asMaybe after)) (now (out .entry)) ⌝ }
 {
@@ -113,8 +110,7 @@ pub fn fill(
             order,
             table,
             sizes,
-            places,
-            noted,
+            sets,
             ordinary,
             withdrawing,
             last,
@@ -136,8 +132,7 @@ pub fn fill(
             order,
             table,
             sizes,
-            places,
-            noted,
+            sets,
             ordinary,
             withdrawing,
             locator,

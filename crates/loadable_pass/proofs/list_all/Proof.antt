@@ -15,10 +15,10 @@ use Rattle.loadable_pass.proofs.list_all.Statement.{statement}
 use Rattle.loadable_pass.proofs.list_all.Tie as tie
 
 abbrev Inv-loop : tie.InvT-loop
-Inv-loop stakes total store order table sizes includes noted places₀ n₀ k₀ places n k = (k ≤ length order) × Holding stakes store (sharesThrough store order k) places n × Past places₀ places n
+Inv-loop stakes total store order table sizes includes places₀ n₀ k₀ places n k = (k ≤ length order) × Holding stakes store (sharesThrough store order k) places n × Past places₀ places n
 
 abbrev μ-loop : tie.MeasureT-loop
-μ-loop stakes total store order table sizes includes noted places₀ n₀ k₀ places n k = length order - k
+μ-loop stakes total store order table sizes includes places₀ n₀ k₀ places n k = length order - k
 
 loop-holds : tie.Need-loop-holds Inv-loop μ-loop
 loop-holds c =
@@ -72,7 +72,7 @@ loop-again c =
     let a = c .before .before .before .before .before .before .before .before .before .before .before .before .before .before .before .args in
     let l = c .before .before .before .before .before .before .before .before .loop in
     let e = c .before .before .list-record .ensures in
-    (omega arith, e .0, past-on (a .places .now) (l .places) (c .before .before .list-record .last .1 .1 .1 .1 .1 .1 .1 .1 .0) (l .n) (c .before .before .list-record .result) (e .1 .1) (l .inv .2) (e .1 .0))
+    (omega arith, e .0, past-on (a .places .now) (l .places) (c .before .before .list-record .last .1 .1 .1 .1 .1 .1 .1 .0) (l .n) (c .before .before .list-record .result) (e .1 .1) (l .inv .2) (e .1 .0))
 
 same-length : tie.Need-same-length Inv-loop μ-loop
 same-length c = c .before .loop .inv .2 .long

@@ -33,10 +33,10 @@ use Rattle.loadable_pass.proofs.list_record.Statement.{statement}
 use Rattle.loadable_pass.proofs.list_record.Tie as tie
 
 abbrev Inv-loop : tie.InvT-loop
-Inv-loop stakes total store order table sizes includes noted places₀ n k rec at block count cursor₀ run₀ found₀ places cursor run found = Going stakes store order k rec places₀ n places cursor run found
+Inv-loop stakes total store order table sizes includes places₀ n k rec at block count cursor₀ run₀ found₀ places cursor run found = Going stakes store order k rec places₀ n places cursor run found
 
 abbrev μ-loop : tie.MeasureT-loop
-μ-loop stakes total store order table sizes includes noted places₀ n k rec at block count cursor₀ run₀ found₀ places cursor run found = count - cursor .index
+μ-loop stakes total store order table sizes includes places₀ n k rec at block count cursor₀ run₀ found₀ places cursor run found = count - cursor .index
 
 mul-at : tie.Need-mul-at Inv-loop μ-loop
 mul-at c = search needs
@@ -145,7 +145,7 @@ add-end c =
     let st = told-share (next .result .statement) (found .0 .0) (found .0 .1 .0) (sym (c .before .before .before .before .before .before .share-place .ensures) ∙ found .1) in
     let between : payloadBetween (l .cursor .at) (next .result .next .at) (Share (found .0 .0) (found .0 .1 .0)) ≡ true = sym (ap (payloadBetween (l .cursor .at) (next .result .next .at)) st) ∙ next .ensures .1 .1 in
     let formed = formed-there (a .stakes .now) (a .store .now) (a .order .now) (q .0 .0 .0 .0) (a .k) (q .1 .0) rec (q .1 .1) in
-    omega (arith, c .before .before .before .before .before .before .before .before .before .before .before .before .before .before .before .before .before .before .before .before .before .before .before .good .1 .1 .1 .1 .1 .1 .1 .1 .1 .1 .1 .0, payload-inside rec (bytes-of rec (λ j h. omega (arith, c .before .before .before .before .before .before .before .before .before .before .before .before .before .before .before .before .shared-slice-known6 .given j))) formed (l .cursor .index) (l .cursor .at) (next .result .next .at) (found .0 .0) (found .0 .1 .0) between (ap (λ (x : StatementCursor). x .at) (next .ensures .1 .0)))
+    omega (arith, c .before .before .before .before .before .before .before .before .before .before .before .before .before .before .before .before .before .before .before .before .before .before .before .good .1 .1 .1 .1 .1 .1 .1 .1 .1 .1 .0, payload-inside rec (bytes-of rec (λ j h. omega (arith, c .before .before .before .before .before .before .before .before .before .before .before .before .before .before .before .before .shared-slice-known6 .given j))) formed (l .cursor .index) (l .cursor .at) (next .result .next .at) (found .0 .0) (found .0 .1 .0) between (ap (λ (x : StatementCursor). x .at) (next .ensures .1 .0)))
 
 sub-list-share : tie.Need-sub-list-share Inv-loop μ-loop
 sub-list-share c = omega arith

@@ -32,8 +32,8 @@ next-edge-requires c κs =
     let q = c .before .before .before .before .before .before .before .before .before .before .pre .0 in
     (some-committee (q .0 .0 .0), q .1 .0)
 
-add-t18 : tie.Need-add-t18
-add-t18 c = search needs
+add-t17 : tie.Need-add-t17
+add-t17 c = search needs
 
 returns : tie.Need-returns
 unfolding Certify asLocator certifiersIn certifiesIn votersIn certifiers certifies
@@ -62,6 +62,6 @@ final-run-spec =
     stake-of-requires
     is-quorum-requires
     next-edge-requires
-    add-t18
+    add-t17
     returns
     returns-2)

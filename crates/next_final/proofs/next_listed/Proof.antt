@@ -4,7 +4,8 @@ use Rattle.final_search.specs.Search.{asNext}
 use Rattle.readings.specs.Readings.{readingOf}
 use Rattle.reading_lists.specs.Lists.{listing}
 use Rattle.finality.specs.Finality.{blocksOf}
-use Rattle.include_places.proofs.Noting.{placed-start}
+use Rattle.base.proofs.Lists.{zeros-at}
+use Rattle.block_votes.proofs.Sorting.{some-committee}
 use Rattle.vote_table.proofs.Table.{table-start}
 use Rattle.block_votes.proofs.Along.{sorted-count}
 use Rattle.vote_starts.specs.Answers.{asMaybe}
@@ -55,10 +56,31 @@ sorted-positions-requires c κs = let a = (c .before .before .before .before .be
 array-share-prefix-order : tie.Need-array-share-prefix-order
 array-share-prefix-order c = search needs
 
-slice-aggregate-final-after : tie.Need-slice-aggregate-final-after
-slice-aggregate-final-after c = let a = (c .before .before .before .before .before .before .before .before .before .before .before .before .args) in
+slice-aggregate-note-includes : tie.Need-slice-aggregate-note-includes
+slice-aggregate-note-includes c = let a = c .before .before .before .before .before .before .before .before .before .before .before .before .args in
     let q = c .before .before .sorted-positions .ensures in
     let laid = order-laid (a .stakes .now) (a .store .now) (sym (c .before .before .before .before .before .in-order .ensures) ∙ not-false _ (c .before .before .before .before .if1 .left)) in
+    q .1 .0 ∙ sym (ap length (q .1 .1) ∙ sorted-count (a .store .now) laid)
+
+slice-aggregate-note-includes-2 : tie.Need-slice-aggregate-note-includes-2
+slice-aggregate-note-includes-2 c = search needs
+
+note-includes-requires : tie.Need-note-includes-requires
+note-includes-requires c κs = let a = c .before .before .before .before .before .before .before .before .before .before .before .before .before .args in
+    let told = c .before .before .before .before .before .before .before .before .total .given in
+    let t = taken-sound (a .stakes .now) (told .0 .0) (ap asNewCommittee (sym (told .1)) ∙ c .before .before .before .before .before .before .before .before .before .before .new-committee .ensures) in
+    let o : storeInOrder (a .stakes .now) (a .store .now) ≡ true = sym (c .before .before .before .before .before .before .in-order .ensures) ∙ not-false _ (c .before .before .before .before .before .if1 .left) in
+    let q = c .before .before .before .sorted-positions .ensures in
+    let n = ap length (q .1 .1) ∙ sorted-count (a .store .now) (order-laid (a .stakes .now) (a .store .now) o) in
+    ((some-committee (record { sound = t .0; inOrder = o; laid = order-laid (a .stakes .now) (a .store .now) o; places = q .1 .1 }), omega (arith, q, n)), (omega (arith, q, n), λ x. zeros-at 17408 x))
+
+array-share-prefix-order-2 : tie.Need-array-share-prefix-order-2
+array-share-prefix-order-2 c = search needs
+
+slice-aggregate-final-after : tie.Need-slice-aggregate-final-after
+slice-aggregate-final-after c = let a = c .before .before .before .before .before .before .before .before .before .before .before .before .before .before .before .before .args in
+    let q = c .before .before .before .before .before .before .sorted-positions .ensures in
+    let laid = order-laid (a .stakes .now) (a .store .now) (sym (c .before .before .before .before .before .before .before .before .before .in-order .ensures) ∙ not-false _ (c .before .before .before .before .before .before .before .before .if1 .left)) in
     q .1 .0 ∙ sym (ap length (q .1 .1) ∙ sorted-count (a .store .now) laid)
 
 slice-aggregate-final-after-2 : tie.Need-slice-aggregate-final-after-2
@@ -71,13 +93,13 @@ slice-aggregate-final-after-4 : tie.Need-slice-aggregate-final-after-4
 slice-aggregate-final-after-4 c = search needs
 
 final-after-requires : tie.Need-final-after-requires
-final-after-requires c κs = let a = (c .before .before .before .before .before .before .before .before .before .before .before .before .before .before .before .args) in
-    let told = c .before .before .before .before .before .before .before .before .before .before .total .given in
-    let t = taken-sound (a .stakes .now) (told .0 .0) (ap asNewCommittee (sym (told .1)) ∙ c .before .before .before .before .before .before .before .before .before .before .before .before .new-committee .ensures) in
-    let o : storeInOrder (a .stakes .now) (a .store .now) ≡ true = sym (c .before .before .before .before .before .before .before .before .in-order .ensures) ∙ not-false _ (c .before .before .before .before .before .before .before .if1 .left) in
-    let q = c .before .before .before .before .before .sorted-positions .ensures in
+final-after-requires c κs = let a = c .before .before .before .before .before .before .before .before .before .before .before .before .before .before .before .before .before .before .before .args in
+    let told = c .before .before .before .before .before .before .before .before .before .before .before .before .before .before .total .given in
+    let t = taken-sound (a .stakes .now) (told .0 .0) (ap asNewCommittee (sym (told .1)) ∙ c .before .before .before .before .before .before .before .before .before .before .before .before .before .before .before .before .new-committee .ensures) in
+    let o : storeInOrder (a .stakes .now) (a .store .now) ≡ true = sym (c .before .before .before .before .before .before .before .before .before .before .before .before .in-order .ensures) ∙ not-false _ (c .before .before .before .before .before .before .before .before .before .before .before .if1 .left) in
+    let q = c .before .before .before .before .before .before .before .before .before .sorted-positions .ensures in
     let n = ap length (q .1 .1) ∙ sorted-count (a .store .now) (order-laid (a .stakes .now) (a .store .now) o) in
-    ((((record { sound = t .0; inOrder = o; laid = order-laid (a .stakes .now) (a .store .now) o; places = q .1 .1 }, t .1), omega (arith, q, n)), refl), (record { voting = omega arith; votes = table-start false (a .store .now) _ _; rejecting = omega arith; rejects = table-start true (a .store .now) _ _ }, placed-start (a .store .now) _ _))
+    ((((record { sound = t .0; inOrder = o; laid = order-laid (a .stakes .now) (a .store .now) o; places = q .1 .1 }, t .1), omega (arith, q, n)), refl), (record { voting = omega arith; votes = table-start false (a .store .now) _ _; rejecting = omega arith; rejects = table-start true (a .store .now) _ _ }, c .before .before .before .before .before .note-includes .ensures))
 
 enum-known-next : tie.Need-enum-known-next
 enum-known-next c = search needs
@@ -87,19 +109,19 @@ enum-told-2 c = search needs
 
 returns-3 : tie.Need-returns-3
 unfolding asNextFinal asNext
-returns-3 c = let a = (c .before .before .before .before .before .before .before .before .before .before .before .before .before .before .before .before .before .before .before .before .before .args) in
-    let told = c .before .before .before .before .before .before .before .before .before .before .before .before .before .before .before .before .total .given in
-    let t = taken-sound (a .stakes .now) (told .0 .0) (ap asNewCommittee (sym (told .1)) ∙ c .before .before .before .before .before .before .before .before .before .before .before .before .before .before .before .before .before .before .new-committee .ensures) in
+returns-3 c = let a = c .before .before .before .before .before .before .before .before .before .before .before .before .before .before .before .before .before .before .before .before .before .before .before .before .before .args in
+    let told = c .before .before .before .before .before .before .before .before .before .before .before .before .before .before .before .before .before .before .before .before .total .given in
+    let t = taken-sound (a .stakes .now) (told .0 .0) (ap asNewCommittee (sym (told .1)) ∙ c .before .before .before .before .before .before .before .before .before .before .before .before .before .before .before .before .before .before .before .before .before .before .new-committee .ensures) in
     let e = ap asNext (sym (c .before .before .next .given .1)) ∙ c .before .before .before .before .before .final-after .ensures .0 in
-    next-answered (a .stakes .now) (a .store .now) (listing (a .ordinary) (readingOf (a .withdrawing)) (a .stakes .now) (blocksOf (a .store .now))) (asMaybe (a .after)) (t .0) (sym (c .before .before .before .before .before .before .before .before .before .before .before .before .before .before .in-order .ensures) ∙ not-false _ (c .before .before .before .before .before .before .before .before .before .before .before .before .before .if1 .left)) _ e
+    next-answered (a .stakes .now) (a .store .now) (listing (a .ordinary) (readingOf (a .withdrawing)) (a .stakes .now) (blocksOf (a .store .now))) (asMaybe (a .after)) (t .0) (sym (c .before .before .before .before .before .before .before .before .before .before .before .before .before .before .before .before .before .before .in-order .ensures) ∙ not-false _ (c .before .before .before .before .before .before .before .before .before .before .before .before .before .before .before .before .before .if1 .left)) _ e
 
 returns-4 : tie.Need-returns-4
 unfolding asNextFinal asNext
-returns-4 c = let a = (c .before .before .before .before .before .before .before .before .before .before .before .before .before .before .before .before .before .before .before .args) in
-    let told = c .before .before .before .before .before .before .before .before .before .before .before .before .before .before .total .given in
-    let t = taken-sound (a .stakes .now) (told .0 .0) (ap asNewCommittee (sym (told .1)) ∙ c .before .before .before .before .before .before .before .before .before .before .before .before .before .before .before .before .new-committee .ensures) in
+returns-4 c = let a = c .before .before .before .before .before .before .before .before .before .before .before .before .before .before .before .before .before .before .before .before .before .before .before .args in
+    let told = c .before .before .before .before .before .before .before .before .before .before .before .before .before .before .before .before .before .before .total .given in
+    let t = taken-sound (a .stakes .now) (told .0 .0) (ap asNewCommittee (sym (told .1)) ∙ c .before .before .before .before .before .before .before .before .before .before .before .before .before .before .before .before .before .before .before .before .new-committee .ensures) in
     let e = ap asNext (sym (c .enum-told2 .given .1)) ∙ c .before .before .before .final-after .ensures .0 in
-    next-answered (a .stakes .now) (a .store .now) (listing (a .ordinary) (readingOf (a .withdrawing)) (a .stakes .now) (blocksOf (a .store .now))) (asMaybe (a .after)) (t .0) (sym (c .before .before .before .before .before .before .before .before .before .before .before .before .in-order .ensures) ∙ not-false _ (c .before .before .before .before .before .before .before .before .before .before .before .if1 .left)) _ e
+    next-answered (a .stakes .now) (a .store .now) (listing (a .ordinary) (readingOf (a .withdrawing)) (a .stakes .now) (blocksOf (a .store .now))) (asMaybe (a .after)) (t .0) (sym (c .before .before .before .before .before .before .before .before .before .before .before .before .before .before .before .before .in-order .ensures) ∙ not-false _ (c .before .before .before .before .before .before .before .before .before .before .before .before .before .before .before .if1 .left)) _ e
 
 pub next-listed-spec : {M : Type 1} → statement M
 next-listed-spec =
@@ -114,6 +136,10 @@ next-listed-spec =
     slice-aggregate-sorted-positions
     sorted-positions-requires
     array-share-prefix-order
+    slice-aggregate-note-includes
+    slice-aggregate-note-includes-2
+    note-includes-requires
+    array-share-prefix-order-2
     slice-aggregate-final-after
     slice-aggregate-final-after-2
     slice-aggregate-final-after-3

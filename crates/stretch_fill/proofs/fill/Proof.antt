@@ -26,10 +26,10 @@ use Rattle.stretch_fill.proofs.fill.Statement.{statement}
 use Rattle.stretch_fill.proofs.fill.Tie as tie
 
 abbrev Inv-loop : tie.InvT-loop
-Inv-loop stakes total store order table sizes places noted ordinary withdrawing out₀ room certified₀ n₀ last₀ out certified n last = (length certified ≡ 1024) × Filled stakes (blocksOf store) (listing ordinary (readingOf withdrawing) stakes (blocksOf store)) room (asMaybe last₀) out₀ out (asMaybe last) n
+Inv-loop stakes total store order table sizes sets ordinary withdrawing out₀ room certified₀ n₀ last₀ out certified n last = (length certified ≡ 1024) × Filled stakes (blocksOf store) (listing ordinary (readingOf withdrawing) stakes (blocksOf store)) room (asMaybe last₀) out₀ out (asMaybe last) n
 
 abbrev μ-loop : tie.MeasureT-loop
-μ-loop stakes total store order table sizes places noted ordinary withdrawing out₀ room certified₀ n₀ last₀ out certified n last = room - n
+μ-loop stakes total store order table sizes sets ordinary withdrawing out₀ room certified₀ n₀ last₀ out certified n last = room - n
 
 loop-holds : tie.Need-loop-holds Inv-loop μ-loop
 loop-holds c = let a = (c .before .before .before .before .before .before .args) in (refl, fill-start (a .stakes .now) (blocksOf (a .store .now)) (listing (a .ordinary) (readingOf (a .withdrawing)) (a .stakes .now) (blocksOf (a .store .now))) (length (a .out .now) / 10) (asMaybe (a .after)) (a .out .now))
@@ -79,7 +79,7 @@ stake-of-requires : tie.Need-stake-of-requires Inv-loop μ-loop
 stake-of-requires c κs = c .before .before .before .before .before .before .before .before .before .before .before .before .before .before .before .before .pre .0 .0 .0 .sound
 
 slice-aggregate-stretch-end : tie.Need-slice-aggregate-stretch-end Inv-loop μ-loop
-slice-aggregate-stretch-end c = sym (c .before .before .before .before .before .before .before .before .before .final-after .kept .1 .1 .1 .1 .1 .1 .1 .1 .1 .1 .1 .0 ∙ c .before .before .before .before .before .before .before .before .before .before .before .loop .inv .0)
+slice-aggregate-stretch-end c = sym (c .before .before .before .before .before .before .before .before .before .final-after .kept .1 .1 .1 .1 .1 .1 .1 .1 .1 .1 .0 ∙ c .before .before .before .before .before .before .before .before .before .before .before .loop .inv .0)
 
 stretch-end-requires : tie.Need-stretch-end-requires Inv-loop μ-loop
 unfolding asNext FoundRight
@@ -91,14 +91,14 @@ stretch-end-requires c κs = let a = (c .before .before .before .before .before 
     let l = asLocator (c .before .before .before .before .before .before .next .given .0 .0 .locator) in
     let e : k .next (asMaybe (g .last)) ≡ some l = sym (c .before .before .before .before .before .before .before .before .before .final-after .ensures .0) ∙ ap asNext (c .before .before .before .before .before .before .next .given .1) in
     let q = rw (c .before .before .before .before .before .before .next .given .1) at (c .before .before .before .before .before .before .before .before .before .final-after .ensures .1) in
-    (((c .before .before .before .before .before .before .before .before .before .before .before .before .before .before .before .before .before .before .pre .0, c .before .before .before .before .before .before .before .before .before .final-after .kept .1 .1 .1 .1 .1 .1 .1 .1 .1 .1 .1 .0 ∙ g .inv .0), c .before .before .before .before .before .before .before .before .before .before .before .before .before .before .before .before .before .before .pre .1), (next-shown (a .stakes .now) bs k (lists-lawful (a .ordinary) (readingOf (a .withdrawing)) (a .stakes .now) bs) (asMaybe (g .last)) l e, q .1))
+    (((c .before .before .before .before .before .before .before .before .before .before .before .before .before .before .before .before .before .before .pre .0, c .before .before .before .before .before .before .before .before .before .final-after .kept .1 .1 .1 .1 .1 .1 .1 .1 .1 .1 .0 ∙ g .inv .0), c .before .before .before .before .before .before .before .before .before .before .before .before .before .before .before .before .before .before .pre .1), (next-shown (a .stakes .now) bs k (lists-lawful (a .ordinary) (readingOf (a .withdrawing)) (a .stakes .now) bs) (asMaybe (g .last)) l e, q .1))
 
 write-stretch-requires : tie.Need-write-stretch-requires Inv-loop μ-loop
 write-stretch-requires c κs = omega (arith, c .before .before .before .before .before .before .before .before .before .before .before .before .before .loop .inv .1 .inside, c .before .before .before .before .before .before .before .before .before .before .before .before .before .loop .inv .1 .long, c .before .before .before .before .before .before .if1 .left)
 
-sub-t35 : tie.Need-sub-t35 Inv-loop μ-loop
+sub-t34 : tie.Need-sub-t34 Inv-loop μ-loop
 unfolding asNext asLocator locator
-sub-t35 c = let a = (c .before .before .before .before .before .before .before .before .before .before .before .before .before .before .before .before .before .before .before .before .before .before .before .before .args) in
+sub-t34 c = let a = (c .before .before .before .before .before .before .before .before .before .before .before .before .before .before .before .before .before .before .before .before .before .before .before .before .args) in
     let bs = blocksOf (a .store .now) in
     let k = listing (a .ordinary) (readingOf (a .withdrawing)) (a .stakes .now) bs in
     let room = length (a .out .now) / 10 in
@@ -125,7 +125,7 @@ loop-again c = let a = (c .before .before .before .before .before .before .befor
     let q = rw (c .before .before .before .before .before .before .before .before .before .before .before .before .next .given .1) at (c .before .before .before .before .before .before .before .before .before .before .before .before .before .before .before .final-after .ensures .1) in
     let t = c .before .before .before .before .before .stretch-end .ensures in
     let u = stretch-parts (a .stakes .now) bs k l _ _ _ t (q .0 .0 ∙ certifying-many (readingOf (a .withdrawing)) (a .stakes .now) (a .store .now) l) (c .before .before .before .before .before .before .before .stake-of .ensures ∙ ap (stakeOf (a .stakes .now)) (q .0 .1)) in
-    (c .before .before .before .before .before .before .before .before .before .before .before .before .before .before .before .final-after .kept .1 .1 .1 .1 .1 .1 .1 .1 .1 .1 .1 .0 ∙ g .inv .0, rw (c .before .before .before .write-stretch .ensures, u, t) (fill-more (a .stakes .now) bs k room (asMaybe (a .after)) (a .out .now) (g .out) (asMaybe (g .last)) (g .n) (g .inv .1) (omega (arith, g .inv .1 .inside, c .before .before .before .before .before .before .before .before .before .before .if1 .left)) (omega arith) l e))
+    (c .before .before .before .before .before .before .before .before .before .before .before .before .before .before .before .final-after .kept .1 .1 .1 .1 .1 .1 .1 .1 .1 .1 .0 ∙ g .inv .0, rw (c .before .before .before .write-stretch .ensures, u, t) (fill-more (a .stakes .now) bs k room (asMaybe (a .after)) (a .out .now) (g .out) (asMaybe (g .last)) (g .n) (g .inv .1) (omega (arith, g .inv .1 .inside, c .before .before .before .before .before .before .before .before .before .before .if1 .left)) (omega arith) l e))
 
 pub fill-spec : {M : Type 1} → statement M
 fill-spec =
@@ -146,7 +146,7 @@ fill-spec =
     slice-aggregate-stretch-end
     stretch-end-requires
     write-stretch-requires
-    sub-t35
+    sub-t34
     add-n
     loop-less
     loop-again)

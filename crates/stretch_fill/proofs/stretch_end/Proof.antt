@@ -19,11 +19,11 @@ use Rattle.stretch_fill.proofs.stretch_end.Statement.{statement}
 use Rattle.stretch_fill.proofs.stretch_end.Tie as tie
 
 abbrev Inv-loop : tie.InvT-loop
-Inv-loop stakes total store order table sizes places noted ordinary withdrawing at certified other₀ end₀ other end =
+Inv-loop stakes total store order table sizes sets ordinary withdrawing at certified other₀ end₀ other end =
     (length other ≡ 1024) × Going (blocksOf store) (listing ordinary (readingOf withdrawing) stakes (blocksOf store)) (asLocator at) end
 
 abbrev μ-loop : tie.MeasureT-loop
-μ-loop stakes total store order table sizes places noted ordinary withdrawing at certified other₀ end₀ other end =
+μ-loop stakes total store order table sizes sets ordinary withdrawing at certified other₀ end₀ other end =
     stretchEnd (blocksOf store) (listing ordinary (readingOf withdrawing) stakes (blocksOf store)) (asLocator at) - end
 
 next-edge-requires : tie.Need-next-edge-requires Inv-loop μ-loop
@@ -63,10 +63,10 @@ returns c =
     (when-hidden list there (ap asNext (sym (c .enum-told2 .given .1)) ∙ c .before .before .before .shown-at .ensures .0))
 
 slice-aggregate-same-words : tie.Need-slice-aggregate-same-words Inv-loop μ-loop
-slice-aggregate-same-words c = sym (c .before .before .before .before .shown-at .kept .1 .1 .1 .1 .1 .1 .1 .1 .1 .1 .1 .0 ∙ c .before .before .before .before .before .before .before .loop .inv .0)
+slice-aggregate-same-words c = sym (c .before .before .before .before .shown-at .kept .1 .1 .1 .1 .1 .1 .1 .1 .1 .1 .0 ∙ c .before .before .before .before .before .before .before .loop .inv .0)
 
 same-words-requires : tie.Need-same-words-requires Inv-loop μ-loop
-same-words-requires c κs = (omega (arith, c .before .before .before .before .before .before .before .before .before .before .before .before .before .before .before .pre .0 .0 .0 .1, c .before .before .before .before .before .before .before .before .before .before .before .before .before .before .before .pre .0 .0 .1), omega (arith, c .before .before .before .before .before .before .before .before .before .before .before .before .before .before .before .pre .0 .0 .0 .1, c .before .before .before .before .shown-at .kept .1 .1 .1 .1 .1 .1 .1 .1 .1 .1 .1 .0, c .before .before .before .before .before .before .before .loop .inv .0))
+same-words-requires c κs = (omega (arith, c .before .before .before .before .before .before .before .before .before .before .before .before .before .before .before .pre .0 .0 .0 .1, c .before .before .before .before .before .before .before .before .before .before .before .before .before .before .before .pre .0 .0 .1), omega (arith, c .before .before .before .before .before .before .before .before .before .before .before .before .before .before .before .pre .0 .0 .0 .1, c .before .before .before .before .shown-at .kept .1 .1 .1 .1 .1 .1 .1 .1 .1 .1 .0, c .before .before .before .before .before .before .before .loop .inv .0))
 
 returns-2 : tie.Need-returns-2 Inv-loop μ-loop
 unfolding asLocator locator
@@ -113,7 +113,7 @@ loop-again c =
     let told = found-here list (readingOf (a .withdrawing)) (a .stakes .now) (a .store .now) (a .order .now) _ there _ _ (c .before .before .before .before .before .before .before .shown-at .ensures .0) (c .before .before .before .before .before .before .before .shown-at .ensures .1) (c .before .before .before .before .enum-told .given .1) in
     let w = rw (not-false (c .before .before .same-words .result) (c .before .if1 .left)) at (c .before .before .same-words .ensures) in
     let n = going-more (a .ordinary) (a .withdrawing) (a .stakes .now) (a .store .now) bytes ordered l (c .before .before .before .before .before .before .before .before .before .before .before .before .before .before .before .before .before .before .pre .1 .0) (g .end) (g .inv .1) (told .0) (words-same (a .ordinary) (readingOf (a .withdrawing)) (a .stakes .now) (a .store .now) (a .order .now) (c .before .before .before .before .before .before .before .before .before .before .before .before .before .before .before .before .before .before .pre .0 .0 .0 .0 .0) l there (a .certified .now) _ (c .before .before .before .before .before .before .before .before .before .before .before .before .before .before .before .before .before .before .pre .1 .1) (told .1) w) (c .next-edge2 .result) (c .next-edge2 .ensures) in
-    (c .before .before .before .before .before .before .before .shown-at .kept .1 .1 .1 .1 .1 .1 .1 .1 .1 .1 .1 .0 ∙ g .inv .0, n .1)
+    (c .before .before .before .before .before .before .before .shown-at .kept .1 .1 .1 .1 .1 .1 .1 .1 .1 .1 .0 ∙ g .inv .0, n .1)
 
 pub stretch-end-spec : {M : Type 1} → statement M
 stretch-end-spec =
