@@ -1,1 +1,1 @@
-mod Sweeping
+pub mod Sweeping

@@ -105,7 +105,7 @@ module _ (lanes : Lanes) (s : Bytes) (last bound : Option TransactionLocator) (t
           subst (λ (xs : List Row). Every (λ e. reached s l e ≡ false) xs) (rows-back t at (n - at))
           (rows-every _ (n - at) (λ j k. rw (row-dropped t at j) (ap not (high (at + j) (omega arith) (omega arith)))))
 
-  marks-right : (marks : List ℕ) (at : ℕ) → at ≤ n → Swept (λ k. saidAt (lanes k) last) t marks at → (l : TransactionLocator) → isAfter last l ≡ true
+  pub marks-right : (marks : List ℕ) (at : ℕ) → at ≤ n → Swept (λ k. saidAt (lanes k) last) t marks at → (l : TransactionLocator) → isAfter last l ≡ true
       → ((j : ℕ) → j < at → locatorBefore l (keyOf s (rowAt t j)) ≡ false) → Clear s t n bound at l → MarksAt lanes marks l
   unfolding Swept MarksAt
   marks-right marks at h w l a low c k m =

@@ -43,7 +43,7 @@ fn pass_edge(edges: &[u64], i: usize, marks: &mut [u64])
 }
 
 // Passes the rows from an index on that are at its locator: how many are passed then.
-fn pass_edges(store: &[u8], edges: &[u64], n: usize, at: usize, marks: &mut [u64]) -> usize
+pub fn pass_edges(store: &[u8], edges: &[u64], n: usize, at: usize, marks: &mut [u64]) -> usize
     requires { ⌜ Passable (now store) (now edges) (now marks) n at ⌝ }
     ensures { λ r. ⌜ Passed (now (store .entry)) (now (edges .entry)) (now (marks .entry)) (now (marks .exit)) n at r ⌝ }
 {
@@ -78,7 +78,7 @@ fn pass_stop(store: &[u8], edges: &[u64], window: Window, at: usize, marks: &mut
 // ---- from window to window
 
 // Goes to the next locator at which an edge is: in what is left of a window, or in the one after it.
-fn go_on(
+pub fn go_on(
     store: &[u8],
     order: &[u64],
     wanted: Wanted,

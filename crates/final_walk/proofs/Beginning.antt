@@ -54,7 +54,7 @@ skipped-more own n f₀ f r w h room e =
 
 -- ---- nobody votes
 
-nobody-counts : (rejected : Bool) (x : AuthoritySet) → counted rejected nobody x ≡ nobody
+pub nobody-counts : (rejected : Bool) (x : AuthoritySet) → counted rejected nobody x ≡ nobody
 unfolding counted without
 nobody-counts true x =
     let e = and-zero-l (x .low) in

@@ -77,7 +77,7 @@ fn skip(own: &[u64], n: usize, certified: &mut [u64]) -> usize
 // Walks over the blocks in ascending reference order from the first that votes: an include stands at a lower place, so its voters are known,
 // and a block that includes what the block before does has the same voters below it. Of each block it is marked whether it votes, and known
 // who rejects in its ancestry. Writes 1 for each block that certifies, and 0 for each other one.
-fn walk(
+pub fn walk(
     stakes: &[u64],
     total: Stake,
     store: &[u8],

@@ -1,0 +1,2 @@
+mod Lanes
+mod Showing

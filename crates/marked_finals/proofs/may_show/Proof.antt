@@ -1,0 +1,35 @@
+use borrow.Author.Needs.{needs}
+use Rattle.marked_finals.proofs.may_show.Statement.{statement}
+use Rattle.marked_finals.proofs.may_show.Tie as tie
+use Rattle.marked_finals.proofs.may_show.Reads as reads
+use Rattle.marked_finals.proofs.may_show.Lts as lts
+use Rattle.speakers.proofs.any_marked.Reads as any-marked-reads
+
+returns : tie.Need-returns
+returns c = ?
+
+sub-any-marked : tie.Need-sub-any-marked
+sub-any-marked c = search needs
+
+part-any-marked-start : tie.Need-part-any-marked-start
+part-any-marked-start c = search needs
+
+part-any-marked-end : tie.Need-part-any-marked-end
+part-any-marked-end c = search needs
+
+any-marked-requires : tie.Need-any-marked-requires
+any-marked-requires c κs = search needs
+
+returns-2 : tie.Need-returns-2
+returns-2 c = ?
+
+pub may-show-spec : {M : Type 1} → statement M
+may-show-spec =
+    tie.close
+    (tie.spec
+    returns
+    sub-any-marked
+    part-any-marked-start
+    part-any-marked-end
+    any-marked-requires
+    returns-2)
