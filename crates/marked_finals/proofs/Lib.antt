@@ -1,2 +1,2 @@
-mod Lanes
+pub mod Lanes
 mod Showing

@@ -1,5 +1,6 @@
 -- Who certifies by the marks, and what the list shows. Assumes nothing.
-use mathlib.Core.Path.{_≡_, refl, sym, ap, subst, _∙_}
+use mathlib.Core.Path.{_≡_, refl, sym, ap, ap₂, subst, _∙_}
+use mathlib.Core.Logic.{_⊎_, inl, inr}
 use mathlib.Core.Bool.{Bool, true, false, not, _||_, or-true, and-false}
 use mathlib.Core.List.{List, map}
 use Prim.Native.Nat.{ℕ, _+_, _≤_, _<_}
@@ -7,13 +8,15 @@ use native.Mathlib.Omega.{arith}
 use native.Mathlib.Decide.{ℕ-discrete}
 use lib.Dec.{eqb}
 use borrow.Author.Tests.{eq-eqb}
+use lib.Seq.{take-at}
+use borrow.Rule.Slice.PartMut.{midOf, postOf, putMid, mid-len}
 use lib.ListN.{length, getD, take, drop}
 use Rattle.base.specs.Lists.{_∈_}
 use Rattle.base.specs.Le.{Bytes}
 use Rattle.base.proofs.Le.{AllBytes}
-use Rattle.base.proofs.Tests.{fails, not-both, and-right}
+use Rattle.base.proofs.Tests.{fails, not-both, holds-or-not, and-right}
 use Rattle.base.proofs.Members.{any-in, map-in, keep-in}
-use Rattle.committee.specs.Committee.{AuthorityIndex, Committee, isQuorum}
+use Rattle.committee.specs.Committee.{AuthorityIndex, Committee, totalStake, quorumOf, isQuorum}
 use Rattle.committee.proofs.Bounds.{more-quorum}
 use Rattle.authority_set.specs.AuthoritySet.{AuthoritySet, inserted, member, setOf, stakeOf}
 use Rattle.authority_set.proofs.Votes.{member-setOf, member-inserted}
@@ -41,8 +44,12 @@ use Rattle.final_walk.proofs.Beginning.{nobody-counts}
 use Rattle.edge_window.specs.Window.{laneRanges}
 use Rattle.edge_window.specs.declared.Wanted.{Wanted}
 use Rattle.edge_sweep.specs.Sweep.{MarksAt}
-use Rattle.marked_finals.specs.Marked.{listFor, MarkedIn, CertifiedAll}
-use Rattle.marked_finals.proofs.Lanes.{stored-at, vote-mark, owned-votes, owned-rejects}
+use Rattle.marked_finals.specs.Marked.{listFor, MarkedIn, CertifiedAll, MayShow}
+use Rattle.marked_finals.proofs.Lanes.{stored-at, vote-mark, owned-votes, owned-rejects, shares-marked}
+
+-- the first words of a slice, lent and given back
+pub put-front : (xs ys : List ℕ) → length ys ≡ length (midOf 0 2048 xs) → 2048 ≤ length xs → (midOf 0 2048 (putMid 0 2048 xs ys) ≡ ys) × (length ys ≡ 2048)
+put-front xs ys e h = let n : length ys ≡ 2048 = e ∙ mid-len 0 2048 xs h in (take-at ys (postOf 0 2048 xs) 2048 n, n)
 
 -- ---- the authors of those who vote
 
@@ -149,3 +156,19 @@ module _ (w : Wanted) (c : Committee) (s : Bytes) (order marks : List ℕ) (o : 
   pub unshared-hidden : w .shares ≡ true → (l : TransactionLocator) → isStoredShare (blocksOf s) l ≡ false → listFor w c (blocksOf s) .shows l ≡ false
   unfolding listing isListed
   unshared-hidden t l h = rw (t, h)
+
+  module _ (b : Bool) (may : MayShow w marks (length order) b) (l : TransactionLocator) (right : MarksAt (laneRanges w s order) marks l) where
+    pub may-not : b ≡ false → listFor w c (blocksOf s) .shows l ≡ false
+    may-not e = go (holds-or-not (w .shares))
+      where
+        go : (w .shares ≡ true) ⊎ (w .shares ≡ false) → listFor w c (blocksOf s) .shows l ≡ false
+        go (inl t) = unshared-hidden t l (shares-marked w s order marks few l right o t b (may .ordinary t) ∙ e)
+        go (inr t) = absurd (not-both (may .wide t) e)
+
+    pub may-be : b ≡ true → w .shares ≡ true → isStoredShare (blocksOf s) l ≡ true
+    may-be e t = shares-marked w s order marks few l right o t b (may .ordinary t) ∙ e
+
+-- quorum by the numbers
+pub quorum-told : (c : Committee) (t x : ℕ) (v : AuthoritySet) (b : Bool) → t ≡ totalStake c → x ≡ stakeOf c v → b ≡ quorumOf t x → isQuorum c (stakeOf c v) ≡ b
+unfolding isQuorum
+quorum-told c t x v b e f g = sym (g ∙ ap₂ quorumOf e f)

@@ -54,7 +54,7 @@ fn certify(
     requires { ⌜ Walkable (now stakes) total (now store) (now order) (now sets) (now marks) (now spare) (now certified) ⌝ }
     ensures { λ r. ⌜ CertifiedAll wanted (now (stakes .entry)) (now (store .entry)) (now (order .entry)) (now (marks .entry)) (now (certified .exit)) r ⌝ }
 {
-    let own = &marks[..1024];
+    let own = &marks[0..1024];
     if !wanted.rejects {
         return final_walk::walk(stakes, total, store, order, sets, own, own, false, certified);
     }
@@ -62,7 +62,7 @@ fn certify(
     if !speakers::any_marked(rejects, order.len()) {
         return final_walk::walk(stakes, total, store, order, sets, own, own, false, certified);
     }
-    speakers::spread(store, order, sets, rejects, &mut spare[..2048]);
+    speakers::spread(store, order, sets, rejects, &mut spare[0..2048]);
     final_walk::walk(
         stakes,
         total,
@@ -70,7 +70,7 @@ fn certify(
         order,
         sets,
         own,
-        &spare[..2048],
+        &spare[0..2048],
         true,
         certified,
     )

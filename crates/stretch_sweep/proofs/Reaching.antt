@@ -4,24 +4,29 @@ use mathlib.Core.Logic.{_⊎_, inl, inr}
 use mathlib.Core.Bool.{Bool, true, false}
 use mathlib.Core.List.{List, []}
 use mathlib.Core.Option.{Option, none, some}
-use Prim.Native.Nat.{ℕ, _≤_, _<_}
+use Prim.Native.Nat.{ℕ, _+_, _-_, _≤_, _<_}
 use native.Mathlib.Omega.{arith}
 use lib.Dec.{eqb}
 use lib.ListN.{length, getD}
 use Rattle.base.specs.Lists.{keep, _∈_}
 use Rattle.base.specs.Le.{Bytes}
+use Rattle.base.proofs.Le.{AllBytes}
 use Rattle.base.proofs.Tests.{not-both, holds-or-not, fails}
 use Rattle.committee.specs.Committee.{Committee}
-use Rattle.blocks.specs.Reference.{TransactionLocator, locator, locatorBefore}
+use Rattle.committee.specs.declared.Stake.{Stake}
+use Rattle.blocks.specs.Reference.{BlockReference, TransactionLocator, locator, locatorBefore}
 use Rattle.blocks.specs.Block.{Block}
 use Rattle.blocks.proofs.References.{locator-irrefl, locator-trans}
 use Rattle.types.specs.Values.{asLocator}
+use Rattle.store_layout.specs.Store.{storeInOrder}
 use Rattle.finality.specs.Voters.{votesFor}
 use Rattle.finality.specs.NextFinal.{isAfter, LeastOf, least, nothing}
 use Rattle.finality.specs.Finality.{blocksOf}
 use Rattle.finality.proofs.LeastOf.{one-least}
 use Rattle.readings.specs.Readings.{readingOf, isFinalIn}
-use Rattle.readings.proofs.CandidatesIn.{final-in-votes}
+use Rattle.readings.proofs.FinalsIn.{final-in-old}
+use Rattle.readings.proofs.CandidatesIn.{final-is-old, final-in-votes}
+use Rattle.block_spans.proofs.Fits.{final-offset}
 use Rattle.stretches.specs.Stretches.{Listing}
 use Rattle.stretches.specs.Claims.{Lawful}
 use Rattle.reading_lists.specs.Lists.{listing}
@@ -31,12 +36,16 @@ use Rattle.vote_starts.proofs.Starts.{fewer-kept}
 use Rattle.edge_window.specs.Window.{Lanes, laneRanges}
 use Rattle.edge_window.specs.declared.Wanted.{Wanted}
 use Rattle.edge_sweep.specs.Sweep.{MarksAt, From, Clear, Standing, Stands, edgeLocators}
+use Rattle.edge_sweep.specs.Step.{MovedTo}
 use Rattle.edge_sweep.specs.declared.Sweep as sweep
+use Rattle.certifying_blocks.specs.declared.Certifiers.{Certifiers}
 use Rattle.edge_sweep.proofs.Sweeping.{le-lt}
+use Rattle.sweep_start.proofs.Beginning.{next-before, next-least}
 use Rattle.sweep_start.specs.Begin.{Bare, BegunAt}
-use Rattle.marked_finals.specs.Marked.{listFor}
+use Rattle.marked_finals.specs.Marked.{listFor, ShownAll}
+use Rattle.marked_finals.specs.declared.MarkedFinal.the-variants.{Shown, Hidden}
 use Rattle.marked_finals.proofs.Lanes.{stored-at, vote-mark}
-use Rattle.stretch_sweep.specs.Listed.{Reaching}
+use Rattle.stretch_sweep.specs.Listed.{Lent, Reaching, AllAlike, FoundHere}
 
 -- the marks are right where the sweep stands
 pub here-marks : (lanes : Lanes) (s : Bytes) (t marks : List ℕ) (v : sweep.Sweep) → Stands lanes s t marks v → MarksAt lanes marks (asLocator (v .here))
@@ -44,7 +53,7 @@ unfolding From
 here-marks lanes s t marks v st = st .right (asLocator (v .here)) (fails (locatorBefore (asLocator (v .here)) (asLocator (v .here))) (locator-irrefl (asLocator (v .here)))) (st .clear (asLocator (v .here)) refl)
 
 -- from one locator to a later one fewer follow
-pub fewer-follow : (h q : TransactionLocator) (es : List TransactionLocator) → locatorBefore h q ≡ true → q ∈ es → length (keep (isAfter (some q)) es) < length (keep (isAfter (some h)) es)
+pub fewer-follow : (h q : TransactionLocator) (es : List TransactionLocator) → isAfter (some h) q ≡ true → q ∈ es → length (keep (isAfter (some q)) es) < length (keep (isAfter (some h)) es)
 unfolding isAfter
 fewer-follow h q es a m = fewer-kept (isAfter (some h)) (isAfter (some q)) (λ x t. locator-trans h q x a t) q a (fails (locatorBefore q q) (locator-irrefl q)) es m
 
@@ -109,3 +118,64 @@ module _ (w : Wanted) (c : Committee) (s : Bytes) (order : List ℕ) where
 
     pub begun-none : ((m : TransactionLocator) → isAfter after m ≡ true → Bare lanes m) → list .next after ≡ none
     begun-none b = one-least (list .shows) after (lawful .next after) (nothing (λ m a. bare-hidden o few m (b m a)))
+
+-- ---- what is lent stays so
+
+pub lent-kept : (c : Committee) (total : Stake) (s : Bytes) (order sets t t' spare spare' marks marks' flags flags' : List ℕ) → Lent c total s order sets t spare marks flags → length t' ≡ length t → length spare' ≡ length spare → length marks' ≡ length marks
+    → length flags' ≡ length flags → Lent c total s order sets t' spare' marks' flags'
+lent-kept c total s order sets t t' spare spare' marks marks' flags flags' l e f g h =
+    let w = l .walk in
+    let r = l .room in
+    record {
+      walk = record { sorted = w .sorted; whole = w .whole; few = w .few; included = w .included; marked = g ∙ w .marked; spared = omega (arith, w .spared); flagged = h ∙ w .flagged };
+      room = record { sorted = r .sorted; wide = omega (arith, r .wide); spared = omega (arith, r .spared); long = g ∙ r .long };
+    }
+
+-- ---- from stop to stop
+
+module _ (w : Wanted) (c : Committee) (s : Bytes) (order : List ℕ) (h₀ : TransactionLocator) where
+  abbrev pub Reached : TransactionLocator → Type 0
+  Reached h = (last : Option TransactionLocator) → Reaching w c s last h₀ → Reaching w c s last h
+
+  -- shown
+  pub shown-here : (t marks flags : List ℕ) (at : sweep.Sweep) (f : Certifiers) → Stands (laneRanges w s order) s t marks at → Reached (asLocator (at .here)) → ShownAll w c s order marks flags (Shown f)
+      → FoundHere w c s order h₀ t marks flags (record { sweep = at; found = f })
+  unfolding ShownAll AllAlike
+  shown-here t marks flags at f st r all =
+      let x = all (asLocator (at .here)) (here-marks (laneRanges w s order) s t marks at st) in
+      record {
+        stands = st;
+        alike = λ l m. let y = all l m in (y .0, y .1 .1);
+        right = x .1;
+        is = λ last q. found-is w c s order last (asLocator (at .here)) (r last q) (x .0);
+      }
+
+  module _ (marks flags : List ℕ) (at : sweep.Sweep) (r : Reached (asLocator (at .here))) (hid : ShownAll w c s order marks flags Hidden) where
+    pub hidden-on : (t' marks' : List ℕ) (v : sweep.Sweep) → MovedTo (laneRanges w s order) s marks t' marks' (some (asLocator (at .here))) v → Reached (asLocator (v .here))
+    unfolding ShownAll
+    hidden-on t' marks' v m last q = reach-on w c s order last (asLocator (at .here)) (r last q) marks hid (asLocator (v .here)) (m .ahead) (m .quiet)
+
+    pub hidden-end : ((l : TransactionLocator) → From (some (asLocator (at .here))) l → MarksAt (laneRanges w s order) marks l) → (last : Option TransactionLocator) → Reaching w c s last h₀ → listFor w c (blocksOf s) .next last ≡ none
+    unfolding ShownAll
+    hidden-end quiet last q = none-follows w c s order last (asLocator (at .here)) (r last q) marks hid quiet
+
+-- ---- around a stretch
+
+-- what is shown stands before the last offset
+pub shown-offset : (w : Wanted) (c : Committee) (s : Bytes) → AllBytes s → storeInOrder c s ≡ true → (l : TransactionLocator) → listFor w c (blocksOf s) .shows l ≡ true → l .offset < 18446744073709551615
+unfolding listing
+shown-offset w c s bytes ordered l t =
+    final-offset c s bytes ordered l (sym (final-is-old c (blocksOf s) l) ∙ final-in-old (readingOf (w .rejects)) c (blocksOf s) l (listed-final (w .shares) (readingOf (w .rejects)) c (blocksOf s) l t))
+
+-- the sweep stands just after the last locator that was written
+pub after-stretch : (w : Wanted) (c : Committee) (s : Bytes) (r : BlockReference) (e : ℕ) → 0 < e → Reaching w c s (some (locator r (e - 1))) (locator r e)
+unfolding From isAfter locator
+after-stretch w c s r e h =
+    let z : e - 1 + 1 ≡ e = omega arith in
+    let last = locator r (e - 1) in
+    let next : locatorBefore last (locator r e) ≡ true = rw z at (next-before last) in
+    record {
+      hidden = λ m a b. absurd (not-both b (rw z at (next-least last m a)));
+      from = fails (locatorBefore (locator r e) last) (λ u. locator-irrefl last (locator-trans last (locator r e) last next u));
+      later = λ t. next;
+    }

@@ -30,7 +30,9 @@ use Rattle.final_walk.specs.Walk.{Flags, SameWords}
 use Rattle.edge_window.specs.Window.{Lanes, laneRanges}
 use Rattle.edge_window.specs.declared.Wanted.{Wanted}
 use Rattle.edge_sweep.specs.Sweep.{MarksAt, From}
-use Rattle.marked_finals.specs.Marked.{listFor}
+use Rattle.marked_finals.specs.Marked.{listFor, ShownAll}
+use Rattle.marked_finals.specs.declared.MarkedFinal.the-variants.{Shown}
+use Rattle.certifying_blocks.specs.declared.Certifiers.{Certifiers}
 use Rattle.marked_finals.proofs.Lanes.{stored-at}
 use Rattle.stretch_sweep.specs.Listed.{AllAlike}
 
@@ -163,3 +165,17 @@ module _ (w : Wanted) (c : Committee) (s : Bytes) (order : List ℕ) (l : Transa
 pub same-self : (a : List ℕ) (n : ℕ) → SameWords a a n true
 unfolding SameWords
 same-self a n k h = refl
+
+module _ (w : Wanted) (c : Committee) (s : Bytes) (order : List ℕ) (o : SortedStore s order) (l : TransactionLocator) (flags : List ℕ) (own : Flags (readingOf (w .rejects)) c s order l flags) where
+  pub alike-start : (marks : List ℕ) → AllAlike w c s order marks flags → Alike w c s order l marks
+  unfolding AllAlike
+  alike-start marks all m r = let y = all m r in (y .0, words-same (w .shares) (readingOf (w .rejects)) c s order o l m flags flags own (y .1) (same-self flags (length order)))
+
+  module _ (marks other : List ℕ) (f : Certifiers) (all : ShownAll w c s order marks other (Shown f)) where
+    pub alike-next : SameWords flags other (length order) true → Alike w c s order l marks
+    unfolding ShownAll
+    alike-next same m r = let y = all m r in (y .0, words-same (w .shares) (readingOf (w .rejects)) c s order o l m flags other own (y .1 .1) same)
+
+    pub other-next : SameWords flags other (length order) false → (q : TransactionLocator) → MarksAt (laneRanges w s order) marks q → certifiedAlike (blocksOf s) (listFor w c (blocksOf s)) l q ≡ false
+    unfolding ShownAll
+    other-next different q r = words-other (w .shares) (readingOf (w .rejects)) c s order o l q flags other own (all q r .1 .1) different

@@ -1,11 +1,12 @@
 -- Machinery for the contracts of inner functions: a list by a sweep over the edges. Assumes nothing: these are definitions.
-use Prim.Native.Nat.{ℕ, _≤_, _<_}
+use Prim.Native.Nat.{ℕ, _/_, _≤_, _<_}
 use mathlib.Core.Path.{_≡_}
 use mathlib.Core.Bool.{Bool, true, false}
 use mathlib.Core.List.{List}
 use mathlib.Core.Option.{Option, none, some}
 use lib.ListN.{length, getD}
 use Rattle.base.specs.Le.{Bytes}
+use Rattle.base.specs.Checks.{answered}
 use Rattle.committee.specs.Committee.{Committee}
 use Rattle.committee.specs.declared.Stake.{Stake}
 use Rattle.blocks.specs.Reference.{TransactionLocator, locator, locatorBefore}
@@ -13,7 +14,10 @@ use Rattle.types.specs.Values.{asLocator}
 use Rattle.finality.specs.NextFinal.{isAfter}
 use Rattle.finality.specs.Finality.{blocksOf}
 use Rattle.readings.specs.Readings.{readingOf}
-use Rattle.stretches.specs.Stretches.{stretchEnd}
+use Rattle.stretches.specs.Stretches.{stretchEnd, stretches}
+use Rattle.stretches.specs.Bulk.{givenAfter, wordsAfter}
+use Rattle.stretch_words.specs.Answers.{asStretches}
+use Rattle.stretch_words.specs.declared.StretchesAnswer as answer
 use Rattle.final_walk.specs.Walk.{Flags, CertifyFlagged}
 use Rattle.edge_window.specs.Window.{laneRanges}
 use Rattle.edge_window.specs.declared.Wanted.{Wanted}
@@ -54,6 +58,13 @@ NextFound w c s order h t marks flags next.the-variants.Nothing = (last : Option
 pub record RunOn (w : Wanted) (c : Committee) (s : Bytes) (order : List ℕ) (l : TransactionLocator) (t marks : List ℕ) (r : sweep.Sweep) : Type 0 where
   pub stands : Stands (laneRanges w s order) s t marks r
   pub ends : asLocator (r .here) ≡ locator (l .block) (stretchEnd (blocksOf s) (listFor w c (blocksOf s)) l)
+
+-- the stretches after each locator from which the sweep reached where it stood, as many as the slice holds
+unfoldable pub FilledFrom : Wanted → Committee → Bytes → TransactionLocator → List ℕ → List ℕ → answer.StretchesAnswer → Type 0
+FilledFrom w c s h out out' r =
+    (after : Option TransactionLocator) → Reaching w c s after h
+    → (asStretches r ≡ answered (givenAfter (listFor w c (blocksOf s)) after (stretches c (blocksOf s) (listFor w c (blocksOf s)) (length out / 10) after)))
+    × (out' ≡ wordsAfter (stretches c (blocksOf s) (listFor w c (blocksOf s)) (length out / 10) after) out)
 
 -- what filling a slice is lent; all marks are 0
 pub record FillLent (c : Committee) (total : Stake) (s : Bytes) (order sets t spare marks : List ℕ) : Type 0 where

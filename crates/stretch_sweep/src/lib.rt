@@ -7,11 +7,11 @@ use edge_sweep::Sweep;
 use edge_window::Wanted;
 use marked_finals::MarkedFinal;
 use stretch_words::StretchesAnswer;
-use types::TransactionLocator;
 use vote_starts::MaybeLocator;
 ghost use mathlib.Core.Path.{_≡_};
+ghost use mathlib.Core.List.{List};
 ghost use Prim.Native.Nat.{ℕ, _/_};
-ghost use lib.ListN.{length, getD};
+ghost use lib.ListN.{length};
 ghost use Rattle.base.specs.Checks.{answered};
 ghost use Rattle.finality.specs.Finality.{blocksOf};
 ghost use Rattle.types.specs.Values.{asLocator};
@@ -22,7 +22,10 @@ ghost use Rattle.stretch_words.specs.Answers.{asStretches};
 ghost use Rattle.edge_window.specs.Window.{laneRanges};
 ghost use Rattle.edge_sweep.specs.Sweep.{Stands};
 ghost use Rattle.marked_finals.specs.Marked.{listFor};
-ghost use Rattle.stretch_sweep.specs.Listed.{Lent, NextFound, AllAlike, RunOn, FillLent};
+ghost use Rattle.stretch_sweep.specs.Listed.{Lent, NextFound, AllAlike, RunOn, FilledFrom, FillLent};
+
+// The words of the table of edges, and of those to spare.
+pub const TABLE_WORDS: usize = 18432;
 
 // A place where the list shows a locator, and its certifying blocks.
 pub struct FoundStretch {
@@ -107,33 +110,27 @@ fn run_on(
     }
 }
 
-// Writes stretches until the slice is full or no locator of the list follows. All marks are 0.
-pub fn fill(
+// Writes stretches from where the sweep stands on until the slice is full or no locator of the list follows.
+fn fill_from(
     stakes: &[u64],
     total: Stake,
     store: &[u8],
     order: &[u64],
     sets: &[u64],
     wanted: Wanted,
+    first: Sweep,
     edges: &mut [u64],
     spare: &mut [u64],
     marks: &mut [u64],
     out: &mut [u64],
-    after: MaybeLocator,
 ) -> StretchesAnswer
-    requires { ⌜ FillLent (now stakes) total (now store) (now order) (now sets) (now edges) (now spare) (now marks) ⌝ }
-    ensures { λ r. ⌜ asStretches r ≡ answered (givenAfter (listFor wanted (now (stakes .entry)) (blocksOf (now (store .entry)))) (asMaybe after) (stretches (now (stakes .entry)) (blocksOf (now (store .entry))) (listFor wanted (now (stakes .entry)) (blocksOf (now (store .entry)))) (length (now (out .entry)) / 10) (asMaybe after))) ⌝ }
-    ensures { λ r. ⌜ now (out .exit) ≡ wordsAfter (stretches (now (stakes .entry)) (blocksOf (now (store .entry))) (listFor wanted (now (stakes .entry)) (blocksOf (now (store .entry)))) (length (now (out .entry)) / 10) (asMaybe after)) (now (out .entry)) ⌝ }
+    requires { ⌜ (((flags : List ℕ) → length flags ≡ 1024 → Lent (now stakes) total (now store) (now order) (now sets) (now edges) (now spare) (now marks) flags)) × Stands (laneRanges wanted (now store) (now order)) (now store) (now edges) (now marks) first ⌝ }
+    ensures { λ r. ⌜ FilledFrom wanted (now (stakes .entry)) (now (store .entry)) (asLocator (first .here)) (now (out .entry)) (now (out .exit)) r ⌝ }
 {
     let room = out.len() / stretch_words::STRETCH_WORDS;
-    let begun = sweep_start::begin(store, order, wanted, after, edges, spare, marks);
-    let Onward::At(first) = begun else {
-        return StretchesAnswer::Last(0);
-    };
     let mut certified = [0u64; types::MAX_BLOCKS];
     let mut sweep = first;
     let mut n: usize = 0;
-    let mut last = after;
     loop {
         let next = next_shown(
             stakes,
@@ -173,11 +170,33 @@ pub fn fill(
         );
         let end = sweep.here.offset;
         stretch_words::write_stretch(out, n, locator, end, found.blocks as u64, stake);
-        let block = locator.block;
-        last = MaybeLocator::Locator(TransactionLocator {
-            block,
-            offset: end - 1, // the last one written
-        });
         n += 1;
     }
+}
+
+// Writes stretches after a given locator, or from the start, until the slice is full or no locator of the list follows. All marks are 0.
+pub fn fill(
+    stakes: &[u64],
+    total: Stake,
+    store: &[u8],
+    order: &[u64],
+    sets: &[u64],
+    wanted: Wanted,
+    edges: &mut [u64],
+    spare: &mut [u64],
+    marks: &mut [u64],
+    out: &mut [u64],
+    after: MaybeLocator,
+) -> StretchesAnswer
+    requires { ⌜ FillLent (now stakes) total (now store) (now order) (now sets) (now edges) (now spare) (now marks) ⌝ }
+    ensures { λ r. ⌜ asStretches r ≡ answered (givenAfter (listFor wanted (now (stakes .entry)) (blocksOf (now (store .entry)))) (asMaybe after) (stretches (now (stakes .entry)) (blocksOf (now (store .entry))) (listFor wanted (now (stakes .entry)) (blocksOf (now (store .entry)))) (length (now (out .entry)) / 10) (asMaybe after))) ⌝ }
+    ensures { λ r. ⌜ now (out .exit) ≡ wordsAfter (stretches (now (stakes .entry)) (blocksOf (now (store .entry))) (listFor wanted (now (stakes .entry)) (blocksOf (now (store .entry)))) (length (now (out .entry)) / 10) (asMaybe after)) (now (out .entry)) ⌝ }
+{
+    let begun = sweep_start::begin(store, order, wanted, after, edges, spare, marks);
+    let Onward::At(first) = begun else {
+        return StretchesAnswer::Last(0);
+    };
+    fill_from(
+        stakes, total, store, order, sets, wanted, first, edges, spare, marks, out,
+    )
 }

@@ -1,2 +1,2 @@
 mod Covering
-mod Beginning
+pub mod Beginning

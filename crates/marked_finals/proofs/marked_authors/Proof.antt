@@ -4,7 +4,6 @@ use mathlib.Core.Path.{_≡_}
 use native.Mathlib.Omega.{arith}
 use lib.ListN.{length}
 use borrow.Author.Tests.{ne-eqb}
-use Rattle.blocks.specs.Block.{author}
 use Rattle.block_votes.specs.Walk.{blockAtPlace}
 use Rattle.block_votes.proofs.Sorting.{place-entry, place-author}
 use Rattle.marked_finals.specs.Marked.{MarkedIn}
@@ -52,7 +51,7 @@ author-at-requires c κs = let a = c .before .before .before .before .before .be
     place-entry (a .store .now) (a .order .now) (c .before .before .before .before .before .before .before .before .before .pre .0) (c .before .before .before .before .loop .k) (c .before .before .before .loop-test .taken)
 
 insert-requires : tie.Need-insert-requires Inv-loop μ-loop
-unfolding blockAtPlace author
+unfolding blockAtPlace
 insert-requires c κs = let a = c .before .before .before .before .before .before .before .before .before .before .args in
     omega (arith, c .author-at .ensures, place-author (a .store .now) (a .order .now) (c .before .before .before .before .before .before .before .before .before .before .pre .0) (c .before .before .before .before .before .loop .k) (c .before .before .before .before .loop-test .taken))
 
@@ -60,7 +59,7 @@ loop-less-2 : tie.Need-loop-less-2 Inv-loop μ-loop
 loop-less-2 c = omega (arith, c .before .before .before .before .before .loop-test .taken)
 
 loop-again-2 : tie.Need-loop-again-2 Inv-loop μ-loop
-unfolding author blockAtPlace
+unfolding blockAtPlace
 loop-again-2 c = let a = c .before .before .before .before .before .before .before .before .before .before .before .args in
     (omega (arith, c .before .before .before .before .before .loop-test .taken), rw (c .insert .ensures, c .before .author-at .ensures) (marked-in-more (a .store .now) (a .order .now) (a .marks .now) (c .before .before .before .before .before .before .loop .k) (c .before .before .before .before .before .before .loop .authors) (c .before .before .before .before .before .before .loop .inv .1)))
 

@@ -1,12 +1,12 @@
+use mathlib.Core.Path.{refl}
+use borrow.Author.Tests.{not-true, not-false}
+use Rattle.base.proofs.Tests.{not-both}
 use borrow.Author.Needs.{needs}
 use Rattle.marked_finals.proofs.may_show.Statement.{statement}
 use Rattle.marked_finals.proofs.may_show.Tie as tie
-use Rattle.marked_finals.proofs.may_show.Reads as reads
-use Rattle.marked_finals.proofs.may_show.Lts as lts
-use Rattle.speakers.proofs.any_marked.Reads as any-marked-reads
 
 returns : tie.Need-returns
-returns c = ?
+returns c = record { wide = λ e. refl; ordinary = λ t. absurd (not-both t (not-true _ (c .if1 .taken))) }
 
 sub-any-marked : tie.Need-sub-any-marked
 sub-any-marked c = search needs
@@ -21,7 +21,7 @@ any-marked-requires : tie.Need-any-marked-requires
 any-marked-requires c κs = search needs
 
 returns-2 : tie.Need-returns-2
-returns-2 c = ?
+returns-2 c = record { wide = λ e. absurd (not-both (not-false _ (c .before .before .if1 .left)) e); ordinary = λ t. c .any-marked .ensures }
 
 pub may-show-spec : {M : Type 1} → statement M
 may-show-spec =

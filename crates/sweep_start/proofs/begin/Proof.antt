@@ -45,7 +45,7 @@ unfolding Gone asMaybe
 returns c = let o = c .before .before .before .before .before .before .before .before .before .before .before .before .before .before .before .before .before .before .before .before .before .before .before .before in
     let a = o .args in
     let g = rw (c .before .before .before .before .before .before .before .before .before .before .before .before .before .before .before .before .before .enum-told .given .1) at (c .before .before .before .before .before .before .before .before .before .before .before .before .before .before .gather .ensures) in
-    rw (c .before .before .before .before .before .before .before .before .before .before .before .before .before .before .before .before .before .enum-told .given .1) (start-begun (laneRanges (a .wanted) (a .store .now) (a .order .now)) (a .store .now) _ (a .marks .now) (c .before .before .before .before .before .before .before .before .before .before .before .before .before .before .gather .result) (o .pre .1) _ _ (c .before .before .before .before .before .before .go-on .result) (o .pre .0 .long) (c .before .before .before .before .before .before .go-on .ensures none (start-standing (laneRanges (a .wanted) (a .store .now) (a .order .now)) (a .store .now) _ (a .marks .now) (c .before .before .before .before .before .before .before .before .before .before .before .before .before .before .gather .result) g (o .pre .1))))
+    rw (c .before .before .before .before .before .before .before .before .before .before .before .before .before .before .before .before .before .enum-told .given .1) (start-begun (laneRanges (a .wanted) (a .store .now) (a .order .now)) (a .store .now) (a .edges .now) (a .marks .now) (c .before .before .before .before .before .before .before .before .before .before .before .before .before .before .gather .result) (o .pre .1) _ _ (c .before .before .before .before .before .before .go-on .result) (o .pre .0 .long) (c .before .before .before .before .before .before .go-on .ensures none (start-standing (laneRanges (a .wanted) (a .store .now) (a .order .now)) (a .store .now) _ (a .marks .now) (c .before .before .before .before .before .before .before .before .before .before .before .before .before .before .gather .result) g (o .pre .1))))
 
 mark-lanes-requires : tie.Need-mark-lanes-requires
 mark-lanes-requires c κs = search needs
