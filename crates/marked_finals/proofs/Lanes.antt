@@ -82,7 +82,7 @@ module _ (w : Wanted) (s : Bytes) (order marks : List ℕ) (few : length order �
 
   pub shares-marked : SortedStore s order → w .shares ≡ true → (b : Bool) → AnyMarked (take 1024 (drop 2048 marks)) (length order) b → isStoredShare (blocksOf s) l ≡ b
   unfolding AnyMarked isStoredShare
-  shares-marked o t true (k , h) =
+  shares-marked o t true (k, h) =
       in-any (λ b. isShareOf b l) (place-stored s order o k (h .0))
       (sym (share-mark w s order marks few l right k (h .0) t) ∙ sym (ap (λ (x : ℕ). eqb x 1) (getD-take 1024 (drop 2048 marks) k 0 (omega (arith, h .0)) ∙ getD-drop 2048 marks k 0)) ∙ h .1)
   shares-marked o t false f = fails (anyOf (λ b. isShareOf b l) (blocksOf s)) λ e.

@@ -56,11 +56,31 @@ fn certify(
 {
     let own = &marks[0..1024];
     if !wanted.rejects {
-        return final_walk::walk(stakes, total, store, order, sets, own, own, false, certified);
+        return final_walk::walk(
+            stakes,
+            total,
+            store,
+            order,
+            sets,
+            own,
+            own,
+            false,
+            certified,
+        );
     }
     let rejects = &marks[1024..2048];
     if !speakers::any_marked(rejects, order.len()) {
-        return final_walk::walk(stakes, total, store, order, sets, own, own, false, certified);
+        return final_walk::walk(
+            stakes,
+            total,
+            store,
+            order,
+            sets,
+            own,
+            own,
+            false,
+            certified,
+        );
     }
     speakers::spread(store, order, sets, rejects, &mut spare[0..2048]);
     final_walk::walk(

@@ -112,7 +112,7 @@ module _ (w : Wanted) (c : Committee) (s : Bytes) (order : List ℕ) where
       not-both (v .votes) (subst (λ (d : Block). votesFor d m ≡ false) (p .1 .1) (sym (vote-mark w s order [] few m (λ k h. sym (b k h)) (p .0) (p .1 .0))))
 
   module _ (o : SortedStore s order) (few : length order ≤ 1024) (after : Option TransactionLocator) where
-    pub begun-reaching : (t marks : List ℕ) (v : sweep.Sweep) → BegunAt lanes s t marks after v → ((l : TransactionLocator) → list .shows l ≡ true → l .offset < 18446744073709551615) 
+    pub begun-reaching : (t marks : List ℕ) (v : sweep.Sweep) → BegunAt lanes s t marks after v → ((l : TransactionLocator) → list .shows l ≡ true → l .offset < 18446744073709551615)
         → Reaching w c s after (asLocator (v .here))
     begun-reaching t marks v b last-hidden = record { hidden = λ m a d. bare-hidden o few m (b .bare m a d); from = b .from; later = λ u. b .later (last-hidden (asLocator (v .here)) u) }
 
@@ -130,6 +130,10 @@ lent-kept c total s order sets t t' spare spare' marks marks' flags flags' l e f
       walk = record { sorted = w .sorted; whole = w .whole; few = w .few; included = w .included; marked = g ∙ w .marked; spared = omega (arith, w .spared); flagged = h ∙ w .flagged };
       room = record { sorted = r .sorted; wide = omega (arith, r .wide); spared = omega (arith, r .spared); long = g ∙ r .long };
     }
+
+pub lent-for : (c : Committee) (total : Stake) (s : Bytes) (order sets t t' spare spare' marks marks' : List ℕ) → ((flags : List ℕ) → length flags ≡ 1024 → Lent c total s order sets t spare marks flags) → length t' ≡ length t
+    → length spare' ≡ length spare → length marks' ≡ length marks → (flags : List ℕ) → length flags ≡ 1024 → Lent c total s order sets t' spare' marks' flags
+lent-for c total s order sets t t' spare spare' marks marks' l e f g flags h = lent-kept c total s order sets t t' spare spare' marks marks' flags flags (l flags h) e f g refl
 
 -- ---- from stop to stop
 

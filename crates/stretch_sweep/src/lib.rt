@@ -59,7 +59,15 @@ pub fn next_shown(
     let mut at = sweep;
     loop {
         let shown = marked_finals::shown_marks(
-            stakes, total, store, order, sets, wanted, marks, spare, certified,
+            stakes,
+            total,
+            store,
+            order,
+            sets,
+            wanted,
+            marks,
+            spare,
+            certified,
         );
         if let MarkedFinal::Shown(found) = shown {
             return NextShown::At(FoundStretch { sweep: at, found });
@@ -98,7 +106,15 @@ fn run_on(
             return at; // never: what is shown ends somewhere
         };
         let shown = marked_finals::shown_marks(
-            stakes, total, store, order, sets, wanted, marks, spare, &mut other,
+            stakes,
+            total,
+            store,
+            order,
+            sets,
+            wanted,
+            marks,
+            spare,
+            &mut other,
         );
         let MarkedFinal::Shown(_) = shown else {
             return stop;
@@ -197,6 +213,58 @@ pub fn fill(
         return StretchesAnswer::Last(0);
     };
     fill_from(
-        stakes, total, store, order, sets, wanted, first, edges, spare, marks, out,
+        stakes,
+        total,
+        store,
+        order,
+        sets,
+        wanted,
+        first,
+        edges,
+        spare,
+        marks,
+        out,
     )
+}
+
+// The least locator of the list after a given one, or from the start. All marks are 0.
+pub fn next_from(
+    stakes: &[u64],
+    total: Stake,
+    store: &[u8],
+    order: &[u64],
+    sets: &[u64],
+    wanted: Wanted,
+    edges: &mut [u64],
+    spare: &mut [u64],
+    marks: &mut [u64],
+    after: MaybeLocator,
+) -> MaybeLocator
+    requires { ⌜ FillLent (now stakes) total (now store) (now order) (now sets) (now edges) (now spare) (now marks) ⌝ }
+    ensures { λ r. ⌜ asMaybe r ≡ listFor wanted (now (stakes .entry)) (blocksOf (now (store .entry))) .next (asMaybe after) ⌝ }
+{
+    let begun = sweep_start::begin(store, order, wanted, after, edges, spare, marks);
+    let Onward::At(first) = begun else {
+        return MaybeLocator::Nothing;
+    };
+    let mut certified = [0u64; types::MAX_BLOCKS];
+    let next = next_shown(
+        stakes,
+        total,
+        store,
+        order,
+        sets,
+        wanted,
+        first,
+        edges,
+        spare,
+        marks,
+        &mut certified,
+    );
+    let NextShown::At(f) = next else {
+        return MaybeLocator::Nothing;
+    };
+    let at = f.sweep;
+    let here = at.here;
+    MaybeLocator::Locator(here)
 }

@@ -47,8 +47,7 @@ loop-again : tie.Need-loop-again Inv-loop μ-loop
 loop-again c = let o = c .before .before .before .before .before .before .before .before .before .before .before in
     let p = o .pre in
     let l = c .before .before .before .before .before .before .before .loop in
-    let h = c .before .before .before .before .before .before .loop-test .taken in
-    (
+    let h = c .before .before .before .before .before .before .loop-test .taken in (
       (omega (arith, l .inv .0 .0), omega arith),
       (
         ap length (c .before .before .pass-edge .ensures) ∙ length-set (l .marks) _ _ ∙ l .inv .1 .0,

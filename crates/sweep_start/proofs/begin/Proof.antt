@@ -25,8 +25,7 @@ unfolding asMaybe
 go-on-requires c κs = let o = c .before .before .before .before .before .before .before .before .before .before .before .before .before .before .before .before .before in
     let a = o .args in
     let p = o .pre .0 in
-    let g = rw (c .before .before .before .before .before .before .before .before .before .before .enum-told .given .1) at (c .before .before .before .before .before .before .before .gather .ensures) in
-    (
+    let g = rw (c .before .before .before .before .before .before .before .before .before .before .enum-told .given .1) at (c .before .before .before .before .before .before .before .gather .ensures) in (
       record { sorted = p .sorted; wide = omega (arith, p .wide, c .before .before .before .before .before .before .before .gather .kept .1 .1 .1 .1 .0); spared = omega (arith, p .spared, c .before .before .before .before .before .before .before .gather .kept .1 .1 .1 .1 .0, c .before .before .before .before .before .before .before .gather .kept .1 .1 .1 .1 .1 .0); long = p .long },
       record { here = none; stands = start-standing (laneRanges (a .wanted) (a .store .now) (a .order .now)) (a .store .now) _ (a .marks .now) (c .before .before .before .before .before .before .before .gather .result) g (o .pre .1) },
     )
