@@ -126,11 +126,11 @@ uint64_t lomkhvide_finality_withdrawing(const uint8_t *stakes, size_t stakes_len
 uint64_t lomkhvide_next_final(const uint8_t *stakes, size_t stakes_len, const uint8_t *store, size_t store_len, const uint8_t *after,
                               size_t after_len, uint8_t *found, size_t found_len);
 
-/* The same of the wide list. Both need at most 96 KB of stack. */
+/* The same of the wide list. Both need at most 496 KB of stack. */
 uint64_t lomkhvide_next_wide(const uint8_t *stakes, size_t stakes_len, const uint8_t *store, size_t store_len, const uint8_t *after,
                              size_t after_len, uint8_t *found, size_t found_len);
 
-/* Both in the reading in which an owner may withdraw. They need at most 96 KB of stack. */
+/* Both in the reading in which an owner may withdraw. They need at most 496 KB of stack. */
 uint64_t lomkhvide_next_final_withdrawing(const uint8_t *stakes, size_t stakes_len, const uint8_t *store, size_t store_len,
                                           const uint8_t *after, size_t after_len, uint8_t *found, size_t found_len);
 uint64_t lomkhvide_next_wide_withdrawing(const uint8_t *stakes, size_t stakes_len, const uint8_t *store, size_t store_len,
@@ -146,11 +146,11 @@ uint64_t lomkhvide_next_wide_withdrawing(const uint8_t *stakes, size_t stakes_le
 uint64_t lomkhvide_final_stretches(const uint8_t *stakes, size_t stakes_len, const uint8_t *store, size_t store_len, const uint8_t *after,
                                    size_t after_len, uint8_t *stretches, size_t stretches_len);
 
-/* The same of the wide list. Both need at most 480 KB of stack. */
+/* The same of the wide list. Both need at most 496 KB of stack. */
 uint64_t lomkhvide_wide_stretches(const uint8_t *stakes, size_t stakes_len, const uint8_t *store, size_t store_len, const uint8_t *after,
                                   size_t after_len, uint8_t *stretches, size_t stretches_len);
 
-/* Both in the reading in which an owner may withdraw: a stretch ends before a withdrawn locator too. They need at most 480 KB of stack. */
+/* Both in the reading in which an owner may withdraw: a stretch ends before a withdrawn locator too. They need at most 496 KB of stack. */
 uint64_t lomkhvide_final_stretches_withdrawing(const uint8_t *stakes, size_t stakes_len, const uint8_t *store, size_t store_len,
                                                const uint8_t *after, size_t after_len, uint8_t *stretches, size_t stretches_len);
 uint64_t lomkhvide_wide_stretches_withdrawing(const uint8_t *stakes, size_t stakes_len, const uint8_t *store, size_t store_len,

@@ -280,16 +280,16 @@ int main(void) {
     at_most("finality_withdrawing", finality_withdrawing, 2 * 1023 + 1, 98304);
     at_most("is_loadable", is_loadable, 1, 98304);
     at_most("loadable", loadable, 1, 507904);
-    at_most("next_final", next_final, 1, 98304);
-    at_most("next_wide", next_wide, 1, 98304);
-    at_most("final_stretches", final_stretches, 2, 491520);
-    at_most("wide_stretches", wide_stretches, 2, 491520);
+    at_most("next_final", next_final, 1, 507904);
+    at_most("next_wide", next_wide, 1, 507904);
+    at_most("final_stretches", final_stretches, 2, 507904);
+    at_most("wide_stretches", wide_stretches, 2, 507904);
     at_most("final_stretches_indexed", final_stretches_indexed, 2, 131072);
     at_most("wide_stretches_indexed", wide_stretches_indexed, 2, 131072);
-    at_most("next_final_withdrawing", next_final_withdrawing, 1, 98304);
-    at_most("next_wide_withdrawing", next_wide_withdrawing, 1, 98304);
-    at_most("final_stretches_withdrawing", final_stretches_withdrawing, 2, 491520);
-    at_most("wide_stretches_withdrawing", wide_stretches_withdrawing, 2, 491520);
+    at_most("next_final_withdrawing", next_final_withdrawing, 1, 507904);
+    at_most("next_wide_withdrawing", next_wide_withdrawing, 1, 507904);
+    at_most("final_stretches_withdrawing", final_stretches_withdrawing, 2, 507904);
+    at_most("wide_stretches_withdrawing", wide_stretches_withdrawing, 2, 507904);
     printf("%d passed, %d failed\n", 26 - failed, failed);
     return failed != 0;
 }
