@@ -50,10 +50,10 @@ pub record Standing (lanes : Lanes) (s : Bytes) (t marks : List ℕ) (n : ℕ) (
 abbrev pub Stands : Lanes → Bytes → List ℕ → List ℕ → sweep.Sweep → Type 0
 Stands lanes s t marks w = Standing lanes s t marks (w .n) (asMaybe (w .bound)) (w .at) (some (asLocator (w .here)))
 
--- what the sweep is lent: a store with its positions, a table of 6,144 rows, as many spare words, and a mark for each lane
+-- what the sweep is lent: a store with its positions, a table of 5,462 rows, as many spare words, and a mark for each lane
 pub record Room (s : Bytes) (order t spare marks : List ℕ) : Type 0 where
   pub sorted : SortedStore s order
-  pub wide : 18432 ≤ length t
+  pub wide : 16386 ≤ length t
   pub spared : length t ≤ length spare
   pub long : length marks ≡ 3072
 

@@ -21,7 +21,7 @@ ghost use Rattle.stretch_words.specs.Answers.{asStretches};
 
 // ---- the question in bulk
 
-// The ordinary or the wide list over a store in order, where owners may withdraw or not, by one sweep over the edges of its blocks' ranges: 6,144 of
+// The ordinary or the wide list over a store in order, where owners may withdraw or not, by one sweep over the edges of its blocks' ranges: 5,462 of
 // them at a time, and as many to spare.
 pub fn fill_stretches(
     stakes: &[u64],

@@ -25,7 +25,7 @@ ghost use Rattle.marked_finals.specs.Marked.{listFor};
 ghost use Rattle.stretch_sweep.specs.Listed.{Lent, NextFound, AllAlike, RunOn, FilledFrom, FillLent};
 
 // The words of the table of edges, and of those to spare.
-pub const TABLE_WORDS: usize = 18432;
+pub const TABLE_WORDS: usize = 16386;
 
 // A place where the list shows a locator, and its certifying blocks.
 pub struct FoundStretch {

@@ -30,8 +30,8 @@ fill-requires : tie.Need-fill-requires
 fill-requires c κs = let p = c .before .before .before .before .before .before .before .before .before .before .before .before .pre in
     record {
       lent = λ flags e. record {
-        walk = record { sorted = p .0 .0; whole = p .0 .1; few = p .1; included = c .before .before .before .before .before .before .note-includes .ensures; marked = length-replicate {A = ℕ} 3072 0; spared = omega (arith, length-replicate {A = ℕ} 18432 0); flagged = e };
-        room = record { sorted = some-committee (p .0 .0); wide = omega (arith, length-replicate {A = ℕ} 18432 0); spared = omega arith; long = length-replicate {A = ℕ} 3072 0 };
+        walk = record { sorted = p .0 .0; whole = p .0 .1; few = p .1; included = c .before .before .before .before .before .before .note-includes .ensures; marked = length-replicate {A = ℕ} 3072 0; spared = omega (arith, length-replicate {A = ℕ} 16386 0); flagged = e };
+        room = record { sorted = some-committee (p .0 .0); wide = omega (arith, length-replicate {A = ℕ} 16386 0); spared = omega arith; long = length-replicate {A = ℕ} 3072 0 };
       };
       bare = λ k. zeros-at 3072 k;
     }
