@@ -47,14 +47,14 @@ extern "C" {
     X(fewest_owners, 4) \
     X(finality, 96) \
     X(finality_withdrawing, 96) \
-    X(next_final, 96) \
-    X(next_wide, 96) \
-    X(next_final_withdrawing, 96) \
-    X(next_wide_withdrawing, 96) \
-    X(final_stretches, 480) \
-    X(wide_stretches, 480) \
-    X(final_stretches_withdrawing, 480) \
-    X(wide_stretches_withdrawing, 480) \
+    X(next_final, 496) \
+    X(next_wide, 496) \
+    X(next_final_withdrawing, 496) \
+    X(next_wide_withdrawing, 496) \
+    X(final_stretches, 496) \
+    X(wide_stretches, 496) \
+    X(final_stretches_withdrawing, 496) \
+    X(wide_stretches_withdrawing, 496) \
     X(final_stretches_indexed, 128) \
     X(wide_stretches_indexed, 128) \
     X(answer_sorted, 48) \

@@ -37,7 +37,7 @@ fn rejected_range(locator: TransactionLocator) -> VotedRange
 }
 
 // What a reject rejects: its first locator. Nothing else does.
-fn rejected(statement: BaseStatement) -> VotedRange
+pub fn rejected(statement: BaseStatement) -> VotedRange
     ensures { λ r. ⌜ ((s : Bytes) → votedBy r ≡ rejectRanges (asStatement s statement)) ⌝ }
 {
     match statement {

@@ -92,7 +92,7 @@ module _ (reading : Reading) (c : Committee) (s : Bytes) where
 
   -- ---- the buffer
 
-  pub held-start : (buffer : List ℕ) (a : Along) → a .next ≡ 0 → a .count ≡ 0 → a .more ≡ true → Held reading c s buffer a
+  pub held-start : (buffer : Bytes) (a : Along) → a .next ≡ 0 → a .count ≡ 0 → a .more ≡ true → Held reading c s buffer a
   unfolding stretches flatten
   held-start buffer a e f g =
       record {
@@ -126,7 +126,7 @@ module _ (reading : Reading) (c : Committee) (s : Bytes) where
           λ e. none-ahead (length before / 10) (asMaybe (a .after)) (omega (arith, some-room)) (omega (arith, z, many, e)),
         )
 
-  module _ (buffer : List ℕ) (a : Along) (g : Held reading c s buffer a) where
+  module _ (buffer : Bytes) (a : Along) (g : Held reading c s buffer a) where
     pub held-done : a .count ≤ a .next → a .next ≡ a .count
     held-done h = omega (arith, g .many)
 

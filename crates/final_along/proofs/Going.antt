@@ -131,14 +131,14 @@ module _ (reading : Reading) (c : Committee) (s : Bytes) where
 
 module _ (reading : Reading) (c : Committee) (s : Bytes) where
   -- what was passed, and what is left; the buffer as it was filled
-  pub record Passing (buffer : List ℕ) (along : Along) (gone : List TransactionLocator) : Type 0 where
+  pub record Passing (buffer : Bytes) (along : Along) (gone : List TransactionLocator) : Type 0 where
     pub rest : List TransactionLocator
     pub splits : finals reading c s ≡ gone ++ rest
     pub gives : Gives (shareList reading c s) (asMaybe (along .after)) rest
     pub held : Held reading c s buffer along
-    pub long : length buffer ≡ 1280
+    pub long : length buffer ≡ 10240
 
-  pub passing-start : broken c ≡ false → storeInOrder c s ≡ true → (buffer : List ℕ) (along : Along) → asMaybe (along .after) ≡ none → Held reading c s buffer along → length buffer ≡ 1280
+  pub passing-start : broken c ≡ false → storeInOrder c s ≡ true → (buffer : Bytes) (along : Along) → asMaybe (along .after) ≡ none → Held reading c s buffer along → length buffer ≡ 10240
       → Passing buffer along []
   passing-start b h buffer along e held long =
       record {
@@ -149,7 +149,7 @@ module _ (reading : Reading) (c : Committee) (s : Bytes) where
         long = long;
       }
 
-  module _ (buffer : List ℕ) (along : Along) (gone : List TransactionLocator) (w : Passing buffer along gone) where
+  module _ (buffer : Bytes) (along : Along) (gone : List TransactionLocator) (w : Passing buffer along gone) where
     -- where none is left, all were passed
     pub passing-end : (last : Option TransactionLocator) → Found reading c s (asMaybe (along .after)) last Ended → gone ≡ finals reading c s
     unfolding Found
@@ -185,7 +185,7 @@ module _ (reading : Reading) (c : Committee) (s : Bytes) where
           subst (λ (x : TransactionLocatorRange). x .start < x .end) (sym (next .range))
           (stretch-longer reading c s 1 (asMaybe (along .after)) (next .stretch) (subst (λ (ts : List FinalStretch). next .stretch ∈ ts) (sym (next .comes)) here))
 
-      pub passing-next : (buffer' : List ℕ) (along' : Along) → asMaybe (along' .after) ≡ last → Held reading c s buffer' along' → length buffer' ≡ 1280 → Passing buffer' along' (gone ++ locators (asRange q))
+      pub passing-next : (buffer' : Bytes) (along' : Along) → asMaybe (along' .after) ≡ last → Held reading c s buffer' along' → length buffer' ≡ 10240 → Passing buffer' along' (gone ++ locators (asRange q))
       unfolding later
       passing-next buffer' along' e held long =
           record {

@@ -5,14 +5,15 @@ use mathlib.Core.Path.{_≡_}
 use mathlib.Core.Bool.{true, false}
 use mathlib.Core.List.{List, [], _∷_, _++_, map, flatten}
 use mathlib.Core.Option.{Option, some}
-use lib.ListN.{length, drop, getD}
-use Rattle.base.specs.Le.{Bytes}
+use lib.ListN.{length, drop}
+use Rattle.base.specs.Le.{Bytes, leAt}
 use Rattle.committee.specs.Committee.{Committee}
-use Rattle.blocks.specs.Reference.{BlockReference, TransactionLocator, TransactionLocatorRange, newRange}
-use Rattle.types.specs.Values.{beBytes, asRange}
+use Rattle.blocks.specs.Reference.{TransactionLocator, TransactionLocatorRange, newRange}
+use Rattle.types.specs.Values.{asRange}
+use Rattle.reference_bytes.specs.Step.{referenceAt}
 use Rattle.finality.specs.Finality.{blocksOf}
 use Rattle.stretches.specs.Stretches.{Listing, FinalStretch, lastLocator, stretches, reached, moreFollow}
-use Rattle.stretches.specs.Bulk.{stretchWords}
+use Rattle.stretches.specs.Bulk.{stretchBytes}
 use Rattle.readings.specs.Readings.{Reading}
 use Rattle.reading_lists.specs.Lists.{listing}
 use Rattle.vote_starts.specs.Answers.{asMaybe}
@@ -28,29 +29,20 @@ shareList reading c s = listing true reading c (blocksOf s)
 abbrev pub ahead : Reading → Committee → Bytes → ℕ → Option TransactionLocator → List FinalStretch
 ahead reading c s n after = stretches c (blocksOf s) (shareList reading c s) n after
 
--- ---- a stretch from its words
+-- ---- a stretch from its bytes
 
--- the reference that six words give, from one on
-unfoldable pub referenceFrom : List ℕ → ℕ → BlockReference
-referenceFrom ws p =
-    record {
-      authority = getD ws p 0;
-      round = getD ws (p + 1) 0;
-      digest = beBytes 8 (getD ws (p + 2) 0) ++ (beBytes 8 (getD ws (p + 3) 0) ++ (beBytes 8 (getD ws (p + 4) 0) ++ beBytes 8 (getD ws (p + 5) 0)));
-    }
-
--- the locators of the stretch whose ten words stand from one on
-unfoldable pub rangeFrom : List ℕ → ℕ → TransactionLocatorRange
-rangeFrom ws p = newRange (referenceFrom ws p) (getD ws (p + 6) 0) (getD ws (p + 7) 0)
+-- the locators of the stretch whose 80 bytes stand at a position
+unfoldable pub rangeFrom : Bytes → ℕ → TransactionLocatorRange
+rangeFrom b p = newRange (referenceAt b p) (leAt 8 b (p + 48)) (leAt 8 b (p + 56))
 
 -- ---- the buffer
 
 -- the stretches that are left in the buffer are the next ones after the last locator passed; where no more follow, none does
-pub record Held (reading : Reading) (c : Committee) (s : Bytes) (buffer : List ℕ) (a : Along) : Type 0 where
+pub record Held (reading : Reading) (c : Committee) (s : Bytes) (buffer : Bytes) (a : Along) : Type 0 where
   pub asked : ℕ
   pub many : a .next + length (ahead reading c s asked (asMaybe (a .after))) ≡ a .count
-  pub rest : List ℕ
-  pub words : drop (10 * a .next) buffer ≡ flatten (map stretchWords (ahead reading c s asked (asMaybe (a .after)))) ++ rest
+  pub rest : Bytes
+  pub bytes : drop (80 * a .next) buffer ≡ flatten (map stretchBytes (ahead reading c s asked (asMaybe (a .after)))) ++ rest
   pub last : a .more ≡ false → moreFollow (shareList reading c s) (reached (asMaybe (a .after)) (ahead reading c s asked (asMaybe (a .after)))) ≡ false
 
 -- what comes next after a locator, and the last locator passed then

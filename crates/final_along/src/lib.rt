@@ -1,10 +1,6 @@
 // The ordinary list, of the final stored shares, gone along stretch by stretch: some at a time in a buffer, which is filled again where they end.
-use committee::AuthorityIndex;
-use committee::RoundNumber;
 use committee::Stake;
 use stretch_words::StretchesAnswer;
-use types::BlockDigest;
-use types::BlockReference;
 use types::TransactionLocator;
 use types::TransactionLocatorRange;
 use vote_starts::MaybeLocator;
@@ -21,8 +17,8 @@ ghost use Rattle.readings.specs.Readings.{Reading, readingOf};
 ghost use Rattle.final_search.specs.Search.{Ready};
 ghost use Rattle.final_along.specs.Along.{ahead, rangeFrom, Held, Found};
 
-// The words of the buffer: 128 stretches.
-pub const BUFFER_WORDS: usize = 1280;
+// The bytes of the buffer: 128 stretches.
+pub const BUFFER_BYTES: usize = 10240;
 
 // How far the list was gone along: the stretch of the buffer that comes next, how many there are in it, whether more follow these, and the last
 // locator that was passed.
@@ -46,7 +42,7 @@ pub struct Step {
 
 // Before the first stretch.
 pub fn at_start() -> Along
-    ensures { λ r. ⌜ (asMaybe (r .after) ≡ none) × ((reading : Reading) (c : Committee) (s : Bytes) (buffer : List ℕ) → Held reading c s buffer r) ⌝ }
+    ensures { λ r. ⌜ (asMaybe (r .after) ≡ none) × ((reading : Reading) (c : Committee) (s : Bytes) (buffer : Bytes) → Held reading c s buffer r) ⌝ }
 {
     Along {
         next: 0,
@@ -57,22 +53,15 @@ pub fn at_start() -> Along
 }
 
 // The block and the offsets of the stretch of that index in a buffer.
-fn read_stretch(buffer: &[u64], i: usize) -> TransactionLocatorRange
-    requires { ⌜ 10 * i + 10 ≤ length (now buffer) ⌝ }
-    ensures { λ r. ⌜ asRange r ≡ rangeFrom (now (buffer .entry)) (10 * i) ⌝ }
+fn read_stretch(buffer: &[u8], i: usize) -> TransactionLocatorRange
+    requires { ⌜ 80 * i + 80 ≤ length (now buffer) ⌝ }
+    ensures { λ r. ⌜ asRange r ≡ rangeFrom (now (buffer .entry)) (80 * i) ⌝ }
 {
-    let at = stretch_words::STRETCH_WORDS * i;
-    let block = BlockReference {
-        authority: AuthorityIndex(buffer[at]),
-        round: RoundNumber(buffer[at + 1]),
-        digest: BlockDigest(
-            buffer[at + 2],
-            buffer[at + 3],
-            buffer[at + 4],
-            buffer[at + 5],
-        ),
-    };
-    TransactionLocatorRange::new(block, buffer[at + 6], buffer[at + 7])
+    let at = stretch_words::STRETCH_BYTES * i;
+    let block = reference_bytes::read_reference(buffer, at);
+    let first = base::read_u64(buffer, at + 48);
+    let end = base::read_u64(buffer, at + 56);
+    TransactionLocatorRange::new(block, first, end)
 }
 
 // Fills the buffer with the stretches after the last locator passed, where none of them is left in it.
@@ -82,10 +71,10 @@ fn refill(
     store: &[u8],
     order: &[u64],
     withdrawing: bool,
-    buffer: &mut [u64],
+    buffer: &mut [u8],
     along: Along,
 ) -> Along
-    requires { ⌜ (Ready (now stakes) (total .0) (now store) (now order) × (10 ≤ length (now buffer))) × Held (readingOf withdrawing) (now stakes) (now store) (now buffer) along ⌝ }
+    requires { ⌜ (Ready (now stakes) (total .0) (now store) (now order) × (80 ≤ length (now buffer))) × Held (readingOf withdrawing) (now stakes) (now store) (now buffer) along ⌝ }
     ensures { λ r. ⌜ Held (readingOf withdrawing) (now (stakes .entry)) (now (store .entry)) (now (buffer .exit)) r ⌝ }
     ensures { λ r. ⌜ asMaybe (r .after) ≡ asMaybe (along .after) ⌝ }
     ensures { λ r. ⌜ (r .next ≡ r .count → ahead (readingOf withdrawing) (now (stakes .entry)) (now (store .entry)) 1 (asMaybe (along .after)) ≡ []) ⌝ }
@@ -97,7 +86,7 @@ fn refill(
         return along;
     }
     let after = along.after;
-    let filled = final_list::fill_small(
+    let filled = final_list::fill_stretches(
         stakes,
         total,
         store,
@@ -132,10 +121,10 @@ pub fn next_stretch(
     store: &[u8],
     order: &[u64],
     withdrawing: bool,
-    buffer: &mut [u64],
+    buffer: &mut [u8],
     along: Along,
 ) -> Step
-    requires { ⌜ (Ready (now stakes) (total .0) (now store) (now order) × (10 ≤ length (now buffer))) × Held (readingOf withdrawing) (now stakes) (now store) (now buffer) along ⌝ }
+    requires { ⌜ (Ready (now stakes) (total .0) (now store) (now order) × (80 ≤ length (now buffer))) × Held (readingOf withdrawing) (now stakes) (now store) (now buffer) along ⌝ }
     ensures { λ r. ⌜ Held (readingOf withdrawing) (now (stakes .entry)) (now (store .entry)) (now (buffer .exit)) (r .along) ⌝ }
     ensures { λ r. ⌜ Found (readingOf withdrawing) (now (stakes .entry)) (now (store .entry)) (asMaybe (along .after)) (asMaybe (r .along .after)) (r .ahead) ⌝ }
 {

@@ -1,12 +1,11 @@
 // The lists of final locators in bulk, the ordinary and the wide one, in either reading of a reject: stretches of locators that have the same certifying blocks.
 use committee::NewCommittee;
 use committee::Stake;
+use edge_window::Wanted;
 use stretch_words::StretchesAnswer;
 use vote_starts::MaybeLocator;
-use vote_table::TableSizes;
 ghost use mathlib.Core.Path.{_≡_};
 ghost use mathlib.Core.Bool.{true, false};
-ghost use lib.ListN.{length};
 ghost use Rattle.base.specs.Checks.{answered};
 ghost use Rattle.finality.specs.Finality.{blocksOf};
 ghost use Rattle.vote_starts.specs.Answers.{asMaybe};
@@ -20,8 +19,9 @@ ghost use Rattle.stretch_words.specs.Answers.{asStretches};
 
 // ---- the question in bulk
 
-// The same with tables of 10,240 votes and rejects, and of 8,192 includes.
-fn fill_large(
+// The ordinary or the wide list over a store in order, where owners may withdraw or not, by one sweep over the edges of its blocks' ranges: 5,462 of
+// them at a time, and as many to spare.
+pub fn fill_stretches(
     stakes: &[u64],
     total: Stake,
     store: &[u8],
@@ -35,91 +35,25 @@ fn fill_large(
     ensures { λ r. ⌜ asStretches r ≡ answered (givenAfter (listing ordinary (readingOf withdrawing) (now (stakes .entry)) (blocksOf (now (store .entry)))) (asMaybe after) (stretches (now (stakes .entry)) (blocksOf (now (store .entry))) (listing ordinary (readingOf withdrawing) (now (stakes .entry)) (blocksOf (now (store .entry)))) (stretchRoom (now (out .entry))) (asMaybe after))) ⌝ }
     ensures { λ r. ⌜ now (out .exit) ≡ bytesAfter (stretches (now (stakes .entry)) (blocksOf (now (store .entry))) (listing ordinary (readingOf withdrawing) (now (stakes .entry)) (blocksOf (now (store .entry)))) (stretchRoom (now (out .entry))) (asMaybe after)) (now (out .entry)) ⌝ }
 {
-    let mut table = [0u64; 40960];
-    let sizes = vote_table::table_both(store, order, &mut table, withdrawing);
-    let mut places = [0u64; 8192];
-    let noted = include_places::note_places(store, order, &mut places);
-    stretch_fill::fill(
+    let mut sets = [0u64; include_sets::WORDS];
+    include_sets::note_includes(store, order, &mut sets);
+    let wanted = Wanted {
+        rejects: withdrawing,
+        shares: ordinary,
+    };
+    let mut edges = [0u64; stretch_sweep::TABLE_WORDS];
+    let mut spare = [0u64; stretch_sweep::TABLE_WORDS];
+    let mut marks = [0u64; edge_window::LANES];
+    stretch_sweep::fill(
         stakes,
         total,
         store,
         order,
-        &table,
-        sizes,
-        &places,
-        noted,
-        ordinary,
-        withdrawing,
-        out,
-        after,
-    )
-}
-
-// Whether the table holds what all of n blocks vote for and, where owners may withdraw, reject.
-fn holds_all(sizes: TableSizes, n: usize, withdrawing: bool) -> bool {
-    if sizes.voting < n {
-        return false;
-    }
-    if !withdrawing {
-        return true;
-    }
-    n <= sizes.rejecting
-}
-
-// The same with tables of 128 votes and rejects and of 256 includes, where these reach: zeroing more would cost a small store more than the question.
-pub fn fill_small(
-    stakes: &[u64],
-    total: Stake,
-    store: &[u8],
-    order: &[u64],
-    ordinary: bool,
-    withdrawing: bool,
-    out: &mut [u8],
-    after: MaybeLocator,
-) -> StretchesAnswer
-    requires { ⌜ Ready (now stakes) (total .0) (now store) (now order) ⌝ }
-    ensures { λ r. ⌜ asStretches r ≡ answered (givenAfter (listing ordinary (readingOf withdrawing) (now (stakes .entry)) (blocksOf (now (store .entry)))) (asMaybe after) (stretches (now (stakes .entry)) (blocksOf (now (store .entry))) (listing ordinary (readingOf withdrawing) (now (stakes .entry)) (blocksOf (now (store .entry)))) (stretchRoom (now (out .entry))) (asMaybe after))) ⌝ }
-    ensures { λ r. ⌜ now (out .exit) ≡ bytesAfter (stretches (now (stakes .entry)) (blocksOf (now (store .entry))) (listing ordinary (readingOf withdrawing) (now (stakes .entry)) (blocksOf (now (store .entry)))) (stretchRoom (now (out .entry))) (asMaybe after)) (now (out .entry)) ⌝ }
-{
-    let mut table = [0u64; 512];
-    let sizes = vote_table::table_both(store, order, &mut table, withdrawing);
-    if !holds_all(sizes, order.len(), withdrawing) {
-        return fill_large(
-            stakes,
-            total,
-            store,
-            order,
-            ordinary,
-            withdrawing,
-            out,
-            after,
-        );
-    }
-    let mut places = [0u64; 256];
-    let noted = include_places::note_places(store, order, &mut places);
-    if noted < order.len() {
-        return fill_large(
-            stakes,
-            total,
-            store,
-            order,
-            ordinary,
-            withdrawing,
-            out,
-            after,
-        );
-    }
-    stretch_fill::fill(
-        stakes,
-        total,
-        store,
-        order,
-        &table,
-        sizes,
-        &places,
-        noted,
-        ordinary,
-        withdrawing,
+        &sets,
+        wanted,
+        &mut edges,
+        &mut spare,
+        &mut marks,
         out,
         after,
     )
@@ -146,7 +80,7 @@ pub fn list_stretches(
     }
     let mut order = [0u64; types::MAX_BLOCKS];
     let count = block_votes::sorted_positions(store, &mut order);
-    fill_small(
+    fill_stretches(
         stakes,
         total,
         store,
@@ -159,8 +93,7 @@ pub fn list_stretches(
 }
 
 // The ordinary list, of the final stored shares, from the start or after a given locator on, as many stretches as the slice holds, 80 bytes
-// each: the first locator as in a record, and three words, end offset (excluded), number of certifying blocks, their authors' stake. The
-// bytes past them stay.
+// each: the first locator as it stands in a record, end offset (excluded), number of certifying blocks, their authors' stake. The bytes past them stay.
 pub fn final_stretches(
     stakes: &[u64],
     store: &[u8],

@@ -163,7 +163,7 @@ module _ (s : Bytes) (order : List ℕ) where
       }
 
 -- the block of the next stretch is stored
-pub stretch-stored : (reading : Reading) (c : Committee) (s : Bytes) (buffer : List ℕ) (along : Along) (gone : List TransactionLocator) (w : Passing reading c s buffer along gone) (q : ranges.TransactionLocatorRange)
+pub stretch-stored : (reading : Reading) (c : Committee) (s : Bytes) (buffer : Bytes) (along : Along) (gone : List TransactionLocator) (w : Passing reading c s buffer along gone) (q : ranges.TransactionLocatorRange)
     (last : Option TransactionLocator) (f : Found reading c s (asMaybe (along .after)) last (Stretch q)) → isStored (recordsOf s) (asRange q .block) ≡ true
 unfolding locator isListed
 stretch-stored reading c s buffer along gone w q last f =

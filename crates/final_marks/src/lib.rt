@@ -47,7 +47,7 @@ pub fn clear_finals(
     requires { ⌜ Ready (now stakes) (total .0) (now store) (now order) × (length (now order) ≤ length (now marks)) ⌝ }
     ensures { λ _. ⌜ Cleared (now (store .entry)) (now (order .entry)) (allListed true (readingOf withdrawing) (now (stakes .entry)) (blocksOf (now (store .entry)))) (now (marks .entry)) (now (marks .exit)) ⌝ }
 {
-    let mut buffer = [0u64; final_along::BUFFER_WORDS];
+    let mut buffer = [0u8; final_along::BUFFER_BYTES];
     let mut along = final_along::at_start();
     loop {
         let step = final_along::next_stretch(

@@ -18,7 +18,7 @@ use Rattle.readings.specs.Readings.{Reading}
 use Rattle.stretches.specs.Stretches.{Listing}
 use Rattle.vote_table.specs.declared.TableSizes as sizes
 use Rattle.vote_table.specs.Table.{BothTabled}
-use Rattle.include_places.specs.Places.{Placed}
+use Rattle.include_sets.specs.Sets.{Included}
 use Rattle.final_walk.specs.Walk.{CertifyFlagged}
 use Rattle.final_search.specs.declared.NextStretch as next
 use Rattle.final_search.specs.declared.NextStretch.the-variants.{At, Nothing}
@@ -27,9 +27,9 @@ use Rattle.final_search.specs.declared.NextStretch.the-variants.{At, Not
 abbrev pub Ready : Committee → Stake → Bytes → List ℕ → Type 0
 Ready c total s order = (Sorted c s order × (total ≡ totalStake c)) × (length order ≤ 1024)
 
--- the votes of the first blocks and behind them their rejects in a table, and the places of the includes of the first blocks
-abbrev pub Tables : Bytes → List ℕ → List ℕ → sizes.TableSizes → List ℕ → ℕ → Type 0
-Tables s order table a places noted = BothTabled s order table a × Placed s order places noted
+-- the votes of the first blocks and behind them their rejects in a table, and the places of the includes of each
+abbrev pub Tables : Bytes → List ℕ → List ℕ → sizes.TableSizes → List ℕ → Type 0
+Tables s order table a sets = BothTabled s order table a × Included s order sets (length order)
 
 -- the least of some places after a locator that a list shows
 unfoldable pub leastStart : Listing → List TransactionLocator → Option TransactionLocator → Option TransactionLocator

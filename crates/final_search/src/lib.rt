@@ -47,14 +47,13 @@ pub fn shown_at(
     order: &[u64],
     table: &[u64],
     sizes: TableSizes,
-    places: &[u64],
-    noted: usize,
+    sets: &[u64],
     ordinary: bool,
     withdrawing: bool,
     locator: TransactionLocator,
     certified: &mut [u64],
 ) -> NextStretch
-    requires { ⌜ (Ready (now stakes) (total .0) (now store) (now order) × (length (now certified) ≡ 1024)) × Tables (now store) (now order) (now table) sizes (now places) noted ⌝ }
+    requires { ⌜ (Ready (now stakes) (total .0) (now store) (now order) × (length (now certified) ≡ 1024)) × Tables (now store) (now order) (now table) sizes (now sets) ⌝ }
     ensures { λ r. ⌜ (asNext r ≡ whenShown (listing ordinary (readingOf withdrawing) (now (stakes .entry)) (blocksOf (now (store .entry)))) (asLocator locator)) × FoundRight (readingOf withdrawing) (now (stakes .entry)) (now (store .entry)) (now (order .entry)) (now (certified .exit)) r ⌝ }
 {
     if !may_show(store, ordinary, locator) {
@@ -67,8 +66,7 @@ pub fn shown_at(
         order,
         table,
         sizes,
-        places,
-        noted,
+        sets,
         withdrawing,
         locator,
         certified,
@@ -90,14 +88,13 @@ fn shown_start(
     order: &[u64],
     table: &[u64],
     sizes: TableSizes,
-    places: &[u64],
-    noted: usize,
+    sets: &[u64],
     ordinary: bool,
     withdrawing: bool,
     after: MaybeLocator,
     certified: &mut [u64],
 ) -> NextStretch
-    requires { ⌜ (Ready (now stakes) (total .0) (now store) (now order) × (length (now certified) ≡ 1024)) × Tables (now store) (now order) (now table) sizes (now places) noted ⌝ }
+    requires { ⌜ (Ready (now stakes) (total .0) (now store) (now order) × (length (now certified) ≡ 1024)) × Tables (now store) (now order) (now table) sizes (now sets) ⌝ }
     ensures { λ r. ⌜ (asNext r ≡ leastStart (listing ordinary (readingOf withdrawing) (now (stakes .entry)) (blocksOf (now (store .entry)))) (startsIn withdrawing (now (store .entry))) (asMaybe after)) × FoundRight (readingOf withdrawing) (now (stakes .entry)) (now (store .entry)) (now (order .entry)) (now (certified .exit)) r ⌝ }
 {
     let mut last = after;
@@ -113,8 +110,7 @@ fn shown_start(
             order,
             table,
             sizes,
-            places,
-            noted,
+            sets,
             ordinary,
             withdrawing,
             locator,
@@ -135,14 +131,13 @@ pub fn final_after(
     order: &[u64],
     table: &[u64],
     sizes: TableSizes,
-    places: &[u64],
-    noted: usize,
+    sets: &[u64],
     ordinary: bool,
     withdrawing: bool,
     after: MaybeLocator,
     certified: &mut [u64],
 ) -> NextStretch
-    requires { ⌜ (Ready (now stakes) (total .0) (now store) (now order) × (length (now certified) ≡ 1024)) × Tables (now store) (now order) (now table) sizes (now places) noted ⌝ }
+    requires { ⌜ (Ready (now stakes) (total .0) (now store) (now order) × (length (now certified) ≡ 1024)) × Tables (now store) (now order) (now table) sizes (now sets) ⌝ }
     ensures { λ r. ⌜ (asNext r ≡ listing ordinary (readingOf withdrawing) (now (stakes .entry)) (blocksOf (now (store .entry))) .next (asMaybe after)) × FoundRight (readingOf withdrawing) (now (stakes .entry)) (now (store .entry)) (now (order .entry)) (now (certified .exit)) r ⌝ }
 {
     let MaybeLocator::Locator(given) = after else {
@@ -153,8 +148,7 @@ pub fn final_after(
             order,
             table,
             sizes,
-            places,
-            noted,
+            sets,
             ordinary,
             withdrawing,
             after,
@@ -170,8 +164,7 @@ pub fn final_after(
             order,
             table,
             sizes,
-            places,
-            noted,
+            sets,
             ordinary,
             withdrawing,
             after,
@@ -190,8 +183,7 @@ pub fn final_after(
         order,
         table,
         sizes,
-        places,
-        noted,
+        sets,
         ordinary,
         withdrawing,
         locator,
@@ -207,8 +199,7 @@ pub fn final_after(
         order,
         table,
         sizes,
-        places,
-        noted,
+        sets,
         ordinary,
         withdrawing,
         after,

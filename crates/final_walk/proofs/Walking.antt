@@ -1,5 +1,5 @@
 -- Going over the blocks in ascending reference order. Assumes nothing.
-use mathlib.Core.Path.{_≡_, refl, sym, ap, subst, _∙_}
+use mathlib.Core.Path.{_≡_, sym, ap, subst, _∙_}
 use mathlib.Core.Bool.{Bool, true, false, not, _&&_}
 use mathlib.Core.List.{List, [], _∷_}
 use Prim.Native.Nat.{ℕ, _+_, _≤_, _<_}
@@ -7,19 +7,17 @@ use native.Mathlib.Omega.{arith}
 use native.Mathlib.Decide.{ℕ-discrete}
 use lib.ListN.{length, getD, set, length-set, length-append}
 use lib.Seq.{getD-set-same, getD-set-other}
-use Rattle.base.specs.Lists.{pick, keep}
+use Rattle.base.specs.Lists.{pick}
 use Rattle.base.specs.Le.{Bytes}
 use Rattle.committee.specs.Committee.{Committee}
-use Rattle.authority_set.specs.AuthoritySet.{AuthoritySet, nobody, inserted}
+use Rattle.authority_set.specs.AuthoritySet.{AuthoritySet, inserted}
 use Rattle.blocks.specs.Reference.{TransactionLocator}
 use Rattle.blocks.specs.Block.{author}
 use Rattle.store_layout.specs.Entry.{blockAt}
 use Rattle.finality.specs.Finality.{blocksOf}
 use Rattle.readings.specs.Readings.{Reading, votersIn, certifiesIn}
 use Rattle.block_votes.specs.Walk.{blockAtPlace}
-use Rattle.certifying_blocks.proofs.Finding.{holdsAt, found, found-yes, found-no, Authors, authors-none, authors-more}
-use Rattle.include_places.specs.Places.{includesBefore}
-use Rattle.include_places.proofs.Noting.{before-next}
+use Rattle.certifying_blocks.proofs.Finding.{holdsAt, found, found-yes, found-no, Authors, authors-more}
 use Rattle.speakers.specs.Heard.{withSet}
 use Rattle.speakers.proofs.Marking.{with-length}
 use Rattle.quorum_check.specs.declared.Checked.{Checked}
@@ -27,10 +25,9 @@ use Rattle.quorum_check.specs.Sure.{Sure}
 
 -- ---- what is known when the blocks at the first k places are read
 
-pub record Going (c : Committee) (s : Bytes) (order memo flags : List ℕ) (n : ℕ) (last : Checked) (i k : ℕ) : Type 0 where
+pub record Going (c : Committee) (order memo flags : List ℕ) (n : ℕ) (last : Checked) (k : ℕ) : Type 0 where
   pub inside : k ≤ length order
   pub few : n ≤ k
-  pub at : i ≡ includesBefore s order k
   pub long : length memo ≡ 2048
   pub wide : length flags ≡ 1024
   pub sure : Sure c last
@@ -40,21 +37,12 @@ pub record Walking (reading : Reading) (c : Committee) (s : Bytes) (l : Transact
   pub authored : Authors s (found (certifiesIn reading c (blocksOf s) l) s order k) authors
   pub flagged : (j : ℕ) → j < k → getD flags j 0 ≡ pick (holdsAt (certifiesIn reading c (blocksOf s) l) s (getD order j 0)) 1 0
 
-module _ (c : Committee) (s : Bytes) (order : List ℕ) where
-  pub going-start : (memo flags : List ℕ) (last : Checked) → length memo ≡ 2048 → length flags ≡ 1024 → Sure c last → Going c s order memo flags 0 last 0 0
-  unfolding includesBefore
-  going-start memo flags last h f z = record { inside = omega arith; few = omega arith; at = refl; long = h; wide = f; sure = z }
-
-  pub going-more : (memo flags : List ℕ) (n : ℕ) (last : Checked) (i k : ℕ) → Going c s order memo flags n last i k → k < length order → (v : AuthoritySet) (next : Checked) → Sure c next
-      → (count : ℕ) → count ≡ length (blockAtPlace s order k .includes) → (m : ℕ) → m ≤ k + 1 → (x : ℕ) → Going c s order (withSet memo k v) (set flags k x) m next (i + count) (k + 1)
-  going-more memo flags n last i k w h v next z count g m few x =
-      record { inside = omega arith; few = few; at = before-next s order k i count (w .at) g; long = with-length memo k v ∙ w .long; wide = length-set flags k x ∙ w .wide; sure = z }
+pub going-more : (c : Committee) (order memo flags : List ℕ) (n : ℕ) (last : Checked) (k : ℕ) → Going c order memo flags n last k → k < length order → (v : AuthoritySet) (next : Checked) → Sure c next
+    → (m : ℕ) → m ≤ k + 1 → (x : ℕ) → Going c order (withSet memo k v) (set flags k x) m next (k + 1)
+going-more c order memo flags n last k w h v next z m few x =
+    record { inside = omega arith; few = few; long = with-length memo k v ∙ w .long; wide = length-set flags k x ∙ w .wide; sure = z }
 
 module _ (reading : Reading) (c : Committee) (s : Bytes) (l : TransactionLocator) (order : List ℕ) where
-  pub walking-start : (flags : List ℕ) → Walking reading c s l order flags nobody 0 0
-  unfolding keep
-  walking-start flags = record { many = refl; authored = authors-none s; flagged = λ j m. absurd (omega arith) }
-
   module _ (flags : List ℕ) (authors : AuthoritySet) (n k : ℕ) (w : Walking reading c s l order flags authors n k) (h : k < length order) (fit : k < length flags)
       (v : AuthoritySet) (e : v ≡ votersIn reading (blocksOf s) l (blockAtPlace s order k .reference)) (next : Checked) (f : next .voters ≡ v) (z : Sure c next) where
     -- the voters of the block decide

@@ -1,8 +1,9 @@
 -- Machinery for the contracts of inner functions: what a walk over the blocks knows. Assumes nothing: these are definitions.
-use Prim.Native.Nat.{ℕ, _<_}
+use Prim.Native.Nat.{ℕ, _≤_, _<_}
 use mathlib.Core.Path.{_≡_}
 use mathlib.Core.Bool.{Bool, true, false}
 use mathlib.Core.List.{List, map}
+use lib.Dec.{eqb}
 use lib.ListN.{length, getD}
 use Rattle.base.specs.Lists.{pick}
 use Rattle.base.specs.Le.{Bytes}
@@ -47,6 +48,13 @@ CertifyFlagged reading c s order l f r = Certify reading c s l r × Flags readin
 unfoldable pub CertifyMarked : Bool → Committee → Bytes → List ℕ → List ℕ → List ℕ → List ℕ → found.Certifiers → Type 0
 CertifyMarked rejected c s order own rejecters f r =
     (reading : Reading) (l : TransactionLocator) → Owned false s order l own → CountedRight rejected reading s order l rejecters → CertifyFlagged reading c s order l f r
+
+-- no place before the r-th of the first n is marked, and 0 is written for each of them
+pub record Skipped (own : List ℕ) (n : ℕ) (f₀ f : List ℕ) (r : ℕ) : Type 0 where
+  pub inside : r ≤ n
+  pub long : length f ≡ length f₀
+  pub unmarked : (k : ℕ) → k < r → eqb (getD own k 0) 1 ≡ false
+  pub zeros : (k : ℕ) → k < r → getD f k 0 ≡ 0
 
 -- the first n words are the same, or one differs
 unfoldable pub SameWords : List ℕ → List ℕ → ℕ → Bool → Type 0

@@ -14,10 +14,11 @@ ghost use Rattle.types.specs.Values.{asLocator};
 ghost use Rattle.store_layout.specs.Entry.{blockAt, isEntry};
 ghost use Rattle.readings.specs.Readings.{withdrawing, readingOf};
 ghost use Rattle.block_votes.specs.Walk.{Sorted};
-ghost use Rattle.include_places.specs.Places.{Placed, setAt};
+ghost use Rattle.include_places.specs.Places.{setAt};
+ghost use Rattle.include_sets.specs.Sets.{Included};
 ghost use Rattle.vote_table.specs.Table.{BothTabled};
 ghost use Rattle.speakers.specs.Heard.{Owned};
-ghost use Rattle.final_walk.specs.Walk.{counted, SameWords, CertifyMarked, CertifyFlagged};
+ghost use Rattle.final_walk.specs.Walk.{counted, Skipped, SameWords, CertifyMarked, CertifyFlagged};
 
 // ---- who certifies
 
@@ -57,33 +58,48 @@ fn counted_at(voters: AuthoritySet, rejecters: &[u64], rejected: bool, k: usize)
     block_rejects::less(voters, gone)
 }
 
-// Walks over the blocks in ascending reference order: an include stands at a lower place, so its voters are known. Of each block it is marked
-// whether it votes, and known who rejects in its ancestry. Writes 1 for each block that certifies, and 0 for each other one.
-fn walk(
+// The first marked place, or the number of blocks where none is. Writes 0 for each place before it: nobody votes in the ancestry of its block.
+fn skip(own: &[u64], n: usize, certified: &mut [u64]) -> usize
+    requires { ⌜ (n ≤ length (now own)) × (n ≤ length (now certified)) ⌝ }
+    ensures { λ r. ⌜ Skipped (now (own .entry)) n (now (certified .entry)) (now (certified .exit)) r ⌝ }
+{
+    let mut k: usize = 0;
+    while k < n {
+        if own[k] == 1 {
+            return k;
+        }
+        certified[k] = 0;
+        k += 1;
+    }
+    k
+}
+
+// Walks over the blocks in ascending reference order from the first that votes: an include stands at a lower place, so its voters are known,
+// and a block that includes what the block before does has the same voters below it. Of each block it is marked whether it votes, and known
+// who rejects in its ancestry. Writes 1 for each block that certifies, and 0 for each other one.
+pub fn walk(
     stakes: &[u64],
     total: Stake,
     store: &[u8],
     order: &[u64],
-    places: &[u64],
-    noted: usize,
+    sets: &[u64],
     own: &[u64],
     rejecters: &[u64],
     rejected: bool,
     certified: &mut [u64],
 ) -> Certifiers
-    requires { ⌜ (((Sorted (now stakes) (now store) (now order) × (total .0 ≡ totalStake (now stakes))) × (length (now order) ≤ 1024)) × (length (now certified) ≡ 1024)) × (((length (now own) ≡ 1024) × Placed (now store) (now order) (now places) noted) × (rejected ≡ true → length (now rejecters) ≡ 2048)) ⌝ }
+    requires { ⌜ (((Sorted (now stakes) (now store) (now order) × (total .0 ≡ totalStake (now stakes))) × (length (now order) ≤ 1024)) × (length (now certified) ≡ 1024)) × (((length (now own) ≡ 1024) × Included (now store) (now order) (now sets) (length (now order))) × (rejected ≡ true → length (now rejecters) ≡ 2048)) ⌝ }
     ensures { λ r. ⌜ CertifyMarked rejected (now (stakes .entry)) (now (store .entry)) (now (order .entry)) (now (own .entry)) (now (rejecters .entry)) (now (certified .exit)) r ⌝ }
 {
     let mut memo = [0u64; 2048];
     let mut authors = AuthoritySet::new();
+    let mut below = AuthoritySet::new();
     let mut blocks: usize = 0;
     let mut checked = quorum_check::nobody();
-    let mut i: usize = 0;
-    let mut k: usize = 0;
+    let mut k = skip(own, order.len(), certified);
     while k < order.len() {
         let at = order[k] as usize;
-        let count = block_votes::include_count_at(store, at);
-        let below = include_places::gather_at(store, order, places, noted, k, i, &memo);
+        below = include_sets::below_at(sets, k, &memo, below);
         let voters = speakers::with_own(store, at, own[k], below);
         speakers::note_set(&mut memo, k, voters);
         checked = quorum_check::check(
@@ -94,7 +110,6 @@ fn walk(
         );
         let yes = certifies_at(store, at, checked.quorum);
         certified[k] = flag(yes);
-        i += count;
         k += 1;
         if !yes {
             continue;
@@ -117,13 +132,12 @@ fn withdrawn(
     order: &[u64],
     table: &[u64],
     sizes: TableSizes,
-    places: &[u64],
-    noted: usize,
+    sets: &[u64],
     locator: TransactionLocator,
     own: &[u64],
     certified: &mut [u64],
 ) -> Certifiers
-    requires { ⌜ ((((Sorted (now stakes) (now store) (now order) × (total .0 ≡ totalStake (now stakes))) × (length (now order) ≤ 1024)) × (length (now certified) ≡ 1024)) × (BothTabled (now store) (now order) (now table) sizes × Placed (now store) (now order) (now places) noted)) × ((locator .offset < 18446744073709551615) × ((length (now own) ≡ 1024) × Owned false (now store) (now order) (asLocator locator) (now own))) ⌝ }
+    requires { ⌜ ((((Sorted (now stakes) (now store) (now order) × (total .0 ≡ totalStake (now stakes))) × (length (now order) ≤ 1024)) × (length (now certified) ≡ 1024)) × (BothTabled (now store) (now order) (now table) sizes × Included (now store) (now order) (now sets) (length (now order)))) × ((locator .offset < 18446744073709551615) × ((length (now own) ≡ 1024) × Owned false (now store) (now order) (asLocator locator) (now own))) ⌝ }
     ensures { λ r. ⌜ CertifyFlagged withdrawing (now (stakes .entry)) (now (store .entry)) (now (order .entry)) (asLocator locator) (now (certified .exit)) r ⌝ }
 {
     let mut marks = [0u64; types::MAX_BLOCKS];
@@ -146,22 +160,20 @@ fn withdrawn(
             total,
             store,
             order,
-            places,
-            noted,
+            sets,
             own,
             &rejecters,
             false,
             certified,
         );
     }
-    speakers::spread(store, order, places, noted, &marks, &mut rejecters);
+    speakers::spread(store, order, sets, &marks, &mut rejecters);
     walk(
         stakes,
         total,
         store,
         order,
-        places,
-        noted,
+        sets,
         own,
         &rejecters,
         true,
@@ -169,8 +181,8 @@ fn withdrawn(
     )
 }
 
-// The blocks that certify a locator: what the blocks at the first places vote for and reject is that of a table, and the places of includes are noted
-// for the first blocks; the rest is read from the store. Writes 1 for each block that certifies, and 0 for each other one.
+// The blocks that certify a locator: what the blocks at the first places vote for and reject is that of a table, the rest is read from the
+// store; the places of includes are noted. Writes 1 for each block that certifies, and 0 for each other one.
 pub fn certifiers_of(
     stakes: &[u64],
     total: Stake,
@@ -178,13 +190,12 @@ pub fn certifiers_of(
     order: &[u64],
     table: &[u64],
     sizes: TableSizes,
-    places: &[u64],
-    noted: usize,
+    sets: &[u64],
     withdrawing: bool,
     locator: TransactionLocator,
     certified: &mut [u64],
 ) -> Certifiers
-    requires { ⌜ (((Sorted (now stakes) (now store) (now order) × (total .0 ≡ totalStake (now stakes))) × (length (now order) ≤ 1024)) × (length (now certified) ≡ 1024)) × (BothTabled (now store) (now order) (now table) sizes × Placed (now store) (now order) (now places) noted) ⌝ }
+    requires { ⌜ (((Sorted (now stakes) (now store) (now order) × (total .0 ≡ totalStake (now stakes))) × (length (now order) ≤ 1024)) × (length (now certified) ≡ 1024)) × (BothTabled (now store) (now order) (now table) sizes × Included (now store) (now order) (now sets) (length (now order))) ⌝ }
     ensures { λ r. ⌜ CertifyFlagged (readingOf withdrawing) (now (stakes .entry)) (now (store .entry)) (now (order .entry)) (asLocator locator) (now (certified .exit)) r ⌝ }
 {
     let mut own = [0u64; types::MAX_BLOCKS];
@@ -205,8 +216,7 @@ pub fn certifiers_of(
             total,
             store,
             order,
-            places,
-            noted,
+            sets,
             &own,
             &none,
             false,
@@ -220,8 +230,7 @@ pub fn certifiers_of(
             total,
             store,
             order,
-            places,
-            noted,
+            sets,
             &own,
             &none,
             false,
@@ -235,8 +244,7 @@ pub fn certifiers_of(
         order,
         table,
         sizes,
-        places,
-        noted,
+        sets,
         locator,
         &own,
         certified,

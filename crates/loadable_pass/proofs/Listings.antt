@@ -27,7 +27,7 @@ use Rattle.loadable_pass.proofs.Holding.{past-none, past-on, holding-st
 
 module _ (reading : Reading) (c : Committee) (s : Bytes) where
   -- what was gone along, and the places of its loadable shares
-  pub record Walking (ps₀ ps : List ℕ) (buffer : List ℕ) (along : Along) (read : ReadUp) (n : ℕ) : Type 0 where
+  pub record Walking (ps₀ ps : List ℕ) (buffer : Bytes) (along : Along) (read : ReadUp) (n : ℕ) : Type 0 where
     pub gone : List TransactionLocator
     pub passing : Passing reading c s buffer along gone
     pub holding : Holding reading c s gone ps n
@@ -35,7 +35,7 @@ module _ (reading : Reading) (c : Committee) (s : Bytes) where
     pub reads : Read s read
 
   pub walking-start : broken c ≡ false → storeInOrder c s ≡ true → (ps buffer : List ℕ) (along : Along) (read : ReadUp) → asMaybe (along .after) ≡ none → Held reading c s buffer along
-      → length buffer ≡ 1280 → read .at ≡ 0 → 2 * length (allListed true reading c (blocksOf s)) ≤ length ps → Walking ps ps buffer along read 0
+      → length buffer ≡ 10240 → read .at ≡ 0 → 2 * length (allListed true reading c (blocksOf s)) ≤ length ps → Walking ps ps buffer along read 0
   unfolding Read
   walking-start sound order ps buffer along read e held long z room =
       record {
@@ -64,7 +64,7 @@ module _ (reading : Reading) (c : Committee) (s : Bytes) where
             holding = w .holding;
           }
 
-      pub walking-next : storeInOrder c s ≡ true → (qs buffer' : List ℕ) (along' : Along) (read' : ReadUp) (m : ℕ) → asMaybe (along' .after) ≡ last → Held reading c s buffer' along' → length buffer' ≡ 1280
+      pub walking-next : storeInOrder c s ≡ true → (qs buffer' : List ℕ) (along' : Along) (read' : ReadUp) (m : ℕ) → asMaybe (along' .after) ≡ last → Held reading c s buffer' along' → length buffer' ≡ 10240
           → Listed s (asRange q) ps n qs m → Read s read' → Walking ps₀ qs buffer' along' read' m
       unfolding walking-coming
       walking-next order qs buffer' along' read' m e held long listed reads =

@@ -127,7 +127,7 @@ pub fn list_all(
     requires { ⌜ Ready (now stakes) (total .0) (now store) (now order) × (2 * length (allListed true (readingOf withdrawing) (now stakes) (blocksOf (now store))) ≤ length (now places)) ⌝ }
     ensures { λ r. ⌜ Holding (readingOf withdrawing) (now (stakes .entry)) (now (store .entry)) (allListed true (readingOf withdrawing) (now (stakes .entry)) (blocksOf (now (store .entry)))) (now (places .exit)) r × Past (now (places .entry)) (now (places .exit)) r ⌝ }
 {
-    let mut buffer = [0u64; final_along::BUFFER_WORDS];
+    let mut buffer = [0u8; final_along::BUFFER_BYTES];
     let mut along = final_along::at_start();
     let mut read = ReadUp {
         at: 0,

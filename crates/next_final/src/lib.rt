@@ -1,15 +1,17 @@
 // The next locator of a list of final ones: of the ordinary list and of the wide one, in either reading of a reject. Follows finalization_interpreter.rs.
 use committee::NewCommittee;
-use final_search::NextStretch;
+use committee::Stake;
+use edge_window::Wanted;
 use types::TransactionLocator;
 use vote_starts::MaybeLocator;
-use vote_table::TableSizes;
 ghost use mathlib.Core.Path.{_≡_};
 ghost use mathlib.Core.Bool.{true, false};
 ghost use Rattle.finality.specs.NextFinal.{nextFinal};
 ghost use Rattle.stored_finals.specs.FinalShares.{nextFinalShare};
 ghost use Rattle.readings.specs.Readings.{withdrawing, readingOf};
-ghost use Rattle.reading_lists.specs.Lists.{nextListed};
+ghost use Rattle.reading_lists.specs.Lists.{listing, nextListed};
+ghost use Rattle.final_search.specs.Search.{Ready};
+ghost use Rattle.finality.specs.Finality.{blocksOf};
 ghost use Rattle.vote_starts.specs.Answers.{asMaybe};
 ghost use Rattle.next_final.specs.Answers.{asNextFinal};
 
@@ -18,6 +20,42 @@ pub enum NextFinalAnswer {
     Found(TransactionLocator),
     NoneLeft,
     Refused(u64),
+}
+
+// The least locator of the list after a given one over a store in order, by a sweep over the edges of its blocks' ranges.
+fn next_after(
+    stakes: &[u64],
+    total: Stake,
+    store: &[u8],
+    order: &[u64],
+    ordinary: bool,
+    withdrawing: bool,
+    after: MaybeLocator,
+) -> MaybeLocator
+    requires { ⌜ Ready (now stakes) (total .0) (now store) (now order) ⌝ }
+    ensures { λ r. ⌜ asMaybe r ≡ listing ordinary (readingOf withdrawing) (now (stakes .entry)) (blocksOf (now (store .entry))) .next (asMaybe after) ⌝ }
+{
+    let mut sets = [0u64; include_sets::WORDS];
+    include_sets::note_includes(store, order, &mut sets);
+    let wanted = Wanted {
+        rejects: withdrawing,
+        shares: ordinary,
+    };
+    let mut edges = [0u64; stretch_sweep::TABLE_WORDS];
+    let mut spare = [0u64; stretch_sweep::TABLE_WORDS];
+    let mut marks = [0u64; edge_window::LANES];
+    stretch_sweep::next_from(
+        stakes,
+        total,
+        store,
+        order,
+        &sets,
+        wanted,
+        &mut edges,
+        &mut spare,
+        &mut marks,
+        after,
+    )
 }
 
 // The least locator after a given one, or from the start, that the ordinary or the wide list shows where owners may withdraw or not.
@@ -38,36 +76,18 @@ pub fn next_listed(
     }
     let mut order = [0u64; types::MAX_BLOCKS];
     let count = block_votes::sorted_positions(store, &mut order);
-    // Nothing is put into tables for one locator: the blocks are read from the store.
-    let table = [0u64; 1];
-    let sizes = TableSizes {
-        voting: 0,
-        votes: 0,
-        rejecting: 0,
-        rejects: 0,
-    };
-    let places = [0u64; 1];
-    let mut certified = [0u64; types::MAX_BLOCKS];
-    let next = final_search::final_after(
+    let next = next_after(
         stakes,
         total,
         store,
         &order[..count],
-        &table,
-        sizes,
-        &places,
-        0,
         ordinary,
         withdrawing,
         after,
-        &mut certified,
     );
     match next {
-        NextStretch::At(f) => {
-            let locator = f.locator;
-            NextFinalAnswer::Found(locator)
-        }
-        NextStretch::Nothing => NextFinalAnswer::NoneLeft,
+        MaybeLocator::Locator(locator) => NextFinalAnswer::Found(locator),
+        MaybeLocator::Nothing => NextFinalAnswer::NoneLeft,
     }
 }
 

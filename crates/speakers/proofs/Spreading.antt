@@ -19,8 +19,7 @@ use Rattle.block_votes.specs.Walk.{SortedStore, blockAtPlace}
 use Rattle.block_rejects.specs.Speeches.{says, speechOf}
 use Rattle.voters.specs.Walk.{spokenAt}
 use Rattle.voters.proofs.Visiting.{place-spoken}
-use Rattle.include_places.specs.Places.{includesBefore, setAt}
-use Rattle.include_places.proofs.Noting.{before-next}
+use Rattle.include_places.specs.Places.{setAt}
 use Rattle.speakers.specs.Heard.{withSet, Owned, HeardBelow}
 use Rattle.speakers.proofs.Marking.{with-length, with-same, with-other}
 
@@ -40,19 +39,12 @@ all-heard rejecting s order o l k h own w below e =
 
 -- ---- what the walk has when it has read the blocks at the first k places
 
-pub record Going (s : Bytes) (order memo : List ℕ) (i k : ℕ) : Type 0 where
+pub record Going (order memo : List ℕ) (k : ℕ) : Type 0 where
   pub inside : k ≤ length order
-  pub at : i ≡ includesBefore s order k
   pub long : length memo ≡ 2048
 
-module _ (s : Bytes) (order : List ℕ) where
-  pub going-start : (memo : List ℕ) → length memo ≡ 2048 → Going s order memo 0 0
-  unfolding includesBefore
-  going-start memo h = record { inside = omega arith; at = refl; long = h }
-
-  pub going-more : (memo : List ℕ) (i k : ℕ) → Going s order memo i k → k < length order → (v : AuthoritySet) (count : ℕ) → count ≡ length (blockAtPlace s order k .includes)
-      → Going s order (withSet memo k v) (i + count) (k + 1)
-  going-more memo i k w h v count g = record { inside = omega arith; at = before-next s order k i count (w .at) g; long = with-length memo k v ∙ w .long }
+pub going-more : (order memo : List ℕ) (k : ℕ) → Going order memo k → k < length order → (v : AuthoritySet) → Going order (withSet memo k v) (k + 1)
+going-more order memo k w h v = record { inside = omega arith; long = with-length memo k v ∙ w .long }
 
 -- one place more
 pub heard-more : (rejecting : Bool) (s : Bytes) (order : List ℕ) (l : TransactionLocator) (memo : List ℕ) (k : ℕ) → HeardBelow (speechOf rejecting) s order l memo k → 2 * k + 1 < length memo

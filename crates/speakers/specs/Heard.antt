@@ -34,7 +34,7 @@ HeardBelow own s order l memo n = (k : ℕ) → k < n → setAt memo k ≡ spoke
 unfoldable pub HeardMarked : Bytes → List ℕ → List ℕ → List ℕ → Type 0
 HeardMarked s order own memo = (rejecting : Bool) (l : TransactionLocator) → Owned rejecting s order l own → HeardBelow (speechOf rejecting) s order l memo (length order)
 
--- whether one of the first n places is marked; where none is, none of them
+-- one of the first n places is marked, or none is
 unfoldable pub AnyMarked : List ℕ → ℕ → Bool → Type 0
-AnyMarked own n true = Unit {0}
+AnyMarked own n true = (k : ℕ) × ((k < n) × (eqb (getD own k 0) 1 ≡ true))
 AnyMarked own n false = (k : ℕ) → k < n → eqb (getD own k 0) 1 ≡ false

@@ -12,7 +12,7 @@ ghost use Rattle.blocks.specs.Block.{author};
 ghost use Rattle.types.specs.Values.{asLocator};
 ghost use Rattle.store_layout.specs.Entry.{blockAt, isEntry};
 ghost use Rattle.block_votes.specs.Walk.{SortedStore};
-ghost use Rattle.include_places.specs.Places.{Placed};
+ghost use Rattle.include_sets.specs.Sets.{Included};
 ghost use Rattle.vote_table.specs.Table.{Tabled};
 ghost use Rattle.speakers.specs.Heard.{withSet, Owned, OwnedBelow, HeardMarked, AnyMarked};
 
@@ -100,27 +100,19 @@ pub fn note_set(memo: &mut [u64], k: usize, who: AuthoritySet)
     memo[2 * k + 1] = who.high;
 }
 
-// Walks over the blocks in ascending reference order: an include stands at a lower place, so it is known who speaks in its ancestry.
-pub fn spread(
-    store: &[u8],
-    order: &[u64],
-    places: &[u64],
-    noted: usize,
-    own: &[u64],
-    memo: &mut [u64],
-)
-    requires { ⌜ (SortedStore (now store) (now order) × (length (now order) ≤ 1024)) × ((length (now own) ≡ 1024) × ((length (now memo) ≡ 2048) × Placed (now store) (now order) (now places) noted)) ⌝ }
+// Walks over the blocks in ascending reference order: an include stands at a lower place, so it is known who speaks in its ancestry; where a
+// block includes what the block before does, nobody else speaks below it.
+pub fn spread(store: &[u8], order: &[u64], sets: &[u64], own: &[u64], memo: &mut [u64])
+    requires { ⌜ (SortedStore (now store) (now order) × (length (now order) ≤ 1024)) × ((length (now own) ≡ 1024) × ((length (now memo) ≡ 2048) × Included (now store) (now order) (now sets) (length (now order)))) ⌝ }
     ensures { λ _. ⌜ HeardMarked (now (store .entry)) (now (order .entry)) (now (own .entry)) (now (memo .exit)) ⌝ }
 {
-    let mut i: usize = 0;
+    let mut below = AuthoritySet::new();
     let mut k: usize = 0;
     while k < order.len() {
         let at = order[k] as usize;
-        let count = block_votes::include_count_at(store, at);
-        let below = include_places::gather_at(store, order, places, noted, k, i, memo);
+        below = include_sets::below_at(sets, k, memo, below);
         let who = with_own(store, at, own[k], below);
         note_set(memo, k, who);
-        i += count;
         k += 1;
     }
 }

@@ -45,22 +45,22 @@ macro_rules! each_call {
             finality_withdrawing = lomkhvide_finality_withdrawing(
                 stakes: &[u8], store: &[u8], positions: &mut [u8], locator: &[u8]
             ) stack 96;
-            next_final = lomkhvide_next_final(stakes: &[u8], store: &[u8], after: &[u8], found: &mut [u8]) stack 96;
-            next_wide = lomkhvide_next_wide(stakes: &[u8], store: &[u8], after: &[u8], found: &mut [u8]) stack 96;
+            next_final = lomkhvide_next_final(stakes: &[u8], store: &[u8], after: &[u8], found: &mut [u8]) stack 496;
+            next_wide = lomkhvide_next_wide(stakes: &[u8], store: &[u8], after: &[u8], found: &mut [u8]) stack 496;
             next_final_withdrawing = lomkhvide_next_final_withdrawing(
                 stakes: &[u8], store: &[u8], after: &[u8], found: &mut [u8]
-            ) stack 96;
+            ) stack 496;
             next_wide_withdrawing = lomkhvide_next_wide_withdrawing(
                 stakes: &[u8], store: &[u8], after: &[u8], found: &mut [u8]
-            ) stack 96;
-            final_stretches = lomkhvide_final_stretches(stakes: &[u8], store: &[u8], after: &[u8], stretches: &mut [u8]) stack 480;
-            wide_stretches = lomkhvide_wide_stretches(stakes: &[u8], store: &[u8], after: &[u8], stretches: &mut [u8]) stack 480;
+            ) stack 496;
+            final_stretches = lomkhvide_final_stretches(stakes: &[u8], store: &[u8], after: &[u8], stretches: &mut [u8]) stack 496;
+            wide_stretches = lomkhvide_wide_stretches(stakes: &[u8], store: &[u8], after: &[u8], stretches: &mut [u8]) stack 496;
             final_stretches_withdrawing = lomkhvide_final_stretches_withdrawing(
                 stakes: &[u8], store: &[u8], after: &[u8], stretches: &mut [u8]
-            ) stack 480;
+            ) stack 496;
             wide_stretches_withdrawing = lomkhvide_wide_stretches_withdrawing(
                 stakes: &[u8], store: &[u8], after: &[u8], stretches: &mut [u8]
-            ) stack 480;
+            ) stack 496;
             final_stretches_indexed = lomkhvide_final_stretches_indexed(
                 stakes: &[u8], store: &[u8], index: &[u64], after: &[u8], stretches: &mut [u8]
             ) stack 128;

@@ -56,14 +56,14 @@ sorted-positions-requires c κs = let a = (c .before .before .before .before .be
 array-share-prefix-order : tie.Need-array-share-prefix-order
 array-share-prefix-order c = search needs
 
-slice-aggregate-fill-small : tie.Need-slice-aggregate-fill-small
-slice-aggregate-fill-small c = let a = (c .before .before .before .before .before .before .before .before .before .before .before .before .before .args) in
+slice-aggregate-fill-stretches : tie.Need-slice-aggregate-fill-stretches
+slice-aggregate-fill-stretches c = let a = (c .before .before .before .before .before .before .before .before .before .before .before .before .before .args) in
     let q = c .before .before .sorted-positions .ensures in
     let laid = order-laid (a .stakes .now) (a .store .now) (sym (c .before .before .before .before .before .in-order .ensures) ∙ not-false _ (c .before .before .before .before .if1 .left)) in
     q .1 .0 ∙ sym (ap length (q .1 .1) ∙ sorted-count (a .store .now) laid)
 
-fill-small-requires : tie.Need-fill-small-requires
-fill-small-requires c κs = let a = (c .before .before .before .before .before .before .before .before .before .before .before .before .before .before .args) in
+fill-stretches-requires : tie.Need-fill-stretches-requires
+fill-stretches-requires c κs = let a = (c .before .before .before .before .before .before .before .before .before .before .before .before .before .before .args) in
     let k = listing (a .ordinary) (readingOf (a .withdrawing)) (a .stakes .now) (blocksOf (a .store .now)) in
     let told = c .before .before .before .before .before .before .before .before .total .given in
     let t = taken-sound (a .stakes .now) (told .0 .0) (ap asNewCommittee (sym (told .1)) ∙ c .before .before .before .before .before .before .before .before .before .before .new-committee .ensures) in
@@ -81,7 +81,7 @@ returns-3 c = let a = (c .before .before .before .before .before .before .before
     let told = c .before .before .before .before .before .before .before .before .before .before .before .total .given in
     let t = taken-sound (a .stakes .now) (told .0 .0) (ap asNewCommittee (sym (told .1)) ∙ c .before .before .before .before .before .before .before .before .before .before .before .before .before .new-committee .ensures) in
     let o : storeInOrder (a .stakes .now) (a .store .now) ≡ true = sym (c .before .before .before .before .before .before .before .before .before .in-order .ensures) ∙ not-false _ (c .before .before .before .before .before .before .before .before .if1 .left) in
-    let q = c .before .before .fill-small .ensures in
+    let q = c .before .before .fill-stretches .ensures in
     let e = bulk-asked (a .stakes .now) (a .store .now) k (a .out .now) (asMaybe (a .after)) (t .0) o _ _ (q .0) (q .1) in
     (ap (λ (x : AskedBulk). x .answer) e, ap (λ (x : AskedBulk). x .out) e)
 
@@ -98,7 +98,7 @@ list-stretches-spec =
     slice-aggregate-sorted-positions
     sorted-positions-requires
     array-share-prefix-order
-    slice-aggregate-fill-small
-    fill-small-requires
+    slice-aggregate-fill-stretches
+    fill-stretches-requires
     same-length
     returns-3)

@@ -50,8 +50,8 @@ returns-2 c =
     let e = past-the-last (a .ordinary) (a .withdrawing) (a .stakes .now) (a .store .now) bytes ordered m (omega (arith, c .before .before .before .before .if1 .taken)) in
     (rw (c .before .before .before .before .before .before .before .after .given .1) (c .before .before .shown-start2 .ensures .0 ∙ e), c .before .before .shown-start2 .ensures .1)
 
-add-t22 : tie.Need-add-t22
-add-t22 c = search needs
+add-t21 : tie.Need-add-t21
+add-t21 c = search needs
 
 shown-at-requires : tie.Need-shown-at-requires
 shown-at-requires c κs = search needs
@@ -78,7 +78,7 @@ returns-3 c =
     (rw (c .before .before .before .before .before .before .before .before .before .before .before .after .given .1) (c .before .before .before .before .shown-at .ensures .0 ∙ sym (when-yes list l (f .0)) ∙ just-after (a .ordinary) (a .withdrawing) (a .stakes .now) (a .store .now) bytes ordered m (f .0)), c .before .before .before .before .shown-at .ensures .1)
 
 shown-start-requires-3 : tie.Need-shown-start-requires-3
-shown-start-requires-3 c κs = ((c .before .before .before .before .before .before .before .before .before .before .before .before .before .before .before .before .before .before .before .before .pre .0 .0, c .before .before .before .before .before .shown-at .kept .1 .1 .1 .1 .1 .1 .1 .1 .1 .1 .1 .0 ∙ c .before .before .before .before .before .before .before .before .before .before .before .before .before .before .before .before .before .before .before .before .pre .0 .1), c .before .before .before .before .before .before .before .before .before .before .before .before .before .before .before .before .before .before .before .before .pre .1)
+shown-start-requires-3 c κs = ((c .before .before .before .before .before .before .before .before .before .before .before .before .before .before .before .before .before .before .before .before .pre .0 .0, c .before .before .before .before .before .shown-at .kept .1 .1 .1 .1 .1 .1 .1 .1 .1 .1 .0 ∙ c .before .before .before .before .before .before .before .before .before .before .before .before .before .before .before .before .before .before .before .before .pre .0 .1), c .before .before .before .before .before .before .before .before .before .before .before .before .before .before .before .before .before .before .before .before .pre .1)
 
 same-length-4 : tie.Need-same-length-4
 same-length-4 c = search needs
@@ -106,7 +106,7 @@ final-after-spec =
     shown-start-requires-2
     same-length-2
     returns-2
-    add-t22
+    add-t21
     shown-at-requires
     enum-told-2
     enum-told-3

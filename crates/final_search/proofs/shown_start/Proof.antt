@@ -17,11 +17,11 @@ use Rattle.final_search.proofs.shown_start.Statement.{statement}
 use Rattle.final_search.proofs.shown_start.Tie as tie
 
 abbrev Inv-loop : tie.InvT-loop
-Inv-loop stakes total store order table sizes places noted ordinary withdrawing certified₀ last₀ certified last =
+Inv-loop stakes total store order table sizes sets ordinary withdrawing certified₀ last₀ certified last =
     (length certified ≡ 1024) × (leastStart (listing ordinary (readingOf withdrawing) stakes (blocksOf store)) (startsIn withdrawing store) (asMaybe last) ≡ leastStart (listing ordinary (readingOf withdrawing) stakes (blocksOf store)) (startsIn withdrawing store) (asMaybe last₀))
 
 abbrev μ-loop : tie.MeasureT-loop
-μ-loop stakes total store order table sizes places noted ordinary withdrawing certified₀ last₀ certified last = length (keep (isAfter (asMaybe last)) (startsIn withdrawing store))
+μ-loop stakes total store order table sizes sets ordinary withdrawing certified₀ last₀ certified last = length (keep (isAfter (asMaybe last)) (startsIn withdrawing store))
 
 loop-holds : tie.Need-loop-holds Inv-loop μ-loop
 loop-holds c = (c .before .before .before .before .before .before .pre .0 .1, refl)
@@ -57,7 +57,7 @@ enum-told-3 : tie.Need-enum-told-3 Inv-loop μ-loop
 enum-told-3 c = search needs
 
 same-length-2 : tie.Need-same-length-2 Inv-loop μ-loop
-same-length-2 c = c .before .before .before .before .shown-at .kept .1 .1 .1 .1 .1 .1 .1 .1 .1 .1 .1 .0 ∙ c .before .before .before .before .before .before .before .before .before .before .loop .inv .0 ∙ sym (c .before .before .before .before .before .before .before .before .before .before .before .before .before .before .before .before .before .pre .0 .1)
+same-length-2 c = c .before .before .before .before .shown-at .kept .1 .1 .1 .1 .1 .1 .1 .1 .1 .1 .0 ∙ c .before .before .before .before .before .before .before .before .before .before .loop .inv .0 ∙ sym (c .before .before .before .before .before .before .before .before .before .before .before .before .before .before .before .before .before .pre .0 .1)
 
 returns-2 : tie.Need-returns-2 Inv-loop μ-loop
 unfolding asMaybe asNext leastStart
@@ -92,7 +92,7 @@ loop-again c =
     let l = asLocator (c .before .before .before .before .before .before .before .start .given .0 .0) in
     let first = sym (c .before .before .before .before .before .before .before .before .before .first-start .ensures) ∙ ap asMaybe (c .before .before .before .before .before .before .before .start .given .1) in
     let f = when-hidden list l (ap asNext (sym (c .enum-told2 .given .1)) ∙ c .before .before .before .before .shown-at .ensures .0) in
-    (c .before .before .before .before .shown-at .kept .1 .1 .1 .1 .1 .1 .1 .1 .1 .1 .1 .0 ∙ c .before .before .before .before .before .before .before .before .before .before .loop .inv .0, not-final C (list .shows) last l first f ∙ c .before .before .before .before .before .before .before .before .before .before .loop .inv .1)
+    (c .before .before .before .before .shown-at .kept .1 .1 .1 .1 .1 .1 .1 .1 .1 .1 .0 ∙ c .before .before .before .before .before .before .before .before .before .before .loop .inv .0, not-final C (list .shows) last l first f ∙ c .before .before .before .before .before .before .before .before .before .before .loop .inv .1)
 
 pub shown-start-spec : {M : Type 1} → statement M
 shown-start-spec =

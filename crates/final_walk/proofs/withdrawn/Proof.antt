@@ -81,7 +81,7 @@ slice-aggregate-walk-2 c = search needs
 
 walk-requires-2 : tie.Need-walk-requires-2
 walk-requires-2 c κs = let p = c .before .before .before .before .before .before .before .before .before .before .before .before .before .before .before .before .before .before .before .before .before .pre in
-    (p .0 .0, ((p .1 .1 .0, p .0 .1 .1), λ e. c .before .before .before .spread .kept .1 .1 .1 .1 .1 .0))
+    (p .0 .0, ((p .1 .1 .0, p .0 .1 .1), λ e. c .before .before .before .spread .kept .1 .1 .1 .1 .0))
 
 same-length-2 : tie.Need-same-length-2
 same-length-2 c = search needs

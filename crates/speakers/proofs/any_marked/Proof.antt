@@ -1,3 +1,4 @@
+use borrow.Author.Tests.{eq-eqb}
 use mathlib.Core.Path.{_≡_}
 use mathlib.Core.Bool.{false}
 use Prim.Native.Nat.{ℕ, _-_, _≤_, _<_}
@@ -27,7 +28,7 @@ shared-slice-read-if1 c = omega (arith, c .before .loop-test .taken, c .before .
 
 returns : tie.Need-returns Inv-loop μ-loop
 unfolding AnyMarked
-returns c = tt
+returns c = (c .before .before .before .loop .k, (c .before .before .loop-test .taken, eq-eqb _ 1 (c .if1 .taken)))
 
 add-k : tie.Need-add-k Inv-loop μ-loop
 add-k c = search needs

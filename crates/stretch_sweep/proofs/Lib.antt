@@ -1,0 +1,3 @@
+pub mod Reaching
+mod Running
+mod Filling
