@@ -3,25 +3,27 @@ use mathlib.Core.Path.{_≡_, refl, sym, ap, subst, _∙_}
 use mathlib.Core.Bool.{true, false}
 use mathlib.Core.List.{List, [], _∷_, _++_, map, flatten, append-assoc}
 use mathlib.Core.Option.{Option, none, some}
-use Prim.Native.Nat.{ℕ, zero, suc, _+_, _*_, _/_, _≤_, _<_}
+use Prim.Native.Nat.{ℕ, zero, suc, _+_, _-_, _*_, _^_, _≤_, _<_}
 use native.Mathlib.Nat.{le-div-iff-mul-le}
 use native.Mathlib.Omega.{arith}
-use lib.ListN.{length, drop, length-append, length-drop}
+use lib.ListN.{length, drop, getElem?, length-append, length-drop}
 use lib.Seq.{drop-drop, drop-at}
-use Rattle.base.specs.Lists.{isNone, _∈_, here}
+use Rattle.base.specs.Lists.{isNone, holds, _∈_, here}
 use Rattle.base.specs.Le.{Bytes}
 use Rattle.base.specs.Checks.{answered, refused}
 use Rattle.base.proofs.Tests.{not-both, and-left}
 use Rattle.base.proofs.Le.{AllBytes}
 use Rattle.committee.specs.Committee.{Committee}
 use Rattle.blocks.specs.Reference.{TransactionLocator, locator, newRange}
+use Rattle.blocks.specs.Block.{Statement, isShare, isShareAt}
 use Rattle.blocks.proofs.Records.{ReferenceFits}
 use Rattle.store_layout.specs.Shares.{isStoredShare}
 use Rattle.store_layout.proofs.Shares.{stored-share}
 use Rattle.finality.specs.Finality.{blocksOf}
 use Rattle.finality.proofs.Fits.{block-fits}
-use Rattle.stretches.specs.Stretches.{FinalStretch, lastLocator, stretchAt, fromFound, stretches, reached, moreFollow}
-use Rattle.stretches.specs.Bulk.{Given, digestWords, referenceWords, stretchWords, givenAfter, wordsAfter}
+use Rattle.stretches.specs.Stretches.{FinalStretch, lastLocator, goesOn, stretchAt, fromFound, stretches, reached, moreFollow}
+use Rattle.stretches.specs.Bulk.{Given, stretchBytes, stretchRoom, givenAfter, bytesAfter}
+use Rattle.stretch_words.proofs.Stretch.{eighty}
 use Rattle.stretches.proofs.Spreading.{begun, longest}
 use Rattle.readings.specs.Readings.{Reading, isFinalIn}
 use Rattle.reading_lists.specs.Lists.{isListed, listing}
@@ -31,9 +33,11 @@ use Rattle.final_along.specs.Along.{shareList, ahead, rangeFrom, Held}
 use Rattle.final_along.specs.declared.Along.{Along}
 use Rattle.final_along.proofs.Words.{range-back}
 
-ten-words : (t : FinalStretch) → length (stretchWords t) ≡ 10
-unfolding stretchWords referenceWords digestWords
-ten-words t = refl
+share-inside : (ss : List Statement) (o : ℕ) → holds isShare (getElem? ss o) ≡ true → o < length ss
+unfolding holds
+share-inside [] o h = absurd (not-both h refl)
+share-inside (x ∷ ss) zero h = omega arith
+share-inside (x ∷ ss) (suc o) h = omega (arith, share-inside ss o h)
 
 pub never-refused : (n : ℕ) (x : Given) → refused n ≡ answered x → ⊥
 never-refused n x h = let z : _≡_ {A = ℕ} 0 1 = cc in omega arith
@@ -86,6 +90,22 @@ module _ (reading : Reading) (c : Committee) (s : Bytes) where
       let y = stored-share (blocksOf s) (x .at) (and-left (isStoredShare (blocksOf s) (x .at)) (isFinalIn reading c (blocksOf s) (x .at)) (x .shown)) in
       subst ReferenceFits (y .named ∙ ap (λ (u : FinalStretch). u .block) (x .stretch)) (block-fits s bytes (y .block) (y .stored) .reference)
 
+  -- a share is one of at most 1,024 statements
+  shown-small : AllBytes s → (l : TransactionLocator) → shareList reading c s .shows l ≡ true → l .offset < 1024
+  unfolding listing isListed isShareAt
+  shown-small bytes l h =
+      let y = stored-share (blocksOf s) l (and-left (isStoredShare (blocksOf s) l) (isFinalIn reading c (blocksOf s) l) h) in
+      omega (arith, share-inside (y .block .statements) (l .offset) (y .shared), block-fits s bytes (y .block) (y .stored) .fewStatements)
+
+  pub stretch-small : AllBytes s → (n : ℕ) (after : Option TransactionLocator) (t : FinalStretch) → t ∈ ahead reading c s n after → (t .first < 256 ^ 8) × (t .end < 256 ^ 8)
+  unfolding locator goesOn
+  stretch-small bytes n after t m =
+      let x = longest c (blocksOf s) (shareList reading c s) (lists-lawful true reading c (blocksOf s)) n after t m in
+      let far : t .first < t .end = x .ends .longer in
+      let goes = x .ends .goes (t .end - 1) (omega (arith, far)) (omega (arith, far)) in
+      let last : t .end - 1 < 1024 = shown-small bytes (locator (t .block) (t .end - 1)) (and-left (shareList reading c s .shows (locator (t .block) (t .end - 1))) _ goes) in
+      (omega (arith, far, last), omega (arith, far, last))
+
   pub stretch-longer : (n : ℕ) (after : Option TransactionLocator) (t : FinalStretch) → t ∈ ahead reading c s n after → t .first < t .end
   unfolding locator
   stretch-longer n after t m = longest c (blocksOf s) (shareList reading c s) (lists-lawful true reading c (blocksOf s)) n after t m .ends .longer
@@ -99,31 +119,31 @@ module _ (reading : Reading) (c : Committee) (s : Bytes) where
         asked = 0;
         many = omega arith;
         rest = buffer;
-        words = ap (λ (i : ℕ). drop (10 * i) buffer) e;
+        bytes = ap (λ (i : ℕ). drop (80 * i) buffer) e;
         last = λ h. absurd (not-both g h);
       }
 
   -- with as many as the buffer holds
-  module _ (before buffer : List ℕ) (a : Along) (z : a .next ≡ 0) where
+  module _ (before buffer : Bytes) (a : Along) (z : a .next ≡ 0) where
     abbrev filling : List FinalStretch
-    filling = ahead reading c s (length before / 10) (asMaybe (a .after))
+    filling = ahead reading c s (stretchRoom before) (asMaybe (a .after))
 
-    pub refilled : 10 ≤ length before → buffer ≡ wordsAfter filling before → answered (record { stretches = a .count; more = a .more }) ≡ answered (givenAfter (shareList reading c s) (asMaybe (a .after)) filling)
+    pub refilled : 80 ≤ length before → buffer ≡ bytesAfter filling before → answered (record { stretches = a .count; more = a .more }) ≡ answered (givenAfter (shareList reading c s) (asMaybe (a .after)) filling)
         → Held reading c s buffer a × (a .next ≡ a .count → ahead reading c s 1 (asMaybe (a .after)) ≡ [])
-    unfolding wordsAfter givenAfter
+    unfolding bytesAfter givenAfter
     refilled room w g =
-        let some-room : 1 ≤ length before / 10 = le-div-iff-mul-le {k = 10} {x = 1} {y = length before} (omega arith) .1 (omega (arith, room)) in
+        let some-room : 1 ≤ stretchRoom before = le-div-iff-mul-le {k = 80} {x = 1} {y = length before} (omega arith) .1 (omega (arith, room)) in
         let told : record { stretches = a .count; more = a .more } ≡ givenAfter (shareList reading c s) (asMaybe (a .after)) filling = cc in
         let many : a .count ≡ length filling = ap (λ (x : Given). x .stretches) told in
         let more : a .more ≡ moreFollow (shareList reading c s) (reached (asMaybe (a .after)) filling) = ap (λ (x : Given). x .more) told in (
           record {
-            asked = length before / 10;
+            asked = stretchRoom before;
             many = omega (arith, z, many);
-            rest = drop (10 * length filling) before;
-            words = ap (λ (i : ℕ). drop (10 * i) buffer) z ∙ w;
+            rest = drop (80 * length filling) before;
+            bytes = ap (λ (i : ℕ). drop (80 * i) buffer) z ∙ w;
             last = λ h. sym more ∙ h;
           },
-          λ e. none-ahead (length before / 10) (asMaybe (a .after)) (omega (arith, some-room)) (omega (arith, z, many, e)),
+          λ e. none-ahead (stretchRoom before) (asMaybe (a .after)) (omega (arith, some-room)) (omega (arith, z, many, e)),
         )
 
   module _ (buffer : Bytes) (a : Along) (g : Held reading c s buffer a) where
@@ -146,21 +166,21 @@ module _ (reading : Reading) (c : Committee) (s : Bytes) where
       pub at-front : First (g .asked) (asMaybe (a .after))
       at-front = first-ahead (g .asked) (asMaybe (a .after)) (omega (arith, g .many))
 
-      front-words : drop (10 * a .next) buffer ≡ stretchWords (at-front .first) ++ (flatten (map stretchWords (ahead reading c s (at-front .others) (some (lastLocator (at-front .first))))) ++ g .rest)
+      front-bytes : drop (80 * a .next) buffer ≡ stretchBytes (at-front .first) ++ (flatten (map stretchBytes (ahead reading c s (at-front .others) (some (lastLocator (at-front .first))))) ++ g .rest)
       unfolding flatten
-      front-words =
-          g .words
-          ∙ ap (λ (ts : List FinalStretch). flatten (map stretchWords ts) ++ g .rest) (at-front .splits)
-          ∙ append-assoc (stretchWords (at-front .first)) (flatten (map stretchWords (ahead reading c s (at-front .others) (some (lastLocator (at-front .first)))))) (g .rest)
+      front-bytes =
+          g .bytes
+          ∙ ap (λ (ts : List FinalStretch). flatten (map stretchBytes ts) ++ g .rest) (at-front .splits)
+          ∙ append-assoc (stretchBytes (at-front .first)) (flatten (map stretchBytes (ahead reading c s (at-front .others) (some (lastLocator (at-front .first)))))) (g .rest)
 
-      pub held-inside : 10 * a .next + 10 ≤ length buffer
+      pub held-inside : 80 * a .next + 80 ≤ length buffer
       held-inside =
           omega (
             arith,
-            length-drop (10 * a .next) buffer,
-            ap length front-words,
-            length-append (stretchWords (at-front .first)) (flatten (map stretchWords (ahead reading c s (at-front .others) (some (lastLocator (at-front .first))))) ++ g .rest),
-            ten-words (at-front .first),
+            length-drop (80 * a .next) buffer,
+            ap length front-bytes,
+            length-append (stretchBytes (at-front .first)) (flatten (map stretchBytes (ahead reading c s (at-front .others) (some (lastLocator (at-front .first))))) ++ g .rest),
+            eighty (at-front .first),
           )
 
       front-in : at-front .first ∈ ahead reading c s (g .asked) (asMaybe (a .after))
@@ -169,8 +189,10 @@ module _ (reading : Reading) (c : Committee) (s : Bytes) where
       pub held-longer : at-front .first .first < at-front .first .end
       held-longer = stretch-longer (g .asked) (asMaybe (a .after)) (at-front .first) front-in
 
-      pub held-range : AllBytes s → rangeFrom buffer (10 * a .next) ≡ newRange (at-front .first .block) (at-front .first .first) (at-front .first .end)
-      held-range bytes = range-back buffer (10 * a .next) (at-front .first) _ front-words (stretch-fits bytes (g .asked) (asMaybe (a .after)) (at-front .first) front-in)
+      pub held-range : AllBytes s → rangeFrom buffer (80 * a .next) ≡ newRange (at-front .first .block) (at-front .first .first) (at-front .first .end)
+      held-range bytes =
+          let few = stretch-small bytes (g .asked) (asMaybe (a .after)) (at-front .first) front-in in
+          range-back buffer (80 * a .next) (at-front .first) _ front-bytes (stretch-fits bytes (g .asked) (asMaybe (a .after)) (at-front .first) front-in) (few .0) (few .1)
 
       pub held-next : (b : Along) → b .next ≡ a .next + 1 → b .count ≡ a .count → b .more ≡ a .more → asMaybe (b .after) ≡ some (lastLocator (at-front .first)) → Held reading c s buffer b
       unfolding reached
@@ -181,7 +203,7 @@ module _ (reading : Reading) (c : Committee) (s : Bytes) where
             asked = at-front .others;
             many = subst (λ (o : Option TransactionLocator). b .next + length (ahead reading c s (at-front .others) o) ≡ b .count) (sym k) (omega (arith, g .many));
             rest = g .rest;
-            words = subst (λ (o : Option TransactionLocator). drop (10 * b .next) buffer ≡ flatten (map stretchWords (ahead reading c s (at-front .others) o)) ++ g .rest) (sym k) after-first;
+            bytes = subst (λ (o : Option TransactionLocator). drop (80 * b .next) buffer ≡ flatten (map stretchBytes (ahead reading c s (at-front .others) o)) ++ g .rest) (sym k) after-first;
             last = λ (h : b .more ≡ false). subst (λ (o : Option TransactionLocator). moreFollow (shareList reading c s) (reached o (ahead reading c s (at-front .others) o)) ≡ false) (sym k)
                 (subst (λ (us : List FinalStretch). moreFollow (shareList reading c s) (reached (asMaybe (a .after)) us) ≡ false) (at-front .splits) (g .last (sym m ∙ h)));
           }
@@ -189,12 +211,12 @@ module _ (reading : Reading) (c : Committee) (s : Bytes) where
           ts : List FinalStretch
           ts = ahead reading c s (at-front .others) (some (lastLocator (at-front .first)))
 
-          further : 10 * b .next ≡ 10 * a .next + 10
+          further : 80 * b .next ≡ 80 * a .next + 80
           further = omega arith
 
-          after-first : drop (10 * b .next) buffer ≡ flatten (map stretchWords ts) ++ g .rest
+          after-first : drop (80 * b .next) buffer ≡ flatten (map stretchBytes ts) ++ g .rest
           after-first =
               ap (λ (i : ℕ). drop i buffer) further
-              ∙ sym (drop-drop 10 (10 * a .next) buffer)
-              ∙ ap (λ (l : List ℕ). drop 10 l) front-words
-              ∙ drop-at (stretchWords (at-front .first)) (flatten (map stretchWords ts) ++ g .rest) 10 (ten-words (at-front .first))
+              ∙ sym (drop-drop 80 (80 * a .next) buffer)
+              ∙ ap (λ (l : Bytes). drop 80 l) front-bytes
+              ∙ drop-at (stretchBytes (at-front .first)) (flatten (map stretchBytes ts) ++ g .rest) 80 (eighty (at-front .first))

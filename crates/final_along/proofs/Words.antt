@@ -1,72 +1,72 @@
--- A stretch read back from its words. Assumes nothing.
-use mathlib.Core.Path.{_≡_, sym, ap, subst, _∙_}
-use mathlib.Core.List.{List, [], _∷_, _++_, append-nil, reverse, reverseAux, reverse-reverse}
-use Prim.Native.Nat.{ℕ, _+_, _-_, _≤_}
-use native.Mathlib.Nat.{add-zero}
+-- A stretch read back from its bytes. Assumes nothing.
+use mathlib.Core.Path.{_≡_, sym, ap, _∙_}
+use mathlib.Core.List.{_++_, append-assoc}
+use mathlib.Core.Option.{some, Option·some-injective}
+use Prim.Native.Nat.{ℕ, _+_, _-_, _^_, _≤_, _<_}
 use native.Mathlib.Omega.{arith}
-use lib.ListN.{length, getD, take, drop, length-drop, length-reverse, take-append-drop, drop-of-length-le}
-use lib.Seq.{length-take-le, drop-drop, getD-drop}
-use Rattle.base.specs.Le.{Bytes, leNumber, leBytes}
-use Rattle.base.proofs.Le.{AllBytes, bytes-left, bytes-drop, leBytes-leNumber}
-use Rattle.blocks.specs.Reference.{TransactionLocatorRange, locator, newRange}
-use Rattle.blocks.proofs.Records.{ReferenceFits}
-use Rattle.types.specs.Values.{beBytes, asReference, asLocator, asRange}
+use lib.ListN.{length, take, drop, length-append, length-drop}
+use lib.Seq.{drop-drop, take-at, drop-at}
+use Rattle.base.specs.Le.{Bytes, leNumber, leBytes, leAt}
+use Rattle.base.specs.Read.{Part}
+use Rattle.base.proofs.Read.{part}
+use Rattle.base.proofs.Le.{length-leBytes, leNumber-leBytes}
+use Rattle.base.proofs.Fixed.{reads-at}
+use Rattle.blocks.specs.Reference.{TransactionLocator, TransactionLocatorRange, locator, newRange}
+use Rattle.blocks.specs.Record.{readLocator, locatorBytes}
+use Rattle.blocks.proofs.Records.{ReferenceFits, LocatorFits, locator-reads}
+use Rattle.types.specs.Values.{asReference, asLocator, asRange}
 use Rattle.types.specs.declared.TransactionLocatorRange as ranges
+use Rattle.reference_bytes.specs.Step.{referenceAt, locatorAt}
+use Rattle.reference_bytes.proofs.Fixed.{fixed-locator, locator-value}
 use Rattle.stretches.specs.Stretches.{FinalStretch, lastLocator}
-use Rattle.stretches.specs.Bulk.{beNumber, digestWords, referenceWords, stretchWords}
-use Rattle.final_along.specs.Along.{referenceFrom, rangeFrom}
+use Rattle.stretches.specs.Bulk.{stretchBytes}
+use Rattle.stretch_words.proofs.Stretch.{stretch-laid, locator-length}
+use Rattle.final_along.specs.Along.{rangeFrom}
 
-bytes-turned : (xs ys : Bytes) → AllBytes xs → AllBytes ys → AllBytes (reverseAux xs ys)
-bytes-turned [] ys h k = k
-bytes-turned (x ∷ xs) ys h k = bytes-turned xs (x ∷ ys) (h .1) (h .0, k)
+-- a locator is read where its bytes stand
+locator-stands : (b : Bytes) (p : ℕ) (l : TransactionLocator) (x : Bytes) → LocatorFits l → p + 56 ≤ length b → drop p b ≡ locatorBytes l ++ x → locatorAt b p ≡ l
+locator-stands b p l x f h e =
+    let read : some (part (fixed-locator .value (drop p b)) (drop (p + 56) b)) ≡ some (part l x) =
+    sym (reads-at readLocator 56 fixed-locator b p h) ∙ ap readLocator e ∙ locator-reads l f x in
+    sym (locator-value b p) ∙ ap (λ (y : Part TransactionLocator). y .value) (Option·some-injective _ _ read)
 
--- eight bytes, through their number
-be-back : (xs : Bytes) → length xs ≡ 8 → AllBytes xs → beBytes 8 (beNumber xs) ≡ xs
-unfolding beBytes beNumber
-be-back xs n k =
-    let m : length (reverse xs) ≡ 8 = length-reverse xs ∙ n in
-    ap (λ (i : ℕ). reverse (leBytes i (leNumber (reverse xs)))) (sym m)
-    ∙ ap (λ (s : Bytes). reverse s) (leBytes-leNumber (reverse xs) (bytes-turned xs [] k Prim.tt))
-    ∙ reverse-reverse xs
+module _ (b : Bytes) (p : ℕ) (t : FinalStretch) (rest : Bytes) (e : drop p b ≡ stretchBytes t ++ rest) (h : ReferenceFits (t .block))
+    (first : t .first < 256 ^ 8) (end : t .end < 256 ^ 8) where
+  l : TransactionLocator
+  l = locator (t .block) (t .first)
 
--- a digest, through its words
-digest-back : (d : Bytes) → length d ≡ 32 → AllBytes d
-    → beBytes 8 (beNumber (take 8 d)) ++ (beBytes 8 (beNumber (take 8 (drop 8 d))) ++ (beBytes 8 (beNumber (take 8 (drop 16 d))) ++ beBytes 8 (beNumber (take 8 (drop 24 d))))) ≡ d
-digest-back d h k =
-    ap (λ (s : Bytes). word 0 ++ (word 8 ++ (word 16 ++ s))) (sym (append-nil (word 24)) ∙ ap (λ (s : Bytes). word 24 ++ s) (sym none-left) ∙ at 24 (omega arith))
-    ∙ ap (λ (s : Bytes). word 0 ++ (word 8 ++ s)) (at 16 (omega arith))
-    ∙ ap (λ (s : Bytes). word 0 ++ s) (at 8 (omega arith))
-    ∙ at 0 (omega arith)
-  where
-    word : ℕ → Bytes
-    word m = beBytes 8 (beNumber (take 8 (drop m d)))
+  more : Bytes
+  more = leBytes 8 (t .blocks) ++ leBytes 8 (t .stake)
 
-    none-left : drop 32 d ≡ []
-    none-left = let n : length d ≤ 32 = omega arith in drop-of-length-le d n
+  laid : drop p b ≡ locatorBytes l ++ ((leBytes 8 (t .end) ++ more) ++ rest)
+  unfolding l more
+  laid =
+      e
+      ∙ ap (λ (x : Bytes). x ++ rest) (stretch-laid t (h .bytes) (h .size))
+      ∙ append-assoc (locatorBytes (locator (t .block) (t .first))) (leBytes 8 (t .end) ++ (leBytes 8 (t .blocks) ++ leBytes 8 (t .stake))) rest
 
-    at : (m : ℕ) → m + 8 ≤ 32 → word m ++ drop (m + 8) d ≡ drop m d
-    at m n =
-        let long : 8 ≤ length (drop m d) = omega (arith, length-drop m d) in
-        let bytes : AllBytes (take 8 (drop m d)) = bytes-left (take 8 (drop m d)) (drop 8 (drop m d)) (subst AllBytes (sym (take-append-drop 8 (drop m d))) (bytes-drop m d k)) in
-        ap (λ (s : Bytes). word m ++ s) (sym (drop-drop 8 m d))
-        ∙ ap (λ (s : Bytes). s ++ drop 8 (drop m d)) (be-back (take 8 (drop m d)) (length-take-le 8 (drop m d) long) bytes)
-        ∙ take-append-drop 8 (drop m d)
+  long : length (locatorBytes l) ≡ 56
+  unfolding l
+  long = locator-length t (h .size)
 
-front-back : (t : FinalStretch) (rest : List ℕ) → ReferenceFits (t .block) → rangeFrom (stretchWords t ++ rest) 0 ≡ newRange (t .block) (t .first) (t .end)
-unfolding rangeFrom referenceFrom stretchWords referenceWords digestWords newRange
-front-back t rest h =
-    let e = digest-back (t .block .digest) (h .size) (h .bytes) in
-    λ i. record { block = record { authority = t .block .authority; round = t .block .round; digest = e i }; start = t .first; end = t .end }
+  inside : p + 56 ≤ length b
+  inside = omega (arith, ap length laid, length-append (locatorBytes l) ((leBytes 8 (t .end) ++ more) ++ rest), long, length-drop p b)
 
--- from a word on, as from the front of what stands there
-moved : (ws : List ℕ) (p : ℕ) → rangeFrom ws p ≡ rangeFrom (drop p ws) 0
-unfolding rangeFrom referenceFrom
-moved ws p =
-    let first : getD ws p 0 ≡ getD (drop p ws) 0 0 = ap (λ (n : ℕ). getD ws n 0) (sym (add-zero p)) ∙ sym (getD-drop p ws 0 0) in
-    rw (first, ← getD-drop p ws 1 0, ← getD-drop p ws 2 0, ← getD-drop p ws 3 0, ← getD-drop p ws 4 0, ← getD-drop p ws 5 0, ← getD-drop p ws 6 0, ← getD-drop p ws 7 0)
+  read-first : locatorAt b p ≡ l
+  unfolding l
+  read-first = locator-stands b p l ((leBytes 8 (t .end) ++ more) ++ rest) (record { block = h; offset = first }) inside laid
 
-pub range-back : (ws : List ℕ) (p : ℕ) (t : FinalStretch) (rest : List ℕ) → drop p ws ≡ stretchWords t ++ rest → ReferenceFits (t .block) → rangeFrom ws p ≡ newRange (t .block) (t .first) (t .end)
-range-back ws p t rest e h = moved ws p ∙ ap (λ (l : List ℕ). rangeFrom l 0) e ∙ front-back t rest h
+  read-end : leAt 8 b (p + 56) ≡ t .end
+  unfolding leAt
+  read-end =
+      let after : drop (p + 56) b ≡ leBytes 8 (t .end) ++ (more ++ rest) =
+      sym (drop-drop 56 p b) ∙ ap (λ (x : Bytes). drop 56 x) laid ∙ drop-at (locatorBytes l) ((leBytes 8 (t .end) ++ more) ++ rest) 56 long
+      ∙ append-assoc (leBytes 8 (t .end)) more rest in
+      ap (λ (x : Bytes). leNumber (take 8 x)) after ∙ ap leNumber (take-at (leBytes 8 (t .end)) (more ++ rest) 8 (length-leBytes 8 (t .end))) ∙ leNumber-leBytes 8 (t .end) end
+
+  pub range-back : rangeFrom b p ≡ newRange (t .block) (t .first) (t .end)
+  unfolding rangeFrom locatorAt locator newRange l
+  range-back = λ i. record { block = read-first i .block; start = read-first i .offset; end = read-end i }
 
 -- ---- the range that the code holds
 

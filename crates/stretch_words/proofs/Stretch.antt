@@ -58,7 +58,7 @@ module _ (t : FinalStretch) where
       ∙ rw (after-words (wordsIn 4 d) last-four, bytesOf-wordsIn 4 d a h, four)
       (sym (rw (append-assoc (x ++ (y ++ d)) o three, append-assoc x (y ++ d) (o ++ three), append-assoc y d (o ++ three))))
 
-  locator-length : length (t .block .digest) ≡ 32 → length (locatorBytes (locator (t .block) (t .first))) ≡ 56
+  pub locator-length : length (t .block .digest) ≡ 32 → length (locatorBytes (locator (t .block) (t .first))) ≡ 56
   unfolding locatorBytes referenceBytes locator
   locator-length h = simp (length-append, length-leBytes) (omega (arith, h))
 

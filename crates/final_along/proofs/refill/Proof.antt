@@ -17,8 +17,8 @@ returns-2 c =
     let a = c .before .before .before .before .before .before .before .before .args in
     (c .before .before .before .before .before .before .before .before .pre .1, (refl, λ e. held-last (readingOf (a .withdrawing)) (a .stakes .now) (a .store .now) (a .buffer .now) (a .along) (c .before .before .before .before .before .before .before .before .pre .1) (omega (arith, e)) (not-true _ (c .if2 .taken))))
 
-fill-small-requires : tie.Need-fill-small-requires
-fill-small-requires c κs = search needs
+fill-stretches-requires : tie.Need-fill-stretches-requires
+fill-stretches-requires c κs = search needs
 
 enum-known-filled : tie.Need-enum-known-filled
 enum-known-filled c = search needs
@@ -34,7 +34,7 @@ same-length c = search needs
 
 returns-3 : tie.Need-returns-3
 unfolding asStretches
-returns-3 c = let a = c .before .before .before .before .before .before .before .before .before .before .before .before .before .before .before .args in let f = c .before .before .before .before .before .fill-small in
+returns-3 c = let a = c .before .before .before .before .before .before .before .before .before .before .before .before .before .before .before .args in let f = c .before .before .before .before .before .fill-stretches in
     let x = refilled (readingOf (a .withdrawing)) (a .stakes .now) (a .store .now) (a .buffer .now) (f .last .1 .1 .1 .1 .1 .1 .0) (record { next = 0; count = c .before .filled .given .0 .0; more = false; after = a .along .after }) refl
     (c .before .before .before .before .before .before .before .before .before .before .before .before .before .before .before .pre .0 .1) (f .ensures .1) (ap asStretches (sym (c .before .filled .given .1)) ∙ f .ensures .0) in
     (x .0, (refl, x .1))
@@ -44,7 +44,7 @@ same-length-2 c = search needs
 
 returns-4 : tie.Need-returns-4
 unfolding asStretches
-returns-4 c = let a = c .before .before .before .before .before .before .before .before .before .before .before .before .before .before .before .args in let f = c .before .before .before .before .before .fill-small in
+returns-4 c = let a = c .before .before .before .before .before .before .before .before .before .before .before .before .before .before .before .args in let f = c .before .before .before .before .before .fill-stretches in
     let x = refilled (readingOf (a .withdrawing)) (a .stakes .now) (a .store .now) (a .buffer .now) (f .last .1 .1 .1 .1 .1 .1 .0) (record { next = 0; count = c .before .filled2 .given .0 .0; more = true; after = a .along .after }) refl
     (c .before .before .before .before .before .before .before .before .before .before .before .before .before .before .before .pre .0 .1) (f .ensures .1) (ap asStretches (sym (c .before .filled2 .given .1)) ∙ f .ensures .0) in
     (x .0, (refl, x .1))
@@ -54,7 +54,7 @@ same-length-3 c = search needs
 
 returns-5 : tie.Need-returns-5
 unfolding asStretches
-returns-5 c = absurd (never-refused _ _ (ap asStretches (sym (c .enum-told .given .1)) ∙ c .before .before .before .before .fill-small .ensures .0))
+returns-5 c = absurd (never-refused _ _ (ap asStretches (sym (c .enum-told .given .1)) ∙ c .before .before .before .before .fill-stretches .ensures .0))
 
 pub refill-spec : {M : Type 1} → statement M
 refill-spec =
@@ -62,7 +62,7 @@ refill-spec =
     (tie.spec
     returns
     returns-2
-    fill-small-requires
+    fill-stretches-requires
     enum-known-filled
     enum-known-filled-2
     enum-told
