@@ -201,6 +201,10 @@ static void feed_records(void) {
     answer = lomkhvide_feed_records(one, sizeof one, chain, sizeof chain, table, sizeof table, told, 0, told, 1024, framed, framed_len);
 }
 
+static void feed_records_indexed(void) {
+    answer = lomkhvide_feed_records_indexed(one, sizeof one, chain, sizeof chain, table, sizeof table, voters, sizeof voters / 8, told, 0, told, 1024, framed, framed_len);
+}
+
 static void final_stretches_indexed(void) {
     answer = lomkhvide_final_stretches_indexed(one, sizeof one, chain, sizeof chain, voters, sizeof voters / 8, next, 0, stretches, sizeof stretches);
 }
@@ -311,6 +315,11 @@ int main(void) {
     chain[4] = 16;
     memset(table, 0, sizeof table);
     at_most("feed_records", feed_records, 1024, 131072);
-    printf("%d passed, %d failed\n", 28 - failed, failed);
+    memset(chain, 0, 16);
+    chain[4] = 16;
+    memset(table, 0, sizeof table);
+    voters[0] = 1;
+    at_most("feed_records_indexed", feed_records_indexed, 1024, 196608);
+    printf("%d passed, %d failed\n", 29 - failed, failed);
     return failed != 0;
 }

@@ -64,6 +64,7 @@ call!(new_committee = lomkhvide_new_committee(stakes: &[u8]));
 call!(load_stakes = lomkhvide_load_stakes(file: &[u8], stakes: &mut [u8]));
 call!(feed = lomkhvide_feed(stakes: &[u8], store: &mut [u8], table: &mut [u8], events: &mut [u8], record: &[u8]));
 call!(feed_records = lomkhvide_feed_records(stakes: &[u8], store: &mut [u8], table: &mut [u8], events: &mut [u64], outcomes: &mut [u64], records: &[u8]));
+call!(feed_records_indexed = lomkhvide_feed_records_indexed(stakes: &[u8], store: &mut [u8], table: &mut [u8], index: &mut [u64], events: &mut [u64], outcomes: &mut [u64], records: &[u8]));
 call!(pending_stake = lomkhvide_pending_stake(stakes: &[u8], store: &[u8], table: &[u8], locator: &[u8]));
 call!(pending_voters = lomkhvide_pending_voters(stakes: &[u8], store: &[u8], table: &[u8], locator: &[u8]));
 call!(payload_length = lomkhvide_payload_length(stakes: &[u8], store: &[u8], locator: &[u8]));
