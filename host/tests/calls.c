@@ -680,6 +680,64 @@ static void indexing(void) {
     same("the words past it stay", memcmp(index + 24, before + 24, 16), 0);
 }
 
+/* The three records of `many` with the index in one call: what single feeds with it leave, for every number of words of the index. */
+static void many_indexed(void) {
+    const uint8_t one[8] = {1};
+    const uint64_t right[24] = {24, 0, 1, 0, 1, UINT64_C(2) << 24, 0, 0, 0, 0, 1, 1, 0, 1, 0, 1, UINT64_C(2) << 24, 0, 0, 0, 0, 1, 1, 0};
+    const size_t all = three.ends[3];
+    for (size_t words = 0; words < 28; words++) {
+        uint64_t *index = malloc(8 * words + 1), *told = malloc(8 * 3), *events = malloc(8 * 3);
+        memset(index, 7, 8 * words);
+        memset(events, 9, 8 * 3);
+        if (words > 0) {
+            index[0] = 1;
+        }
+        fresh();
+        uint64_t word = lomkhvide_feed_records_indexed(one, 8, lent.store, 1024, lent.table, LOMKHVIDE_TABLE_LEN, index, words, events, 3, told, 3,
+                                                       three.records, all);
+        /* each part that has no room is 55, and what includes its block is 30 */
+        int fed = words < 2 ? 0 : words < 13 ? 1 : words < 24 ? 2 : 3;
+        same("an index of any length", word, words == 0 ? refused(54) : 3);
+        same("the store of single feeds", memcmp(lent.store, three.store[fed], 1024), 0);
+        same("the table of single feeds", memcmp(lent.table, three.table[fed], LOMKHVIDE_TABLE_LEN), 0);
+        if (words > 0) {
+            same("used words", index[0], fed == 0 ? 1 : fed == 1 ? 2 : fed == 2 ? 13 : 24);
+            same("the parts", memcmp(index + 1, right + 1, 8 * (index[0] - 1)), 0);
+            for (size_t i = index[0]; i < words; i++) {
+                same("the words past them stay", index[i], UINT64_C(0x0707070707070707));
+            }
+            for (int i = 0; i < 3; i++) {
+                same("its outcome", told[i], i < fed ? i == 2 : refused(i == fed ? 55 : 30));
+            }
+        }
+        same("the event", memcmp(events, three.event, 24) == 0, fed == 3);
+        free(events);
+        free(told);
+        free(index);
+    }
+    uint64_t index[26], events[3] = {5, 5, 5}, outcomes[3] = {6, 6, 6};
+    memset(index, 7, sizeof index);
+    index[0] = 1;
+    fresh();
+    kept = lent;
+    for (size_t m = 0; m < 16; m++) {
+        same("no committee", lomkhvide_feed_records_indexed(one, m % 8, lent.store, m, lent.table, 7, index, 0, events, 3, outcomes, 0, three.records, all), refused(5));
+        same("no store", lomkhvide_feed_records_indexed(one, 8, lent.store, m, lent.table, 7, index, 0, events, 3, outcomes, 0, three.records, all), refused(10));
+    }
+    for (size_t m = 0; m < sizeof lent.table; m += m < 64 ? 1 : 499) {
+        if (m != LOMKHVIDE_TABLE_LEN) {
+            same("a table of any length", lomkhvide_feed_records_indexed(one, 8, lent.store, 1024, lent.table, m, index, 0, events, 3, outcomes, 0, three.records, all), refused(11));
+        }
+    }
+    for (size_t words = 0; words < 3; words++) {
+        same("54 before 64", lomkhvide_feed_records_indexed(one, 8, lent.store, 1024, lent.table, LOMKHVIDE_TABLE_LEN, index, 0, events, 3, outcomes, words, three.records, all), refused(54));
+        same("64", lomkhvide_feed_records_indexed(one, 8, lent.store, 1024, lent.table, LOMKHVIDE_TABLE_LEN, index, 26, events, 3, outcomes, words, three.records, all), refused(64));
+    }
+    same("nothing is written", memcmp(&lent, &kept, sizeof lent), 0);
+    same("nor to events and outcomes", events[0] + events[1] + events[2] + outcomes[0] + outcomes[1] + outcomes[2], 33);
+    same("nor to the index", index[0] == 1 && index[1] == UINT64_C(0x0707070707070707), 1);
+}
+
 /* A record of the file of stakes. Answers where the next one goes. */
 static uint8_t *put_member(uint8_t *to, uint16_t next, const char *name, uint64_t stake) {
     to[0] = (uint8_t)next;
@@ -1517,6 +1575,7 @@ int main(void) {
     feeding();
     many();
     indexing();
+    many_indexed();
     ringing();
     ringing_voters();
     written_slips();

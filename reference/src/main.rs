@@ -156,8 +156,8 @@ fn many(count: u64, seed: u64) {
             println!("list {n} of seed {seed} failed in one call: {text}");
         }
     }
-    let Fed { calls, records, accepted, untold, short, singly } = fed;
-    println!("{calls} calls of {records} records: {accepted} accepted, {untold} refused by 15; 64 refused {short} calls; {singly} lists held to single feeds");
+    let Fed { calls, records, accepted, untold, short, singly, indexed } = fed;
+    println!("{calls} calls of {records} records: {accepted} accepted, {untold} refused by 15; 64 refused {short} calls; {singly} lists held to single feeds, {indexed} with the index");
     end(count, failed);
 }
 

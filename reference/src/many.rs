@@ -5,6 +5,7 @@ use crate::compare::{same, set, Memory, Outcome};
 use crate::engine;
 use crate::generate;
 use crate::list::List;
+use crate::model::index;
 use crate::model::lent;
 use crate::rng::Rng;
 
@@ -20,6 +21,8 @@ pub struct Fed {
     pub short: u64,
     /// Calls held to single feeds.
     pub singly: u64,
+    /// Calls with the index, held to single feeds of the model.
+    pub indexed: u64,
 }
 
 /// What stands in events and outcomes at first.
@@ -30,6 +33,7 @@ pub fn compare(seed: u64, n: u64, fed: &mut Fed) -> Outcome {
     let mut rng = Rng::new(seed.wrapping_mul(0x9e3779b97f4a7c15) ^ n);
     let list = generate::timed_list(seed, n);
     whole(&list, fed)?;
+    with_index(&list, &mut rng, fed)?;
     let Some(sides) = set(&list)? else { return Ok(()) };
     let (mut right, mut got) = (sides.right, sides.engine);
     let half = rng.below(list.records.len() as u64 + 1) as usize;
@@ -76,6 +80,39 @@ pub fn whole(list: &List, fed: &mut Fed) -> Outcome {
     same("its store", "engine", &store, &single.store)?;
     same("its table", "engine", &table, &single.table)?;
     fed.singly += 1;
+    Ok(())
+}
+
+/// A list in one call with an index of any length: what single feeds of the model with it tell and leave.
+fn with_index(list: &List, rng: &mut Rng, fed: &mut Fed) -> Outcome {
+    let Some(sides) = set(list)? else { return Ok(()) };
+    let Memory { stakes, mut store, mut table, .. } = sides.engine;
+    let mut single = sides.right;
+    let mut index = vec![PAST; rng.within(1, 4000) as usize];
+    index[0] = 1;
+    let mut right = index.clone();
+    let bytes: Vec<u8> = list.records.iter().flat_map(|record| after_length(record)).collect();
+    let mut outcomes = vec![PAST; list.records.len()];
+    let mut events = vec![PAST; 3 * 8192 + 3 * 8192 * list.records.len()];
+    let answer = engine::feed_records_indexed(&stakes, &mut store, &mut table, &mut index, &mut events, &mut outcomes, &bytes);
+    if list.store < 16 {
+        return same("feed_records_indexed", "engine", answer, Err(10));
+    }
+    let mut each = Vec::new();
+    for record in &list.records {
+        let Memory { stakes, store, table, events } = &mut single;
+        let answer = index::feed_indexed(stakes, store, table, &mut right, events, record);
+        if answer == Err(15) {
+            return Ok(());
+        }
+        each.push(answer.unwrap_or_else(|number| (1 << 63) + number));
+    }
+    same("feed_records_indexed", "engine", answer, Ok(list.records.len() as u64))?;
+    same("its outcomes", "engine", &outcomes, &each)?;
+    same("its store", "engine", &store, &single.store)?;
+    same("its table", "engine", &table, &single.table)?;
+    same("its index", "engine", &index, &right)?;
+    fed.indexed += 1;
     Ok(())
 }
 

@@ -3,6 +3,7 @@ ghost use mathlib.Core.Path.{_≡_};
 ghost use Rattle.host_calls.specs.Calls.{encoded, committeeOf};
 ghost use Rattle.feed_bytes.specs.Feed.{feedCall};
 ghost use Rattle.host_feed_records.specs.FeedRecords.{feedRecordsCall};
+ghost use Rattle.host_feed_records_indexed.specs.FeedRecords.{feedRecordsIndexedCall};
 ghost use Rattle.host_feed_indexed.specs.IndexedFeed.{feedIndexedCall};
 ghost use Rattle.readings.specs.Readings.{old, withdrawing};
 ghost use mathlib.Core.Option.{some};
@@ -64,6 +65,35 @@ pub extern "C" fn lomkhvide_feed_records(
     ensures { λ r. ⌜ now (outcomes .exit) ≡ feedRecordsCall (now (stakes .entry)) (now (store .entry)) (now (table .entry)) (now (events .entry)) (now (outcomes .entry)) (now (records .entry)) .outcomes ⌝ }
 {
     host_feed_records::feed_records(stakes, store, table, events, outcomes, records)
+}
+
+// The same with the index beside the store, to which the parts of the accepted records are appended.
+#[no_mangle]
+pub extern "C" fn lomkhvide_feed_records_indexed(
+    stakes: &[u8],
+    store: &mut [u8],
+    table: &mut [u8],
+    index: &mut [u64],
+    events: &mut [u64],
+    outcomes: &mut [u64],
+    records: &[u8],
+) -> u64
+    ensures { λ r. ⌜ r ≡ encoded (feedRecordsIndexedCall (now (stakes .entry)) (now (store .entry)) (now (table .entry)) (now (index .entry)) (now (events .entry)) (now (outcomes .entry)) (now (records .entry)) .answer) ⌝ }
+    ensures { λ r. ⌜ now (store .exit) ≡ feedRecordsIndexedCall (now (stakes .entry)) (now (store .entry)) (now (table .entry)) (now (index .entry)) (now (events .entry)) (now (outcomes .entry)) (now (records .entry)) .store ⌝ }
+    ensures { λ r. ⌜ now (table .exit) ≡ feedRecordsIndexedCall (now (stakes .entry)) (now (store .entry)) (now (table .entry)) (now (index .entry)) (now (events .entry)) (now (outcomes .entry)) (now (records .entry)) .table ⌝ }
+    ensures { λ r. ⌜ now (index .exit) ≡ feedRecordsIndexedCall (now (stakes .entry)) (now (store .entry)) (now (table .entry)) (now (index .entry)) (now (events .entry)) (now (outcomes .entry)) (now (records .entry)) .index ⌝ }
+    ensures { λ r. ⌜ now (events .exit) ≡ feedRecordsIndexedCall (now (stakes .entry)) (now (store .entry)) (now (table .entry)) (now (index .entry)) (now (events .entry)) (now (outcomes .entry)) (now (records .entry)) .events ⌝ }
+    ensures { λ r. ⌜ now (outcomes .exit) ≡ feedRecordsIndexedCall (now (stakes .entry)) (now (store .entry)) (now (table .entry)) (now (index .entry)) (now (events .entry)) (now (outcomes .entry)) (now (records .entry)) .outcomes ⌝ }
+{
+    host_feed_records_indexed::feed_records_indexed(
+        stakes,
+        store,
+        table,
+        index,
+        events,
+        outcomes,
+        records,
+    )
 }
 
 // Writes a record of our own into `out`: its length.
