@@ -41,6 +41,7 @@ extern "C" {
     X(feed, 256) \
     X(feed_records, 128) \
     X(feed_indexed, 256) \
+    X(feed_records_indexed, 256) \
     X(pending_stake, 96) \
     X(pending_voters, 96) \
     X(whom_to_ring, 96) \

@@ -278,6 +278,15 @@ static void feed_records(void) {
     answer = lomkhvide_feed_records(one, sizeof one, other, sizeof other, pending, sizeof pending, all_events, 3, told, 1025, framed, framed_len);
 }
 
+static void feed_records_indexed(void) {
+    static uint8_t other[sizeof chain], pending[sizeof table];
+    static uint64_t index[12 * 1024];
+    other[4] = 16;
+    index[0] = 1;
+    answer = lomkhvide_feed_records_indexed(one, sizeof one, other, sizeof other, pending, sizeof pending, index, sizeof index / 8, all_events, 3,
+                                            told, 1025, framed, framed_len);
+}
+
 static void final_stretches_indexed(void) {
     answer = lomkhvide_final_stretches_indexed(one, sizeof one, chain, sizeof chain, voters, sizeof voters / 8, next, 0, stretches, sizeof stretches);
 }
@@ -431,6 +440,7 @@ int main(void) {
     grow();
     AT_MOST(feed, 1);
     AT_MOST(feed_records, 1024);
+    AT_MOST(feed_records_indexed, 1024);
     AT_MOST(feed_indexed, 1);
     AT_MOST(finality, 2 * 1023 + 1);
     AT_MOST(finality_withdrawing, 2 * 1023 + 1);

@@ -32,6 +32,10 @@ macro_rules! each_call {
             feed_indexed = lomkhvide_feed_indexed(
                 stakes: &[u8], store: &mut [u8], table: &mut [u8], index: &mut [u64], events: &mut [u8], record: &[u8]
             ) stack 256;
+            feed_records_indexed = lomkhvide_feed_records_indexed(
+                stakes: &[u8], store: &mut [u8], table: &mut [u8], index: &mut [u64], events: &mut [u64], outcomes: &mut [u64],
+                records: &[u8]
+            ) stack 256;
             pending_stake = lomkhvide_pending_stake(stakes: &[u8], store: &[u8], table: &[u8], locator: &[u8]) stack 96;
             pending_voters = lomkhvide_pending_voters(stakes: &[u8], store: &[u8], table: &[u8], locator: &[u8]) stack 96;
             whom_to_ring = lomkhvide_whom_to_ring(

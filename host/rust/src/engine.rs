@@ -126,21 +126,9 @@ impl Engine {
         engine.store[..parts.store.len()].copy_from_slice(parts.store);
         engine.table[..parts.table.len()].copy_from_slice(parts.table);
         engine.index = parts.index.map(<[u64]>::to_vec);
-        engine.check()?;
+        // Without records all that is lent is checked, and nothing is fed.
+        engine.feed_at_once(&[])?;
         Ok(engine)
-    }
-
-    /// Refused where the memory is not in order.
-    fn check(&mut self) -> Result<(), Refusal> {
-        let Some(index) = &mut self.index else {
-            // Feeding no records checks all that is lent.
-            return self.committee.feed_records(&mut self.store, &mut self.table, &[]).map(drop);
-        };
-        // Feeding no bytes is refused as malformed once all that is lent was found in order.
-        match self.committee.feed_indexed(&mut self.store, &mut self.table, index, &[]) {
-            Err(Refusal::Malformed) => Ok(()),
-            told => told.map(drop),
-        }
     }
 
     /// What is to be kept: see [`Parts`].
@@ -213,7 +201,7 @@ impl Engine {
 
     /// Feeds records one after the other, as few calls as it takes: what became of each is what [`Engine::feed`] would tell, and so is the memory
     /// afterwards. A record that is refused does not keep the others from being fed.
-    #[doc = stack!(feed_indexed)]
+    #[doc = stack!(feed_records_indexed)]
     ///
     /// ```
     /// # use lomkhvide::*;
@@ -226,11 +214,35 @@ impl Engine {
     /// ```
     pub fn feed_all<R: AsRef<[u8]>>(&mut self, records: impl IntoIterator<Item = R>) -> Result<Vec<Fed>, Refusal> {
         let records: Vec<R> = records.into_iter().collect();
-        if self.index.is_some() {
-            return Ok(records.iter().map(|record| self.feed(record)).collect());
-        }
         let records: Vec<&[u8]> = records.iter().map(AsRef::as_ref).collect();
-        self.committee.feed_records(&mut self.store, &mut self.table, &records)
+        // Where the index was too short for one record, those after it were fed without it: all is put back, and fed anew with a longer one.
+        let before = self.index.is_some().then(|| self.before(&records));
+        loop {
+            let fed = self.feed_at_once(&records)?;
+            let Some((index, before)) = self.index.as_mut().zip(before.as_ref()) else { return Ok(fed) };
+            if !fed.contains(&Err(Refusal::IndexTooShort)) {
+                return Ok(fed);
+            }
+            self.store[..before.store.len()].copy_from_slice(&before.store);
+            self.table.copy_from_slice(&before.table);
+            index[0] = before.used_index;
+            index.resize(2 * index.len() + 1, 0);
+        }
+    }
+
+    fn feed_at_once(&mut self, records: &[&[u8]]) -> Result<Vec<Fed>, Refusal> {
+        match &mut self.index {
+            Some(index) => self.committee.feed_records_indexed(&mut self.store, &mut self.table, index, records),
+            None => self.committee.feed_records(&mut self.store, &mut self.table, records),
+        }
+    }
+
+    /// The memory that feeding these records can change.
+    fn before(&self, records: &[&[u8]]) -> Before {
+        let most: usize = records.iter().map(|record| ENTRY_HEADER + record.len()).sum();
+        let touched = self.used().saturating_add(most).min(self.store.len());
+        let used_index = self.index.as_ref().map_or(0, |index| index[0]);
+        Before { store: self.store[..touched].to_vec(), table: self.table.clone(), used_index }
     }
 
     /// Runs something on a thread of its own that has stack enough for every call, and waits for it: for a host whose threads are small. It may
@@ -301,6 +313,13 @@ impl Engine {
         let start = at + ENTRY_HEADER;
         (start <= used.len()).then(|| &used[start..start + number_at(used, at + 4)])
     }
+}
+
+/// What feeding can change, before it: of the index only its first word, since what is appended comes after the used part.
+struct Before {
+    store: Vec<u8>,
+    table: Vec<u8>,
+    used_index: u64,
 }
 
 /// How much it holds: its bytes would fill many screens.

@@ -212,6 +212,36 @@ impl Committee {
         }
         Ok(fed)
     }
+
+    /// The same with the index beside the store: 54 after 11. A record for whose part the index is too short is refused with 55, and the others are
+    /// fed all the same.
+    #[doc = stack!(feed_records_indexed)]
+    ///
+    /// ```
+    /// # use lomkhvide::*;
+    /// let committee = Committee::new(&[Stake(1)])?;
+    /// let first = Record::builder(RoundNumber(0), AuthorityIndex(0), [1; 32]).finish()?;
+    /// let (mut store, mut table, mut index) = (fresh_store(4096), fresh_table(), fresh_index(1));
+    /// let fed = committee.feed_records_indexed(&mut store, &mut table, &mut index, &[first.as_bytes()])?;
+    /// assert_eq!(fed, [Err(Refusal::IndexTooShort)]);
+    /// # Ok::<(), Refusal>(())
+    /// ```
+    pub fn feed_records_indexed(
+        &self,
+        store: &mut [u8],
+        table: &mut [u8],
+        index: &mut [u64],
+        records: &[&[u8]],
+    ) -> Result<Vec<Fed>, Refusal> {
+        let mut fed = Vec::with_capacity(records.len());
+        for batch in batches(records) {
+            let (mut events, mut outcomes) = (vec![0; batch.words], vec![0; batch.records.len()]);
+            let framed = framed(&batch.records);
+            calls::feed_records_indexed(self.stakes(), store, table, index, &mut events, &mut outcomes, &framed)?;
+            fed.extend(batch.told(&outcomes, &events));
+        }
+        Ok(fed)
+    }
 }
 
 #[cfg(test)]
