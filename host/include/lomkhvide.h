@@ -285,7 +285,7 @@ uint64_t lomkhvide_feed_indexed(const uint8_t *stakes, size_t stakes_len, uint8_
 /* Feeds records one after the other as `lomkhvide_feed_records` does, with the index, which is checked once; the parts of the accepted records are
  * appended. A record for whose part the index is too short is refused with 55, after which the others are fed all the same. After the call the used
  * index is the one worked out from the store.
- * Refused, in this order, and then nothing is written: 5; 10; 11; 54; 64. It needs at most 192 KB of stack. */
+ * Refused, in this order, and then nothing is written: 5; 10; 11; 54; 64. */
 uint64_t lomkhvide_feed_records_indexed(const uint8_t *stakes, size_t stakes_len, uint8_t *store, size_t store_len, uint8_t *table,
                                         size_t table_len, uint64_t *index, size_t index_len, uint64_t *events, size_t events_len,
                                         uint64_t *outcomes, size_t outcomes_len, const uint8_t *records, size_t records_len);
