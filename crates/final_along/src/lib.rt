@@ -14,7 +14,7 @@ ghost use Rattle.committee.specs.Committee.{Committee};
 ghost use Rattle.types.specs.Values.{asRange};
 ghost use Rattle.vote_starts.specs.Answers.{asMaybe};
 ghost use Rattle.readings.specs.Readings.{Reading, readingOf};
-ghost use Rattle.final_search.specs.Search.{Ready};
+ghost use Rattle.final_walk.specs.Walk.{Ready};
 ghost use Rattle.final_along.specs.Along.{ahead, rangeFrom, Held, Found};
 
 // The bytes of the buffer: 128 stretches.

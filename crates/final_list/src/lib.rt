@@ -14,7 +14,7 @@ ghost use Rattle.stretches.specs.Bulk.{givenAfter, stretchRoom, bytesAfter, fin
 ghost use Rattle.stored_finals.specs.Ordinary.{shareStretches};
 ghost use Rattle.readings.specs.Readings.{withdrawing, readingOf};
 ghost use Rattle.reading_lists.specs.Lists.{listing, listedStretches};
-ghost use Rattle.final_search.specs.Search.{Ready};
+ghost use Rattle.final_walk.specs.Walk.{Ready};
 ghost use Rattle.stretch_words.specs.Answers.{asStretches};
 
 // ---- the question in bulk

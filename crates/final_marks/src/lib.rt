@@ -15,7 +15,7 @@ ghost use Rattle.finality.specs.Finality.{blocksOf};
 ghost use Rattle.readings.specs.Readings.{readingOf};
 ghost use Rattle.reading_lists.specs.Lists.{allListed};
 ghost use Rattle.block_votes.specs.Walk.{SortedStore};
-ghost use Rattle.final_search.specs.Search.{Ready};
+ghost use Rattle.final_walk.specs.Walk.{Ready};
 ghost use Rattle.final_marks.specs.Marks.{Cleared, NoneLeft};
 
 // Takes away the mark of the block of a stretch, where the stretch covers the marked share.

@@ -7,7 +7,7 @@ use lib.Dec.{eqb}
 use lib.ListN.{length, getD}
 use Rattle.base.specs.Lists.{pick}
 use Rattle.base.specs.Le.{Bytes}
-use Rattle.committee.specs.Committee.{Committee}
+use Rattle.committee.specs.Committee.{Committee, Stake, totalStake}
 use Rattle.authority_set.specs.AuthoritySet.{AuthoritySet, setOf}
 use Rattle.blocks.specs.Reference.{TransactionLocator}
 use Rattle.blocks.specs.Block.{author}
@@ -17,10 +17,14 @@ use Rattle.readings.specs.Rejecting.{without}
 use Rattle.readings.specs.Readings.{Reading, votersIn, certifiesIn, certifiersIn}
 use Rattle.readings.specs.Finality.{certifyingPositionsIn}
 use Rattle.certifying_blocks.specs.declared.Certifiers as found
-use Rattle.block_votes.specs.Walk.{blockAtPlace}
+use Rattle.block_votes.specs.Walk.{Sorted, blockAtPlace}
 use Rattle.voters.specs.Walk.{spokenAt}
 use Rattle.include_places.specs.Places.{setAt}
 use Rattle.speakers.specs.Heard.{Owned}
+
+-- a store in order, its positions and the total stake
+abbrev pub Ready : Committee → Stake → Bytes → List ℕ → Type 0
+Ready c total s order = (Sorted c s order × (total ≡ totalStake c)) × (length order ≤ 1024)
 
 -- those who vote, less those who reject where rejects are noted
 unfoldable pub counted : Bool → AuthoritySet → AuthoritySet → AuthoritySet

@@ -18,7 +18,7 @@ ghost use Rattle.finality.specs.Finality.{blocksOf};
 ghost use Rattle.readings.specs.Readings.{readingOf};
 ghost use Rattle.reading_lists.specs.Lists.{allListed};
 ghost use Rattle.block_votes.specs.Walk.{SortedStore};
-ghost use Rattle.final_search.specs.Search.{Ready};
+ghost use Rattle.final_walk.specs.Walk.{Ready};
 ghost use Rattle.loadable_pass.specs.Holding.{Holding, Past, Coming, Read, Listed};
 
 // Up to which statement the block of the entry at a position was read.

@@ -8,7 +8,7 @@ ghost use mathlib.Core.Path.{_≡_};
 ghost use Rattle.types.specs.Values.{asLocator};
 ghost use Rattle.finality.specs.Finality.{blocksOf};
 ghost use Rattle.readings.specs.Readings.{old, withdrawing, readingOf, isFinalIn};
-ghost use Rattle.final_search.specs.Search.{Ready};
+ghost use Rattle.final_walk.specs.Walk.{Ready};
 ghost use Rattle.loadable.specs.Loadable.{isLoadableIn};
 ghost use Rattle.loadable.specs.Question.{loadableQuestionIn};
 ghost use Rattle.loadable_share.specs.Answers.{asLoadable};

@@ -10,7 +10,7 @@ ghost use Rattle.finality.specs.NextFinal.{nextFinal};
 ghost use Rattle.stored_finals.specs.FinalShares.{nextFinalShare};
 ghost use Rattle.readings.specs.Readings.{withdrawing, readingOf};
 ghost use Rattle.reading_lists.specs.Lists.{listing, nextListed};
-ghost use Rattle.final_search.specs.Search.{Ready};
+ghost use Rattle.final_walk.specs.Walk.{Ready};
 ghost use Rattle.finality.specs.Finality.{blocksOf};
 ghost use Rattle.vote_starts.specs.Answers.{asMaybe};
 ghost use Rattle.next_final.specs.Answers.{asNextFinal};
