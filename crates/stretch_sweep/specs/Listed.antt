@@ -1,5 +1,5 @@
 -- Machinery for the contracts of inner functions: a list by a sweep over the edges. Assumes nothing: these are definitions.
-use Prim.Native.Nat.{ℕ, _/_, _≤_, _<_}
+use Prim.Native.Nat.{ℕ, _≤_, _<_}
 use mathlib.Core.Path.{_≡_}
 use mathlib.Core.Bool.{Bool, true, false}
 use mathlib.Core.List.{List}

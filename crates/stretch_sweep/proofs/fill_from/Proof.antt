@@ -14,7 +14,7 @@ use Rattle.stretch_sweep.proofs.fill_from.Statement.{statement}
 use Rattle.stretch_sweep.proofs.fill_from.Tie as tie
 
 abbrev Inv-loop : tie.InvT-loop
-Inv-loop stakes total store order sets wanted edges₀ spare₀ marks₀ out₀ room certified₀ sweep₀ n₀ edges spare marks out certified sweep n = ((length edges ≡ length edges₀) × (length spare ≡ length spare₀)) × (((length marks ≡ length marks₀) × (length certified ≡ 1024)) × (((n ≤ length out₀ / 10) × (length out ≡ length out₀)) × (Stands (laneRanges wanted store order) store edges marks sweep × Doing wanted stakes store out₀ (asLocator (sweep₀ .here)) (asLocator (sweep .here)) out n)))
+Inv-loop stakes total store order sets wanted edges₀ spare₀ marks₀ out₀ room certified₀ sweep₀ n₀ edges spare marks out certified sweep n = ((length edges ≡ length edges₀) × (length spare ≡ length spare₀)) × (((length marks ≡ length marks₀) × (length certified ≡ 1024)) × (((n ≤ length out₀ / 80) × (length out ≡ length out₀)) × (Stands (laneRanges wanted store order) store edges marks sweep × Doing wanted stakes store out₀ (asLocator (sweep₀ .here)) (asLocator (sweep .here)) out n)))
 
 abbrev μ-loop : tie.MeasureT-loop
 μ-loop stakes total store order sets wanted edges₀ spare₀ marks₀ out₀ room certified₀ sweep₀ n₀ edges spare marks out certified sweep n = room - n
