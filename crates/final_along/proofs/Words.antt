@@ -53,7 +53,7 @@ module _ (b : Bytes) (p : ℕ) (t : FinalStretch) (rest : Bytes) (e : drop p b �
   inside = omega (arith, ap length laid, length-append (locatorBytes l) ((leBytes 8 (t .end) ++ more) ++ rest), long, length-drop p b)
 
   read-first : locatorAt b p ≡ l
-  unfolding l
+  unfolding l locator
   read-first = locator-stands b p l ((leBytes 8 (t .end) ++ more) ++ rest) (record { block = h; offset = first }) inside laid
 
   read-end : leAt 8 b (p + 56) ≡ t .end
