@@ -438,6 +438,7 @@ int main(void) {
     AT_MOST(write_slip, 118);
     AT_MOST(write_slip_withdrawing, 118);
     grow();
+    need();
     AT_MOST(feed, 1);
     AT_MOST(feed_records, 1024);
     AT_MOST(feed_records_indexed, 1024);

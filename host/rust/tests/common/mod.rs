@@ -170,6 +170,7 @@ fn string(text: &[u8]) -> Option<(String, &[u8])> {
             _ => return None,
         }
     }
+}
 
 /// A program of the examples. `cargo test` has built it; `cargo test --test NAME` has not.
 pub fn example(name: &str) -> PathBuf {
