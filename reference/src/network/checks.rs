@@ -35,7 +35,8 @@ fn bytes(locators: &[Locator]) -> Vec<[u8; 56]> {
 pub struct Lists {
     /// The wide list and the ordinary one, in the old reading and in the new one.
     lists: Vec<Vec<Stretch>>,
-    loadable: Vec<Locator>,
+    /// What may be loaded, in either reading.
+    loadable: Vec<Vec<Locator>>,
 }
 
 /// A stretch that an engine lists, as the model has it.
@@ -74,13 +75,17 @@ pub fn look(world: &mut World, n: usize) -> Outcome {
             lists.push(right);
         }
     }
-    let loadable = loadable(&graph, stores);
-    let got = node.plain.loadable(lomkhvide::Reading::Old).map(|list| list.iter().map(HostLocator::to_bytes).collect()).map_err(Refusal::number);
-    same(&format!("node {n}, loadable"), "engine", got, Ok(bytes(&loadable)))?;
+    let mut loads = Vec::new();
+    for (reading, host) in [(Reading::Old, lomkhvide::Reading::Old), (Reading::Withdrawing, lomkhvide::Reading::Withdrawing)] {
+        let right = loadable(reading, &graph, stores);
+        let got = node.plain.loadable(host).map(|list| list.iter().map(HostLocator::to_bytes).collect()).map_err(Refusal::number);
+        same(&format!("node {n}, loadable, {reading:?} reading"), "engine", got, Ok(bytes(&right)))?;
+        loads.push(right);
+    }
     let blocks: Vec<Reference> = stores.index.keys().copied().collect();
     shares(world, n)?;
     stays_final(world, n, finals)?;
-    alike(world, n, blocks, Lists { lists, loadable })
+    alike(world, n, blocks, Lists { lists, loadable: loads })
 }
 
 /// A node's shares: pending or not as the model has it, and their payloads the same wherever they are stored.
@@ -117,7 +122,7 @@ fn stays_final(world: &mut World, n: usize, finals: [BTreeSet<Locator>; 2]) -> O
 
 /// Nodes with the same records give the same lists.
 fn alike(world: &mut World, n: usize, blocks: Vec<Reference>, lists: Lists) -> Outcome {
-    world.tally.loadable += lists.loadable.len() as u64;
+    world.tally.loadable += lists.loadable[0].len() as u64;
     if let Some(before) = world.lists.get(&blocks) {
         world.tally.alike += 1;
         return same(&format!("node {n}, beside a node with the same records"), "this one", &lists, before);
