@@ -74,6 +74,28 @@ pub fn shared(count: usize, among: bool) -> Vec<Block> {
     blocks
 }
 
+/// So many owners and rounds, each block above round 0 with all blocks of the round before and a share, and above round 1 with so many accepts of
+/// offsets that no other block accepts, scattered over the blocks of round 0, and one of the first of these, which everybody accepts.
+pub fn scattered(owners: u64, rounds: u64, votes: u64) -> Vec<Block> {
+    let reference = |n: u64| Reference { author: n % owners, round: n / owners, digest: digest(n + 1) };
+    let block = |n: u64| {
+        let first = (n / owners).saturating_sub(1) * owners;
+        let before: Vec<Reference> = if n < owners { vec![] } else { (first..first + owners).map(reference).collect() };
+        let mut block = bare(reference(n), &before);
+        if n >= owners {
+            block.statements.push(Statement::Share(vec![1]));
+        }
+        if n >= 2 * owners {
+            let offset = |k: u64| 10 + 2 * (k * owners * rounds + n);
+            let of = |k: u64| reference((k * 7919 + n) % owners);
+            block.statements.extend((0..votes).map(|k| Statement::Accept(Locator::new(of(k), offset(k * 31 % votes)))));
+            block.statements.push(Statement::Accept(Locator::new(reference(0), 3)));
+        }
+        block
+    };
+    (0..owners * rounds).map(block).collect()
+}
+
 /// One owner, whose blocks each vote for 2,730 further offsets of one block: as many final locators as `listing` can hold.
 pub fn longest() -> Vec<Block> {
     let reference = |n: u64| Reference { author: 0, round: n, digest: digest(n) };

@@ -3,9 +3,11 @@
 use crate::compare::{same, set, Memory, Outcome};
 use crate::engine;
 use crate::generate;
+use crate::graphs;
+use crate::list::List;
 use crate::model::index;
 use crate::model::lent;
-use crate::model::record::number;
+use crate::model::record::{number, Block};
 use crate::model::store::Stores;
 use crate::rng::Rng;
 
@@ -82,6 +84,38 @@ pub fn compare(seed: u64, n: u64, indexed: &mut Indexed) -> Outcome {
     same("the index worked out afresh", "engine", &lent.index[..afresh.len()], &afresh[..])?;
     let past = lent.index[afresh.len()..].iter().all(|word| *word == Lent::PAST);
     same("the words past the index stay", "engine", past, true)
+}
+
+/// Many owners, or records of many scattered votes: the engine's index after all feeds is the model's worked out afresh, and with any one of its words
+/// changed a further feed is refused by 54.
+pub fn compare_many(owners: u64, rounds: u64, votes: u64, indexed: &mut Indexed) -> Outcome {
+    let blocks = graphs::scattered(owners, rounds, votes);
+    let list = List::roomy(vec![1; owners as usize], blocks.iter().map(Block::encode).collect());
+    let Some(sides) = set(&list)? else { return Err("a committee that is refused".into()) };
+    let mut lent = Lent { memory: sides.right, index: vec![Lent::PAST; 1 << 22] };
+    lent.index[0] = 1;
+    for (i, record) in list.records.iter().enumerate() {
+        let told = lent.feed_engine(record);
+        same(&format!("record {} with the index", i + 1), "engine", told.is_ok(), true)?;
+        indexed.feeds += 1;
+        indexed.accepted += 1;
+    }
+    let stores = Stores::read(&sides.committee, &lent.memory.store).expect("a store in order");
+    let afresh = index::afresh(&stores);
+    indexed.longest = indexed.longest.max(afresh.len());
+    same("the index worked out afresh", "engine", &lent.index[..afresh.len()], &afresh[..])?;
+    let mut rng = Rng::new(owners ^ votes << 8);
+    for _ in 0..20 {
+        let at = rng.below(afresh.len() as u64) as usize;
+        let right = lent.index[at];
+        lent.index[at] = right ^ 1 << rng.below(64);
+        let told = lent.feed_engine(&list.records[0]);
+        same(&format!("with another word {at}"), "engine", told, Err(54))?;
+        lent.index[at] = right;
+        indexed.feeds += 1;
+        indexed.disagreeing += 1;
+    }
+    Ok(())
 }
 
 /// Feeds a record on both sides, and holds the engine's answer and every byte and word to the model's.

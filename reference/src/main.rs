@@ -171,9 +171,16 @@ fn indexes(count: u64, seed: u64) {
             println!("list {n} of seed {seed} failed with the index: {text}");
         }
     }
+    let many = [(4, 4, 300), (4, 3, 1000), (16, 4, 5), (16, 3, 150), (64, 3, 3)];
+    for (owners, rounds, votes) in many {
+        if let Err(text) = indexes::compare_many(owners, rounds, votes, &mut indexed) {
+            failed += 1;
+            println!("{owners} owners, {rounds} rounds, {votes} votes a block failed with the index: {text}");
+        }
+    }
     let Indexed { feeds, accepted, disagreeing, short, lists, longest } = indexed;
     println!("{feeds} feeds with the index: {accepted} accepted, {disagreeing} refused by 54, {short} by 55; {lists} lists; the longest index has {longest} words");
-    end(count, failed);
+    end(count + many.len() as u64, failed);
 }
 
 /// Networks of nodes; the smallest form of the first that fail.

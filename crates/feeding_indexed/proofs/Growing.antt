@@ -25,7 +25,7 @@ use Rattle.store_layout.proofs.Accepted.{blocks, known-author, accepted-stored}
 use Rattle.finality.specs.Finality.{blocksOf}
 use Rattle.block_votes.proofs.Sorting.{some-committee}
 use Rattle.aggregator.specs.Step.{Feeding}
-use Rattle.index_merge.specs.Sources.{Voting}
+use Rattle.own_runs.specs.Own.{Voting}
 use Rattle.index_check.specs.Known.{Rooted}
 use Rattle.index_check.proofs.Fits.{ends-fit}
 use Rattle.index_growth.specs.Growing.{Growing}

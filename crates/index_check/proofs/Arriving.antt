@@ -33,7 +33,7 @@ use Rattle.store_layout.proofs.Store.{in-order, recordsOf-bytes, recordsOf-righ
 use Rattle.store_layout.proofs.Stored.{WellStored, stored}
 use Rattle.store_layout.proofs.Accepted.{blocks, known-author, accepted-stored}
 use Rattle.block_votes.specs.Walk.{Sorted}
-use Rattle.index_merge.specs.Sources.{EndsFit, Voting}
+use Rattle.own_runs.specs.Own.{EndsFit, Voting}
 use Rattle.index_check.specs.Known.{Rooted}
 use Rattle.index_check.proofs.Fits.{ends-fit}
 

@@ -13,7 +13,7 @@ use Rattle.blocks.proofs.Spans.{Span, ofShare, ofVote, span-of}
 use Rattle.blocks.proofs.Records.{ReferenceFits, StatementFits, BlockFits}
 use Rattle.store_layout.specs.Layout.{Record}
 use Rattle.store_layout.specs.Accept.{blockChecks}
-use Rattle.index_merge.specs.Sources.{EndsFit}
+use Rattle.own_runs.specs.Own.{EndsFit}
 use Rattle.store_layout.proofs.Ends.{accept-lower, span-end}
 
 module _ (b : Block) (f : BlockFits b) where

@@ -9,6 +9,7 @@ use lib.Seq.{take-suc, take-length, getD-set-same, getD-set-other}
 use Rattle.base.specs.Le.{Bytes}
 use Rattle.base.proofs.Places.{in-place}
 use Rattle.authority_set.specs.AuthoritySet.{AuthoritySet, united}
+use Rattle.authority_set.proofs.Words.{nobody-united}
 use Rattle.blocks.specs.Reference.{BlockReference, TransactionLocator}
 use Rattle.blocks.specs.Block.{Block}
 use Rattle.blocks.specs.Record.{noReference}
@@ -21,8 +22,8 @@ use Rattle.voters_index.proofs.Chain.{Anything, Chain, end, link, Differs}
 use Rattle.voters_index.proofs.Relation.{runs-chain}
 use Rattle.voters_index.proofs.Ascending.{stretched-runs}
 use Rattle.voters_index.proofs.Parts.{part-runs, from-names}
-use Rattle.index_merge.specs.Sources.{cursorAt, cursorLeft, source, namedBy}
-use Rattle.index_parts.specs.Parts.{merged}
+use Rattle.index_merge.specs.Sources.{cursorAt, cursorLeft, source, namedBy, Ready, together}
+use Rattle.own_runs.specs.Own.{OwnRuns}
 use Rattle.finality.proofs.Spoken.{unions-more}
 use Rattle.index_check.specs.Known.{Stands, Known, Rooted, Opened}
 
@@ -118,8 +119,33 @@ module _ (s : Bytes) (order ix starts : List ℕ) (bs : List Block) (b : Block) 
 
 -- ---- the part
 
-pub opened-runs : (bs : List Block) (b : Block) (ix cs : List ℕ) (n : ℕ) → Opened bs b ix cs n → RunsOf (merged b ix cs n) (partFrom b (map (partIn bs) (b .includes)))
-unfolding partFrom merged
-opened-runs bs b ix cs n h =
-    stretched-runs (λ l. united (ownVote b l) (namedBy ix cs n l)) (ownRuns b ++ flatten (map (partIn bs) (b .includes)))
-    (λ l. from-names b (partIn bs) (λ i. votersIn (partIn bs i) l) l (λ r. refl) ∙ ap (united (ownVote b l)) (sym (h .names l)))
+-- a block's own runs as a source
+module _ (b : Block) (ws : List ℕ) (m : ℕ) (o : OwnRuns b ws m) (ms : List ℕ) (long : length ms ≡ 2) (first : getD ms 0 0 ≡ 0) (left : getD ms 1 0 ≡ m) where
+  own-source : source ws ms 0 ≡ runsFrom m ws
+  unfolding source cursorAt cursorLeft
+  own-source = ap (λ (k : ℕ). runsFrom k (drop (getD ms 0 0) ws)) left ∙ ap (λ (k : ℕ). runsFrom m (drop k ws)) first
+
+  alone : (k : ℕ) → k < 1 → k ≡ 0
+  alone k h = omega arith
+
+  pub own-ready : Ready ws ms 1
+  unfolding cursorAt cursorLeft
+  own-ready =
+      record {
+        room = omega arith;
+        inside = λ k h. rw (alone k h) (omega (arith, first, left, o .inside));
+        chains = λ k h. rw (alone k h, own-source) (o .chain);
+      }
+
+  own-names : (l : TransactionLocator) → namedBy ws ms 1 l ≡ ownVote b l
+  unfolding namedBy
+  own-names l = nobody-united (votersIn (source ws ms 0) l) ∙ ap (λ (xs : List Run). votersIn xs l) own-source ∙ o .names l
+
+  pub opened-runs : (bs : List Block) (ix cs : List ℕ) (n : ℕ) → Opened bs b ix cs n → RunsOf (together ws ms ix cs n) (partFrom b (map (partIn bs) (b .includes)))
+  unfolding partFrom together
+  opened-runs bs ix cs n h =
+      stretched-runs (λ l. united (namedBy ws ms 1 l) (namedBy ix cs n l)) (ownRuns b ++ flatten (map (partIn bs) (b .includes)))
+      (λ l.
+      from-names b (partIn bs) (λ i. votersIn (partIn bs i) l) l (λ r. refl)
+      ∙ ap (united (ownVote b l)) (sym (h .names l))
+      ∙ ap (λ (v : AuthoritySet). united v (namedBy ix cs n l)) (sym (own-names l)))

@@ -11,7 +11,7 @@ ghost use Rattle.finality.specs.Finality.{blocksOf};
 ghost use Rattle.block_votes.specs.Walk.{SortedStore};
 ghost use Rattle.voters_index.specs.Part.{partFrom, partIn};
 ghost use Rattle.voters_index.specs.Index.{indexAgrees};
-ghost use Rattle.index_merge.specs.Sources.{Voting};
+ghost use Rattle.own_runs.specs.Own.{Voting};
 ghost use Rattle.index_parts.specs.Parts.{Compared};
 ghost use Rattle.index_check.specs.Known.{Known, Rooted, Opened};
 
@@ -42,7 +42,7 @@ pub fn open_sources(
     count
 }
 
-// Holds the words from a position on against the part of a record.
+// Holds the words from a position on against the part of a record, whose own votes are written to the lent words.
 fn record_part_end(
     store: &[u8],
     order: &[u64],
@@ -50,20 +50,34 @@ fn record_part_end(
     index: &[u64],
     rec: &[u8],
     at: usize,
+    rows: &mut [u64],
+    own: &mut [u64],
 ) -> PartEnd
     requires store { ⌜ SortedStore (now store) (now order) ⌝ }
     requires record { ⌜ Voting (now rec) ⌝ }
     requires known { ⌜ ((bs : List Block) × (Known (now store) (now order) (now index) (now starts) bs × Rooted (now store) bs (blockIn (now rec)))) ⌝ }
+    requires room { ⌜ (3072 ≤ length (now rows)) × (10240 ≤ length (now own)) ⌝ }
     ensures { λ r. ⌜ ((bs : List Block) → Known (now (store .entry)) (now (order .entry)) (now (index .entry)) (now (starts .entry)) bs → Rooted (now (store .entry)) bs (blockIn (now (rec .entry))) → Compared (now (index .entry)) at (partFrom (blockIn (now (rec .entry))) (map (partIn bs) (blockIn (now (rec .entry)) .includes))) r) ⌝ }
 {
     let mut cursors = [0u64; 512];
     let n = open_sources(store, order, starts, index, rec, &mut cursors);
-    index_parts::part_end(index, &mut cursors, n, rec, at)
+    let mut mine = [0u64; 2];
+    mine[1] = own_runs::own_runs(rec, rows, own) as u64;
+    let mut ahead = [0u64; 512];
+    index_parts::part_end(index, &mut cursors, &mut ahead, n, own, &mut mine, at)
 }
 
-// Whether the index agrees with a store in order, whose sorted positions are lent; where it does, `starts` has for each of them where its part stands.
-pub fn index_agrees(store: &[u8], order: &[u64], index: &[u64], starts: &mut [u64]) -> bool
+// Whether the parts of the stored blocks stand one after the other in the index, and all its used words are theirs.
+fn parts_agree(
+    store: &[u8],
+    order: &[u64],
+    index: &[u64],
+    starts: &mut [u64],
+    rows: &mut [u64],
+    own: &mut [u64],
+) -> bool
     requires { ⌜ SortedStore (now store) (now order) × (length (now order) ≤ length (now starts)) ⌝ }
+    requires room { ⌜ (3072 ≤ length (now rows)) × (10240 ≤ length (now own)) ⌝ }
     ensures { λ r. ⌜ r ≡ indexAgrees (blocksOf (now (store .entry))) (now (index .entry)) ⌝ }
     ensures { λ r. ⌜ (r ≡ true → Known (now (store .entry)) (now (order .entry)) (now (index .entry)) (now (starts .exit)) (blocksOf (now (store .entry)))) ⌝ }
 {
@@ -76,7 +90,16 @@ pub fn index_agrees(store: &[u8], order: &[u64], index: &[u64], starts: &mut [u6
     while i < order.len() {
         let from = at + 8;
         let end = store_entries::record_end(store, at);
-        let ended = record_part_end(store, order, starts, index, &store[from..end], pos);
+        let ended = record_part_end(
+            store,
+            order,
+            starts,
+            index,
+            &store[from..end],
+            pos,
+            rows,
+            own,
+        );
         let PartEnd::Ends(next) = ended else {
             return false;
         };
@@ -87,4 +110,15 @@ pub fn index_agrees(store: &[u8], order: &[u64], index: &[u64], starts: &mut [u6
         i = i + 1;
     }
     index[0] == pos as u64
+}
+
+// Whether the index agrees with a store in order, whose sorted positions are lent; where it does, `starts` has for each of them where its part stands.
+pub fn index_agrees(store: &[u8], order: &[u64], index: &[u64], starts: &mut [u64]) -> bool
+    requires { ⌜ SortedStore (now store) (now order) × (length (now order) ≤ length (now starts)) ⌝ }
+    ensures { λ r. ⌜ r ≡ indexAgrees (blocksOf (now (store .entry))) (now (index .entry)) ⌝ }
+    ensures { λ r. ⌜ (r ≡ true → Known (now (store .entry)) (now (order .entry)) (now (index .entry)) (now (starts .exit)) (blocksOf (now (store .entry)))) ⌝ }
+{
+    let mut rows = [0u64; own_runs::ROWS_WORDS];
+    let mut own = [0u64; own_runs::RUNS_WORDS];
+    parts_agree(store, order, index, starts, &mut rows, &mut own)
 }

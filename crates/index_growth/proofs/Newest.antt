@@ -1,7 +1,7 @@
 -- The part of a record that is fed: what the sources make, its room and its words. Assumes nothing.
-use mathlib.Core.Path.{_≡_, sym, subst}
+use mathlib.Core.Path.{_≡_, refl, sym, subst}
 use mathlib.Core.Bool.{true, false}
-use mathlib.Core.List.{List, _∷_}
+use mathlib.Core.List.{List, [], _∷_}
 use Prim.Native.Nat.{ℕ, _+_, _-_, _*_, _/_, _≤_, _<_}
 use native.Mathlib.Omega.{arith}
 use lib.ListN.{length, getD}
@@ -13,19 +13,24 @@ use Rattle.voters_index.specs.Part.{RunsOf}
 use Rattle.voters_index.specs.Index.{indexed, usedWords, indexAgrees, indexShort}
 use Rattle.voters_index.proofs.Grown.{used-grows, agrees-used}
 use Rattle.voters_index.proofs.Reading.{part-length}
-use Rattle.index_parts.specs.Parts.{merged, Counted}
+use Rattle.own_runs.specs.Own.{OwnRuns}
+use Rattle.index_merge.specs.Sources.{Ready, together}
+use Rattle.index_parts.specs.Parts.{Counted}
 use Rattle.index_parts.specs.declared.RunCount.{RunCount}
 use Rattle.index_parts.specs.declared.RunCount.the-variants.{Runs, TooMany}
 use Rattle.index_check.specs.Known.{Opened}
-use Rattle.index_check.proofs.Opening.{opened-runs}
+use Rattle.index_check.proofs.Opening.{own-ready, opened-runs}
 use Rattle.index_check.proofs.Agreeing.{newest-part}
 use Rattle.index_growth.specs.Growing.{newPart, Roomy}
 
 -- the sources and the record's own votes make its part
-pub new-runs : (s rec : Bytes) (ix cs : List ℕ) (n : ℕ) → Opened (blocksOf s) (blockIn rec) ix cs n → RunsOf (merged (blockIn rec) ix cs n) (newPart s rec)
+pub new-runs : (s rec : Bytes) (ix cs : List ℕ) (n : ℕ) (ws : List ℕ) (m : ℕ) → OwnRuns (blockIn rec) ws m → Opened (blocksOf s) (blockIn rec) ix cs n → RunsOf (together ws (0 ∷ m ∷ []) ix cs n) (newPart s rec)
 unfolding newPart
-new-runs s rec ix cs n o =
-    subst (RunsOf (merged (blockIn rec) ix cs n)) (sym (newest-part (blockIn rec) (blocksOf s))) (opened-runs (blocksOf s) (blockIn rec) ix cs n o)
+new-runs s rec ix cs n ws m w o =
+    subst (RunsOf (together ws (0 ∷ m ∷ []) ix cs n)) (sym (newest-part (blockIn rec) (blocksOf s))) (opened-runs (blockIn rec) ws m w (0 ∷ m ∷ []) refl refl refl (blocksOf s) ix cs n o)
+
+pub new-ready : (rec : Bytes) (ws : List ℕ) (m : ℕ) → OwnRuns (blockIn rec) ws m → Ready ws (0 ∷ m ∷ []) 1
+new-ready rec ws m w = own-ready (blockIn rec) ws m w (0 ∷ m ∷ []) refl refl refl
 
 module _ (s rec : Bytes) (ix : List ℕ) (h : indexAgrees (blocksOf s) ix ≡ true) where
   -- the words that are used with it

@@ -14,7 +14,7 @@ use Rattle.block_votes.specs.Walk.{SortedStore}
 use Rattle.voters_index.specs.Runs.{Run}
 use Rattle.voters_index.specs.Part.{partIn}
 use Rattle.voters_index.specs.Index.{usedPart, indexAgrees, indexShort}
-use Rattle.index_merge.specs.Sources.{Voting}
+use Rattle.own_runs.specs.Own.{Voting}
 use Rattle.index_parts.specs.declared.RunCount.{RunCount}
 use Rattle.index_parts.specs.declared.RunCount.the-variants.{Runs, TooMany}
 use Rattle.index_check.specs.Known.{Known, Rooted}

@@ -55,11 +55,16 @@ pub fn new_part_runs(
     }
     let mut cursors = [0u64; 512];
     let n = index_check::open_sources(store, order, starts, &index[..used], rec, &mut cursors);
+    let mut rows = [0u64; own_runs::ROWS_WORDS];
+    let mut own = [0u64; own_runs::RUNS_WORDS];
+    let mut mine = [0u64; 2];
+    mine[1] = own_runs::own_runs(rec, &mut rows, &mut own) as u64;
     index_parts::run_count(
         &index[..used],
         &mut cursors,
         n,
-        rec,
+        &own,
+        &mut mine,
         (room - 1) / index_runs::RUN_WORDS,
     )
 }
@@ -80,5 +85,9 @@ pub fn append_new_part(
     let used = index[0] as usize;
     let mut cursors = [0u64; 512];
     let n = index_check::open_sources(store, order, starts, &index[..used], rec, &mut cursors);
-    index_parts::append_part(index, used, &mut cursors, n, rec, count);
+    let mut rows = [0u64; own_runs::ROWS_WORDS];
+    let mut own = [0u64; own_runs::RUNS_WORDS];
+    let mut mine = [0u64; 2];
+    mine[1] = own_runs::own_runs(rec, &mut rows, &mut own) as u64;
+    index_parts::append_part(index, used, &mut cursors, n, &own, &mut mine, count);
 }

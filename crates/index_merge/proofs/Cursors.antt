@@ -20,13 +20,13 @@ use Rattle.index_merge.specs.Sources.{cursorAt, cursorLeft, source, name
 
 -- ---- one source
 
-runs-next : (n : ℕ) (ws : List ℕ) → 0 < n → runsFrom n ws ≡ runFrom ws ∷ runsFrom (n - 1) (drop 10 ws)
+pub runs-next : (n : ℕ) (ws : List ℕ) → 0 < n → runsFrom n ws ≡ runFrom ws ∷ runsFrom (n - 1) (drop 10 ws)
 unfolding runsFrom
 runs-next zero ws h = absurd (omega arith)
 runs-next (suc n) ws h = ap (λ (m : ℕ). runFrom ws ∷ runsFrom m (drop 10 ws)) (sym (sub-one (suc n)))
 
 module _ (p : Place) (ix : List ℕ) (at left : ℕ) (h : 0 < left) where
-  next : runsFrom left (drop at ix) ≡ runFrom (drop at ix) ∷ runsFrom (left - 1) (drop (at + 10) ix)
+  pub next : runsFrom left (drop at ix) ≡ runFrom (drop at ix) ∷ runsFrom (left - 1) (drop (at + 10) ix)
   next = runs-next left (drop at ix) h ∙ ap (λ (ws : List ℕ). runFrom (drop at ix) ∷ runsFrom (left - 1) ws) (drop-drop 10 at ix)
 
   pub skip-stop : (y : Run) → fromPlace p (runFrom (drop at ix)) ≡ some y → skipped p (runsFrom left (drop at ix)) ≡ runsFrom left (drop at ix)
@@ -83,31 +83,31 @@ module _ (ix : List ℕ) (p : Place) (cs₀ : List ℕ) where
     abbrev next-cs : List ℕ
     next-cs = set (set cs (2 * k) at) (2 * k + 1) left
 
-    at-same : cursorAt next-cs k ≡ at
+    pub at-same : cursorAt next-cs k ≡ at
     unfolding cursorAt
     at-same = getD-set-other (set cs (2 * k) at) (2 * k + 1) (2 * k) left 0 (λ (e : 2 * k ≡ 2 * k + 1). omega arith) ∙ getD-set-same cs (2 * k) at 0 (omega arith)
 
-    left-same : cursorLeft next-cs k ≡ left
+    pub left-same : cursorLeft next-cs k ≡ left
     unfolding cursorLeft
     left-same = let h : 2 * k + 1 < length (set cs (2 * k) at) = omega (arith, length-set cs (2 * k) at) in getD-set-same (set cs (2 * k) at) (2 * k + 1) left 0 h
 
-    at-other : (j : ℕ) → (j ≡ k → ⊥) → cursorAt next-cs j ≡ cursorAt cs j
+    pub at-other : (j : ℕ) → (j ≡ k → ⊥) → cursorAt next-cs j ≡ cursorAt cs j
     unfolding cursorAt
     at-other j n =
         getD-set-other (set cs (2 * k) at) (2 * k + 1) (2 * j) left 0 (λ (e : 2 * j ≡ 2 * k + 1). omega arith)
         ∙ getD-set-other cs (2 * k) (2 * j) at 0 (λ (e : 2 * j ≡ 2 * k). n (omega arith))
 
-    left-other : (j : ℕ) → (j ≡ k → ⊥) → cursorLeft next-cs j ≡ cursorLeft cs j
+    pub left-other : (j : ℕ) → (j ≡ k → ⊥) → cursorLeft next-cs j ≡ cursorLeft cs j
     unfolding cursorLeft
     left-other j n =
         getD-set-other (set cs (2 * k) at) (2 * k + 1) (2 * j + 1) left 0 (λ (e : 2 * j + 1 ≡ 2 * k + 1). n (omega arith))
         ∙ getD-set-other cs (2 * k) (2 * j + 1) at 0 (λ (e : 2 * j + 1 ≡ 2 * k). omega arith)
 
-    source-same : source ix next-cs k ≡ runsFrom left (drop at ix)
+    pub source-same : source ix next-cs k ≡ runsFrom left (drop at ix)
     unfolding source
     source-same = rw (at-same, left-same)
 
-    source-other : (j : ℕ) → (j ≡ k → ⊥) → source ix next-cs j ≡ source ix cs j
+    pub source-other : (j : ℕ) → (j ≡ k → ⊥) → source ix next-cs j ≡ source ix cs j
     unfolding source
     source-other j n = rw (at-other j n, left-other j n)
 

@@ -8,29 +8,17 @@ use native.Mathlib.Omega.{arith}
 use native.Mathlib.Decide.{decLt}
 use lib.ListN.{length}
 use Rattle.base.proofs.Tests.{and-both, and-left, and-right, not-both}
-use Rattle.authority_set.specs.AuthoritySet.{AuthoritySet, united}
+use Rattle.authority_set.specs.AuthoritySet.{AuthoritySet, nobody, united}
+use Rattle.authority_set.proofs.Words.{nobody-united}
 use Rattle.blocks.specs.Reference.{BlockReference, TransactionLocator, locator}
-use Rattle.blocks.specs.Block.{Block}
-use Rattle.finality.specs.Voters.{ownVote}
 use Rattle.voters_index.specs.Runs.{Run, run, touches, sameVoters}
 use Rattle.voters_index.specs.Walk.{Past, Place, beyond, At, NextRun}
 use Rattle.voters_index.proofs.Sets.{same-voters, voters-same}
 use Rattle.voters_index.proofs.Chain.{past-itself, past-trans, touching, touched}
 use Rattle.voters_index.proofs.Unique.{PlaceOrder, earlier, later, alike, place-order}
-use Rattle.index_pieces.specs.Pieces.{Piece, NobodyFrom, AheadOr, PieceOr}
+use Rattle.index_pieces.specs.Pieces.{Piece, NobodyFrom, PieceOr}
 use Rattle.index_pieces.proofs.Pieces.{past-not, pieces-same}
-use Rattle.index_merge.specs.Sources.{namedBy, Ready, Moved, Merging, ended, GrownFrom}
-
--- what is ahead of a place is ahead of every later one
-pub ahead-later : (f : TransactionLocator → AuthoritySet) (p q : Place) → ((r : BlockReference) (o : ℕ) → At q r o → At p r o) → (o : Option Run) → AheadOr f p o → AheadOr f q o
-unfolding AheadOr NobodyFrom
-ahead-later f p q h none a = λ l i. a l (h (l .block) (l .offset) i)
-ahead-later f p q h (some x) a = record { stretch = a .stretch; first = λ l i j. a .first l (h (l .block) (l .offset) i) j }
-
-pub piece-ahead : (f : TransactionLocator → AuthoritySet) (p : Place) (o : Option Run) → PieceOr f p o → AheadOr f p o
-unfolding AheadOr PieceOr
-piece-ahead f p none a = a
-piece-ahead f p (some x) a = a .ahead
+use Rattle.index_merge.specs.Sources.{namedBy, Ready, Moved, together, Merging, ended, GrownFrom}
 
 module _ {f : TransactionLocator → AuthoritySet} where
   -- a piece that touches and has the same voters
@@ -83,53 +71,67 @@ module _ {f : TransactionLocator → AuthoritySet} where
           let v : x .votes ≡ y .votes = sym e ∙ ap f (λ i. locator (r i) (o i)) ∙ d .ahead .stretch .told (y .start) (omega arith) (d .ahead .stretch .full) in
           not-both (and-both (touches x y) (sameVoters (x .votes) (y .votes)) (touching x y r o) (voters-same (x .votes) (y .votes) v)) h
 
+-- ---- all sources
+
+-- the first piece of the source in some words, with none before it, and then that of all
+pub together-piece : (own ms ix cs : List ℕ) (n : ℕ) (p : Place) (o next : Option Run)
+    → ((f : TransactionLocator → AuthoritySet) → PieceOr f p none → PieceOr (λ l. united (f l) (namedBy own ms 1 l)) p o)
+    → ((f : TransactionLocator → AuthoritySet) → PieceOr f p o → PieceOr (λ l. united (f l) (namedBy ix cs n l)) p next)
+    → PieceOr (together own ms ix cs n) p next
+unfolding PieceOr NobodyFrom together
+together-piece own ms ix cs n p o next h k =
+    k (namedBy own ms 1)
+    (pieces-same (λ l. united nobody (namedBy own ms 1 l)) (namedBy own ms 1) p o (λ l a. nobody-united (namedBy own ms 1 l)) (h (λ l. nobody) (λ l a. refl)))
+
 -- ---- the loop
 
 -- what is known before the next piece is asked for: the run so far ends at e
-pub record Growing (b : Block) (ix : List ℕ) (n : ℕ) (cs₀ cs : List ℕ) (first : Run) (e : ℕ) (own : Option Run) : Type 0 where
+pub record Growing (own ms₀ ms ix : List ℕ) (n : ℕ) (cs₀ cs : List ℕ) (first : Run) (e : ℕ) : Type 0 where
   pub long : length cs ≡ length cs₀
+  pub ownLong : length ms ≡ length ms₀
   pub ready : Ready ix cs n
-  pub ahead : AheadOr (ownVote b) (beyond (first .reference) e) own
+  pub ownReady : Ready own ms 1
   pub onward : first .end ≤ e
-  pub merging : (f : TransactionLocator → AuthoritySet) → Merging f b ix cs₀ n first → Merging f b ix cs n (ended first e)
-  pub piece : (f : TransactionLocator → AuthoritySet) (p : Place) → Merging f b ix cs₀ n first → Piece f p first → Piece f p (ended first e)
+  pub merging : (f : TransactionLocator → AuthoritySet) → Merging f own ms₀ ix cs₀ n first → Merging f own ms ix cs n (ended first e)
+  pub piece : (f : TransactionLocator → AuthoritySet) (p : Place) → Merging f own ms₀ ix cs₀ n first → Piece f p first → Piece f p (ended first e)
 
-module _ (b : Block) (ix : List ℕ) (n : ℕ) (cs₀ : List ℕ) (first : Run) where
-  pub growing-start : (own : Option Run) → Ready ix cs₀ n → AheadOr (ownVote b) (beyond (first .reference) (first .end)) own → Growing b ix n cs₀ cs₀ first (first .end) own
+module _ (own ms₀ ix : List ℕ) (n : ℕ) (cs₀ : List ℕ) (first : Run) where
+  pub growing-start : Ready ix cs₀ n → Ready own ms₀ 1 → Growing own ms₀ ms₀ ix n cs₀ cs₀ first (first .end)
   unfolding ended run
-  growing-start own r a = record { long = refl; ready = r; ahead = a; onward = omega arith; merging = λ f m. m; piece = λ f p m c. c }
+  growing-start r o = record { long = refl; ownLong = refl; ready = r; ownReady = o; onward = omega arith; merging = λ f m. m; piece = λ f p m c. c }
 
-  -- the next piece was found: own is the next of the block's own, next that of all
-  module _ (cs cs′ : List ℕ) (e : ℕ) (own₀ own next : Option Run) (g : Growing b ix n cs₀ cs first e own₀)
-      (o : PieceOr (ownVote b) (beyond (first .reference) e) own)
-      (d : PieceOr (λ l. united (ownVote b l) (namedBy ix cs n l)) (beyond (first .reference) e) next)
-      (m : Moved ix n (beyond (first .reference) e) cs cs′) where
-    told-on : (f : TransactionLocator → AuthoritySet) → Merging f b ix cs₀ n first → Merging f b ix cs′ n (ended first e)
+  -- the next piece was found
+  module _ (ms ms′ cs cs′ : List ℕ) (e : ℕ) (next : Option Run) (g : Growing own ms₀ ms ix n cs₀ cs first e)
+      (d : PieceOr (together own ms ix cs n) (beyond (first .reference) e) next)
+      (m : Moved ix n (beyond (first .reference) e) cs cs′)
+      (w : Moved own 1 (beyond (first .reference) e) ms ms′) where
+    told-on : (f : TransactionLocator → AuthoritySet) → Merging f own ms₀ ix cs₀ n first → Merging f own ms′ ix cs′ n (ended first e)
+    unfolding ended run together
+    told-on f k = record { told = λ l a. ap (λ (v : AuthoritySet). united v (namedBy ix cs′ n l)) (w .names l a) ∙ ap (united (namedBy own ms 1 l)) (m .names l a) ∙ g .merging f k .told l a }
+
+    next-of : (f : TransactionLocator → AuthoritySet) → Merging f own ms₀ ix cs₀ n first → PieceOr f (beyond (first .reference) e) next
     unfolding ended run
-    told-on f k = record { told = λ l a. ap (united (ownVote b l)) (m .names l a) ∙ g .merging f k .told l a }
+    next-of f k = pieces-same (together own ms ix cs n) f (beyond (first .reference) e) next (λ l a. g .merging f k .told l a) d
 
-    next-of : (f : TransactionLocator → AuthoritySet) → Merging f b ix cs₀ n first → PieceOr f (beyond (first .reference) e) next
-    unfolding ended run
-    next-of f k = pieces-same (λ l. united (ownVote b l) (namedBy ix cs n l)) f (beyond (first .reference) e) next (λ l a. g .merging f k .told l a) d
-
-    ends : ((f : TransactionLocator → AuthoritySet) (p : Place) → Merging f b ix cs₀ n first → Piece f p first → NextRun f p (ended first e))
-        → GrownFrom b ix n cs₀ cs′ first (ended first e) own next
+    ends : ((f : TransactionLocator → AuthoritySet) (p : Place) → Merging f own ms₀ ix cs₀ n first → Piece f p first → NextRun f p (ended first e))
+        → GrownFrom own ms₀ ms′ ix n cs₀ cs′ first (ended first e) next
     unfolding ended run
     ends h =
         record {
           long = m .long ∙ g .long;
+          ownLong = w .long ∙ g .ownLong;
           ready = m .ready;
-          ahead = piece-ahead (ownVote b) (beyond (first .reference) e) own o;
+          ownReady = w .ready;
           merging = told-on;
           piece = next-of;
           run = h;
         }
 
-    pub grown-none : next ≡ none → GrownFrom b ix n cs₀ cs′ first (ended first e) own next
+    pub grown-none : next ≡ none → GrownFrom own ms₀ ms′ ix n cs₀ cs′ first (ended first e) next
     unfolding PieceOr ended run
     grown-none z = ends (λ f p k c. run-none p (ended first e) (g .piece f p k c) (subst (PieceOr f (beyond (first .reference) e)) z (next-of f k)))
 
-    pub grown-other : (y : Run) → next ≡ some y → touches (ended first e) y && sameVoters (first .votes) (y .votes) ≡ false → GrownFrom b ix n cs₀ cs′ first (ended first e) own next
+    pub grown-other : (y : Run) → next ≡ some y → touches (ended first e) y && sameVoters (first .votes) (y .votes) ≡ false → GrownFrom own ms₀ ms′ ix n cs₀ cs′ first (ended first e) next
     unfolding PieceOr ended run
     grown-other y z t = ends (λ f p k c. run-other p (ended first e) y (g .piece f p k c) (subst (PieceOr f (beyond (first .reference) e)) z (next-of f k)) t)
 
@@ -140,7 +142,7 @@ module _ (b : Block) (ix : List ℕ) (n : ℕ) (cs₀ : List ℕ) (first : Run) 
 
       full : y .start < y .end
       unfolding PieceOr
-      full = let c = subst (PieceOr (λ l. united (ownVote b l) (namedBy ix cs n l)) (beyond (first .reference) e)) z d in c .ahead .stretch .full
+      full = let c = subst (PieceOr (together own ms ix cs n) (beyond (first .reference) e)) z d in c .ahead .stretch .full
 
       pub grown-past : e < y .end
       grown-past = omega (arith, touch .1, full)
@@ -148,13 +150,14 @@ module _ (b : Block) (ix : List ℕ) (n : ℕ) (cs₀ : List ℕ) (first : Run) 
       later-too : (r : BlockReference) (k : ℕ) → Past (first .reference) (y .end) r k → Past (first .reference) e r k
       later-too r k a = past-trans (past-itself (first .reference) e) (omega (arith, grown-past)) a
 
-      pub grown-on : Growing b ix n cs₀ cs′ first (y .end) own
+      pub grown-on : Growing own ms₀ ms′ ix n cs₀ cs′ first (y .end)
       unfolding PieceOr ended run
       grown-on =
           record {
             long = m .long ∙ g .long;
+            ownLong = w .long ∙ g .ownLong;
             ready = m .ready;
-            ahead = ahead-later (ownVote b) (beyond (first .reference) e) (beyond (first .reference) (y .end)) later-too own (piece-ahead (ownVote b) (beyond (first .reference) e) own o);
+            ownReady = w .ready;
             onward = omega (arith, g .onward, grown-past);
             merging = λ f k. record { told = λ l a. told-on f k .told l (later-too (l .block) (l .offset) a) };
             piece = λ f p k c. grown p (ended first e) y (g .piece f p k c) (subst (PieceOr f (beyond (first .reference) e)) z (next-of f k)) t;

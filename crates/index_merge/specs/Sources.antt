@@ -3,21 +3,14 @@
 use Prim.Native.Nat.{ℕ, zero, suc, _+_, _*_, _≤_, _<_}
 use mathlib.Core.Path.{_≡_}
 use mathlib.Core.List.{List}
-use mathlib.Core.Option.{Option, none}
-use mathlib.Core.Bool.{true}
-use lib.Dec.{leb}
+use mathlib.Core.Option.{Option}
 use lib.ListN.{length, getD, drop}
-use Rattle.base.specs.Lists.{pick, _∈_}
-use Rattle.base.specs.Le.{Bytes}
 use Rattle.authority_set.specs.AuthoritySet.{AuthoritySet, nobody, united}
-use Rattle.blocks.specs.Reference.{TransactionLocator, TransactionLocatorRange}
-use Rattle.blocks.specs.Block.{Block, spans}
-use Rattle.blocks.specs.Record.{wellFormed, blockIn}
-use Rattle.finality.specs.Voters.{ownVote}
+use Rattle.blocks.specs.Reference.{TransactionLocator}
 use Rattle.voters_index.specs.Runs.{Run, run, votersIn}
 use Rattle.voters_index.specs.Walk.{Place, anywhere, beyond, At, NextRun, runsFrom}
 use Rattle.voters_index.proofs.Chain.{Anything, Chain}
-use Rattle.index_pieces.specs.Pieces.{Piece, AheadOr, PieceOr, fromPlace}
+use Rattle.index_pieces.specs.Pieces.{Piece, PieceOr}
 
 -- where a source's next run stands, and how many are left
 unfoldable pub cursorAt : List ℕ → ℕ → ℕ
@@ -47,36 +40,23 @@ pub record Moved (ix : List ℕ) (n : ℕ) (p : Place) (cs₀ cs : List ℕ) : T
   pub ready : Ready ix cs n
   pub names : (l : TransactionLocator) → At p (l .block) (l .offset) → namedBy ix cs n l ≡ namedBy ix cs₀ n l
 
--- no vote reaches past the last offset
-unfoldable pub EndsFit : List TransactionLocatorRange → Type 0
-EndsFit qs = (q : TransactionLocatorRange) → q ∈ qs → q .end ≤ 18446744073709551615
+-- whom a source in some words and n in the index name together
+unfoldable pub together : List ℕ → List ℕ → List ℕ → List ℕ → ℕ → TransactionLocator → AuthoritySet
+together own ms ix cs n l = united (namedBy own ms 1 l) (namedBy ix cs n l)
 
--- a vote as a run
-unfoldable pub spanRun : AuthoritySet → TransactionLocatorRange → Run
-spanRun v q = run (q .block) (q .start) (q .end) v
-
--- what is left of a vote from a place on
-unfoldable pub spanPiece : Place → Run → Option Run
-spanPiece p x = pick (leb (x .end) (x .start)) none (fromPlace p x)
-
--- a well-formed record of a known author whose votes end where offsets end
-pub record Voting (r : Bytes) : Type 0 where
-  pub formed : wellFormed r ≡ true
-  pub author : blockIn r .reference .authority < 128
-  pub ends : EndsFit (spans (blockIn r))
-
--- from the end of a run on, the block's votes and the sources together name whom f names, and the next of the block's own pieces is at hand
-pub record Merging (f : TransactionLocator → AuthoritySet) (b : Block) (ix cs : List ℕ) (n : ℕ) (x : Run) : Type 0 where
-  pub told : (l : TransactionLocator) → At (beyond (x .reference) (x .end)) (l .block) (l .offset) → united (ownVote b l) (namedBy ix cs n l) ≡ f l
+-- from the end of a run on they name together whom f names
+pub record Merging (f : TransactionLocator → AuthoritySet) (own ms ix cs : List ℕ) (n : ℕ) (x : Run) : Type 0 where
+  pub told : (l : TransactionLocator) → At (beyond (x .reference) (x .end)) (l .block) (l .offset) → together own ms ix cs n l ≡ f l
 
 unfoldable pub ended : Run → ℕ → Run
 ended x e = run (x .reference) (x .start) e (x .votes)
 
 -- the run that begins with a piece, and what is known after it
-pub record GrownFrom (b : Block) (ix : List ℕ) (n : ℕ) (cs₀ cs : List ℕ) (first x : Run) (own next : Option Run) : Type 0 where
+pub record GrownFrom (own ms₀ ms ix : List ℕ) (n : ℕ) (cs₀ cs : List ℕ) (first x : Run) (next : Option Run) : Type 0 where
   pub long : length cs ≡ length cs₀
+  pub ownLong : length ms ≡ length ms₀
   pub ready : Ready ix cs n
-  pub ahead : AheadOr (ownVote b) (beyond (x .reference) (x .end)) own
-  pub merging : (f : TransactionLocator → AuthoritySet) → Merging f b ix cs₀ n first → Merging f b ix cs n x
-  pub piece : (f : TransactionLocator → AuthoritySet) → Merging f b ix cs₀ n first → PieceOr f (beyond (x .reference) (x .end)) next
-  pub run : (f : TransactionLocator → AuthoritySet) (p : Place) → Merging f b ix cs₀ n first → Piece f p first → NextRun f p x
+  pub ownReady : Ready own ms 1
+  pub merging : (f : TransactionLocator → AuthoritySet) → Merging f own ms₀ ix cs₀ n first → Merging f own ms ix cs n x
+  pub piece : (f : TransactionLocator → AuthoritySet) → Merging f own ms₀ ix cs₀ n first → PieceOr f (beyond (x .reference) (x .end)) next
+  pub run : (f : TransactionLocator → AuthoritySet) (p : Place) → Merging f own ms₀ ix cs₀ n first → Piece f p first → NextRun f p x

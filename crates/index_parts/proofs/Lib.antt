@@ -2,4 +2,3 @@ pub mod Unfolded
 pub mod Stepping
 pub mod Words
 pub mod Writing
-mod Passed

@@ -1,127 +1,235 @@
 -- The runs of a part found one after the other: what is known after k of them. Assumes nothing.
 use mathlib.Core.Path.{_≡_, refl, sym, ap, subst, _∙_}
+use mathlib.Core.Bool.{true, false}
 use mathlib.Core.List.{List, [], _∷_}
 use mathlib.Core.Option.{Option, none, some}
 use Prim.Native.Nat.{ℕ, _+_, _≤_, _<_}
 use native.Mathlib.Omega.{arith}
 use lib.ListN.{length, drop, length-drop}
 use lib.Seq.{drop-drop}
+use Rattle.base.proofs.Tests.{not-both}
 use Rattle.authority_set.specs.AuthoritySet.{AuthoritySet, united}
-use Rattle.blocks.specs.Reference.{BlockReference, TransactionLocator, locator}
-use Rattle.blocks.specs.Block.{Block}
-use Rattle.finality.specs.Voters.{ownVote}
+use Rattle.blocks.specs.Reference.{TransactionLocator, locator}
 use Rattle.voters_index.specs.Runs.{Run}
 use Rattle.voters_index.specs.Part.{RunsOf}
-use Rattle.voters_index.specs.Walk.{Past, Place, anywhere, beyond, At, NextRun, Unfolded, done, more}
-use Rattle.index_pieces.specs.Pieces.{NobodyFrom, Piece, AheadOr, PieceOr}
+use Rattle.voters_index.specs.Index.{runWords}
+use Rattle.voters_index.specs.Walk.{Place, anywhere, beyond, At, NextRun, Unfolded, done, more}
 use Rattle.voters_index.proofs.Relation.{runs-chain, runs-told, chain-runs}
-use Rattle.index_pieces.proofs.Pieces.{at-beyond, pieces-same}
-use Rattle.index_merge.specs.Sources.{namedBy, Ready, Moved, Merging, GrownFrom}
-use Rattle.index_merge.proofs.Merged.{ahead-later, piece-ahead}
-use Rattle.index_parts.specs.Parts.{merged}
-use Rattle.index_parts.proofs.Unfolded.{runs-unfolded, none-left, First, next-first}
+use Rattle.index_pieces.specs.Pieces.{NobodyFrom, Piece, PieceOr}
+use Rattle.index_pieces.proofs.Pieces.{at-later, at-beyond, pieces-same}
+use Rattle.index_runs.specs.Values.{startsWith}
+use Rattle.index_merge.specs.Sources.{namedBy, Ready, Moved, together, Merging, GrownFrom}
+use Rattle.index_meeting.specs.Step.{Passed}
+use Rattle.index_parts.specs.Parts.{RunPassed}
+use Rattle.index_parts.proofs.Unfolded.{runs-unfolded, none-left, one-next, First, next-first}
 
 pub record Left (f : TransactionLocator → AuthoritySet) (p : Place) (k : ℕ) (xs : List Run) : Type 0 where
   pub few : k ≤ length xs
   pub unfolded : Unfolded f p (drop k xs)
 
--- k runs were found; own is the next of the block's own pieces, next that of all
-pub record Stepping (b : Block) (ix : List ℕ) (n : ℕ) (cs₀ cs : List ℕ) (own next : Option Run) (k : ℕ) : Type 0 where
-  pub place : Place
+-- k runs were found, and the cursors stand at a place
+pub record Standing (own ms₀ ms ix : List ℕ) (n : ℕ) (cs₀ cs : List ℕ) (p : Place) (k : ℕ) : Type 0 where
   pub long : length cs ≡ length cs₀
+  pub ownLong : length ms ≡ length ms₀
   pub ready : Ready ix cs n
-  pub ahead : AheadOr (ownVote b) place own
-  pub told : (l : TransactionLocator) → At place (l .block) (l .offset) → united (ownVote b l) (namedBy ix cs n l) ≡ merged b ix cs₀ n l
-  pub piece : PieceOr (merged b ix cs₀ n) place next
-  pub left : (xs : List Run) → RunsOf (merged b ix cs₀ n) xs → Left (merged b ix cs₀ n) place k xs
+  pub ownReady : Ready own ms 1
+  pub told : (l : TransactionLocator) → At p (l .block) (l .offset) → together own ms ix cs n l ≡ together own ms₀ ix cs₀ n l
+  pub left : (xs : List Run) → RunsOf (together own ms₀ ix cs₀ n) xs → Left (together own ms₀ ix cs₀ n) p k xs
+
+-- the same, with the next piece at hand
+pub record Stepping (own ms₀ ms ix : List ℕ) (n : ℕ) (cs₀ cs : List ℕ) (next : Option Run) (k : ℕ) : Type 0 where
+  pub place : Place
+  pub standing : Standing own ms₀ ms ix n cs₀ cs place k
+  pub piece : PieceOr (together own ms ix cs n) place next
 
 -- the runs that are left begin with this one
 pub record Next (x : Run) (k : ℕ) (xs : List Run) : Type 0 where
   pub more : k < length xs
   pub are : drop k xs ≡ x ∷ drop (k + 1) xs
 
-module _ (b : Block) (ix : List ℕ) (n : ℕ) (cs₀ : List ℕ) where
-  pub runs-moved : (cs : List ℕ) → Moved ix n anywhere cs₀ cs → (xs : List Run) → RunsOf (merged b ix cs₀ n) xs → RunsOf (merged b ix cs n) xs
-  unfolding merged
-  runs-moved cs m xs r =
-      chain-runs (λ l. united (ownVote b l) (namedBy ix cs n l)) xs (runs-chain xs r) (λ l. runs-told xs r l ∙ ap (united (ownVote b l)) (sym (m .names l tt)))
+-- the next run of what names the same from the place on
+next-same : (f g : TransactionLocator → AuthoritySet) (p : Place) (x : Run) → ((l : TransactionLocator) → At p (l .block) (l .offset) → f l ≡ g l) → NextRun f p x → NextRun g p x
+unfolding locator
+next-same f g p x e n =
+    record {
+      there = n .there;
+      stretch = record { full = n .stretch .full; voted = n .stretch .voted; told = λ o i j. sym (e (locator (x .reference) o) (at-later p (x .reference) (x .start) o (n .there) i)) ∙ n .stretch .told o i j };
+      onward = λ z. n .onward (e (locator (x .reference) (x .end)) (at-later p (x .reference) (x .start) (x .end) (n .there) (omega (arith, n .stretch .full))) ∙ z);
+      first = λ l a q. sym (e l a) ∙ n .first l a q;
+    }
 
-  pub stepping-start : (cs : List ℕ) (own next : Option Run) → PieceOr (ownVote b) anywhere own → PieceOr (λ l. united (ownVote b l) (namedBy ix cs₀ n l)) anywhere next → Moved ix n anywhere cs₀ cs
-      → Stepping b ix n cs cs own next 0
-  unfolding merged
-  stepping-start cs own next o d m =
+-- ---- one run passed
+
+module _ (own ms ix : List ℕ) (n : ℕ) (cs : List ℕ) (p : Place) where
+  abbrev g : TransactionLocator → AuthoritySet
+  g = together own ms ix cs n
+
+  -- without a merge
+  pub met-passed : (ms′ cs′ : List ℕ) (x : Run) → Passed own ms ms′ ix n cs cs′ p x → RunPassed own ms ms′ ix n cs cs′ p x
+  unfolding together
+  met-passed ms′ cs′ x w =
       record {
-        place = anywhere;
-        long = refl;
-        ready = m .ready;
-        ahead = piece-ahead (ownVote b) anywhere own o;
-        told = λ l a. refl;
-        piece = pieces-same (λ l. united (ownVote b l) (namedBy ix cs₀ n l)) (λ l. united (ownVote b l) (namedBy ix cs n l)) anywhere next (λ l a. ap (united (ownVote b l)) (sym (m .names l a))) d;
-        left = λ xs r. record { few = omega arith; unfolded = runs-unfolded xs r };
+        next = w .next;
+        long = w .parts .long;
+        ownLong = w .mine .long;
+        ready = w .parts .ready;
+        ownReady = w .mine .ready;
+        told = λ l a. ap (λ (v : AuthoritySet). united v (namedBy ix cs′ n l)) (w .mine .names l a) ∙ ap (united (namedBy own ms 1 l)) (w .parts .names l a);
       }
 
-  module _ (cs : List ℕ) (own next : Option Run) (k : ℕ) (s : Stepping b ix n cs₀ cs own next k) where
-    -- no piece is left, so that all runs were found
-    pub stepping-none : next ≡ none → (xs : List Run) → RunsOf (merged b ix cs₀ n) xs → length xs ≡ k
-    unfolding PieceOr NobodyFrom
-    stepping-none e xs r =
-        let l = s .left xs r in
-        let z : drop k xs ≡ [] = none-left (s .place) (drop k xs) (subst (PieceOr (merged b ix cs₀ n) (s .place)) e (s .piece)) (l .unfolded) in
-        omega (arith, l .few, length-drop k xs, ap length z)
+  -- from its first piece on
+  pub grown-passed : (ms′ cs′ : List ℕ) (first x : Run) (next : Option Run) → Piece g p first → GrownFrom own ms ms′ ix n cs cs′ first x next → RunPassed own ms ms′ ix n cs cs′ p x
+  grown-passed ms′ cs′ first x next c w =
+      record {
+        next = w .run g p (record { told = λ l a. refl }) c;
+        long = w .long;
+        ownLong = w .ownLong;
+        ready = w .ready;
+        ownReady = w .ownReady;
+        told = λ l a. w .merging g (record { told = λ m b. refl }) .told l a;
+      }
 
-    module _ (x : Run) (e : next ≡ some x) where
-      here : Piece (merged b ix cs₀ n) (s .place) x
-      unfolding PieceOr
-      here = subst (PieceOr (merged b ix cs₀ n) (s .place)) e (s .piece)
+  -- the piece after it
+  pub grown-piece : (ms′ cs′ : List ℕ) (first x : Run) (next : Option Run) → GrownFrom own ms ms′ ix n cs cs′ first x next → PieceOr (together own ms′ ix cs′ n) (beyond (x .reference) (x .end)) next
+  grown-piece ms′ cs′ first x next w =
+      let m : Merging g own ms ix cs n first = record { told = λ l a. refl } in
+      pieces-same g (together own ms′ ix cs′ n) (beyond (x .reference) (x .end)) next (λ l a. sym (w .merging g m .told l a)) (w .piece g m)
 
-      later : (r : BlockReference) (o : ℕ) → Past (x .reference) (x .end) r o → At (s .place) r o
-      later r o a = at-beyond (s .place) (x .reference) (x .start) (x .end) (here .there) (omega (arith, here .ahead .stretch .full)) r o a
+  module _ (ms₁ cs₁ : List ℕ) (m : Moved ix n p cs cs₁) (w : Moved own 1 p ms ms₁) where
+    moved-names : (l : TransactionLocator) → At p (l .block) (l .offset) → together own ms₁ ix cs₁ n l ≡ g l
+    unfolding together
+    moved-names l a = ap (λ (v : AuthoritySet). united v (namedBy ix cs₁ n l)) (w .names l a) ∙ ap (united (namedBy own ms 1 l)) (m .names l a)
 
-      pub stepping-ahead : AheadOr (ownVote b) (beyond (x .reference) (x .end)) own
-      stepping-ahead = ahead-later (ownVote b) (s .place) (beyond (x .reference) (x .end)) later own (s .ahead)
+    pub moved-piece : (o : Option Run) → PieceOr g p o → PieceOr (together own ms₁ ix cs₁ n) p o
+    moved-piece o d = pieces-same g (together own ms₁ ix cs₁ n) p o (λ l a. sym (moved-names l a)) d
 
-      -- a run is left
-      pub stepping-more : (xs : List Run) → RunsOf (merged b ix cs₀ n) xs → k < length xs
-      unfolding locator
-      stepping-more xs r = go (drop k xs) refl (l .unfolded)
+    -- after the cursors were moved
+    pub moved-passed : (ms₂ cs₂ : List ℕ) (x : Run) → RunPassed own ms₁ ms₂ ix n cs₁ cs₂ p x → RunPassed own ms ms₂ ix n cs cs₂ p x
+    moved-passed ms₂ cs₂ x r =
+        record {
+          next = next-same (together own ms₁ ix cs₁ n) g p x moved-names (r .next);
+          long = r .long ∙ m .long;
+          ownLong = r .ownLong ∙ w .long;
+          ready = r .ready;
+          ownReady = r .ownReady;
+          told = λ l a. r .told l a ∙ moved-names l (at-beyond p (x .reference) (x .start) (x .end) (r .next .there) (omega (arith, r .next .stretch .full)) (l .block) (l .offset) a);
+        }
+
+  -- nobody is named any more: there is no next run
+  pub none-next : (o : Option Run) → PieceOr g p o → o ≡ none → (y : Run) → NextRun g p y → ⊥
+  unfolding PieceOr NobodyFrom locator
+  none-next o d e y k =
+      let h : NobodyFrom g p = subst (PieceOr g p) e d in
+      k .stretch .voted (sym (k .stretch .told (y .start) (omega arith) (k .stretch .full)) ∙ h (locator (y .reference) (y .start)) (k .there))
+
+  -- another run stands there
+  pub other-next : (x y : Run) (ws : List ℕ) → NextRun g p x → startsWith (runWords x) ws ≡ false → NextRun g p y → startsWith (runWords y) ws ≡ true → ⊥
+  other-next x y ws k e m d = not-both d (ap (λ (z : Run). startsWith (runWords z) ws) (sym (one-next p x y k m)) ∙ e)
+
+-- ---- all of them
+
+-- the first piece was found, and the cursors were moved
+pub stepping-first : (own ms₀ ix : List ℕ) (n : ℕ) (cs₀ ms cs : List ℕ) (o : Option Run) → PieceOr (together own ms₀ ix cs₀ n) anywhere o → Moved ix n anywhere cs₀ cs → Moved own 1 anywhere ms₀ ms
+    → Stepping own ms ms ix n cs cs o 0
+stepping-first own ms₀ ix n cs₀ ms cs o d m w =
+    record {
+      place = anywhere;
+      standing = record { long = refl; ownLong = refl; ready = m .ready; ownReady = w .ready; told = λ l a. refl; left = λ xs h. record { few = omega arith; unfolded = runs-unfolded xs h } };
+      piece = moved-piece own ms₀ ix n cs₀ anywhere ms cs m w o d;
+    }
+
+module _ (own ms₀ ix : List ℕ) (n : ℕ) (cs₀ : List ℕ) where
+  abbrev f : TransactionLocator → AuthoritySet
+  f = together own ms₀ ix cs₀ n
+
+  pub standing-start : Ready ix cs₀ n → Ready own ms₀ 1 → Standing own ms₀ ms₀ ix n cs₀ cs₀ anywhere 0
+  standing-start r o = record { long = refl; ownLong = refl; ready = r; ownReady = o; told = λ l a. refl; left = λ xs h. record { few = omega arith; unfolded = runs-unfolded xs h } }
+
+  module _ (ms cs : List ℕ) (p : Place) (k : ℕ) (s : Standing own ms₀ ms ix n cs₀ cs p k) where
+    module _ (o : Option Run) (d : PieceOr (together own ms ix cs n) p o) where
+      all-pieces : PieceOr f p o
+      all-pieces = pieces-same (together own ms ix cs n) f p o (s .told) d
+
+      -- nobody is named any more, so that all runs were found
+      pub standing-none : o ≡ none → (xs : List Run) → RunsOf f xs → length xs ≡ k
+      unfolding PieceOr NobodyFrom
+      standing-none e xs r =
+          let l = s .left xs r in
+          let z : drop k xs ≡ [] = none-left p (drop k xs) (subst (PieceOr f p) e all-pieces) (l .unfolded) in
+          omega (arith, l .few, length-drop k xs, ap length z)
+
+      -- a piece is left, and so a run
+      pub standing-more : (x : Run) → o ≡ some x → (xs : List Run) → RunsOf f xs → k < length xs
+      unfolding PieceOr locator
+      standing-more x e xs r = go (drop k xs) refl (l .unfolded)
         where
-          l : Left (merged b ix cs₀ n) (s .place) k xs
+          here : Piece f p x
+          here = subst (PieceOr f p) e all-pieces
+
+          l : Left f p k xs
           l = s .left xs r
 
-          go : (ys : List Run) → drop k xs ≡ ys → Unfolded (merged b ix cs₀ n) (s .place) ys → k < length xs
-          go [] z (done h) =
-              absurd (here .ahead .stretch .voted (sym (here .ahead .stretch .told (x .start) (omega arith) (here .ahead .stretch .full)) ∙ h (locator (x .reference) (x .start)) (here .there)))
+          go : (ys : List Run) → drop k xs ≡ ys → Unfolded f p ys → k < length xs
+          go [] z (done h) = absurd (here .ahead .stretch .voted (sym (here .ahead .stretch .told (x .start) (omega arith) (here .ahead .stretch .full)) ∙ h (locator (x .reference) (x .start)) (here .there)))
           go (y ∷ ys) z u = omega (arith, l .few, length-drop k xs, ap length z)
 
-      before : Merging (merged b ix cs₀ n) b ix cs n x
-      before = record { told = λ l a. s .told l (later (l .block) (l .offset) a) }
+    -- the next of the runs that are left
+    pub standing-first : (xs : List Run) → RunsOf f xs → k < length xs → (y : Run) × (NextRun (together own ms ix cs n) p y × (drop k xs ≡ y ∷ drop (k + 1) xs))
+    standing-first xs r h = go (drop k xs) refl (s .left xs r .unfolded)
+      where
+        go : (ys : List Run) → drop k xs ≡ ys → Unfolded f p ys → (y : Run) × (NextRun (together own ms ix cs n) p y × (drop k xs ≡ y ∷ drop (k + 1) xs))
+        go [] z u = absurd (omega (arith, length-drop k xs, ap length z))
+        go (y ∷ ys) z (more m u) =
+            (y, (next-same f (together own ms ix cs n) p y (λ l a. sym (s .told l a)) m, z ∙ ap (λ (zs : List Run). y ∷ zs) (sym (sym (drop-drop 1 k xs) ∙ ap (drop 1) z))))
 
-      module _ (cs′ : List ℕ) (y : Run) (own′ next′ : Option Run) (g : GrownFrom b ix n cs cs′ x y own′ next′) where
-        found : NextRun (merged b ix cs₀ n) (s .place) y
-        found = g .run (merged b ix cs₀ n) (s .place) before here
+    module _ (ms′ cs′ : List ℕ) (x : Run) (w : RunPassed own ms ms′ ix n cs cs′ p x) where
+      first-of : (xs : List Run) → RunsOf f xs → First f x (drop k xs)
+      first-of xs r = next-first p x (drop k xs) (next-same (together own ms ix cs n) f p x (s .told) (w .next)) (s .left xs r .unfolded)
 
-        first-of : (xs : List Run) → RunsOf (merged b ix cs₀ n) xs → First (merged b ix cs₀ n) y (drop k xs)
-        first-of xs r = next-first (s .place) y (drop k xs) found (s .left xs r .unfolded)
+      rest-are : (xs : List Run) (r : RunsOf f xs) → drop (k + 1) xs ≡ first-of xs r .rest
+      rest-are xs r = sym (drop-drop 1 k xs) ∙ ap (drop 1) (first-of xs r .are)
 
-        pub stepping-next : (xs : List Run) → RunsOf (merged b ix cs₀ n) xs → Next y k xs
-        stepping-next xs r =
-            let h = first-of xs r in
-            let t : drop (k + 1) xs ≡ h .rest = sym (drop-drop 1 k xs) ∙ ap (drop 1) (h .are) in
-            record { more = stepping-more xs r; are = h .are ∙ ap (λ (ys : List Run). y ∷ ys) (sym t) }
+      pub standing-next : (xs : List Run) → RunsOf f xs → Next x k xs
+      standing-next xs r =
+          record {
+            more = omega (arith, s .left xs r .few, length-drop k xs, ap length (first-of xs r .are));
+            are = first-of xs r .are ∙ ap (λ (ys : List Run). x ∷ ys) (sym (rest-are xs r));
+          }
 
-        pub stepping-on : Stepping b ix n cs₀ cs′ own′ next′ (k + 1)
-        stepping-on =
-            record {
-              place = beyond (y .reference) (y .end);
-              long = g .long ∙ s .long;
-              ready = g .ready;
-              ahead = g .ahead;
-              told = λ l a. g .merging (merged b ix cs₀ n) before .told l a;
-              piece = g .piece (merged b ix cs₀ n) before;
-              left = λ xs r.
-                  let h = first-of xs r in
-                  record {
-                    few = omega (arith, stepping-more xs r);
-                    unfolded = subst (Unfolded (merged b ix cs₀ n) (beyond (y .reference) (y .end))) (sym (sym (drop-drop 1 k xs) ∙ ap (drop 1) (h .are))) (h .unfolded);
-                  };
-            }
+      pub standing-on : Standing own ms₀ ms′ ix n cs₀ cs′ (beyond (x .reference) (x .end)) (k + 1)
+      standing-on =
+          record {
+            long = w .long ∙ s .long;
+            ownLong = w .ownLong ∙ s .ownLong;
+            ready = w .ready;
+            ownReady = w .ownReady;
+            told = λ l a. w .told l a ∙ s .told l (at-beyond p (x .reference) (x .start) (x .end) (w .next .there) (omega (arith, w .next .stretch .full)) (l .block) (l .offset) a);
+            left = λ xs r.
+                record {
+                  few = omega (arith, standing-next xs r .more);
+                  unfolded = subst (Unfolded f (beyond (x .reference) (x .end))) (sym (rest-are xs r)) (first-of xs r .unfolded);
+                };
+          }
+
+  module _ (ms cs : List ℕ) (m : Moved ix n anywhere cs₀ cs) (w : Moved own 1 anywhere ms₀ ms) where
+    -- cursors that were moved name the same
+    pub runs-moved : (xs : List Run) → RunsOf f xs → RunsOf (together own ms ix cs n) xs
+    runs-moved xs r = chain-runs (together own ms ix cs n) xs (runs-chain xs r) (λ l. runs-told xs r l ∙ sym (moved-names own ms₀ ix n cs₀ anywhere ms cs m w l tt))
+
+  -- a run from the piece at hand on
+  module _ (ms cs : List ℕ) (next : Option Run) (k : ℕ) (s : Stepping own ms₀ ms ix n cs₀ cs next k) (x : Run) (e : next ≡ some x)
+      (ms′ cs′ : List ℕ) (y : Run) (next′ : Option Run) (w : GrownFrom own ms ms′ ix n cs cs′ x y next′) where
+    passed : RunPassed own ms ms′ ix n cs cs′ (s .place) y
+    unfolding PieceOr
+    passed = grown-passed own ms ix n cs (s .place) ms′ cs′ x y next′ (subst (PieceOr (together own ms ix cs n) (s .place)) e (s .piece)) w
+
+    pub stepping-next : (xs : List Run) → RunsOf f xs → Next y k xs
+    stepping-next = standing-next ms cs (s .place) k (s .standing) ms′ cs′ y passed
+
+    pub stepping-on : Stepping own ms₀ ms′ ix n cs₀ cs′ next′ (k + 1)
+    stepping-on =
+        record {
+          place = beyond (y .reference) (y .end);
+          standing = standing-on ms cs (s .place) k (s .standing) ms′ cs′ y passed;
+          piece = grown-piece own ms ix n cs (s .place) ms′ cs′ x y next′ w;
+        }

@@ -75,7 +75,7 @@ module _ {f : TransactionLocator → AuthoritySet} where
       n .onward (ap (λ (z : BlockReference). f (locator z (x .end))) r ∙ m .stretch .told (x .end) (omega (arith, n .stretch .full)) k ∙ sym v)
 
   -- there is one next run
-  one-next : (p : Place) (x y : Run) → NextRun f p x → NextRun f p y → x ≡ y
+  pub one-next : (p : Place) (x y : Run) → NextRun f p x → NextRun f p y → x ≡ y
   one-next p x y n m = split (place-order (x .reference) (x .start) (y .reference) (y .start))
     where
       split : PlaceOrder (x .reference) (x .start) (y .reference) (y .start) → x ≡ y

@@ -1,18 +1,21 @@
 -- The runs of a part against the words of the index. Assumes nothing.
-use mathlib.Core.Path.{_≡_, refl, sym, ap, _∙_}
+use mathlib.Core.Path.{_≡_, refl, sym, ap, subst, _∙_}
 use mathlib.Core.Bool.{true}
 use mathlib.Core.List.{List, [], _∷_, _++_, map, flatten, append-assoc, append-nil}
 use Prim.Native.Nat.{ℕ, zero, suc, _+_, _*_, _≤_, _<_}
 use native.Mathlib.Omega.{arith}
 use lib.Dec.{eqb}
 use lib.ListN.{length, getD, take, drop, length-drop, length-append}
-use lib.Seq.{drop-drop, take-length}
+use lib.Seq.{drop-drop, take-length, getD-drop}
 use borrow.Author.Tests.{eq-eqb, eqb-true}
+use Rattle.base.specs.Le.{leBytes}
+use Rattle.base.proofs.Le.{leNumber-leBytes}
 use Rattle.base.proofs.Loops.{drop-next}
 use Rattle.base.proofs.Tests.{and-left, and-right, and-both, not-both}
 use Rattle.voters_index.specs.Runs.{Run}
 use Rattle.voters_index.specs.Index.{digestWords, runWords, partWords}
-use Rattle.voters_index.proofs.Reading.{length-run}
+use Rattle.voters_index.specs.Walk.{digestOf, runFrom}
+use Rattle.voters_index.proofs.Reading.{length-run, part-length}
 use Rattle.index_runs.specs.Values.{startsWith}
 
 abbrev pub runsWords : List Run → List ℕ
@@ -110,6 +113,49 @@ module _ (ix : List ℕ) (at : ℕ) (xs : List Run) where
       ∙ ap (λ (ws : List ℕ). ws ++ drop (at + 1 + 10 * (k + 1)) ix)
       (ap (λ (ws : List ℕ). runsWords (take k xs) ++ ws) (sym (append-nil (runWords y))) ∙ sym (words-append (take k xs) (y ∷ [])) ∙ ap runsWords (sym (take-more k xs y (drop (k + 1) xs) f)))
 
-  pub stood-end : Stood ix at (length xs) xs → drop (at + 1) ix ≡ runsWords xs ++ drop (at + 1 + 10 * length xs) ix
+  stood-end : Stood ix at (length xs) xs → drop (at + 1) ix ≡ runsWords xs ++ drop (at + 1 + 10 * length xs) ix
   unfolding Stood
   stood-end h = h ∙ ap (λ (zs : List Run). runsWords zs ++ drop (at + 1 + 10 * length xs) ix) (take-length xs)
+
+  -- the whole part
+  pub stood-part : at < length ix → getD ix at 0 ≡ length xs → Stood ix at (length xs) xs → drop at ix ≡ partWords xs ++ drop (at + length (partWords xs)) ix
+  unfolding partWords
+  stood-part h c s =
+      let e : at + 1 + 10 * length xs ≡ at + length (partWords xs) = omega (arith, part-length xs) in
+      drop-next ix at h
+      ∙ ap (λ (m : ℕ). m ∷ drop (at + 1) ix) c
+      ∙ ap (λ (ws : List ℕ). length xs ∷ ws) (stood-end s ∙ ap (λ (m : ℕ). runsWords xs ++ drop m ix) e)
+
+-- ---- a run where it stands
+
+-- ten words, through their run
+run-words : (ws : List ℕ) → ((i : ℕ) → getD ws i 0 < 18446744073709551616) → (rest : List ℕ) → runWords (runFrom ws) ++ rest ≡ getD ws 0 0 ∷ getD ws 1 0 ∷ getD ws 2 0 ∷ getD ws 3 0 ∷ getD ws 4 0 ∷ getD ws 5 0 ∷ getD ws 6 0 ∷ getD ws 7 0 ∷ getD ws 8 0 ∷ getD ws 9 0 ∷ rest
+unfolding runWords runFrom digestWords digestOf leBytes
+run-words ws h rest =
+    let a = leNumber-leBytes 8 (getD ws 2 0) (h 2) in
+    let b = leNumber-leBytes 8 (getD ws 3 0) (h 3) in
+    let c = leNumber-leBytes 8 (getD ws 4 0) (h 4) in
+    let d = leNumber-leBytes 8 (getD ws 5 0) (h 5) in
+    λ i. getD ws 0 0 ∷ getD ws 1 0 ∷ a i ∷ b i ∷ c i ∷ d i ∷ getD ws 6 0 ∷ getD ws 7 0 ∷ getD ws 8 0 ∷ getD ws 9 0 ∷ rest
+
+ten : (ws : List ℕ) → 10 ≤ length ws
+    → ws ≡ getD ws 0 0 ∷ getD ws 1 0 ∷ getD ws 2 0 ∷ getD ws 3 0 ∷ getD ws 4 0 ∷ getD ws 5 0 ∷ getD ws 6 0 ∷ getD ws 7 0 ∷ getD ws 8 0 ∷ getD ws 9 0 ∷ drop 10 ws
+ten [] m = absurd (omega arith)
+ten (a ∷ []) m = absurd (omega arith)
+ten (a ∷ b ∷ []) m = absurd (omega arith)
+ten (a ∷ b ∷ c ∷ []) m = absurd (omega arith)
+ten (a ∷ b ∷ c ∷ d ∷ []) m = absurd (omega arith)
+ten (a ∷ b ∷ c ∷ d ∷ e ∷ []) m = absurd (omega arith)
+ten (a ∷ b ∷ c ∷ d ∷ e ∷ f ∷ []) m = absurd (omega arith)
+ten (a ∷ b ∷ c ∷ d ∷ e ∷ f ∷ g ∷ []) m = absurd (omega arith)
+ten (a ∷ b ∷ c ∷ d ∷ e ∷ f ∷ g ∷ h ∷ []) m = absurd (omega arith)
+ten (a ∷ b ∷ c ∷ d ∷ e ∷ f ∷ g ∷ h ∷ i ∷ []) m = absurd (omega arith)
+ten (a ∷ b ∷ c ∷ d ∷ e ∷ f ∷ g ∷ h ∷ i ∷ j ∷ rest) m = refl
+
+-- the words of the run that stands there
+pub run-here : (ix : List ℕ) (pos : ℕ) → ((i : ℕ) → getD ix i 0 < 18446744073709551616) → pos + 10 ≤ length ix → startsWith (runWords (runFrom (drop pos ix))) (drop pos ix) ≡ true
+run-here ix pos h m =
+    ap (startsWith (runWords (runFrom (drop pos ix))))
+    (ten (drop pos ix) (omega (arith, length-drop pos ix))
+    ∙ sym (run-words (drop pos ix) (λ i. subst (λ (w : ℕ). w < 18446744073709551616) (sym (getD-drop pos ix i 0)) (h (pos + i))) (drop 10 (drop pos ix))))
+    ∙ words-starts (runWords (runFrom (drop pos ix))) (drop 10 (drop pos ix))

@@ -42,7 +42,7 @@ pub fn from_place(place: Place, x: Run) -> MaybeRun
 }
 
 // The voters of either set.
-fn united(v: AuthoritySet, w: AuthoritySet) -> AuthoritySet
+pub fn united(v: AuthoritySet, w: AuthoritySet) -> AuthoritySet
     ensures { λ r. ⌜ r ≡ united v w ⌝ }
 {
     AuthoritySet {

@@ -20,6 +20,9 @@ use Rattle.promises.proofs.Storing.{fresh-holds}
 use Rattle.promises.proofs.ThirdStatement.{third-statement}
 use Rattle.trust.specs.Staying.{StillFinal}
 use Rattle.trust.proofs.Staying.{stays-final}
+use Rattle.stored_finals.specs.FinalShares.{FinalShareList}
+use Rattle.indexed_lists.specs.Claims.{SameLists}
+use Rattle.indexed_lists.proofs.Claimed.{claimed}
 use Rattle.index_statement.specs.Indexed.{IndexedEngine, runIndexed, IndexedStart, freshIndexed, engineIndexed, acceptedIndexedOf, but55, without55}
 use Rattle.index_statement.specs.Statement.{IndexStatement, SameStored, IndexedThird, IndexedStays}
 use Rattle.index_statement.proofs.Reduced.{Agreeing, same-outcome, run-agreeing, run-reduced, taken-reduced, run-unmoved}
@@ -54,12 +57,14 @@ unfolding indexOf
 worked-afresh c g h = same-true (usedPart (g .index)) (indexWords (blocksOf (g .engine .store))) (unfold indexAgrees in h .agrees)
 
 pub index-statement : IndexStatement
+unfolding SameLists
 index-statement =
     record {
       afresh = λ c t. worked-afresh c (engineIndexed c t) (after c t);
       alike = λ c t f n. same-outcome c (engineIndexed c t) (after c t) f n;
       engine = same-engine;
       accepted = same-accepted;
+      lists = λ c t k out o. claimed .same c (engineIndexed c t .engine .store) (engineIndexed c t .index) k out o (after c t .agrees);
     }
 
 every : (c : Committee) → broken c ≡ false → (t : IndexedStart) → Holds c (engineIndexed c t .engine) (acceptedIndexedOf c t)
@@ -67,23 +72,30 @@ every c b t =
     subst (λ (g : Engine). Holds c g (acceptedIndexedOf c t)) (sym (same-engine c t))
     (subst (λ (as′ : List Accepted). Holds c (engineOf c (without55 c t)) as′) (sym (same-accepted c t)) (third-statement .every c b (without55 c t)))
 
-same-list : (c : Committee) → broken c ≡ false → (t u : IndexedStart) → SameStored c t u → (ls ms : List TransactionLocator)
-    → FinalList c (engineIndexed c t .engine .store) ls → FinalList c (engineIndexed c u .engine .store) ms → ls ≡ ms
-same-list c b t u s ls ms x y =
-    third-statement .sameList c b (without55 c t) (without55 c u) stored ls ms (subst (λ (g : Engine). FinalList c (g .store) ls) (same-engine c t) x)
-    (subst (λ (g : Engine). FinalList c (g .store) ms) (same-engine c u) y)
+-- the same records stored, without the feeds that 55 refused
+stored-alike : (c : Committee) (t u : IndexedStart) → SameStored c t u → SameRecords c (without55 c t) (without55 c u)
+stored-alike c t u s r = (to t u (s r .0), to u t (s r .1))
   where
-    to : (r : Bytes) (v w : IndexedStart) → (r ∈ storedRecords (acceptedIndexedOf c v) → r ∈ storedRecords (acceptedIndexedOf c w))
+    to : (v w : IndexedStart) → (r ∈ storedRecords (acceptedIndexedOf c v) → r ∈ storedRecords (acceptedIndexedOf c w))
         → r ∈ storedRecords (acceptedOf c (without55 c v)) → r ∈ storedRecords (acceptedOf c (without55 c w))
-    to r v w f m =
+    to v w f m =
         subst (λ (as′ : List Accepted). r ∈ storedRecords as′) (same-accepted c w)
         (f (subst (λ (as′ : List Accepted). r ∈ storedRecords as′) (sym (same-accepted c v)) m))
 
-    stored : SameRecords c (without55 c t) (without55 c u)
-    stored r = (to r t u (s r .0), to r u t (s r .1))
+same-list : (c : Committee) → broken c ≡ false → (t u : IndexedStart) → SameStored c t u → (ls ms : List TransactionLocator)
+    → FinalList c (engineIndexed c t .engine .store) ls → FinalList c (engineIndexed c u .engine .store) ms → ls ≡ ms
+same-list c b t u s ls ms x y =
+    third-statement .sameList c b (without55 c t) (without55 c u) (stored-alike c t u s) ls ms (subst (λ (g : Engine). FinalList c (g .store) ls) (same-engine c t) x)
+    (subst (λ (g : Engine). FinalList c (g .store) ms) (same-engine c u) y)
+
+same-shares : (c : Committee) → broken c ≡ false → (t u : IndexedStart) → SameStored c t u → (ls ms : List TransactionLocator)
+    → FinalShareList c (engineIndexed c t .engine .store) ls → FinalShareList c (engineIndexed c u .engine .store) ms → ls ≡ ms
+same-shares c b t u s ls ms x y =
+    third-statement .sameShares c b (without55 c t) (without55 c u) (stored-alike c t u s) ls ms (subst (λ (g : Engine). FinalShareList c (g .store) ls) (same-engine c t) x)
+    (subst (λ (g : Engine). FinalShareList c (g .store) ms) (same-engine c u) y)
 
 pub third-indexed : IndexedThird
-third-indexed = record { every = every; sameList = same-list }
+third-indexed = record { every = every; sameList = same-list; sameShares = same-shares }
 
 -- from any store in order: an index that disagrees has every feed refused
 further : (reading : Reading) (c : Committee) → broken c ≡ false → (g : IndexedEngine) → storeInOrder c (g .engine .store) ≡ true → (fs : List Feed)

@@ -3,6 +3,8 @@ use mathlib.Core.Path.{_≡_}
 use mathlib.Core.Logic.{_↔_}
 use mathlib.Core.Bool.{true, false}
 use mathlib.Core.List.{List}
+use mathlib.Core.Option.{Option}
+use Prim.Native.Nat.{ℕ}
 use Rattle.base.specs.Lists.{_∈_}
 use Rattle.base.specs.Le.{Bytes}
 use Rattle.base.specs.Checks.{refused}
@@ -10,7 +12,11 @@ use Rattle.committee.specs.Committee.{Committee, broken}
 use Rattle.blocks.specs.Reference.{TransactionLocator}
 use Rattle.store_layout.specs.Store.{storeInOrder}
 use Rattle.finality.specs.NextFinal.{FinalList}
+use Rattle.stretches.specs.Stretches.{Listing}
+use Rattle.stretches.specs.Bulk.{listStretches}
+use Rattle.stored_finals.specs.FinalShares.{FinalShareList}
 use Rattle.voters_index.specs.Index.{indexOf, usedPart}
+use Rattle.indexed_lists.specs.Indexed.{listStretchesIndexed}
 use Rattle.readings.specs.Readings.{Reading}
 use Rattle.promises.specs.Feeds.{Feed, outcome, storedRecords}
 use Rattle.promises.specs.ThirdStatement.{Holds, engineOf, acceptedOf}
@@ -27,6 +33,10 @@ pub record IndexStatement : Type 0 where
   -- the whole list leaves store and table as the list without the feeds that 55 refused does, and accepts the same records with the same events
   pub engine : (c : Committee) (t : IndexedStart) → engineIndexed c t .engine ≡ engineOf c (without55 c t)
   pub accepted : (c : Committee) (t : IndexedStart) → acceptedIndexedOf c t ≡ acceptedOf c (without55 c t)
+  -- 02: "listings with it equal listings without it": every list over the engine that was fed with the index, as many stretches as a slice holds, from
+  -- wherever it goes on
+  pub lists : (c : Committee) (t : IndexedStart) (k : Listing) (out : List ℕ) (after : Option TransactionLocator)
+      → listStretchesIndexed c (engineIndexed c t .engine .store) (engineIndexed c t .index) k out after ≡ listStretches c (engineIndexed c t .engine .store) k out after
 
 -- "leaves the same records stored, in whatever order"
 abbrev pub SameStored : Committee → IndexedStart → IndexedStart → Type 0
@@ -36,9 +46,13 @@ SameStored c t u = (r : Bytes) → (r ∈ storedRecords (acceptedIndexedOf c t))
 pub record IndexedThird : Type 0 where
   -- "Take a fresh engine under one committee. After every list of feeds from there, records good and bad, refused ones included, this holds."
   pub every : (c : Committee) → broken c ≡ false → (t : IndexedStart) → Holds c (engineIndexed c t .engine) (acceptedIndexedOf c t)
-  -- "Every other list from a fresh engine under that committee that leaves the same records stored, in whatever order, gives the same final list."
+  -- "Every other list from a fresh engine under that committee that leaves the same records stored, in whatever order, gives the same final list.":
+  -- the same wide list
   pub sameList : (c : Committee) → broken c ≡ false → (t u : IndexedStart) → SameStored c t u → (ls ms : List TransactionLocator)
       → FinalList c (engineIndexed c t .engine .store) ls → FinalList c (engineIndexed c u .engine .store) ms → ls ≡ ms
+  -- and the same ordinary one
+  pub sameShares : (c : Committee) → broken c ≡ false → (t u : IndexedStart) → SameStored c t u → (ls ms : List TransactionLocator)
+      → FinalShareList c (engineIndexed c t .engine .store) ls → FinalShareList c (engineIndexed c u .engine .store) ms → ls ≡ ms
 
 -- what is final stays final after every further list of feeds with the index, in both readings
 pub record IndexedStays : Type 0 where

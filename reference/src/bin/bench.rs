@@ -25,6 +25,7 @@ fn main() {
             feeding_indexed();
             sorted(&graphs::generated(1000), 10_000);
             check_indexes();
+            index_growth();
         }
         Some("withdrawing") => withdrawing(),
         Some("votes") => votes(),
@@ -79,6 +80,7 @@ fn table() {
     check(100);
     check(1000);
     check_indexes();
+    index_growth();
     longest_listing();
     peak_memory();
 }
@@ -211,8 +213,14 @@ fn fed_at_once(blocks: &[Block]) -> Memory {
 
 /// The same with the index beside the store, of ten words for each block and each vote below it, which is enough.
 fn fed_indexed(blocks: &[Block]) -> (Memory, Vec<u64>) {
-    let (mut memory, records) = lent(blocks);
-    let mut index = vec![0; 1 + 10 * blocks.len() * (blocks.len() + 1)];
+    fed_owners(4, blocks, 1 + 10 * blocks.len() * (blocks.len() + 1))
+}
+
+/// The blocks of so many owners fed with an index of so many words.
+fn fed_owners(owners: u64, blocks: &[Block], words: usize) -> (Memory, Vec<u64>) {
+    let list = List::roomy(vec![1; owners as usize], blocks.iter().map(Block::encode).collect());
+    let (mut memory, records) = (Memory::new(&list), list.records);
+    let mut index = vec![0; words];
     index[0] = 1;
     for record in &records {
         let Memory { stakes, store, table, events } = &mut memory;
@@ -354,15 +362,28 @@ fn sorted(blocks: &[Block], count: usize) {
 
 /// The check of the index of each graph.
 fn check_indexes() {
-    check_index("the course run", &graphs::course_run());
-    check_index("100 blocks", &graphs::generated(100));
-    check_index("1,000 blocks", &graphs::generated(1000));
+    check_index("the course run", fed_indexed(&graphs::course_run()));
+    check_index("100 blocks", fed_indexed(&graphs::generated(100)));
+    check_index("1,000 blocks", fed_indexed(&graphs::generated(1000)));
+}
+
+/// Growth with the index: the check where runs are shared, and where nobody else makes a block's accepts; and feeding the latter singly.
+fn index_growth() {
+    for owners in [4, 16, 64] {
+        let blocks = graphs::scattered(owners, 512 / owners, 0);
+        check_index(&format!("{owners} owners, {} blocks", blocks.len()), fed_owners(owners, &blocks, 1 << 22));
+    }
+    for rounds in [6, 11] {
+        let blocks = graphs::scattered(4, rounds, 500);
+        let name = format!("{} blocks of 500 accepts that nobody else makes", blocks.len());
+        check_index(&name, fed_owners(4, &blocks, 1 << 23));
+        println!("feeding {name} singly with the index: {}", time(least(|| fed_owners(4, &blocks, 1 << 23).1[0])));
+    }
 }
 
 /// The check of the index of some blocks (54), by a list of one byte, which is refused right after it, beside the check of the store and one
 /// pass over the words.
-fn check_index(name: &str, blocks: &[Block]) {
-    let (memory, index) = fed_indexed(blocks);
+fn check_index(name: &str, (memory, index): (Memory, Vec<u64>)) {
     let index = &index[..index[0] as usize];
     let both = least(|| engine::answer_sorted(&memory.stakes, &memory.store, index, &[0], &mut []));
     let store = least(|| engine::payload_length(&memory.stakes, &memory.store, &[0; 3]));

@@ -1,0 +1,63 @@
+-- Machinery for the contracts of inner functions: a run against sources that have its offsets or begin past it. Assumes nothing: these are definitions.
+use Prim.Native.Nat.{ℕ, _+_, _*_, _≤_, _<_}
+use mathlib.Core.Path.{_≡_}
+use mathlib.Core.List.{List, [], _∷_}
+use lib.ListN.{length, drop}
+use Rattle.base.specs.Lists.{pick}
+use Rattle.authority_set.specs.AuthoritySet.{AuthoritySet, nobody}
+use Rattle.blocks.specs.Reference.{TransactionLocator, locator}
+use Rattle.voters_index.specs.Runs.{Run, votersIn, touches}
+use Rattle.voters_index.specs.Walk.{Past, Place, anywhere, beyond, At, NextRun, runsFrom}
+use Rattle.voters_index.proofs.Chain.{Anything, Chain}
+use Rattle.index_merge.specs.Sources.{namedBy, Moved, together}
+use Rattle.index_meeting.specs.declared.Meeting.{Meeting}
+use Rattle.index_meeting.specs.declared.Meeting.the-variants.{Met, Across}
+use Rattle.index_meeting.specs.declared.Voters.{Voters}
+use Rattle.index_meeting.specs.declared.Voters.the-variants.{Named, Unknown}
+
+-- two runs are of the same offsets of one block
+pub record SameOffsets (x y : Run) : Type 0 where
+  pub of : x .reference ≡ y .reference
+  pub start : x .start ≡ y .start
+  pub end : x .end ≡ y .end
+
+-- whom runs that begin past a run name at its end
+unfoldable pub afterVotes : Run → List Run → AuthoritySet
+afterVotes x [] = nobody
+afterVotes x (y ∷ ys) = pick (touches x y) (y .votes) nobody
+
+-- f names these at every offset of a run, those at its end, and nobody before it
+pub record Meets (x : Run) (f : TransactionLocator → AuthoritySet) (votes after : AuthoritySet) : Type 0 where
+  pub told : (o : ℕ) → x .start ≤ o → o < x .end → f (locator (x .reference) o) ≡ votes
+  pub end : f (locator (x .reference) (x .end)) ≡ after
+  pub first : (l : TransactionLocator) → Past (l .block) (l .offset + 1) (x .reference) (x .start) → f l ≡ nobody
+
+-- runs ys meet a run; those that are left past it, zs, name the same from its end on
+pub record MetBy (x : Run) (ys zs : List Run) (votes after : AuthoritySet) : Type 0 where
+  pub meets : Meets x (votersIn ys) votes after
+  pub chain : Chain Anything anywhere zs
+  pub names : (l : TransactionLocator) → Past (x .reference) (x .end) (l .block) (l .offset) → votersIn zs l ≡ votersIn ys l
+
+unfoldable pub SourceMet : Run → List ℕ → ℕ → ℕ → Meeting → Type 0
+SourceMet x ws at left (Met m) =
+    (m .at + 10 * m .left ≤ length ws)
+    × (x .start < x .end → Chain Anything anywhere (runsFrom left (drop at ws)) → MetBy x (runsFrom left (drop at ws)) (runsFrom (m .left) (drop (m .at) ws)) (m .votes) (m .after))
+SourceMet x ws at left Across = Unit {0}
+
+unfoldable pub MetAll : Run → List ℕ → ℕ → List ℕ → List ℕ → Voters → Type 0
+MetAll x ws n cs₀ cs (Named votes after) = x .start < x .end → Meets x (namedBy ws cs₀ n) votes after × Moved ws n (beyond (x .reference) (x .end)) cs₀ cs
+MetAll x ws n cs₀ cs Unknown = Unit {0}
+
+-- a run from a place on is not empty, has these voters, at least one, and others at its end
+pub record NextIf (x : Run) (p : Place) (votes after : AuthoritySet) : Type 0 where
+  pub full : x .start < x .end
+  pub same : x .votes ≡ votes
+  pub voted : votes ≡ nobody → ⊥
+  pub other : after ≡ votes → ⊥
+  pub there : At p (x .reference) (x .start)
+
+-- a run is the next one from a place on, and the cursors were moved past it
+pub record Passed (own ms₀ ms ix : List ℕ) (n : ℕ) (cs₀ cs : List ℕ) (p : Place) (x : Run) : Type 0 where
+  pub next : NextRun (together own ms₀ ix cs₀ n) p x
+  pub parts : Moved ix n (beyond (x .reference) (x .end)) cs₀ cs
+  pub mine : Moved own 1 (beyond (x .reference) (x .end)) ms₀ ms

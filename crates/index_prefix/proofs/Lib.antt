@@ -1,4 +1,0 @@
-pub mod Chains
-mod Words
-mod Passing
-mod Moving
