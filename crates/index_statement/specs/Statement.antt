@@ -4,7 +4,6 @@ use mathlib.Core.Logic.{_↔_}
 use mathlib.Core.Bool.{true, false}
 use mathlib.Core.List.{List}
 use mathlib.Core.Option.{Option}
-use Prim.Native.Nat.{ℕ}
 use Rattle.base.specs.Lists.{_∈_}
 use Rattle.base.specs.Le.{Bytes}
 use Rattle.base.specs.Checks.{refused}
@@ -35,7 +34,7 @@ pub record IndexStatement : Type 0 where
   pub accepted : (c : Committee) (t : IndexedStart) → acceptedIndexedOf c t ≡ acceptedOf c (without55 c t)
   -- 02: "listings with it equal listings without it": every list over the engine that was fed with the index, as many stretches as a slice holds, from
   -- wherever it goes on
-  pub lists : (c : Committee) (t : IndexedStart) (k : Listing) (out : List ℕ) (after : Option TransactionLocator)
+  pub lists : (c : Committee) (t : IndexedStart) (k : Listing) (out : Bytes) (after : Option TransactionLocator)
       → listStretchesIndexed c (engineIndexed c t .engine .store) (engineIndexed c t .index) k out after ≡ listStretches c (engineIndexed c t .engine .store) k out after
 
 -- "leaves the same records stored, in whatever order"

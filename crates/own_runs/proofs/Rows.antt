@@ -26,6 +26,7 @@ use Rattle.block_spans.specs.Joined.{VoteFits, VotesFit}
 use Rattle.row_sort.specs.Rows.{Row, rowsOf, keyOf}
 use Rattle.range_rows.specs.Ranges.{rowRange, rowCovers, anyCovers, endsBefore, Apart, Proper}
 use Rattle.own_ranges.specs.Own.{Recorded, Roomy, OwnRanges}
+use Rattle.own_ranges.specs.declared.RangeKind.the-variants.{Votes}
 use Rattle.own_ranges.proofs.Said.{own-votes}
 use Rattle.voters_index.specs.Runs.{Run, run, runCovers, votesAt, votersIn}
 use Rattle.voters_index.specs.Walk.{Past, byBlock, byOffset, Place, anywhere, beyond, At, runsFrom}
@@ -85,7 +86,7 @@ module _ (s : Bytes) (v : AuthoritySet) where
       go false u = nobody-united (pick u v nobody)
 
 -- what the rows of a record's votes are as runs
-module _ (s : Bytes) (b : Block) (t u : List ℕ) (m : ℕ) (o : OwnRanges false s b t u m) where
+module _ (s : Bytes) (b : Block) (t u : List ℕ) (m : ℕ) (o : OwnRanges Votes s b t u m) where
   pub own-of : (ws : List ℕ) → 10 * m ≤ length ws → runsFrom m ws ≡ map (rowRun s (inserted nobody (author b))) (rowsOf u m) → OwnRuns b ws m
   unfolding ownVote
   own-of ws h e =

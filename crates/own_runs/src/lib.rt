@@ -1,6 +1,7 @@
 // What the block of a record votes for, as runs of its author in words: a part like those of its includes. They ascend, and none touches another.
 use authority_set::AuthoritySet;
 use index_runs::Run;
+use own_ranges::RangeKind;
 ghost use mathlib.Core.Path.{_≡_};
 ghost use mathlib.Core.List.{map};
 ghost use Prim.Native.Nat.{_*_, _≤_};
@@ -44,7 +45,7 @@ pub fn own_runs(rec: &[u8], rows: &mut [u64], words: &mut [u64]) -> usize
     ensures { λ _. ⌜ (length (now (rows .exit)) ≡ length (now (rows .entry))) × (length (now (words .exit)) ≡ length (now (words .entry))) ⌝ }
     ensures { λ r. ⌜ OwnRuns (blockIn (now (rec .entry))) (now (words .exit)) r ⌝ }
 {
-    let m = own_ranges::own_ranges(rec, 0, rec, false, rows, words);
+    let m = own_ranges::own_ranges(rec, 0, rec, RangeKind::Votes, rows, words);
     let block = block_record::reference(rec);
     let votes = AuthoritySet::new().insert(block.authority);
     write_runs(rec, rows, m, votes, words);
