@@ -40,7 +40,7 @@ extern "C" {
     X(add, 2) \
     X(feed, 256) \
     X(feed_records, 128) \
-    X(feed_indexed, 256) \
+    X(feed_indexed, 320) \
     X(feed_records_indexed, 256) \
     X(pending_stake, 96) \
     X(pending_voters, 96) \
@@ -56,9 +56,9 @@ extern "C" {
     X(wide_stretches, 496) \
     X(final_stretches_withdrawing, 496) \
     X(wide_stretches_withdrawing, 496) \
-    X(final_stretches_indexed, 128) \
-    X(wide_stretches_indexed, 128) \
-    X(answer_sorted, 48) \
+    X(final_stretches_indexed, 192) \
+    X(wide_stretches_indexed, 192) \
+    X(answer_sorted, 160) \
     X(payload_length, 32) \
     X(payload_start, 32) \
     X(is_loadable, 496) \

@@ -31,7 +31,7 @@ macro_rules! each_call {
             ) stack 128;
             feed_indexed = lomkhvide_feed_indexed(
                 stakes: &[u8], store: &mut [u8], table: &mut [u8], index: &mut [u64], events: &mut [u8], record: &[u8]
-            ) stack 256;
+            ) stack 320;
             feed_records_indexed = lomkhvide_feed_records_indexed(
                 stakes: &[u8], store: &mut [u8], table: &mut [u8], index: &mut [u64], events: &mut [u64], outcomes: &mut [u64],
                 records: &[u8]
@@ -67,13 +67,13 @@ macro_rules! each_call {
             ) stack 496;
             final_stretches_indexed = lomkhvide_final_stretches_indexed(
                 stakes: &[u8], store: &[u8], index: &[u64], after: &[u8], stretches: &mut [u8]
-            ) stack 128;
+            ) stack 192;
             wide_stretches_indexed = lomkhvide_wide_stretches_indexed(
                 stakes: &[u8], store: &[u8], index: &[u64], after: &[u8], stretches: &mut [u8]
-            ) stack 128;
+            ) stack 192;
             answer_sorted = lomkhvide_answer_sorted(
                 stakes: &[u8], store: &[u8], index: &[u64], locators: &[u8], replies: &mut [u64]
-            ) stack 48;
+            ) stack 160;
 
             payload_length = lomkhvide_payload_length(stakes: &[u8], store: &[u8], locator: &[u8]) stack 32;
             payload_start = lomkhvide_payload_start(stakes: &[u8], store: &[u8], locator: &[u8]) stack 32;
