@@ -90,7 +90,7 @@ fn call(case: &Case, i: usize, length: usize, exact: bool) -> Outcome {
     same("answer", "engine", got, answer)?;
     for ((name, _, _), (fenced, right)) in case.slices.iter().zip(fenced.iter_mut().zip(&right)) {
         same_bytes(name, fenced.inside(), right)?;
-        same(&format!("canaries of {name}"), "found", fenced.is_intact(), true)?;
+        same(format_args!("canaries of {name}"), "found", fenced.is_intact(), true)?;
     }
     Ok(())
 }
@@ -412,7 +412,7 @@ pub fn longest_store() -> Outcome {
         let mut store = vec![0; length];
         store[..memory.store.len()].copy_from_slice(&memory.store);
         let got = engine::payload_length(&memory.stakes, &store, &locator.bytes());
-        same(&format!("payload_length in a store of {length} bytes"), "engine", got, right)?;
+        same(format_args!("payload_length in a store of {length} bytes"), "engine", got, right)?;
         println!("a store of {length} bytes: {got:?}");
     }
     Ok(())

@@ -1,5 +1,7 @@
 //! One list on all sides: the model says what is right, and the Rust and the engine are held to it after every record.
 
+use std::fmt::{Debug, Display};
+
 use crate::damage;
 use crate::engine;
 use crate::list::List;
@@ -17,8 +19,8 @@ use crate::tally::Tally;
 /// What differed, with both answers.
 pub type Outcome = Result<(), String>;
 
-/// Holds an answer to the one that is right.
-pub fn same<T: PartialEq + std::fmt::Debug>(what: &str, side: &str, got: T, right: T) -> Outcome {
+/// Holds an answer to the one that is right. What it is of is written out only where they differ.
+pub fn same<T: PartialEq + Debug>(what: impl Display, side: &str, got: T, right: T) -> Outcome {
     if got == right {
         return Ok(());
     }
@@ -26,7 +28,7 @@ pub fn same<T: PartialEq + std::fmt::Debug>(what: &str, side: &str, got: T, righ
 }
 
 /// Holds lent bytes to what they should be, and tells the first that differs.
-pub fn same_bytes(what: &str, got: &[u8], right: &[u8]) -> Outcome {
+pub fn same_bytes(what: impl Display, got: &[u8], right: &[u8]) -> Outcome {
     if got == right {
         return Ok(());
     }
@@ -51,9 +53,9 @@ impl Memory {
     }
 
     pub fn same(&self, what: &str, right: &Memory) -> Outcome {
-        same_bytes(&format!("{what}: store"), &self.store, &right.store)?;
-        same_bytes(&format!("{what}: table"), &self.table, &right.table)?;
-        same_bytes(&format!("{what}: events"), &self.events, &right.events)
+        same_bytes(format_args!("{what}: store"), &self.store, &right.store)?;
+        same_bytes(format_args!("{what}: table"), &self.table, &right.table)?;
+        same_bytes(format_args!("{what}: events"), &self.events, &right.events)
     }
 }
 
@@ -133,18 +135,18 @@ fn points(sides: &Sides, rng: &mut Rng) -> Outcome {
         for stake in [stake, total, (2 * total as u128 / 3) as u64 + rng.below(2), total / 3 + rng.below(2)] {
             let got = (engine::is_quorum(total, stake), engine::is_valid(total, stake));
             let right = (is_quorum(total, stake), is_valid(total, stake));
-            same(&format!("is_quorum, is_valid of stake {stake} in {total}"), "engine", got, right)?;
+            same(format_args!("is_quorum, is_valid of stake {stake} in {total}"), "engine", got, right)?;
         }
     }
     for stake in stakes {
         let what = format!("of stake {stake} in {total}");
         let got = engine::is_quorum(total, stake);
-        same(&format!("is_quorum {what}"), "engine", got, is_quorum(total, stake))?;
+        same(format_args!("is_quorum {what}"), "engine", got, is_quorum(total, stake))?;
         let got = engine::is_valid(total, stake);
-        same(&format!("is_valid {what}"), "engine", got, is_valid(total, stake))?;
+        same(format_args!("is_valid {what}"), "engine", got, is_valid(total, stake))?;
         if let Some(rust) = &sides.rust {
-            same(&format!("is_quorum {what}"), "Rust", rust.is_quorum(stake), is_quorum(total, stake))?;
-            same(&format!("is_valid {what}"), "Rust", rust.is_valid(stake), is_valid(total, stake))?;
+            same(format_args!("is_quorum {what}"), "Rust", rust.is_quorum(stake), is_quorum(total, stake))?;
+            same(format_args!("is_valid {what}"), "Rust", rust.is_valid(stake), is_valid(total, stake))?;
         }
     }
     Ok(())
@@ -161,7 +163,7 @@ fn adds(sides: &Sides, rng: &mut Rng) -> Outcome {
         let answer = lent::add(stakes, &mut right, *voter);
         answers.push(answer);
         let told = engine::add(stakes, &mut got, *voter);
-        same(&format!("add of voter {voter}"), "engine", told, answer)?;
+        same(format_args!("add of voter {voter}"), "engine", told, answer)?;
         same_bytes("aggregator", &got, &right)?;
     }
     if let Some(rust) = &sides.rust {
@@ -170,8 +172,8 @@ fn adds(sides: &Sides, rng: &mut Rng) -> Outcome {
         let quorum: Vec<bool> = answers.iter().map(|answer| matches!(answer, Ok(1 | 3 | 4))).collect();
         let crossed: Vec<usize> = (0..answers.len()).filter(|i| answers[*i] == Ok(4)).collect();
         let first: Vec<usize> = quorum.iter().position(|holds| *holds).into_iter().collect();
-        same(&format!("add of voters {voters:?}"), "Rust", rust.adds(&voters), Ok((quorum, set)))?;
-        same(&format!("the vote of {voters:?} that crosses"), "Rust", first, crossed)?;
+        same(format_args!("add of voters {voters:?}"), "Rust", rust.adds(&voters), Ok((quorum, set)))?;
+        same(format_args!("the vote of {voters:?} that crosses"), "Rust", first, crossed)?;
         voters.push(members + rng.below(3));
         same("add of an unknown voter", "Rust", rust.adds(&voters), Err("Authority not found".into()))?;
     }
@@ -183,7 +185,7 @@ fn adds(sides: &Sides, rng: &mut Rng) -> Outcome {
         let mut lent = broken.clone();
         let answer = lent::add(stakes, &mut broken, voter);
         let told = engine::add(stakes, &mut lent, voter);
-        same(&format!("add of voter {voter} to {right:?}"), "engine", told, answer)?;
+        same(format_args!("add of voter {voter} to {right:?}"), "engine", told, answer)?;
         same_bytes("aggregator", &lent, &broken)?;
     }
     Ok(())

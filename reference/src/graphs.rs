@@ -1,6 +1,7 @@
-//! Fixed graphs, for the benchmark.
+//! Fixed graphs, for the benchmark and for runs over long stores.
 
 use crate::model::record::{Block, Locator, Reference, Statement};
+use crate::model::store::Stores;
 
 /// The course run of 01: four stakes of 1.
 pub fn course_run() -> Vec<Block> {
@@ -74,26 +75,120 @@ pub fn shared(count: usize, among: bool) -> Vec<Block> {
     blocks
 }
 
-/// So many owners and rounds, each block above round 0 with all blocks of the round before and a share, and above round 1 with so many accepts of
-/// offsets that no other block accepts, scattered over the blocks of round 0, and one of the first of these, which everybody accepts.
-pub fn scattered(owners: u64, rounds: u64, votes: u64) -> Vec<Block> {
+/// So many owners and rounds, each block above round 0 with all blocks of the round before, and no statements.
+pub fn rounds(owners: u64, rounds: u64) -> Vec<Block> {
     let reference = |n: u64| Reference { author: n % owners, round: n / owners, digest: digest(n + 1) };
     let block = |n: u64| {
         let first = (n / owners).saturating_sub(1) * owners;
         let before: Vec<Reference> = if n < owners { vec![] } else { (first..first + owners).map(reference).collect() };
-        let mut block = bare(reference(n), &before);
-        if n >= owners {
-            block.statements.push(Statement::Share(vec![1]));
-        }
-        if n >= 2 * owners {
-            let offset = |k: u64| 10 + 2 * (k * owners * rounds + n);
-            let of = |k: u64| reference((k * 7919 + n) % owners);
-            block.statements.extend((0..votes).map(|k| Statement::Accept(Locator::new(of(k), offset(k * 31 % votes)))));
-            block.statements.push(Statement::Accept(Locator::new(reference(0), 3)));
-        }
-        block
+        bare(reference(n), &before)
     };
     (0..owners * rounds).map(block).collect()
+}
+
+/// So many owners and rounds, each block above round 0 with a share, and above round 1 with so many accepts of
+/// offsets that no other block accepts, scattered over the blocks of round 0, and one of the first of these, which everybody accepts.
+pub fn scattered(owners: u64, count: u64, votes: u64) -> Vec<Block> {
+    let mut blocks = rounds(owners, count);
+    let first: Vec<Reference> = blocks[..owners as usize].iter().map(|block| block.reference).collect();
+    for (n, block) in blocks.iter_mut().enumerate().skip(owners as usize) {
+        let n = n as u64;
+        block.statements.push(Statement::Share(vec![1]));
+        if n >= 2 * owners {
+            let offset = |k: u64| 10 + 2 * (k * owners * count + n);
+            let of = |k: u64| first[((k * 7919 + n) % owners) as usize];
+            block.statements.extend((0..votes).map(|k| Statement::Accept(Locator::new(of(k), offset(k * 31 % votes)))));
+            block.statements.push(Statement::Accept(Locator::new(first[0], 3)));
+        }
+    }
+    blocks
+}
+
+/// The benchmark's graph with so many owners and rounds: above round 0 a share each, above round 1 an accept of each other owner's share before.
+pub fn owners(owners: u64, count: u64) -> Vec<Block> {
+    let mut blocks = rounds(owners, count);
+    for block in blocks.iter_mut().filter(|block| block.reference.round > 0) {
+        block.statements.push(Statement::Share(vec![1, 2, 3]));
+        if block.reference.round > 1 {
+            let others = block.includes.iter().filter(|other| other.author != block.reference.author);
+            block.statements.extend(others.map(|other| Statement::Accept(Locator::new(*other, 0))));
+        }
+    }
+    blocks
+}
+
+/// Four owners, each block above round 0 with 500 accepts that nobody else makes, this many in all (a multiple of 2,000): of offsets of the first
+/// four blocks, those of all blocks one after the other.
+pub fn lone_votes(votes: u64) -> Vec<Block> {
+    let mut blocks = rounds(4, 1 + votes / 2000);
+    let count = blocks.len() as u64;
+    let first: Vec<Reference> = blocks[..4].iter().map(|block| block.reference).collect();
+    for (n, block) in blocks.iter_mut().enumerate().skip(4) {
+        let accepted = |k: u64| Locator::new(first[(n + k as usize) % 4], 2 * (k * count + n as u64));
+        block.statements = (0..500).map(|k| Statement::Accept(accepted(k * 31 % 500))).collect();
+    }
+    blocks
+}
+
+/// Four owners and 84 blocks, the four of each round above 0 with accepts of the same 400 locators: every other offset of a block before.
+pub fn same_votes() -> Vec<Block> {
+    let mut blocks = rounds(4, 21);
+    for block in blocks.iter_mut().skip(4) {
+        let accepted = |k: u64| Locator::new(block.includes[0], 2 * k);
+        block.statements = (0..400).map(|k| Statement::Accept(accepted(k))).collect();
+    }
+    blocks
+}
+
+/// Four owners and 204 blocks, above round 0 each with 100 shares that stand alone, between empty ranges, and above round 1 with ranges that accept
+/// the other three's.
+pub fn lone_shares() -> Vec<Block> {
+    let mut blocks = rounds(4, 51);
+    for block in blocks.iter_mut().skip(4) {
+        let nothing = Statement::Range(block.includes[0], 0, 0);
+        block.statements = (0..100).flat_map(|_| [Statement::Share(vec![1, 2, 3]), nothing.clone()]).collect();
+        if block.reference.round > 1 {
+            let others = block.includes.iter().filter(|other| other.author != block.reference.author);
+            block.statements.extend(others.map(|other| Statement::Range(*other, 0, 200)));
+        }
+    }
+    blocks
+}
+
+/// The benchmark's 1,000 blocks, each above round 0 with 30 rejects of offsets that nobody votes for.
+pub fn needless_rejects() -> Vec<Block> {
+    let mut blocks = generated(1000);
+    for block in blocks.iter_mut().skip(4) {
+        let rejected = |k: u64| Locator::new(block.includes[0], 10 + 2 * (30 * block.reference.author + k));
+        block.statements.extend((0..30).map(|k| Statement::Reject(rejected(k), None)));
+    }
+    blocks
+}
+
+/// The benchmark's 1,000 blocks; one owner alone votes in each of its blocks for something early in the order, of the first block.
+pub fn early_votes() -> Vec<Block> {
+    let mut blocks = generated(1000);
+    let first = blocks[0].reference;
+    for block in blocks.iter_mut().filter(|block| block.reference.author == 3 && block.reference.round > 0) {
+        let early = Locator::new(first, 10 + 2 * block.reference.round);
+        block.statements.push(Statement::Accept(early));
+    }
+    blocks
+}
+
+/// The benchmark's 1,000 blocks; each above round 2 includes one more, of round 1, whose ancestry has next to none of what the others share.
+pub fn include_apart() -> Vec<Block> {
+    let mut blocks = generated(1000);
+    let apart = blocks[4].reference;
+    blocks.iter_mut().filter(|block| block.reference.round > 2).for_each(|block| block.includes.push(apart));
+    blocks
+}
+
+/// A store that holds these blocks, in this order of arrival.
+pub fn stored(blocks: &[Block]) -> Stores {
+    let mut stores = Stores::default();
+    blocks.iter().for_each(|block| stores.accept(block.clone(), &block.encode()));
+    stores
 }
 
 /// One owner, whose blocks each vote for 2,730 further offsets of one block: as many final locators as `listing` can hold.

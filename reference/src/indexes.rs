@@ -7,7 +7,7 @@ use crate::graphs;
 use crate::list::List;
 use crate::model::index;
 use crate::model::lent;
-use crate::model::record::{number, Block};
+use crate::model::record::{number, Block, Locator, Reference, Statement};
 use crate::model::store::Stores;
 use crate::rng::Rng;
 
@@ -86,10 +86,40 @@ pub fn compare(seed: u64, n: u64, indexed: &mut Indexed) -> Outcome {
     same("the words past the index stay", "engine", past, true)
 }
 
+/// What stands apart in a graph of many owners.
+#[derive(Clone, Copy, Debug)]
+pub enum Apart {
+    /// Nothing.
+    Nothing,
+    /// Each block of the first owner votes for a further offset of its first one, which nobody else votes for.
+    OldVote,
+    /// The last owner's block that a block includes is that of the round before the last one, and lacks what the others have.
+    OldInclude,
+}
+
+/// The blocks of `graphs::scattered`, with something apart in each of them.
+fn many(owners: u64, rounds: u64, votes: u64, apart: Apart) -> Vec<Block> {
+    let mut blocks = graphs::scattered(owners, rounds, votes);
+    let references: Vec<Reference> = blocks.iter().map(|block| block.reference).collect();
+    for (n, block) in blocks.iter_mut().enumerate().skip(2 * owners as usize) {
+        match apart {
+            Apart::OldVote if block.reference.author == 0 => {
+                block.statements.push(Statement::Accept(Locator::new(references[0], 1_000_000 + n as u64)))
+            }
+            Apart::OldInclude => {
+                let last = block.includes.len() - 1;
+                block.includes[last] = references[(block.reference.round as usize - 2) * owners as usize + last];
+            }
+            _ => {}
+        }
+    }
+    blocks
+}
+
 /// Many owners, or records of many scattered votes: the engine's index after all feeds is the model's worked out afresh, and with any one of its words
 /// changed a further feed is refused by 54.
-pub fn compare_many(owners: u64, rounds: u64, votes: u64, indexed: &mut Indexed) -> Outcome {
-    let blocks = graphs::scattered(owners, rounds, votes);
+pub fn compare_many(owners: u64, rounds: u64, votes: u64, apart: Apart, indexed: &mut Indexed) -> Outcome {
+    let blocks = many(owners, rounds, votes, apart);
     let list = List::roomy(vec![1; owners as usize], blocks.iter().map(Block::encode).collect());
     let Some(sides) = set(&list)? else { return Err("a committee that is refused".into()) };
     let mut lent = Lent { memory: sides.right, index: vec![Lent::PAST; 1 << 22] };

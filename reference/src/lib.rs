@@ -31,5 +31,6 @@ pub mod slips;
 pub mod sorted;
 pub mod tables;
 pub mod tally;
+pub mod windows;
 pub mod withdrawing;
 pub mod writing;

@@ -59,7 +59,7 @@ pub fn compare(seed: u64, n: u64, loaded: &mut Loaded) -> Outcome {
     let found = ask_both(&sides, &mut rng, loaded).map_err(|text| format!("at the end: {text}"))?;
     for (reading, found) in READINGS.into_iter().zip(found) {
         let told = ascending(reading, &list.stakes, &sides.state.stores)?;
-        same(&format!("in another order of arrival, {reading:?}"), "engine", told, found)?;
+        same(format_args!("in another order of arrival, {reading:?}"), "engine", told, found)?;
     }
     let lent = &sides.engine;
     for _ in 0..3 {
@@ -94,14 +94,14 @@ fn ask(reading: Reading, sides: &Sides, rng: &mut Rng, loaded: &mut Loaded) -> R
         let right = loading::is_loadable(reading, &graph, stores, locator);
         same("the list has it", "model", found.contains(locator), right)?;
         let told = is_loadable(reading, &lent.stakes, &lent.store, &locator.bytes());
-        same(&format!("is_loadable of {locator:?}, {reading:?}"), "engine", told, Ok(right as u64))?;
+        same(format_args!("is_loadable of {locator:?}, {reading:?}"), "engine", told, Ok(right as u64))?;
     }
     for (i, share) in found.iter().enumerate() {
         let (start, length) = stores.payload(share).expect("a stored share");
         let payload = &lent.store[start as usize..(start + length) as usize];
         if let Some(change) = loading::needed(payload) {
             loaded.following += 1;
-            same(&format!("what {share:?} needs, before it"), "model", found[..i].contains(&change), true)?;
+            same(format_args!("what {share:?} needs, before it"), "model", found[..i].contains(&change), true)?;
         }
     }
     let words = 2 * shares.len();
@@ -126,8 +126,8 @@ fn list(reading: Reading, stakes: &[u8], store: &[u8], length: usize) -> Outcome
     let (mut got, mut right) = (vec![STAYS; length + 8], vec![STAYS; length + 8]);
     let told = loadable(reading, stakes, store, &mut got[4..length + 4]);
     let answer = loading::loadable_call(reading, stakes, store, &mut right[4..length + 4]);
-    same(&format!("loadable with {length} words, {reading:?}"), "engine", told, answer)?;
-    same(&format!("places of loadable with {length} words, {reading:?}"), "engine", got, right)
+    same(format_args!("loadable with {length} words, {reading:?}"), "engine", told, answer)?;
+    same(format_args!("places of loadable with {length} words, {reading:?}"), "engine", got, right)
 }
 
 /// The engine's list, as locators, where the same records arrive in ascending order of reference.

@@ -1,11 +1,12 @@
 //! The command of the reference runs; see README.md beside.
 
 use std::io::Write;
+use std::ops::Range;
 use std::process::exit;
 use std::time::{Duration, Instant};
 
 use reference::compare::compare;
-use reference::indexes::Indexed;
+use reference::indexes::{Apart, Indexed};
 use reference::list::List;
 use reference::loading::{self, Loaded};
 use reference::many::Fed;
@@ -13,26 +14,36 @@ use reference::model::mistake::Mistake;
 use reference::slips::Told;
 use reference::sorted::Asked;
 use reference::tally::Tally;
+use reference::windows::Swept;
 use reference::withdrawing::Withdrawn;
 use reference::writing::Written;
 use reference::{
-    calendars, exhaustive, generate, indexes, many, members, network, program, rings, shrink, sorted, tables, withdrawing,
+    calendars, exhaustive, generate, indexes, many, members, network, program, rings, shrink, sorted, tables, windows,
+    withdrawing,
 };
 
 fn main() {
     let words: Vec<String> = std::env::args().skip(1).collect();
     let word = |i: usize| words.get(i).map(String::as_str);
+    // Those of a run, by their numbers: so many, from the first or from the one that a third word names.
+    let these = |count: u64| {
+        let first = number(word(3), 0);
+        first..first + number(word(1), count)
+    };
     match word(0) {
-        Some("lists") => lists(number(word(1), 4000), number(word(2), 1)),
+        Some("lists") => lists(these(4000), number(word(2), 1)),
         Some("calendars") => {
             let count = number(word(1), 1000);
-            end(count, calendars(count, number(word(2), 1)))
+            end(count, calendars(0..count, number(word(2), 1)))
         }
-        Some("rings") => end(rings::COUNT, rings(rings::COUNT)),
-        Some("exhaustive") => exhaustive(number(word(1), exhaustive::COUNT)),
+        Some("rings") => end(rings::COUNT, rings(0..rings::COUNT)),
+        Some("exhaustive") => {
+            let first = number(word(2), 0);
+            exhaustive(first..first + number(word(1), exhaustive::COUNT - first))
+        }
         Some("list") => one(number(word(1), 0), number(word(2), 1)),
         Some("boundary") => boundary(word(1) == Some("exact")),
-        Some("listing") => listing(number(word(1), 1000), number(word(2), 1)),
+        Some("listing") => listing(these(1000), number(word(2), 1)),
         Some("slips") => slips(number(word(1), 1000), number(word(2), 1)),
         Some("sorted") => sorted(number(word(1), 2000), number(word(2), 1)),
         Some("writing") => writing(number(word(1), 2000), number(word(2), 1)),
@@ -41,7 +52,8 @@ fn main() {
         Some("many") => many(number(word(1), 1000), number(word(2), 1)),
         Some("indexes") => indexes(number(word(1), 400), number(word(2), 1)),
         Some("network") if word(1) == Some("mistakes") => network_mistakes(),
-        Some("network") => network(number(word(1), 200), number(word(2), 1)),
+        Some("network") => network(these(200), number(word(2), 1)),
+        Some("windows") => windows(these(20), number(word(2), 1)),
         Some("stakes") => tables(number(word(1), 100_000), number(word(2), 1)),
         Some("model") => model(word(1).expect("a file"), word(2)),
         Some("inputs") => inputs(word(1) == Some("check")),
@@ -80,14 +92,14 @@ fn sides() {
 }
 
 /// Runs lists by their numbers, with a progress line; shows the smallest form of the first that fail.
-fn run(count: u64, list: impl Fn(u64) -> List) -> u64 {
+fn run(these: Range<u64>, list: impl Fn(u64) -> List) -> u64 {
     sides();
     let (start, mut told) = (Instant::now(), Instant::now());
-    let mut tally = Tally::default();
+    let (mut tally, mut fed) = (Tally::default(), Fed::default());
     let mut failed = 0;
-    for n in 0..count {
+    for n in these.clone() {
         let list = list(n);
-        if let Err(text) = compare(&list, &mut tally) {
+        if let Err(text) = compare(&list, &mut tally).and_then(|()| many::whole(&list, &mut fed)) {
             failed += 1;
             println!("list {n} failed: {text}");
             if failed <= 3 {
@@ -96,47 +108,53 @@ fn run(count: u64, list: impl Fn(u64) -> List) -> u64 {
             }
         }
         if told.elapsed() > Duration::from_secs(5) {
-            println!("{} of {count} lists, {failed} failed, {} s", n + 1, start.elapsed().as_secs());
+            println!("list {n} of {these:?}, {failed} failed, {} s", start.elapsed().as_secs());
             let _ = std::io::stdout().flush();
             told = Instant::now();
         }
     }
     println!("{}", tally.describe());
+    println!("{} lists fed once more, in one call", fed.singly);
     println!("{:.1} s", start.elapsed().as_secs_f64());
     failed
 }
 
+/// Ends a run: what was run, as `reference/run` tells it, then the line that is counted.
 fn end(count: u64, failed: u64) -> ! {
+    if let Ok(ran) = std::env::var("REFERENCE_RAN") {
+        println!("{ran}");
+    }
     println!("{} passed, {failed} failed", count - failed);
     exit((failed > 0) as i32);
 }
 
-fn lists(count: u64, seed: u64) {
-    println!("seed {seed}");
-    let failed = run(count, |n| list(seed, n));
-    let weeks = count / 20;
-    let committees = (count / 20).min(rings::COUNT);
-    end(count + weeks + committees, failed + calendars(weeks, seed) + rings(committees));
+fn lists(these: Range<u64>, seed: u64) {
+    println!("seed {seed}, lists {these:?}");
+    let failed = run(these.clone(), |n| list(seed, n));
+    let weeks = these.start / 20..these.end / 20;
+    let committees = weeks.start.min(rings::COUNT)..weeks.end.min(rings::COUNT);
+    let count = these.count() + weeks.clone().count() + committees.clone().count();
+    end(count as u64, failed + calendars(weeks, seed) + rings(committees));
 }
 
-/// Whom to ring, in the first of the small committees: in how many it failed.
-fn rings(count: u64) -> u64 {
+/// Whom to ring, in these of the small committees: in how many it failed.
+fn rings(these: Range<u64>) -> u64 {
     let mut failed = 0;
-    for n in 0..count {
+    for n in these.clone() {
         if let Err(text) = rings::compare(n) {
             failed += 1;
             println!("whom to ring, committee {n}, failed: {text}");
         }
     }
-    println!("whom to ring: every set of voters and of owners within reach in {count} committees");
+    println!("whom to ring: every set of voters and of owners within reach in {} committees", these.count());
     failed
 }
 
 /// Blast calendars, on the engine and the model: how many failed.
-fn calendars(count: u64, seed: u64) -> u64 {
+fn calendars(these: Range<u64>, seed: u64) -> u64 {
     let mut tally = calendars::Tally::default();
     let mut failed = 0;
-    for n in 0..count {
+    for n in these {
         if let Err(text) = calendars::compare(seed, n, &mut tally) {
             failed += 1;
             println!("calendar {n} of seed {seed} failed: {text}");
@@ -156,9 +174,15 @@ fn many(count: u64, seed: u64) {
             println!("list {n} of seed {seed} failed in one call: {text}");
         }
     }
-    let Fed { calls, records, accepted, untold, short, singly, indexed } = fed;
-    println!("{calls} calls of {records} records: {accepted} accepted, {untold} refused by 15; 64 refused {short} calls; {singly} lists held to single feeds, {indexed} with the index");
-    end(count, failed);
+    let tried = many::every(&mut fed).unwrap_or_else(|text| {
+        failed += 1;
+        println!("the short list failed: {text}");
+        1
+    });
+    let Fed { calls, records, accepted, untold, short, singly, indexed, crowded, unindexed } = fed;
+    println!("{calls} calls of {records} records: {accepted} accepted, {untold} refused by 15, {crowded} by 14, {unindexed} by 55; 64 refused {short} calls");
+    println!("{singly} lists held to single feeds, {indexed} with the index; {tried} calls of a short list");
+    end(count + tried, failed);
 }
 
 /// Lists fed with the index.
@@ -171,11 +195,22 @@ fn indexes(count: u64, seed: u64) {
             println!("list {n} of seed {seed} failed with the index: {text}");
         }
     }
-    let many = [(4, 4, 300), (4, 3, 1000), (16, 4, 5), (16, 3, 150), (64, 3, 3)];
-    for (owners, rounds, votes) in many {
-        if let Err(text) = indexes::compare_many(owners, rounds, votes, &mut indexed) {
+    let many = [
+        (4, 4, 300, Apart::Nothing),
+        (4, 3, 1000, Apart::Nothing),
+        (4, 12, 2, Apart::OldVote),
+        (4, 12, 2, Apart::OldInclude),
+        (16, 4, 5, Apart::Nothing),
+        (16, 3, 150, Apart::Nothing),
+        (16, 6, 2, Apart::OldVote),
+        (16, 6, 2, Apart::OldInclude),
+        (64, 3, 3, Apart::Nothing),
+        (64, 4, 1, Apart::OldInclude),
+    ];
+    for (owners, rounds, votes, apart) in many {
+        if let Err(text) = indexes::compare_many(owners, rounds, votes, apart, &mut indexed) {
             failed += 1;
-            println!("{owners} owners, {rounds} rounds, {votes} votes a block failed with the index: {text}");
+            println!("{owners} owners, {rounds} rounds, {votes} votes a block, apart {apart:?}, failed with the index: {text}");
         }
     }
     let Indexed { feeds, accepted, disagreeing, short, lists, longest } = indexed;
@@ -184,11 +219,11 @@ fn indexes(count: u64, seed: u64) {
 }
 
 /// Networks of nodes; the smallest form of the first that fail.
-fn network(count: u64, seed: u64) {
-    println!("seed {seed}");
+fn network(these: Range<u64>, seed: u64) {
+    println!("seed {seed}, networks {these:?}");
     let (start, mut told) = (Instant::now(), Instant::now());
     let (mut tally, mut failed) = (network::Tally::default(), 0);
-    for n in 0..count {
+    for n in these.clone() {
         if let Err(failure) = network::run(seed, n, None, &mut tally) {
             failed += 1;
             println!("network {n} of seed {seed} failed: {}", failure.text);
@@ -198,13 +233,32 @@ fn network(count: u64, seed: u64) {
             }
         }
         if told.elapsed() > Duration::from_secs(20) {
-            println!("{} of {count} networks, {failed} failed, {} s", n + 1, start.elapsed().as_secs());
+            println!("network {n} of {these:?}, {failed} failed, {} s", start.elapsed().as_secs());
             let _ = std::io::stdout().flush();
             told = Instant::now();
         }
     }
     println!("{}", tally.describe());
-    end(count, failed);
+    end(these.count() as u64, failed);
+}
+
+/// Stores whose lists take several windows.
+fn windows(these: Range<u64>, seed: u64) {
+    sides();
+    let mut swept = Swept::default();
+    let mut failed = 0;
+    for n in these.clone() {
+        if let Err(text) = windows::compare(seed, n, &mut swept) {
+            failed += 1;
+            println!("store {n} of seed {seed} failed: {text}");
+        }
+    }
+    let Swept { edges, listed, loadable, questions, small } = swept;
+    let [least, most] = edges.unwrap_or_default();
+    println!("votes that begin and end at {least} to {most} places; {questions} questions about lists");
+    println!("listed locators, wide and ordinary, old reading and the other: {listed:?}; loadable {loadable:?}");
+    println!("the model's lists beside its single questions on {small} small stores");
+    end(these.count() as u64, failed);
 }
 
 /// Whether the networks find a model that makes one of the course's mistakes, as they would find an engine that does.
@@ -282,9 +336,9 @@ fn loading(count: u64, seed: u64) {
     end(count, failed);
 }
 
-/// The first of the exhaustive lists, or all of them.
-fn exhaustive(count: u64) {
-    end(count, run(count, exhaustive::list));
+/// These of the exhaustive lists.
+fn exhaustive(these: Range<u64>) {
+    end(these.clone().count() as u64, run(these, exhaustive::list));
 }
 
 /// Writes the fixed sample, or checks that it is what the Rust's answers make.
@@ -307,29 +361,36 @@ fn boundary(exact: bool) {
         false => reference::boundary::longest_store().map(|_| calls),
     });
     match outcome {
-        Ok(calls) => println!("{calls} passed, 0 failed"),
+        Ok(calls) => end(calls, 0),
         Err(text) => {
-            println!("{text}\n0 passed, 1 failed");
-            exit(1);
+            println!("{text}");
+            end(1, 1);
         }
     }
 }
 
 /// The program `listing` on generated inputs.
-fn listing(count: u64, seed: u64) {
+fn listing(these: Range<u64>, seed: u64) {
     if !program::is_there() {
-        println!("the program is not built (rt check listing)\n0 passed, 1 failed");
-        exit(1);
+        println!("the program is not built (rt check listing)");
+        end(1, 1);
     }
+    println!("seed {seed}, inputs {these:?}");
     let mut failed = 0;
-    for n in 0..count {
+    let answers = program::answers();
+    let fixed = answers.len() as u64;
+    for text in answers.into_iter().filter_map(Result::err) {
+        failed += 1;
+        println!("{text}");
+    }
+    for n in these.clone() {
         let (input, file) = program::input(seed, n);
         if let Err(text) = program::run(&input, file.as_deref()) {
             failed += 1;
             println!("input {n} of seed {seed}: {text}");
         }
     }
-    end(count, failed);
+    end(fixed + these.count() as u64, failed);
 }
 
 /// Records of our own, written and fed.

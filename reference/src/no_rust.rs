@@ -50,6 +50,10 @@ impl RustSide {
         match *self {}
     }
 
+    pub fn store_all(&mut self, blocks: &[Block]) {
+        match *self {}
+    }
+
     pub fn creation_time(&self, reference: &Reference) -> Option<u128> {
         match *self {}
     }

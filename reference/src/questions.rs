@@ -4,8 +4,9 @@ use std::collections::BTreeSet;
 
 use crate::compare::{same, same_bytes, Outcome, Sides};
 use crate::engine::{self, Answer};
+use crate::model::committee::Votes;
 use crate::model::finality::{Finality, Graph, Listed};
-use crate::model::lent::{stretches, whom_to_ring, write_finality, write_stretches, POSITION_BYTES, STRETCH_BYTES};
+use crate::model::lent::{stretches, write_finality, write_ring, write_stretches, POSITION_BYTES, STRETCH_BYTES};
 use crate::model::record::{number, Locator, Reference};
 use crate::rng::Rng;
 use crate::tally::Tally;
@@ -29,9 +30,10 @@ pub fn ask(sides: &Sides, rng: &mut Rng, tally: &mut Tally) -> Outcome {
         let finality = graph.finality(locator);
         tally.not_finals += !finality.is_final as u64;
         tally.questions += 7;
-        one(sides, locator, &finality)?;
-        tally.rings(&rung(sides, locator, u128::MAX)?);
-        tally.rings(&rung(sides, locator, rng.word() as u128 | (rng.word() as u128) << 64)?);
+        let votes = pending(sides, locator);
+        one(sides, locator, &finality, votes)?;
+        tally.rings(&rung(sides, locator, votes, u128::MAX)?);
+        tally.rings(&rung(sides, locator, votes, rng.word() as u128 | (rng.word() as u128) << 64)?);
     }
     times(sides, rng, tally)?;
     asked_on(sides, &(engine::next_wide, "next_wide"), &list, rng)?;
@@ -67,7 +69,7 @@ fn times(sides: &Sides, rng: &mut Rng, tally: &mut Tally) -> Outcome {
 fn time(sides: &Sides, reference: &Reference, right: Option<u64>) -> Outcome {
     let mut found = [0x3c; 8];
     let got = engine::creation_time(&sides.engine.stakes, &sides.engine.store, &reference.bytes(), &mut found);
-    same(&format!("creation_time of {reference:?}"), "engine", got, Ok(right.is_some() as u64))?;
+    same(format_args!("creation_time of {reference:?}"), "engine", got, Ok(right.is_some() as u64))?;
     same_bytes("the time", &found, &right.map_or([0x3c; 8], u64::to_le_bytes))
 }
 
@@ -106,40 +108,44 @@ pub fn some_locator(sides: &Sides, rng: &mut Rng) -> Locator {
     Locator::new(rng.pick(blocks).block.reference, rng.below(3))
 }
 
+/// The votes of a pending locator, by the model's table; else 42.
+fn pending(sides: &Sides, locator: &Locator) -> Result<Votes, u64> {
+    let table = &sides.state.table;
+    let item = sides.state.stores.get(&locator.block).and_then(|stored| table.find(stored.position, locator.offset));
+    item.map(|item| table.items[item].votes).ok_or(42)
+}
+
 /// Every question about one locator.
-fn one(sides: &Sides, locator: &Locator, finality: &Finality) -> Outcome {
+fn one(sides: &Sides, locator: &Locator, finality: &Finality, votes: Result<Votes, u64>) -> Outcome {
     let (lent, bytes) = (&sides.engine, locator.bytes());
     let stores = &sides.state.stores;
     let mut positions = vec![0x3c; POSITION_BYTES];
     let got = engine::finality(&lent.stakes, &lent.store, &mut positions, &bytes);
     let mut right = vec![0x3c; POSITION_BYTES];
     let answer = write_finality(stores, finality, &mut right);
-    same(&format!("finality of {locator:?}"), "engine", got, Ok(answer))?;
-    same_bytes(&format!("positions of {locator:?}"), &positions, &right)?;
+    same(format_args!("finality of {locator:?}"), "engine", got, Ok(answer))?;
+    same_bytes(format_args!("positions of {locator:?}"), &positions, &right)?;
     let payload = stores.payload(locator).ok_or(41);
     let got = engine::payload_length(&lent.stakes, &lent.store, &bytes);
-    same(&format!("payload_length of {locator:?}"), "engine", got, payload.map(|payload| payload.1))?;
+    same(format_args!("payload_length of {locator:?}"), "engine", got, payload.map(|payload| payload.1))?;
     let got = engine::payload_start(&lent.stakes, &lent.store, &bytes);
-    same(&format!("payload_start of {locator:?}"), "engine", got, payload.map(|payload| payload.0))?;
-    let table = &sides.state.table;
-    let item = stores.get(&locator.block).and_then(|stored| table.find(stored.position, locator.offset));
-    let votes = item.map(|item| table.items[item].votes).ok_or(42);
+    same(format_args!("payload_start of {locator:?}"), "engine", got, payload.map(|payload| payload.0))?;
     let got = engine::pending_stake(&lent.stakes, &lent.store, &lent.table, &bytes);
-    same(&format!("pending_stake of {locator:?}"), "engine", got, votes.map(|votes| votes.stake))?;
+    same(format_args!("pending_stake of {locator:?}"), "engine", got, votes.map(|votes| votes.stake))?;
     let got = engine::pending_voters(&lent.stakes, &lent.store, &lent.table, &bytes);
     let right = votes.map(|votes| votes.voters.count_ones() as u64);
-    same(&format!("pending_voters of {locator:?}"), "engine", got, right)?;
+    same(format_args!("pending_voters of {locator:?}"), "engine", got, right)?;
     Ok(())
 }
 
-/// Whom to ring for a locator.
-fn rung(sides: &Sides, locator: &Locator, reachable: u128) -> Result<Answer, String> {
+/// Whom to ring for a locator with these votes.
+fn rung(sides: &Sides, locator: &Locator, votes: Result<Votes, u64>, reachable: u128) -> Result<Answer, String> {
     let (lent, bytes) = (&sides.engine, locator.bytes());
     let (mut got, mut right) = ([0x3c; 24], [0x3c; 24]);
     let told = engine::whom_to_ring(&lent.stakes, &lent.store, &lent.table, reachable, &bytes, &mut got);
-    let answer = whom_to_ring(&lent.stakes, &lent.store, &lent.table, reachable, &bytes, &mut right);
-    same(&format!("whom to ring for {locator:?}, reachable {reachable:x}"), "engine", told, answer)?;
-    same_bytes(&format!("the set and stake to ring for {locator:?}, reachable {reachable:x}"), &got, &right)?;
+    let answer = votes.and_then(|votes| write_ring(&sides.committee, votes.voters, reachable, &mut right));
+    same(format_args!("whom to ring for {locator:?}, reachable {reachable:x}"), "engine", told, answer)?;
+    same_bytes(format_args!("the set and stake to ring for {locator:?}, reachable {reachable:x}"), &got, &right)?;
     Ok(told)
 }
 
@@ -157,7 +163,7 @@ pub fn asked_on(sides: &Sides, call: &(ListCall, &str), list: &[(Locator, Finali
         let mut out = vec![0x77; 56];
         let got = next(&lent.stakes, &lent.store, &after, &mut out);
         same(name, "engine", got, Ok(right.is_some() as u64))?;
-        same_bytes(&format!("{name}'s locator"), &out, &right.map_or([0x77; 56], |locator| locator.bytes()))?;
+        same_bytes(format_args!("{name}'s locator"), &out, &right.map_or([0x77; 56], |locator| locator.bytes()))?;
         after = out;
     }
     Ok(())

@@ -71,7 +71,17 @@ pub fn compare(n: u64) -> Outcome {
             let what = format!("stakes {stakes:?}, voters {voters:b}, reachable {reachable:b}");
             same(&what, "engine", (told, found), (right.map(|ring| ring.0.count_ones() as u64), words))?;
             same(&what, "by stake", ring::by_stake(&committee, voters, reachable), right)?;
+            fewest(&what, &memory.stakes, voters | unknown, reachable | unknown)?;
         }
     }
     Ok(())
+}
+
+/// The same question without a store, for any voters.
+fn fewest(what: &str, stakes: &[u8], voters: u128, reachable: u128) -> Outcome {
+    let (mut right, mut found) = ([0x3c; 24], [0x3c; 24]);
+    let answer = lent::fewest_owners(stakes, voters, reachable, &mut right);
+    let (low, high) = (voters as u64, (voters >> 64) as u64);
+    let told = engine::fewest_owners(stakes, low, high, reachable as u64, (reachable >> 64) as u64, &mut found);
+    same(&format!("{what}: fewest_owners"), "engine", (told, found), (answer, right))
 }

@@ -80,7 +80,7 @@ fn read(fed: &Fed, slip: &[u8], records: &[u8], what: &str, told: &mut Told) -> 
         Err(61) => told.refused[2] += 1,
         Err(_) => told.refused[0] += 1,
     }
-    same(&format!("read_slip, {what}, slip {slip:02x?}"), "engine", engine::read_slip(&fed.stakes, slip, records), right)
+    same(format_args!("read_slip, {what}, slip {slip:02x?}"), "engine", engine::read_slip(&fed.stakes, slip, records), right)
 }
 
 /// The slip of a locator written into so much room, on both sides: the answer and every byte.
@@ -91,8 +91,8 @@ fn write(fed: &Fed, reading: Reading, store: &[u8], locator: &[u8], room: usize,
         Reading::Old => engine::write_slip(&fed.stakes, store, locator, &mut ours),
         Reading::Withdrawing => engine::write_slip_withdrawing(&fed.stakes, store, locator, &mut ours),
     };
-    same(&format!("write_slip, {reading:?}, {what}, {room} bytes"), "engine", told, want)?;
-    same_bytes(&format!("write_slip, {reading:?}, {what}, {room} bytes"), &ours, &right)
+    same(format_args!("write_slip, {reading:?}, {what}, {room} bytes"), "engine", told, want)?;
+    same_bytes(format_args!("write_slip, {reading:?}, {what}, {room} bytes"), &ours, &right)
 }
 
 /// The same, where the answer is known beforehand.

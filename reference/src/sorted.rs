@@ -80,7 +80,7 @@ fn held(sides: &Sides, index: &[u64], bytes: &[u8], replies: &mut [u64], asked: 
     if let Err(number) = answer {
         asked.refused[[54, 62, 63].iter().position(|refusal| *refusal == number).expect("one of these")] += 1;
     }
-    same(&format!("answer_sorted of {} bytes, {} words", bytes.len(), replies.len()), "engine", told, answer)?;
+    same(format_args!("answer_sorted of {} bytes, {} words", bytes.len(), replies.len()), "engine", told, answer)?;
     same("replies", "engine", &*replies, &*right)
 }
 
@@ -95,7 +95,7 @@ fn single(sides: &Sides, locator: &Locator, reply: &[u64]) -> Outcome {
         authors |= 1 << number(&lent.store[author..author + 8]);
     }
     let right = [told % 2, authors as u64, (authors >> 64) as u64];
-    same(&format!("the reply to {locator:?} beside the single question"), "engine", reply, &right)
+    same(format_args!("the reply to {locator:?} beside the single question"), "engine", reply, &right)
 }
 
 /// The same with an index, a list or a slice of replies that is another.

@@ -78,7 +78,7 @@ fn finality(sides: &Sides, graph: &Graph, locator: &Locator) -> Result<bool, Str
     let told = engine::finality_withdrawing(&lent.stakes, &lent.store, &mut got, &locator.bytes());
     let finality = graph.finality_in(Reading::Withdrawing, locator);
     let answer = write_finality(&sides.state.stores, &finality, &mut right);
-    same(&format!("finality_withdrawing of {locator:?}"), "engine", told, Ok(answer))?;
-    same_bytes(&format!("positions of {locator:?} in the second reading"), &got, &right)?;
+    same(format_args!("finality_withdrawing of {locator:?}"), "engine", told, Ok(answer))?;
+    same_bytes(format_args!("positions of {locator:?} in the second reading"), &got, &right)?;
     Ok(finality.is_final)
 }

@@ -150,7 +150,7 @@ fn beside(given: &Given, rng: &mut Rng, written: &mut Written) -> Outcome {
         let (mut right, mut got) = (vec![0xa5; length], vec![0xa5; length]);
         let answer = write_record(given, &mut right);
         let told = engine::write_record(given, &mut got);
-        same(&format!("write_record of {given:?} into {length} bytes"), "engine", told, answer)?;
+        same(format_args!("write_record of {given:?} into {length} bytes"), "engine", told, answer)?;
         same_bytes("the slice", &got, &right)?;
         match answer {
             Ok(n) => {
@@ -200,5 +200,5 @@ fn builder(rng: &mut Rng) -> Outcome {
             _ => (0, 0),
         })
         .collect();
-    same(&format!("accepts of one block at {offsets:?}"), "engine", got, ranges)
+    same(format_args!("accepts of one block at {offsets:?}"), "engine", got, ranges)
 }

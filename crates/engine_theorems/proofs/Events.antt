@@ -12,19 +12,19 @@ use Rattle.base.specs.Checks.{passes}
 use Rattle.base.proofs.Tests.{not-both}
 use Rattle.base.proofs.Members.{in-map}
 use Rattle.committee.specs.Committee.{Committee}
-use Rattle.blocks.specs.Reference.{TransactionLocator, locator}
-use Rattle.blocks.specs.Block.{Block}
-use Rattle.store_layout.specs.Layout.{Record, Entry, readRecord, entries, blocksAt}
-use Rattle.store_layout.specs.Store.{recordsOf}
-use Rattle.store_layout.specs.Shares.{isStoredShare, StoredShare}
-use Rattle.store_layout.proofs.Shares.{stored-share, share-stored}
-use Rattle.feeds.specs.ProcessBlock.{Event, missed}
-use Rattle.feeds.specs.Feed.{Lent, feedChecks, processed, feed}
-use Rattle.feeds.proofs.Events.{Shared, Source, processed-source}
-use Rattle.promises.specs.Feeds.{Feed, Engine, fresh, outcome, left, run, Accepted, acceptedIn, accepted, storedBlocks}
-use Rattle.promises.specs.ThirdStatement.{Start, acceptedOf}
-use Rattle.promises.proofs.Feeds.{taken, feed-cases}
-use Rattle.promises.proofs.Storing.{asRecord, StoreOf, fresh-holds, run-holds}
+use Rattle.record_spec.specs.Reference.{TransactionLocator, locator}
+use Rattle.record_spec.specs.Block.{Block}
+use Rattle.store_spec.specs.Layout.{Record, Entry, readRecord, entries, blocksAt}
+use Rattle.store_spec.specs.Store.{recordsOf}
+use Rattle.store_spec.specs.Shares.{isStoredShare, StoredShare}
+use Rattle.store_spec.proofs.Shares.{stored-share, share-stored}
+use Rattle.feed_spec.specs.ProcessBlock.{Event, missed}
+use Rattle.feed_spec.specs.Feed.{Lent, feedChecks, processed, feed}
+use Rattle.feed_spec.proofs.Events.{Shared, Source, processed-source}
+use Rattle.mission_theorems.specs.Feeds.{Feed, Engine, fresh, outcome, left, run, Accepted, acceptedIn, accepted, storedBlocks}
+use Rattle.mission_theorems.specs.ThirdStatement.{Start, acceptedOf}
+use Rattle.mission_theorems.proofs.Feeds.{taken, feed-cases}
+use Rattle.mission_theorems.proofs.Storing.{asRecord, StoreOf, fresh-holds, run-holds}
 use Rattle.engine_theorems.specs.Events.{Says, processed as is-processed, late, unknown, Means, EventsMean}
 
 -- the blocks of entries are those of the records

@@ -1,4 +1,4 @@
 mod Stored
-mod Others
+pub mod Others
 mod Orders
 mod Events

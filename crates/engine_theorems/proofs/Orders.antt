@@ -6,21 +6,21 @@ use Rattle.base.specs.Lists.{_∈_, allOf}
 use Rattle.base.specs.Le.{Bytes}
 use Rattle.base.specs.Checks.{checked, passes}
 use Rattle.committee.specs.Committee.{Committee, broken}
-use Rattle.blocks.specs.Reference.{TransactionLocator}
-use Rattle.blocks.specs.Block.{Block}
-use Rattle.store_layout.specs.Store.{storeInOrder, recordsOf}
-use Rattle.store_layout.proofs.Store.{in-order}
-use Rattle.finality.specs.Finality.{blocksOf}
-use Rattle.finality.specs.NextFinal.{nextFinalChecks}
-use Rattle.finality.specs.Claims.{Stored}
-use Rattle.stretches.specs.Stretches.{Listing, stretches, reached, moreFollow}
-use Rattle.stretches.specs.Bulk.{stretchRoom, listNext, listStretches, givenAfter}
-use Rattle.readings.specs.Readings.{Reading}
-use Rattle.reading_lists.specs.Lists.{listing, leastListed, nextListed, listedStretches}
-use Rattle.reading_lists.specs.Claims.{SameInAnyOrder, InAnyOrder}
-use Rattle.reading_lists.proofs.Claimed.{claimed}
-use Rattle.promises.specs.ThirdStatement.{Start, engineOf, SameRecords}
-use Rattle.promises.proofs.Finals.{store-of, same-blocks}
+use Rattle.record_spec.specs.Reference.{TransactionLocator}
+use Rattle.record_spec.specs.Block.{Block}
+use Rattle.store_spec.specs.Store.{storeInOrder, recordsOf}
+use Rattle.store_spec.proofs.Store.{in-order}
+use Rattle.final_spec.specs.Finality.{blocksOf}
+use Rattle.final_spec.specs.NextFinal.{nextFinalChecks}
+use Rattle.final_spec.specs.Claims.{Stored}
+use Rattle.list_stretches_spec.specs.Stretches.{Listing, stretches, reached, moreFollow}
+use Rattle.list_stretches_spec.specs.Bulk.{stretchRoom, listNext, listStretches, givenAfter}
+use Rattle.final_readings_spec.specs.Readings.{Reading}
+use Rattle.list_readings_spec.specs.Lists.{listing, leastListed, nextListed, listedStretches}
+use Rattle.list_readings_spec.specs.Claims.{SameInAnyOrder, InAnyOrder}
+use Rattle.list_readings_spec.proofs.Claimed.{claimed}
+use Rattle.mission_theorems.specs.ThirdStatement.{Start, engineOf, SameRecords}
+use Rattle.mission_theorems.proofs.Finals.{store-of, same-blocks}
 use Rattle.engine_theorems.specs.Claims.{SameAnswers, OrderUnseen}
 
 stored-of : (c : Committee) → broken c ≡ false → (s : Bytes) → storeInOrder c s ≡ true → Stored c (blocksOf s)

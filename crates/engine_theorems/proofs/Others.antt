@@ -14,28 +14,28 @@ use Rattle.base.proofs.Tests.{not-both, and-both}
 use Rattle.base.proofs.Lists.{every-in, find-in, find-passes}
 use Rattle.base.proofs.Members.{in-any}
 use Rattle.committee.specs.Committee.{Committee, broken}
-use Rattle.blocks.specs.Reference.{TransactionLocator}
-use Rattle.blocks.specs.Block.{Block, isShareAt}
-use Rattle.blocks.proofs.References.{same-reference}
-use Rattle.store_layout.specs.Layout.{Record, Entry, entries, lookup, positionOf}
-use Rattle.store_layout.specs.Store.{recordsOf}
-use Rattle.store_layout.specs.Shares.{isShareOf, isStoredShare}
-use Rattle.store_layout.proofs.Lookups.{entry-block}
-use Rattle.store_layout.proofs.Store.{entries-within}
-use Rattle.store_layout.proofs.Visit.{one-position}
-use Rattle.pending_items.specs.Items.{Item, itemHolds, itemAt}
-use Rattle.pending_items.specs.Table.{itemsOf}
-use Rattle.pending_items.proofs.Items.{holds-facts}
-use Rattle.pending_items.proofs.Order.{Pending, InOrder, in-order}
-use Rattle.feeds.specs.Feed.{lentOf}
-use Rattle.feeds.specs.Pending.{standingOf, pending}
-use Rattle.feeds.proofs.Keeping.{State, feed-keeps, fresh-table}
-use Rattle.feeds.proofs.View.{positionIn, found-in, found-called, pending-passes}
-use Rattle.finality.specs.Finality.{blocksOf}
-use Rattle.promises.specs.Feeds.{Feed, Engine, fresh, outcome, left, run, storedBlocks}
-use Rattle.promises.specs.ThirdStatement.{Start, engineOf, acceptedOf}
-use Rattle.promises.proofs.Storing.{fresh-holds}
-use Rattle.promises.proofs.Finals.{blocks-are, store-of}
+use Rattle.record_spec.specs.Reference.{TransactionLocator}
+use Rattle.record_spec.specs.Block.{Block, isShareAt}
+use Rattle.record_spec.proofs.References.{same-reference}
+use Rattle.store_spec.specs.Layout.{Record, Entry, entries, lookup, positionOf}
+use Rattle.store_spec.specs.Store.{recordsOf}
+use Rattle.store_spec.specs.Shares.{isShareOf, isStoredShare}
+use Rattle.store_spec.proofs.Lookups.{entry-block}
+use Rattle.store_spec.proofs.Store.{entries-within}
+use Rattle.store_spec.proofs.Visit.{one-position}
+use Rattle.pending_spec.specs.Items.{Item, itemHolds, itemAt}
+use Rattle.pending_spec.specs.Table.{itemsOf}
+use Rattle.pending_spec.proofs.Items.{holds-facts}
+use Rattle.pending_spec.proofs.Order.{Pending, InOrder, in-order}
+use Rattle.feed_spec.specs.Feed.{lentOf}
+use Rattle.feed_spec.specs.Pending.{standingOf, pending}
+use Rattle.feed_spec.proofs.Keeping.{State, feed-keeps, fresh-table}
+use Rattle.feed_spec.proofs.View.{positionIn, found-in, found-called, pending-passes}
+use Rattle.final_spec.specs.Finality.{blocksOf}
+use Rattle.mission_theorems.specs.Feeds.{Feed, Engine, fresh, outcome, left, run, storedBlocks}
+use Rattle.mission_theorems.specs.ThirdStatement.{Start, engineOf, acceptedOf}
+use Rattle.mission_theorems.proofs.Storing.{fresh-holds}
+use Rattle.mission_theorems.proofs.Finals.{blocks-are, store-of}
 use Rattle.engine_theorems.specs.Claims.{OthersNotPending}
 
 -- ---- in order

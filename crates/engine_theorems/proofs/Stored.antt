@@ -3,11 +3,11 @@ use mathlib.Core.Path.{_≡_, refl, ap, _∙_}
 use mathlib.Core.List.{List, [], _∷_, map}
 use Rattle.base.specs.Le.{Bytes}
 use Rattle.committee.specs.Committee.{Committee}
-use Rattle.store_layout.specs.Layout.{Record}
-use Rattle.promises.specs.Feeds.{Accepted, storedRecords}
-use Rattle.promises.specs.ThirdStatement.{Start, engineOf, acceptedOf}
-use Rattle.promises.proofs.Storing.{asRecord}
-use Rattle.promises.proofs.Finals.{blocks-are, store-of}
+use Rattle.store_spec.specs.Layout.{Record}
+use Rattle.mission_theorems.specs.Feeds.{Accepted, storedRecords}
+use Rattle.mission_theorems.specs.ThirdStatement.{Start, engineOf, acceptedOf}
+use Rattle.mission_theorems.proofs.Storing.{asRecord}
+use Rattle.mission_theorems.proofs.Finals.{blocks-are, store-of}
 use Rattle.engine_theorems.specs.Claims.{StoresAccepted}
 
 bytes-in : (as′ : List Accepted) → map (λ (r : Record). r .bytes) (map asRecord as′) ≡ storedRecords as′

@@ -7,15 +7,15 @@ use mathlib.Core.Option.{Option}
 use Rattle.base.specs.Le.{Bytes}
 use Rattle.base.specs.Checks.{refused}
 use Rattle.committee.specs.Committee.{Committee, broken}
-use Rattle.blocks.specs.Reference.{TransactionLocator}
-use Rattle.store_layout.specs.Store.{recordsOf}
-use Rattle.store_layout.specs.Shares.{isStoredShare}
-use Rattle.feeds.specs.Pending.{pending}
-use Rattle.finality.specs.Finality.{blocksOf}
-use Rattle.readings.specs.Readings.{Reading}
-use Rattle.reading_lists.specs.Lists.{nextListed, listedStretches}
-use Rattle.promises.specs.Feeds.{storedBlocks, storedRecords}
-use Rattle.promises.specs.ThirdStatement.{Start, engineOf, acceptedOf, SameRecords}
+use Rattle.record_spec.specs.Reference.{TransactionLocator}
+use Rattle.store_spec.specs.Store.{recordsOf}
+use Rattle.store_spec.specs.Shares.{isStoredShare}
+use Rattle.feed_spec.specs.Pending.{pending}
+use Rattle.final_spec.specs.Finality.{blocksOf}
+use Rattle.final_readings_spec.specs.Readings.{Reading}
+use Rattle.list_readings_spec.specs.Lists.{nextListed, listedStretches}
+use Rattle.mission_theorems.specs.Feeds.{storedBlocks, storedRecords}
+use Rattle.mission_theorems.specs.ThirdStatement.{Start, engineOf, acceptedOf, SameRecords}
 use Rattle.engine_theorems.specs.Events.{EventsMean}
 
 -- 01: "Stored means accepted in that list": what the store holds is what was accepted, the last first

@@ -5,11 +5,11 @@ use mathlib.Core.List.{List, [], _∷_}
 use mathlib.Core.Option.{some}
 use lib.ListN.{getElem?}
 use Rattle.base.specs.Lists.{_∈_}
-use Rattle.blocks.specs.Reference.{BlockReference, TransactionLocator, TransactionLocatorRange, locator}
-use Rattle.blocks.specs.Block.{Block, Statement, votedRange}
-use Rattle.store_layout.specs.Shares.{StoredShare}
-use Rattle.feeds.specs.ProcessBlock.{Event}
-use Rattle.promises.specs.Feeds.{Accepted, storedBlocks}
+use Rattle.record_spec.specs.Reference.{BlockReference, TransactionLocator, TransactionLocatorRange, locator}
+use Rattle.record_spec.specs.Block.{Block, Statement, votedRange}
+use Rattle.store_spec.specs.Shares.{StoredShare}
+use Rattle.feed_spec.specs.ProcessBlock.{Event}
+use Rattle.mission_theorems.specs.Feeds.{Accepted, storedBlocks}
 
 -- 01: "kind (1 processed, 2 late, 3 unknown)", "an offset with no item is late if it is a stored share, else unknown": over the stored blocks
 pub data Says (bs : List Block) (l : TransactionLocator) : ℕ → Type 0 where

@@ -7,13 +7,13 @@ use Rattle.base.specs.Le.{Bytes}
 use Rattle.base.specs.Checks.{refusal}
 use Rattle.base.proofs.Refusals.{refusal-first, refusal-then}
 use Rattle.committee.specs.Committee.{Committee}
-use Rattle.blocks.specs.Record.{wellFormed, blockIn}
-use Rattle.store_layout.specs.Layout.{readRecord}
-use Rattle.store_layout.specs.Accept.{blockChecks}
-use Rattle.store_layout.specs.Store.{recordsOf, recordIn}
-use Rattle.feeds.specs.Pending.{pendingChecks}
-use Rattle.feeds.specs.Feed.{ruleChecks}
-use Rattle.feeds.proofs.Checks.{read-none, read-some, pending-numbered}
+use Rattle.record_spec.specs.Record.{wellFormed, blockIn}
+use Rattle.store_spec.specs.Layout.{readRecord}
+use Rattle.store_spec.specs.Accept.{blockChecks}
+use Rattle.store_spec.specs.Store.{recordsOf, recordIn}
+use Rattle.feed_spec.specs.Pending.{pendingChecks}
+use Rattle.feed_spec.specs.Feed.{ruleChecks}
+use Rattle.feed_spec.proofs.Checks.{read-none, read-some, pending-numbered}
 use Rattle.feed_refusals.specs.Refusals.{earlyChecks}
 
 module _ (c : Committee) (s : Bytes) (t : List ℕ) (rec : Bytes) where

@@ -16,18 +16,18 @@ use Rattle.base.proofs.Lists.{none-of, and, every-append}
 use Rattle.base.proofs.Checks.{passes-first}
 use Rattle.base.proofs.Refusals.{Numbered, zero-passes, refusal-first, refusal-then}
 use Rattle.committee.specs.Committee.{Committee}
-use Rattle.blocks.specs.Record.{wellFormed}
-use Rattle.store_layout.specs.Layout.{Record, readRecord}
-use Rattle.store_layout.specs.Store.{recordIn}
-use Rattle.store_layout.specs.Entry.{laidOut}
-use Rattle.pending_items.specs.Table.{room}
-use Rattle.feeds.specs.Pending.{pendingChecks}
-use Rattle.feeds.specs.Feed.{Lent, processed, lentChecks, ruleChecks, acceptChecks, recordChecks, feedChecks}
-use Rattle.feeds.proofs.Checks.{read-none, read-some, pending-numbered}
-use Rattle.feeds.proofs.Keeping.{Passed, acceptable}
-use Rattle.aggregator.specs.Step.{Feeding}
-use Rattle.pending.proofs.Lending.{lying}
-use Rattle.record_checks.proofs.Feeds.{accept-numbered}
+use Rattle.record_spec.specs.Record.{wellFormed}
+use Rattle.store_spec.specs.Layout.{Record, readRecord}
+use Rattle.store_spec.specs.Store.{recordIn}
+use Rattle.store_spec.specs.Entry.{laidOut}
+use Rattle.pending_spec.specs.Table.{room}
+use Rattle.feed_spec.specs.Pending.{pendingChecks}
+use Rattle.feed_spec.specs.Feed.{Lent, processed, lentChecks, ruleChecks, acceptChecks, recordChecks, feedChecks}
+use Rattle.feed_spec.proofs.Checks.{read-none, read-some, pending-numbered}
+use Rattle.feed_spec.proofs.Keeping.{Passed, acceptable}
+use Rattle.feed_aggregator.specs.Step.{Feeding}
+use Rattle.pending_question.proofs.Lending.{lying}
+use Rattle.feed_checks.proofs.Feeds.{accept-numbered}
 
 -- ---- the whole order
 

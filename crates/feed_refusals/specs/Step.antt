@@ -7,12 +7,12 @@ use lib.Dec.{leb}
 use lib.ListN.{length}
 use Rattle.base.specs.Le.{Bytes}
 use Rattle.committee.specs.Committee.{Committee}
-use Rattle.blocks.specs.Block.{eventRoom}
-use Rattle.blocks.specs.Record.{blockIn}
-use Rattle.store_layout.specs.Store.{recordIn, storeFull}
-use Rattle.pending_items.specs.Table.{room}
-use Rattle.feeds.specs.Feed.{lentOf, processed}
-use Rattle.aggregator.specs.Step.{Feeding}
+use Rattle.record_spec.specs.Block.{eventRoom}
+use Rattle.record_spec.specs.Record.{blockIn}
+use Rattle.store_spec.specs.Store.{recordIn, storeFull}
+use Rattle.pending_spec.specs.Table.{room}
+use Rattle.feed_spec.specs.Feed.{lentOf, processed}
+use Rattle.feed_aggregator.specs.Step.{Feeding}
 
 -- no refusal applies: committee, store, table and record, and the room for events, record and items
 pub record Accepting (c : Committee) (s : Bytes) (t v : List ℕ) (rec : Bytes) : Type 0 where

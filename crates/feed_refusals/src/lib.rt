@@ -3,10 +3,11 @@
 ghost use mathlib.Core.Path.{_≡_};
 ghost use mathlib.Core.Bool.{true};
 ghost use Rattle.base.specs.Checks.{refusal};
-ghost use Rattle.store_layout.specs.Layout.{readRecord};
-ghost use Rattle.store_layout.specs.Entry.{laidOut};
-ghost use Rattle.feeds.specs.Pending.{pendingChecks};
-ghost use Rattle.feeds.specs.Feed.{feedChecks, lentOf};
+ghost use Rattle.store_spec.specs.Layout.{readRecord};
+ghost use Rattle.store_spec.specs.Store.{recordsOf};
+ghost use Rattle.store_spec.specs.Entry.{laidOut, sortedPositions};
+ghost use Rattle.feed_spec.specs.Pending.{pendingChecks};
+ghost use Rattle.feed_spec.specs.Feed.{feedChecks, lentOf};
 ghost use Rattle.feed_refusals.specs.Refusals.{earlyChecks};
 ghost use Rattle.feed_refusals.specs.Step.{Accepting};
 
@@ -14,12 +15,13 @@ ghost use Rattle.feed_refusals.specs.Step.{Accepting};
 pub fn record_refusal(
     stakes: &[u64],
     store: &[u8],
+    order: &[u64],
     table: &[u64],
     work: &mut [u64],
     events: &mut [u64],
     rec: &[u8],
 ) -> u64
-    requires { ⌜ (refusal (pendingChecks (now stakes) (now store) (now table)) ≡ 0) × (laidOut (now store) ≡ true) ⌝ }
+    requires { ⌜ (refusal (pendingChecks (now stakes) (now store) (now table)) ≡ 0) × (laidOut (now store) ≡ true) × (now order ≡ sortedPositions (recordsOf (now store))) ⌝ }
     ensures first { λ r. ⌜ r ≡ refusal (feedChecks (now (stakes .entry)) (lentOf (now (store .entry)) (now (table .entry)) (now (work .entry)) (now (events .entry))) (readRecord (now (rec .entry)))) ⌝ }
     ensures accepting { λ r. ⌜ (r ≡ 0 → Accepting (now (stakes .entry)) (now (store .entry)) (now (table .entry)) (now (events .entry)) (now (rec .entry))) ⌝ }
     ensures kept { λ _. ⌜ now (events .exit) ≡ now (events .entry) ⌝ }
@@ -27,11 +29,11 @@ pub fn record_refusal(
     if work.len() < table.len() {
         return 12;
     }
-    let refusal = record_checks::record_refusal(stakes, store, rec, events.len());
+    let refusal = feed_checks::record_refusal(stakes, store, order, rec, events.len());
     if refusal != 0 {
         return refusal;
     }
-    if !items_fit::items_fit(stakes, store, rec, table, work, events) {
+    if !feed_items_fit::items_fit(stakes, store, order, rec, table, work, events) {
         return 14;
     }
     0
@@ -41,12 +43,14 @@ pub fn record_refusal(
 pub fn early_refusal(stakes: &[u64], store: &[u8], table: &[u64], rec: &[u8]) -> u64
     ensures { λ r. ⌜ r ≡ refusal (earlyChecks (now (stakes .entry)) (now (store .entry)) (now (table .entry)) (now (rec .entry))) ⌝ }
 {
-    let lent = pending::lent_refusal(stakes, store, table);
+    let lent = pending_question::lent_refusal(stakes, store, table);
     if lent != 0 {
         return lent;
     }
-    if !block_record::well_formed(rec) {
+    if !record_reader::well_formed(rec) {
         return 20;
     }
-    record_checks::block_refusal(stakes, store, rec)
+    let mut order = [0u64; types::MAX_BLOCKS];
+    let count = final_block_votes::sorted_positions(store, &mut order);
+    feed_checks::block_refusal(stakes, store, &order[..count], rec)
 }

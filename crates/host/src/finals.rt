@@ -1,4 +1,6 @@
 // The lists of final locators, asked on and in bulk.
+use final_readings_spec::Reading;
+use list_readings_spec::FinalList;
 ghost use mathlib.Core.Path.{_≡_};
 ghost use Rattle.host_calls.specs.Calls.{encoded};
 ghost use Rattle.host_finals.specs.NextFinal.{nextFinalCall, nextWideCall, nextFinalWithdrawingCall, nextWideWithdrawingCall};
@@ -18,7 +20,14 @@ pub extern "C" fn lomkhvide_next_final(
 {
     let mut held = [0u64; committee::MAX_MEMBERS];
     let n = host_calls::stakes_of(stakes, &mut held);
-    host_finals::next_final_of(&held[..n], store, true, false, after, found)
+    host_finals::next_final_of(
+        &held[..n],
+        store,
+        FinalList::Ordinary,
+        Reading::Old,
+        after,
+        found,
+    )
 }
 
 // The ordinary list after a given locator, or from the start, in stretches of ten words: twice their number, and 1 more where a locator of
@@ -35,7 +44,14 @@ pub extern "C" fn lomkhvide_final_stretches(
 {
     let mut held = [0u64; committee::MAX_MEMBERS];
     let n = host_calls::stakes_of(stakes, &mut held);
-    host_finals::stretches_of(&held[..n], store, true, false, after, out)
+    host_finals::stretches_of(
+        &held[..n],
+        store,
+        FinalList::Ordinary,
+        Reading::Old,
+        after,
+        out,
+    )
 }
 
 // The least final locator after a given one, stored or not, in the same form.
@@ -51,7 +67,14 @@ pub extern "C" fn lomkhvide_next_wide(
 {
     let mut held = [0u64; committee::MAX_MEMBERS];
     let n = host_calls::stakes_of(stakes, &mut held);
-    host_finals::next_final_of(&held[..n], store, false, false, after, found)
+    host_finals::next_final_of(
+        &held[..n],
+        store,
+        FinalList::Wide,
+        Reading::Old,
+        after,
+        found,
+    )
 }
 
 // The wide list in stretches, in the same form.
@@ -67,7 +90,7 @@ pub extern "C" fn lomkhvide_wide_stretches(
 {
     let mut held = [0u64; committee::MAX_MEMBERS];
     let n = host_calls::stakes_of(stakes, &mut held);
-    host_finals::stretches_of(&held[..n], store, false, false, after, out)
+    host_finals::stretches_of(&held[..n], store, FinalList::Wide, Reading::Old, after, out)
 }
 
 // The least final stored share after a given locator where owners may withdraw, in the same form.
@@ -83,7 +106,14 @@ pub extern "C" fn lomkhvide_next_final_withdrawing(
 {
     let mut held = [0u64; committee::MAX_MEMBERS];
     let n = host_calls::stakes_of(stakes, &mut held);
-    host_finals::next_final_of(&held[..n], store, true, true, after, found)
+    host_finals::next_final_of(
+        &held[..n],
+        store,
+        FinalList::Ordinary,
+        Reading::Withdrawing,
+        after,
+        found,
+    )
 }
 
 // The ordinary list where owners may withdraw in stretches, in the same form.
@@ -99,7 +129,14 @@ pub extern "C" fn lomkhvide_final_stretches_withdrawing(
 {
     let mut held = [0u64; committee::MAX_MEMBERS];
     let n = host_calls::stakes_of(stakes, &mut held);
-    host_finals::stretches_of(&held[..n], store, true, true, after, out)
+    host_finals::stretches_of(
+        &held[..n],
+        store,
+        FinalList::Ordinary,
+        Reading::Withdrawing,
+        after,
+        out,
+    )
 }
 
 // The least final locator after a given one, stored or not, where owners may withdraw, in the same form.
@@ -115,7 +152,14 @@ pub extern "C" fn lomkhvide_next_wide_withdrawing(
 {
     let mut held = [0u64; committee::MAX_MEMBERS];
     let n = host_calls::stakes_of(stakes, &mut held);
-    host_finals::next_final_of(&held[..n], store, false, true, after, found)
+    host_finals::next_final_of(
+        &held[..n],
+        store,
+        FinalList::Wide,
+        Reading::Withdrawing,
+        after,
+        found,
+    )
 }
 
 // The wide list where owners may withdraw in stretches, in the same form.
@@ -131,7 +175,14 @@ pub extern "C" fn lomkhvide_wide_stretches_withdrawing(
 {
     let mut held = [0u64; committee::MAX_MEMBERS];
     let n = host_calls::stakes_of(stakes, &mut held);
-    host_finals::stretches_of(&held[..n], store, false, true, after, out)
+    host_finals::stretches_of(
+        &held[..n],
+        store,
+        FinalList::Wide,
+        Reading::Withdrawing,
+        after,
+        out,
+    )
 }
 
 // The ordinary list with the index, in the same form.
@@ -148,7 +199,7 @@ pub extern "C" fn lomkhvide_final_stretches_indexed(
 {
     let mut held = [0u64; committee::MAX_MEMBERS];
     let n = host_calls::stakes_of(stakes, &mut held);
-    host_index_finals::stretches_of(&held[..n], store, true, index, after, out)
+    host_index_finals::stretches_of(&held[..n], store, FinalList::Ordinary, index, after, out)
 }
 
 // The wide list with the index, in the same form.
@@ -165,5 +216,5 @@ pub extern "C" fn lomkhvide_wide_stretches_indexed(
 {
     let mut held = [0u64; committee::MAX_MEMBERS];
     let n = host_calls::stakes_of(stakes, &mut held);
-    host_index_finals::stretches_of(&held[..n], store, false, index, after, out)
+    host_index_finals::stretches_of(&held[..n], store, FinalList::Wide, index, after, out)
 }

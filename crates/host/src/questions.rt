@@ -1,14 +1,15 @@
 // Questions about one locator, one block or a list of locators, and the shares that a station may load.
+use final_readings_spec::Reading;
 ghost use mathlib.Core.Path.{_≡_};
 ghost use Rattle.host_calls.specs.Calls.{encoded, committeeOf};
-ghost use Rattle.pending_bytes.specs.Pending.{pendingStakeCall, pendingVotersCall};
-ghost use Rattle.payload_bytes.specs.Payload.{payloadLengthCall, payloadStartCall};
+ghost use Rattle.host_pending_bytes.specs.Pending.{pendingStakeCall, pendingVotersCall};
+ghost use Rattle.host_payload_bytes.specs.Payload.{payloadLengthCall, payloadStartCall};
 ghost use Rattle.host_finality.specs.Finality.{finalityCall};
-ghost use Rattle.readings.specs.Readings.{old, withdrawing};
+ghost use Rattle.final_readings_spec.specs.Readings.{old, withdrawing};
 ghost use Rattle.host_times.specs.Times.{creationTimeCall};
 ghost use Rattle.host_ring.specs.Ring.{whomToRingCall, fewestOwnersCall};
 ghost use Rattle.host_loadable.specs.Loading.{isLoadableCall, loadableCall};
-ghost use Rattle.sorted_replies.specs.Sorted.{answerSorted};
+ghost use Rattle.sorted_spec.specs.Sorted.{answerSorted};
 
 // The length of a share's payload.
 #[no_mangle]
@@ -37,7 +38,7 @@ pub extern "C" fn lomkhvide_finality(
     ensures { λ r. ⌜ r ≡ encoded (finalityCall old (now (stakes .entry)) (now (store .entry)) (now (positions .entry)) (now (locator .entry)) .answer) ⌝ }
     ensures { λ r. ⌜ now (positions .exit) ≡ finalityCall old (now (stakes .entry)) (now (store .entry)) (now (positions .entry)) (now (locator .entry)) .positions ⌝ }
 {
-    host_finality::finality_call(stakes, store, positions, locator, false)
+    host_finality::finality_call(stakes, store, positions, locator, Reading::Old)
 }
 
 // The same in the reading in which an owner may withdraw.
@@ -51,7 +52,7 @@ pub extern "C" fn lomkhvide_finality_withdrawing(
     ensures { λ r. ⌜ r ≡ encoded (finalityCall withdrawing (now (stakes .entry)) (now (store .entry)) (now (positions .entry)) (now (locator .entry)) .answer) ⌝ }
     ensures { λ r. ⌜ now (positions .exit) ≡ finalityCall withdrawing (now (stakes .entry)) (now (store .entry)) (now (positions .entry)) (now (locator .entry)) .positions ⌝ }
 {
-    host_finality::finality_call(stakes, store, positions, locator, true)
+    host_finality::finality_call(stakes, store, positions, locator, Reading::Withdrawing)
 }
 
 // The stake of a pending locator.

@@ -1,15 +1,16 @@
 // Records fed and written, and finality slips.
+use final_readings_spec::Reading;
 ghost use mathlib.Core.Path.{_≡_};
 ghost use Rattle.host_calls.specs.Calls.{encoded, committeeOf};
-ghost use Rattle.feed_bytes.specs.Feed.{feedCall};
+ghost use Rattle.host_feed_bytes.specs.Feed.{feedCall};
 ghost use Rattle.host_feed_records.specs.FeedRecords.{feedRecordsCall};
 ghost use Rattle.host_feed_records_indexed.specs.FeedRecords.{feedRecordsIndexedCall};
 ghost use Rattle.host_feed_indexed.specs.IndexedFeed.{feedIndexedCall};
-ghost use Rattle.readings.specs.Readings.{old, withdrawing};
+ghost use Rattle.final_readings_spec.specs.Readings.{old, withdrawing};
 ghost use mathlib.Core.Option.{some};
-ghost use Rattle.drafts.specs.Writing.{writeTimed, writeRecord};
-ghost use Rattle.record_size.specs.Asked.{requested};
-ghost use Rattle.slips.specs.Reading.{readAnswer};
+ghost use Rattle.draft_spec.specs.Writing.{writeTimed, writeRecord};
+ghost use Rattle.draft_size.specs.Asked.{requested};
+ghost use Rattle.slip_spec.specs.Reading.{readAnswer};
 ghost use Rattle.host_slip_writer.specs.WriteSlip.{writeSlipCall};
 
 // Feeds a record: the number of events, which stand at the front, three words each.
@@ -159,7 +160,7 @@ pub extern "C" fn lomkhvide_write_slip(
     ensures { λ r. ⌜ r ≡ encoded (writeSlipCall old (now (stakes .entry)) (now (store .entry)) (now (locator .entry)) (now (out .entry)) .answer) ⌝ }
     ensures { λ r. ⌜ now (out .exit) ≡ writeSlipCall old (now (stakes .entry)) (now (store .entry)) (now (locator .entry)) (now (out .entry)) .out ⌝ }
 {
-    host_slip_writer::write_slip(stakes, store, locator, false, out)
+    host_slip_writer::write_slip(stakes, store, locator, Reading::Old, out)
 }
 
 // The same in the reading in which an owner may withdraw.
@@ -173,5 +174,5 @@ pub extern "C" fn lomkhvide_write_slip_withdrawing(
     ensures { λ r. ⌜ r ≡ encoded (writeSlipCall withdrawing (now (stakes .entry)) (now (store .entry)) (now (locator .entry)) (now (out .entry)) .answer) ⌝ }
     ensures { λ r. ⌜ now (out .exit) ≡ writeSlipCall withdrawing (now (stakes .entry)) (now (store .entry)) (now (locator .entry)) (now (out .entry)) .out ⌝ }
 {
-    host_slip_writer::write_slip(stakes, store, locator, true, out)
+    host_slip_writer::write_slip(stakes, store, locator, Reading::Withdrawing, out)
 }

@@ -13,12 +13,12 @@ use Rattle.base.specs.Le.{leBytes, leAt}
 use Rattle.base.specs.Checks.{_⇒_, refusal, passes, refused, answered, checked}
 use Rattle.base.proofs.Le.{AllBytes, length-leBytes, sets-append}
 use Rattle.committee.specs.Committee.{Committee, broken}
-use Rattle.stake_aggregator.specs.StakeAggregator.{StakeAggregator, add, addChecks, counted, told}
+use Rattle.committee_aggregator.specs.StakeAggregator.{StakeAggregator, add, addChecks, counted, told}
 use Rattle.words.specs.Words.{wordsIn, bytesOf}
 use Rattle.words.proofs.Stores.{sets-complete}
 use Rattle.words.proofs.Words.{length-bytesOf, bytesOf-wordsIn}
-use Rattle.vote_answer.specs.declared.AddAnswer.{AddAnswer}
-use Rattle.vote_answer.specs.Answers.{asAddAnswer}
+use Rattle.committee_vote_answer.specs.declared.AddAnswer.{AddAnswer}
+use Rattle.committee_vote_answer.specs.Answers.{asAddAnswer}
 use Rattle.host_calls.specs.Calls.{encoded, committeeOf}
 use Rattle.host_add.specs.Add.{aggregatorOf, aggregatorBytes, numbered, AddCall, addOf, addCall}
 use Rattle.host_calls.proofs.Numbers.{refusal-most}

@@ -8,8 +8,8 @@ use Rattle.base.specs.Lists.{pick}
 use Rattle.base.specs.Le.{Bytes, leAt}
 use Rattle.base.specs.Checks.{_⇒_, refusal, Answer, refused, answered}
 use Rattle.committee.specs.Committee.{AuthorityIndex, Committee, broken}
-use Rattle.vote_answer.specs.VoteAnswer.{Told, repeatedBelow, repeatedWith, newBelow, newWith}
-use Rattle.stake_aggregator.specs.StakeAggregator.{StakeAggregator, add}
+use Rattle.committee_vote_answer.specs.VoteAnswer.{Told, repeatedBelow, repeatedWith, newBelow, newWith}
+use Rattle.committee_aggregator.specs.StakeAggregator.{StakeAggregator, add}
 use Rattle.words.specs.Words.{bytesOf}
 use Rattle.host_calls.specs.Calls.{committeeOf}
 

@@ -5,7 +5,7 @@ use mathlib.Core.Bool.{true}
 use Rattle.base.specs.Le.{Bytes}
 use Rattle.base.specs.Checks.{refused}
 use Rattle.committee.specs.Committee.{AuthorityIndex, Committee}
-use Rattle.blocks.specs.Claims.{areBytes}
+use Rattle.record_spec.specs.Claims.{areBytes}
 use Rattle.host_add.specs.Add.{addOf}
 
 pub record Claims : Type 0 where

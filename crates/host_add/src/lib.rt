@@ -1,18 +1,18 @@
 // Adding a vote to an aggregator that a host holds as bytes.
-use authority_set::AuthoritySet;
 use committee::AuthorityIndex;
 use committee::NewCommittee;
 use committee::Stake;
-use stake_aggregator::StakeAggregator;
-use vote_answer::AddAnswer;
+use committee_aggregator::StakeAggregator;
+use committee_set::AuthoritySet;
+use committee_vote_answer::AddAnswer;
 ghost use mathlib.Core.Path.{_≡_};
 ghost use mathlib.Core.Bool.{true};
 ghost use mathlib.Core.List.{[], _∷_};
 ghost use lib.ListN.{length};
 ghost use Rattle.base.specs.Checks.{_⇒_, refusal};
 ghost use Rattle.committee.specs.Committee.{broken};
-ghost use Rattle.vote_answer.specs.Answers.{asAddAnswer};
-ghost use Rattle.stake_aggregator.specs.Answers.{asAggregator};
+ghost use Rattle.committee_vote_answer.specs.Answers.{asAddAnswer};
+ghost use Rattle.committee_aggregator.specs.Answers.{asAggregator};
 ghost use Rattle.host_calls.specs.Calls.{encoded};
 ghost use Rattle.host_add.specs.Claims.{Claims};
 ghost use Rattle.host_add.specs.Add.{aggregatorOf, aggregatorBytes, numbered, addOf, addCall};

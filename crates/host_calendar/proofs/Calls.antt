@@ -12,9 +12,9 @@ use Rattle.base.specs.Checks.{refused, answered, refusal, passes, checked}
 use Rattle.base.proofs.Tests.{and-right}
 use Rattle.words.specs.Words.{wholeWords, wordsOf}
 use Rattle.words.proofs.Words.{length-wordsIn}
-use Rattle.blast_windows.specs.Calendar.{windows, goodCalendar, isOpen, firstOpen, askOpen, askNextOpen}
-use Rattle.blast_windows.proofs.Steps.{good-many}
-use Rattle.blast_windows.proofs.Asked.{open-answered, next-answered}
+use Rattle.calendar_windows.specs.Calendar.{windows, goodCalendar, isOpen, firstOpen, askOpen, askNextOpen}
+use Rattle.calendar_windows.proofs.Steps.{good-many}
+use Rattle.calendar_windows.proofs.Asked.{open-answered, next-answered}
 use Rattle.host_calls.specs.Calls.{flag}
 use Rattle.host_calendar.specs.Calendar.{goodBytes, openChecks, isOpenCall, foundIn, nextOpenChecks, nextOpenCall}
 

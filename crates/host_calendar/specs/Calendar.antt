@@ -9,7 +9,7 @@ use lib.ListN.{length, take}
 use Rattle.base.specs.Le.{Bytes, leBytes}
 use Rattle.base.specs.Checks.{Check, _⇒_, Answer, refused, answered, checked}
 use Rattle.words.specs.Words.{wholeWords, wordsOf}
-use Rattle.blast_windows.specs.Calendar.{windows, goodCalendar, isOpen, firstOpen}
+use Rattle.calendar_windows.specs.Calendar.{windows, goodCalendar, isOpen, firstOpen}
 use Rattle.host_calls.specs.Calls.{flag}
 use Rattle.host_calendar.specs.declared.Held.{Held}
 use Rattle.host_calendar.specs.declared.Held.the-variants.{Words, Malformed}

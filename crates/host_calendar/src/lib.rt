@@ -3,8 +3,8 @@ ghost use mathlib.Core.Path.{_≡_};
 ghost use lib.ListN.{length};
 ghost use Rattle.host_calls.specs.Calls.{encoded};
 ghost use Rattle.host_calendar.specs.Calendar.{holdsWords, isOpenCall, nextOpenCall};
-use blast_calendar::NextOpenAnswer;
-use blast_calendar::OpenAnswer;
+use calendar_question::NextOpenAnswer;
+use calendar_question::OpenAnswer;
 
 // How many words a good calendar has; or bytes that are none.
 enum Held {
@@ -21,11 +21,11 @@ fn words_in(calendar: &[u8], held: &mut [u64]) -> Held
         return Held::Malformed;
     }
     let n = calendar.len() / 8;
-    if blast_calendar::MAX_WORDS < n {
+    if calendar_question::MAX_WORDS < n {
         return Held::Malformed;
     }
     words::words_of(calendar, &mut held[..n]);
-    if !blast_calendar::is_good(&held[..n]) {
+    if !calendar_question::is_good(&held[..n]) {
         return Held::Malformed;
     }
     Held::Words(n)
@@ -35,11 +35,11 @@ fn words_in(calendar: &[u8], held: &mut [u64]) -> Held
 pub fn is_open(calendar: &[u8], time: u64) -> u64
     ensures { λ r. ⌜ r ≡ encoded (isOpenCall (now (calendar .entry)) time) ⌝ }
 {
-    let mut held = [0u64; blast_calendar::MAX_WORDS];
+    let mut held = [0u64; calendar_question::MAX_WORDS];
     let Held::Words(n) = words_in(calendar, &mut held) else {
         return host_calls::REFUSED + 59;
     };
-    match blast_calendar::is_open(&held[..n], time) {
+    match calendar_question::is_open(&held[..n], time) {
         OpenAnswer::Open => 1,
         OpenAnswer::Closed => 0,
         OpenAnswer::Refused(number) => host_calls::REFUSED + number,
@@ -50,14 +50,14 @@ pub fn is_open(calendar: &[u8], time: u64) -> u64
 pub fn next_open(calendar: &[u8], time: u64, found: &mut [u8]) -> u64
     ensures { λ r. ⌜ (r ≡ encoded (nextOpenCall (now (calendar .entry)) time (now (found .entry)) .answer)) × (now (found .exit) ≡ nextOpenCall (now (calendar .entry)) time (now (found .entry)) .found) ⌝ }
 {
-    let mut held = [0u64; blast_calendar::MAX_WORDS];
+    let mut held = [0u64; calendar_question::MAX_WORDS];
     let Held::Words(n) = words_in(calendar, &mut held) else {
         return host_calls::REFUSED + 59;
     };
     if found.len() != 8 {
         return host_calls::REFUSED + 40;
     }
-    match blast_calendar::next_open(&held[..n], time) {
+    match calendar_question::next_open(&held[..n], time) {
         NextOpenAnswer::Found(second) => {
             base::write_u64(found, 0, second);
             1

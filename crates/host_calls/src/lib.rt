@@ -11,6 +11,17 @@ ghost use Rattle.host_calls.specs.Claims.{Claims};
 // A refusal is its number and this.
 pub const REFUSED: u64 = 9223372036854775808;
 
+// The sizes of `listing`, in which a host lends a table, events and positions: in words, and in bytes.
+pub const TABLE_WORDS: usize = 6145;
+
+pub const TABLE_BYTES: usize = 49160;
+
+pub const EVENT_WORDS: usize = 8192;
+
+pub const EVENT_BYTES: usize = 65536;
+
+pub const POSITION_BYTES: usize = 8192;
+
 // Whether one of the words is zero.
 pub fn has_zero_word(bytes: &[u8]) -> bool
     ensures { λ r. ⌜ r ≡ anyOf (λ s. eqb s 0) (wordsOf (now (bytes .entry))) ⌝ }

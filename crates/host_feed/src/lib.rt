@@ -2,8 +2,8 @@
 // 2^63 + n is refusal n (`encoded` in host_calls, specs/Calls).
 ghost use mathlib.Core.Path.{_≡_};
 ghost use Rattle.host_calls.specs.Calls.{encoded};
-ghost use Rattle.feed_bytes.specs.Feed.{feedCall};
-use feeding::FeedAnswer;
+ghost use Rattle.host_feed_bytes.specs.Feed.{feedCall};
+use feed_single::FeedAnswer;
 
 // Feeds a record: the number of events, which stand at the front, three words each.
 pub fn feed(stakes: &[u8], store: &mut [u8], table: &mut [u8], events: &mut [u8], rec: &[u8]) -> u64
@@ -14,7 +14,7 @@ pub fn feed(stakes: &[u8], store: &mut [u8], table: &mut [u8], events: &mut [u8]
 {
     let mut held = [0u64; committee::MAX_MEMBERS];
     let n = host_calls::stakes_of(stakes, &mut held);
-    match feed_bytes::feed_of(&held[..n], store, table, events, rec) {
+    match host_feed_bytes::feed_of(&held[..n], store, table, events, rec) {
         FeedAnswer::Events(count) => count,
         FeedAnswer::Refused(number) => host_calls::REFUSED + number,
     }

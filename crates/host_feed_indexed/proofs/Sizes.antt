@@ -15,16 +15,16 @@ use Rattle.base.specs.Checks.{Check, _⇒_, refusal, passes, Answer, refused}
 use Rattle.base.proofs.Lists.{none-of, and, every, every-append}
 use Rattle.base.proofs.Refusals.{refusal-first, refusal-then}
 use Rattle.committee.specs.Committee.{Committee}
-use Rattle.store_layout.specs.Layout.{Record, readRecord}
+use Rattle.store_spec.specs.Layout.{Record, readRecord}
 use Rattle.words.specs.Words.{wordsIn, wordsOf}
-use Rattle.feeds.specs.Pending.{pendingChecks}
-use Rattle.feeds.specs.Feed.{Lent, lentOf, processed, recordChecks, refusedFeed, acceptedFeed}
-use Rattle.indexed_feeds.specs.IndexedFeed.{indexedLentChecks, roomChecks, indexedChecks, refusedIndexed, acceptedIndexed, feedIndexedRecord, feedIndexed}
-use Rattle.indexed_refusals.specs.Refusals.{earlyIndexedChecks}
+use Rattle.feed_spec.specs.Pending.{pendingChecks}
+use Rattle.feed_spec.specs.Feed.{Lent, lentOf, processed, recordChecks, refusedFeed, acceptedFeed}
+use Rattle.index_feed_spec.specs.IndexedFeed.{indexedLentChecks, roomChecks, indexedChecks, refusedIndexed, acceptedIndexed, feedIndexedRecord, feedIndexed}
+use Rattle.index_feed_refusals.specs.Refusals.{earlyIndexedChecks}
 use Rattle.host_locators.specs.Locators.{refusalBefore}
 use Rattle.host_locators.proofs.Locators.{before-most}
-use Rattle.feed_bytes.proofs.Feeds.{Below, numbered, below, rules-ordinary}
-use Rattle.feed_records_indexed.proofs.Numbers.{ordinary, feed-below, work-free}
+use Rattle.host_feed_bytes.proofs.Feeds.{Below, numbered, below, rules-ordinary}
+use Rattle.index_feed_many.proofs.Numbers.{ordinary, feed-below, work-free}
 use Rattle.host_feed_indexed.specs.IndexedFeed.{IndexedCall, refusedCall, fedCall, fedWith, feedIndexedOf}
 
 -- ---- the numbers are below 56

@@ -9,9 +9,9 @@ use Rattle.base.specs.Le.{Bytes}
 use Rattle.base.specs.Checks.{_⇒_, refusal, Answer, refused}
 use Rattle.committee.specs.Committee.{Committee}
 use Rattle.words.specs.Words.{wordsOf, bytesOf}
-use Rattle.feeds.specs.Feed.{lentOf}
-use Rattle.indexed_feeds.specs.IndexedFeed.{IndexedFed, feedIndexed}
-use Rattle.indexed_refusals.specs.Refusals.{earlyIndexedChecks}
+use Rattle.feed_spec.specs.Feed.{lentOf}
+use Rattle.index_feed_spec.specs.IndexedFeed.{IndexedFed, feedIndexed}
+use Rattle.index_feed_refusals.specs.Refusals.{earlyIndexedChecks}
 use Rattle.host_calls.specs.Calls.{committeeOf}
 use Rattle.host_locators.specs.Locators.{refusalBefore}
 

@@ -1,14 +1,14 @@
 // Feeding a record with the index, for numbers, byte slices and an index of words. A call answers one word: below 2^63 it is the answer, and
 // 2^63 + n is refusal n (`encoded` in host_calls, specs/Calls).
-use feeding::FeedAnswer;
+use feed_single::FeedAnswer;
 ghost use mathlib.Core.Path.{_≡_};
 ghost use mathlib.Core.Bool.{true};
 ghost use mathlib.Core.List.{[], _∷_, _++_};
 ghost use lib.ListN.{length};
 ghost use Rattle.base.specs.Checks.{_⇒_, refusal};
 ghost use Rattle.words.specs.Words.{wordsOf, bytesOf};
-ghost use Rattle.feeding.specs.Answers.{asFeedAnswer};
-ghost use Rattle.indexed_refusals.specs.Refusals.{earlyIndexedChecks};
+ghost use Rattle.feed_single.specs.Answers.{asFeedAnswer};
+ghost use Rattle.index_feed_refusals.specs.Refusals.{earlyIndexedChecks};
 ghost use Rattle.host_calls.specs.Calls.{encoded};
 ghost use Rattle.host_feed_indexed.specs.IndexedFeed.{fedWith, feedIndexedOf, feedIndexedCall};
 
@@ -49,12 +49,12 @@ fn feed_of(
     ensures { λ _. ⌜ now (index .exit) ≡ feedIndexedOf (now (stakes .entry)) (now (store .entry)) (now (table .entry)) (now (index .entry)) (now (events .entry)) (now (rec .entry)) .index ⌝ }
     ensures { λ _. ⌜ now (events .exit) ≡ feedIndexedOf (now (stakes .entry)) (now (store .entry)) (now (table .entry)) (now (index .entry)) (now (events .entry)) (now (rec .entry)) .events ⌝ }
 {
-    if table.len() != 49160 {
+    if table.len() != host_calls::TABLE_BYTES {
         return FeedAnswer::Refused(host_locators::refusal_before(11, stakes, store));
     }
-    let mut words = [0u64; 6145];
+    let mut words = [0u64; host_calls::TABLE_WORDS];
     words::words_of(table, &mut words);
-    if events.len() != 65536 {
+    if events.len() != host_calls::EVENT_BYTES {
         return FeedAnswer::Refused(no_events(stakes, store, &words, index, rec));
     }
     let answer = feed_words(stakes, store, &mut words, index, events, rec);
@@ -78,10 +78,10 @@ fn feed_words(
     ensures { λ _. ⌜ now (index .exit) ≡ fedWith (now (stakes .entry)) (now (store .entry)) (now (table .entry)) (now (index .entry)) (wordsOf (now (events .entry))) (now (rec .entry)) .index ⌝ }
     ensures { λ _. ⌜ now (events .exit) ≡ bytesOf (fedWith (now (stakes .entry)) (now (store .entry)) (now (table .entry)) (now (index .entry)) (wordsOf (now (events .entry))) (now (rec .entry)) .fed .events) ⌝ }
 {
-    let mut work = [0u64; 6145];
-    let mut words = [0u64; 8192];
+    let mut work = [0u64; host_calls::TABLE_WORDS];
+    let mut words = [0u64; host_calls::EVENT_WORDS];
     words::words_of(events, &mut words);
-    let answer = feeding_indexed::feed_indexed(
+    let answer = index_feed_single::feed_indexed(
         stakes,
         store,
         table,
@@ -98,7 +98,7 @@ fn feed_words(
 fn no_events(stakes: &[u64], store: &[u8], table: &[u64], index: &[u64], rec: &[u8]) -> u64
     ensures { λ r. ⌜ r ≡ refusal (earlyIndexedChecks (now (stakes .entry)) (now (store .entry)) (now (table .entry)) (now (index .entry)) (now (rec .entry)) ++ ((true ⇒ 15) ∷ [])) ⌝ }
 {
-    let early = indexed_refusals::early_refusal(stakes, store, table, index, rec);
+    let early = index_feed_refusals::early_refusal(stakes, store, table, index, rec);
     if early != 0 {
         return early;
     }

@@ -12,10 +12,10 @@ use Rattle.base.specs.Le.{Bytes}
 use Rattle.base.specs.Checks.{refusal, passes, Answer, refused}
 use Rattle.committee.specs.Committee.{Committee}
 use Rattle.words.specs.Words.{wordsIn, wordsOf}
-use Rattle.feeds.specs.Pending.{pendingChecks}
-use Rattle.feeds.specs.Feed.{Lent, lentOf, lentChecks}
-use Rattle.feed_records.specs.Records.{recordsIn, feedAll, recordsChecks, refusedCall, fedCall, feedRecords}
-use Rattle.feed_records.proofs.Work.{call-work}
+use Rattle.feed_spec.specs.Pending.{pendingChecks}
+use Rattle.feed_spec.specs.Feed.{Lent, lentOf, lentChecks}
+use Rattle.feed_many.specs.Records.{recordsIn, feedAll, recordsChecks, refusedCall, fedCall, feedRecords}
+use Rattle.feed_many.proofs.Work.{call-work}
 use Rattle.host_calls.proofs.Numbers.{refusal-most}
 use Rattle.host_locators.specs.Locators.{refusalBefore}
 use Rattle.host_locators.proofs.Locators.{before-most}

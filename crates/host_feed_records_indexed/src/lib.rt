@@ -1,8 +1,8 @@
 // Feeding many records with the index, for a host: stakes, table and records as bytes, index, events and outcomes as words. A call answers one word: below 2^63 it is
 // the answer, and 2^63 + n is refusal n (`encoded` in host_calls, specs/Calls).
-use feed_records::RecordsAnswer;
+use feed_many::RecordsAnswer;
 ghost use mathlib.Core.Path.{_≡_};
-ghost use Rattle.feed_records.specs.Answers.{asRecordsAnswer};
+ghost use Rattle.feed_many.specs.Answers.{asRecordsAnswer};
 ghost use Rattle.host_calls.specs.Calls.{encoded};
 ghost use Rattle.host_feed_records_indexed.specs.FeedRecords.{feedRecordsIndexedOf, feedRecordsIndexedCall};
 
@@ -48,13 +48,13 @@ fn feed_records_of(
     ensures { λ _. ⌜ now (events .exit) ≡ feedRecordsIndexedOf (now (stakes .entry)) (now (store .entry)) (now (table .entry)) (now (index .entry)) (now (events .entry)) (now (outcomes .entry)) (now (records .entry)) .events ⌝ }
     ensures { λ _. ⌜ now (outcomes .exit) ≡ feedRecordsIndexedOf (now (stakes .entry)) (now (store .entry)) (now (table .entry)) (now (index .entry)) (now (events .entry)) (now (outcomes .entry)) (now (records .entry)) .outcomes ⌝ }
 {
-    if table.len() != 49160 {
+    if table.len() != host_calls::TABLE_BYTES {
         return RecordsAnswer::Refused(host_locators::refusal_before(11, stakes, store));
     }
-    let mut words = [0u64; 6145];
+    let mut words = [0u64; host_calls::TABLE_WORDS];
     words::words_of(table, &mut words);
-    let mut work = [0u64; 6145];
-    let answer = feed_records_indexed::feed_records_indexed(
+    let mut work = [0u64; host_calls::TABLE_WORDS];
+    let answer = index_feed_many::feed_records_indexed(
         stakes,
         store,
         &mut words,

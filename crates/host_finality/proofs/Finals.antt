@@ -10,17 +10,17 @@ use borrow.Author.Tests.{eq-eqb, ne-eqb}
 use Rattle.base.specs.Lists.{pick, allOf}
 use Rattle.base.specs.Checks.{refusal, passes, Answer, refused, answered, checked}
 use Rattle.committee.specs.Committee.{Committee}
-use Rattle.blocks.specs.Reference.{TransactionLocator}
+use Rattle.record_spec.specs.Reference.{TransactionLocator}
 use Rattle.base.proofs.Le.{AllBytes}
 use Rattle.words.proofs.Words.{bytesOf-wordsIn}
 use Rattle.words.specs.Words.{wordsIn, wordsOf, bytesOf}
-use Rattle.finality.specs.Finality.{Finality, finalityChecks, blocksOf}
-use Rattle.readings.specs.Readings.{Reading, isFinalIn}
-use Rattle.readings.specs.Finality.{certifyingPositionsIn, finalityIn}
-use Rattle.finalization_interpreter.specs.Answers.{asFinality}
-use Rattle.finalization_interpreter.specs.declared.FinalityAnswer.{FinalityAnswer}
-use Rattle.finalization_interpreter.specs.declared.FinalityAnswer.the-variants.{Final, NotFinal, Refused}
-use Rattle.reference_bytes.specs.Step.{locatorAt}
+use Rattle.final_spec.specs.Finality.{Finality, finalityChecks, blocksOf}
+use Rattle.final_readings_spec.specs.Readings.{Reading, isFinalIn}
+use Rattle.final_readings_spec.specs.Finality.{certifyingPositionsIn, finalityIn}
+use Rattle.final_question.specs.Answers.{asFinality}
+use Rattle.final_question.specs.declared.FinalityAnswer.{FinalityAnswer}
+use Rattle.final_question.specs.declared.FinalityAnswer.the-variants.{Final, NotFinal, Refused}
+use Rattle.record_reference_bytes.specs.Step.{locatorAt}
 use Rattle.host_locators.specs.Locators.{locatorOf, refusalBefore}
 use Rattle.host_finality.specs.Finality.{FinalityCall, finalityNumber, finalityOf, askedFinality, numbersFit}
 use Rattle.host_calls.proofs.Numbers.{checked-most}

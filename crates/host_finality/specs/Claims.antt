@@ -5,9 +5,9 @@ use mathlib.Core.Bool.{true}
 use Rattle.base.specs.Le.{Bytes}
 use Rattle.base.specs.Checks.{refused}
 use Rattle.committee.specs.Committee.{Committee}
-use Rattle.blocks.specs.Reference.{TransactionLocator}
-use Rattle.blocks.specs.Claims.{areBytes}
-use Rattle.readings.specs.Readings.{Reading}
+use Rattle.record_spec.specs.Reference.{TransactionLocator}
+use Rattle.record_spec.specs.Claims.{areBytes}
+use Rattle.final_readings_spec.specs.Readings.{Reading}
 use Rattle.host_finality.specs.Finality.{finalityOf}
 
 pub record Claims : Type 0 where

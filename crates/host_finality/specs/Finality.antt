@@ -7,13 +7,13 @@ use Rattle.base.specs.Lists.{pick}
 use Rattle.base.specs.Le.{Bytes}
 use Rattle.base.specs.Checks.{Answer, refused, answered}
 use Rattle.committee.specs.Committee.{Committee}
-use Rattle.blocks.specs.Reference.{TransactionLocator}
+use Rattle.record_spec.specs.Reference.{TransactionLocator}
 use Rattle.words.specs.Words.{wordsOf, bytesOf}
-use Rattle.finality.specs.Finality.{Finality}
-use Rattle.readings.specs.Readings.{Reading}
-use Rattle.readings.specs.Finality.{finalityIn}
-use Rattle.finalization_interpreter.specs.declared.FinalityAnswer.{FinalityAnswer}
-use Rattle.finalization_interpreter.specs.declared.FinalityAnswer.the-variants.{Final, NotFinal, Refused}
+use Rattle.final_spec.specs.Finality.{Finality}
+use Rattle.final_readings_spec.specs.Readings.{Reading}
+use Rattle.final_readings_spec.specs.Finality.{finalityIn}
+use Rattle.final_question.specs.declared.FinalityAnswer.{FinalityAnswer}
+use Rattle.final_question.specs.declared.FinalityAnswer.the-variants.{Final, NotFinal, Refused}
 use Rattle.host_calls.specs.Calls.{committeeOf}
 use Rattle.host_locators.specs.Locators.{locatorOf, refusalBefore}
 

@@ -10,13 +10,13 @@ use lib.ListN.{length}
 use Rattle.base.specs.Lists.{allOf}
 use Rattle.base.specs.Checks.{Answer, refused}
 use Rattle.committee.specs.Committee.{Committee}
-use Rattle.blocks.specs.Reference.{TransactionLocator}
-use Rattle.finality.specs.NextFinal.{nextFinalChecks}
-use Rattle.stretches.specs.Stretches.{Listing}
-use Rattle.stretches.specs.Bulk.{listNext}
+use Rattle.record_spec.specs.Reference.{TransactionLocator}
+use Rattle.final_spec.specs.NextFinal.{nextFinalChecks}
+use Rattle.list_stretches_spec.specs.Stretches.{Listing}
+use Rattle.list_stretches_spec.specs.Bulk.{listNext}
 use Rattle.host_locators.specs.Locators.{refusalBefore}
 use Rattle.host_finals.specs.NextFinal.{askedNextFinal}
-use Rattle.final_answers.specs.Answers.{foundIn, numberFits}
+use Rattle.host_final_answers.specs.Answers.{foundIn, numberFits}
 use Rattle.host_calls.proofs.Numbers.{checked-most}
 
 pub next-fits : (c : Committee) (s : List ℕ) (k : Listing) (after : Option TransactionLocator) → numberFits (listNext c s k after)

@@ -9,18 +9,18 @@ use lib.ListN.{length}
 use Rattle.base.specs.Lists.{pick, allOf}
 use Rattle.base.specs.Checks.{refusal, passes, Answer, refused, answered, checked}
 use Rattle.committee.specs.Committee.{Committee}
-use Rattle.blocks.specs.Reference.{TransactionLocator}
-use Rattle.blocks.specs.Block.{Block}
-use Rattle.finality.specs.Finality.{blocksOf}
-use Rattle.finality.specs.NextFinal.{nextFinalChecks}
-use Rattle.stretch_words.specs.Answers.{asStretches}
-use Rattle.stretches.specs.Stretches.{Listing, lastLocator, stretchAt, fromFound, stretches}
-use Rattle.stretches.specs.Bulk.{Given, givenAfter, stretchRoom, listStretches}
-use Rattle.stretch_words.specs.declared.StretchesAnswer.{StretchesAnswer}
-use Rattle.stretch_words.specs.declared.StretchesAnswer.the-variants.{Last, More, Refused}
+use Rattle.record_spec.specs.Reference.{TransactionLocator}
+use Rattle.record_spec.specs.Block.{Block}
+use Rattle.final_spec.specs.Finality.{blocksOf}
+use Rattle.final_spec.specs.NextFinal.{nextFinalChecks}
+use Rattle.list_stretch_bytes.specs.Answers.{asStretches}
+use Rattle.list_stretches_spec.specs.Stretches.{Listing, lastLocator, stretchAt, fromFound, stretches}
+use Rattle.list_stretches_spec.specs.Bulk.{Given, givenAfter, stretchRoom, listStretches}
+use Rattle.list_stretch_bytes.specs.declared.StretchesAnswer.{StretchesAnswer}
+use Rattle.list_stretch_bytes.specs.declared.StretchesAnswer.the-variants.{Last, More, Refused}
 use Rattle.host_locators.specs.Locators.{refusalBefore}
 use Rattle.host_finals.specs.Stretches.{stretchesIn, askedStretches}
-use Rattle.final_answers.specs.Answers.{wholeStretches, countsFit}
+use Rattle.host_final_answers.specs.Answers.{wholeStretches, countsFit}
 use Rattle.host_calls.proofs.Numbers.{checked-most}
 
 -- no more stretches than asked for

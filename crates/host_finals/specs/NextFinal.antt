@@ -7,16 +7,16 @@ use Rattle.base.specs.Lists.{pick}
 use Rattle.base.specs.Le.{Bytes}
 use Rattle.base.specs.Checks.{refused}
 use Rattle.committee.specs.Committee.{Committee}
-use Rattle.blocks.specs.Reference.{TransactionLocator}
-use Rattle.finality.specs.Finality.{blocksOf}
-use Rattle.stretches.specs.Stretches.{Listing, wide}
-use Rattle.stretches.specs.Bulk.{listNext}
-use Rattle.stored_finals.specs.Ordinary.{ordinary}
-use Rattle.readings.specs.Readings.{withdrawing}
-use Rattle.reading_lists.specs.Lists.{listing}
+use Rattle.record_spec.specs.Reference.{TransactionLocator}
+use Rattle.final_spec.specs.Finality.{blocksOf}
+use Rattle.list_stretches_spec.specs.Stretches.{Listing, wide}
+use Rattle.list_stretches_spec.specs.Bulk.{listNext}
+use Rattle.list_ordinary_spec.specs.Ordinary.{ordinary}
+use Rattle.final_readings_spec.specs.Readings.{withdrawing}
+use Rattle.list_readings_spec.specs.Lists.{listing}
 use Rattle.host_calls.specs.Calls.{committeeOf}
 use Rattle.host_locators.specs.Locators.{refusalBefore}
-use Rattle.final_answers.specs.Answers.{afterOf, NextFinalCall, foundIn}
+use Rattle.host_final_answers.specs.Answers.{afterOf, NextFinalCall, foundIn}
 
 -- 20 for bytes that are no place, then 40 for bytes that do not hold a locator
 unfoldable pub askedNextFinal : Committee → Bytes → Listing → Option (Option TransactionLocator) → Bytes → NextFinalCall

@@ -6,16 +6,16 @@ use Rattle.base.specs.Lists.{pick}
 use Rattle.base.specs.Le.{Bytes}
 use Rattle.base.specs.Checks.{Answer, refused}
 use Rattle.committee.specs.Committee.{Committee}
-use Rattle.blocks.specs.Reference.{TransactionLocator}
-use Rattle.finality.specs.Finality.{blocksOf}
-use Rattle.stretches.specs.Stretches.{Listing, wide}
-use Rattle.stretches.specs.Bulk.{listStretches}
-use Rattle.stored_finals.specs.Ordinary.{ordinary}
-use Rattle.readings.specs.Readings.{withdrawing}
-use Rattle.reading_lists.specs.Lists.{listing}
+use Rattle.record_spec.specs.Reference.{TransactionLocator}
+use Rattle.final_spec.specs.Finality.{blocksOf}
+use Rattle.list_stretches_spec.specs.Stretches.{Listing, wide}
+use Rattle.list_stretches_spec.specs.Bulk.{listStretches}
+use Rattle.list_ordinary_spec.specs.Ordinary.{ordinary}
+use Rattle.final_readings_spec.specs.Readings.{withdrawing}
+use Rattle.list_readings_spec.specs.Lists.{listing}
 use Rattle.host_calls.specs.Calls.{committeeOf}
 use Rattle.host_locators.specs.Locators.{refusalBefore}
-use Rattle.final_answers.specs.Answers.{afterOf, wholeStretches, stretchesNumber}
+use Rattle.host_final_answers.specs.Answers.{afterOf, wholeStretches, stretchesNumber}
 
 -- what the question answers, and the bytes that it was lent for the stretches afterwards
 pub record StretchesCall : Type 0 where

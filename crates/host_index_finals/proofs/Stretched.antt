@@ -13,17 +13,17 @@ use Rattle.base.specs.Checks.{_⇒_, refusal, passes, Answer, refused, answered
 use Rattle.base.proofs.Lists.{none-of, and}
 use Rattle.base.proofs.Refusals.{Numbered, refusal-first, refusal-then}
 use Rattle.committee.specs.Committee.{Committee}
-use Rattle.blocks.specs.Reference.{TransactionLocator}
-use Rattle.finality.specs.Finality.{blocksOf}
-use Rattle.finality.specs.NextFinal.{nextFinalChecks}
-use Rattle.stretch_words.specs.Answers.{asStretches}
-use Rattle.stretch_words.specs.declared.StretchesAnswer.{StretchesAnswer}
-use Rattle.stretch_words.specs.declared.StretchesAnswer.the-variants.{Last, More, Refused}
-use Rattle.stretches.specs.Stretches.{Listing, stretches}
-use Rattle.stretches.specs.Bulk.{Given, givenAfter, stretchRoom}
-use Rattle.indexed_lists.specs.Indexed.{indexedChecks, listStretchesIndexed}
+use Rattle.record_spec.specs.Reference.{TransactionLocator}
+use Rattle.final_spec.specs.Finality.{blocksOf}
+use Rattle.final_spec.specs.NextFinal.{nextFinalChecks}
+use Rattle.list_stretch_bytes.specs.Answers.{asStretches}
+use Rattle.list_stretch_bytes.specs.declared.StretchesAnswer.{StretchesAnswer}
+use Rattle.list_stretch_bytes.specs.declared.StretchesAnswer.the-variants.{Last, More, Refused}
+use Rattle.list_stretches_spec.specs.Stretches.{Listing, stretches}
+use Rattle.list_stretches_spec.specs.Bulk.{Given, givenAfter, stretchRoom}
+use Rattle.index_list_spec.specs.Indexed.{indexedChecks, listStretchesIndexed}
 use Rattle.host_calls.proofs.Numbers.{checked-most, refusal-most}
-use Rattle.final_answers.specs.Answers.{wholeStretches, countsFit}
+use Rattle.host_final_answers.specs.Answers.{wholeStretches, countsFit}
 use Rattle.host_finals.proofs.Stretched.{few-stretches}
 use Rattle.host_index_finals.specs.Indexed.{refusalIndexed, stretchesIndexedIn, askedStretchesIndexed}
 

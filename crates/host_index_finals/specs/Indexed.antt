@@ -7,13 +7,13 @@ use Rattle.base.specs.Lists.{pick}
 use Rattle.base.specs.Le.{Bytes}
 use Rattle.base.specs.Checks.{_⇒_, refusal, refused}
 use Rattle.committee.specs.Committee.{Committee}
-use Rattle.blocks.specs.Reference.{TransactionLocator}
-use Rattle.finality.specs.Finality.{blocksOf}
-use Rattle.stretches.specs.Stretches.{Listing, wide}
-use Rattle.stored_finals.specs.Ordinary.{ordinary}
-use Rattle.indexed_lists.specs.Indexed.{indexedChecks, listStretchesIndexed}
+use Rattle.record_spec.specs.Reference.{TransactionLocator}
+use Rattle.final_spec.specs.Finality.{blocksOf}
+use Rattle.list_stretches_spec.specs.Stretches.{Listing, wide}
+use Rattle.list_ordinary_spec.specs.Ordinary.{ordinary}
+use Rattle.index_list_spec.specs.Indexed.{indexedChecks, listStretchesIndexed}
 use Rattle.host_calls.specs.Calls.{committeeOf}
-use Rattle.final_answers.specs.Answers.{afterOf, wholeStretches, stretchesNumber}
+use Rattle.host_final_answers.specs.Answers.{afterOf, wholeStretches, stretchesNumber}
 use Rattle.host_finals.specs.Stretches.{StretchesCall}
 
 -- the number of a refusal that applies in any case, after 5, 10 and 54

@@ -7,18 +7,18 @@ use Rattle.base.specs.Lists.{allOf}
 use Rattle.base.specs.Le.{Bytes}
 use Rattle.base.specs.Checks.{refused}
 use Rattle.committee.specs.Committee.{Committee}
-use Rattle.blocks.specs.Reference.{TransactionLocator}
-use Rattle.finality.specs.Finality.{blocksOf}
-use Rattle.finality.specs.NextFinal.{nextFinalChecks}
-use Rattle.readings.specs.Readings.{Reading}
-use Rattle.loadable.specs.Loadable.{isLoadableIn, loadableListIn}
-use Rattle.loadable.specs.Question.{loadableQuestionIn, listChecks, loadableQuestionsIn}
-use Rattle.loadable_share.specs.Answers.{asLoadable}
-use Rattle.loadable_share.specs.declared.LoadableAnswer as one
-use Rattle.loadable_share.specs.declared.LoadableAnswer.the-variants.{Loadable, NotLoadable, Refused}
-use Rattle.loadable_shares.specs.Answers.{asLoadableList}
-use Rattle.loadable_shares.specs.declared.LoadableList as all
-use Rattle.loadable_shares.specs.declared.LoadableList.the-variants.{Places, Refused as Denied}
+use Rattle.record_spec.specs.Reference.{TransactionLocator}
+use Rattle.final_spec.specs.Finality.{blocksOf}
+use Rattle.final_spec.specs.NextFinal.{nextFinalChecks}
+use Rattle.final_readings_spec.specs.Readings.{Reading}
+use Rattle.load_spec.specs.Loadable.{isLoadableIn, loadableListIn}
+use Rattle.load_spec.specs.Question.{loadableQuestionIn, listChecks, loadableQuestionsIn}
+use Rattle.load_question.specs.Answers.{asLoadable}
+use Rattle.load_question.specs.declared.LoadableAnswer as one
+use Rattle.load_question.specs.declared.LoadableAnswer.the-variants.{Loadable, NotLoadable, Refused}
+use Rattle.load_list.specs.Answers.{asLoadableList}
+use Rattle.load_list.specs.declared.LoadableList as all
+use Rattle.load_list.specs.declared.LoadableList.the-variants.{Places, Refused as Denied}
 use Rattle.host_calls.specs.Calls.{flag, committeeOf, encoded}
 use Rattle.host_calls.proofs.Numbers.{checked-most}
 use Rattle.host_locators.specs.Locators.{locatorOf, asked}

@@ -5,8 +5,8 @@ use mathlib.Core.List.{List}
 use Rattle.base.specs.Le.{Bytes}
 use Rattle.base.specs.Checks.{Answer, refused, answered}
 use Rattle.committee.specs.Committee.{Committee}
-use Rattle.readings.specs.Readings.{Reading}
-use Rattle.loadable.specs.Question.{AskedList, loadableQuestionIn, loadableQuestionsIn}
+use Rattle.final_readings_spec.specs.Readings.{Reading}
+use Rattle.load_spec.specs.Question.{AskedList, loadableQuestionIn, loadableQuestionsIn}
 use Rattle.host_calls.specs.Calls.{flag, committeeOf}
 use Rattle.host_locators.specs.Locators.{locatorOf, asked}
 

@@ -14,11 +14,11 @@ use Rattle.base.specs.Checks.{_⇒_, refusal, Answer, refused}
 use Rattle.base.proofs.Fixed.{reads-at, short-at}
 use Rattle.base.proofs.Lists.{isEmpty-false}
 use Rattle.committee.specs.Committee.{Committee, broken}
-use Rattle.blocks.specs.Reference.{TransactionLocator}
-use Rattle.blocks.specs.Record.{readLocator}
-use Rattle.reference_bytes.specs.Step.{locatorAt}
-use Rattle.reference_bytes.proofs.Fixed.{fixed-locator, locator-value}
-use Rattle.store_layout.specs.Store.{storeInOrder}
+use Rattle.record_spec.specs.Reference.{TransactionLocator}
+use Rattle.record_spec.specs.Record.{readLocator}
+use Rattle.record_reference_bytes.specs.Step.{locatorAt}
+use Rattle.record_reference_bytes.proofs.Fixed.{fixed-locator, locator-value}
+use Rattle.store_spec.specs.Store.{storeInOrder}
 use Rattle.host_locators.specs.Locators.{locatorOf, storeChecks, refusalBefore, asked}
 use Rattle.host_calls.proofs.Numbers.{refusal-most}
 

@@ -7,9 +7,9 @@ use Rattle.base.specs.Le.{Bytes}
 use Rattle.base.specs.Read.{complete}
 use Rattle.base.specs.Checks.{Check, _⇒_, refusal, Answer, refused}
 use Rattle.committee.specs.Committee.{Committee, broken}
-use Rattle.blocks.specs.Reference.{TransactionLocator}
-use Rattle.blocks.specs.Record.{readLocator}
-use Rattle.store_layout.specs.Store.{storeInOrder}
+use Rattle.record_spec.specs.Reference.{TransactionLocator}
+use Rattle.record_spec.specs.Record.{readLocator}
+use Rattle.store_spec.specs.Store.{storeInOrder}
 
 -- a locator is the 56 bytes that it has in a record; bytes of another length are none
 unfoldable pub locatorOf : Bytes → Option TransactionLocator

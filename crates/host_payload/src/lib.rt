@@ -2,9 +2,9 @@
 // 2^63 + n is refusal n (`encoded` in host_calls, specs/Calls).
 ghost use mathlib.Core.Path.{_≡_};
 ghost use Rattle.host_calls.specs.Calls.{encoded};
-ghost use Rattle.payload_bytes.specs.Payload.{payloadLengthCall, payloadStartCall};
-use payload::PayloadLength;
-use payload::PayloadPlace;
+ghost use Rattle.host_payload_bytes.specs.Payload.{payloadLengthCall, payloadStartCall};
+use store_payload::PayloadLength;
+use store_payload::PayloadPlace;
 
 // The length of a share's payload.
 pub fn payload_length(stakes: &[u8], store: &[u8], locator: &[u8]) -> u64
@@ -12,7 +12,7 @@ pub fn payload_length(stakes: &[u8], store: &[u8], locator: &[u8]) -> u64
 {
     let mut held = [0u64; committee::MAX_MEMBERS];
     let n = host_calls::stakes_of(stakes, &mut held);
-    match payload_bytes::payload_length(&held[..n], store, locator) {
+    match host_payload_bytes::payload_length(&held[..n], store, locator) {
         PayloadLength::Bytes(length) => length,
         PayloadLength::Refused(number) => host_calls::REFUSED + number,
     }
@@ -24,7 +24,7 @@ pub fn payload_start(stakes: &[u8], store: &[u8], locator: &[u8]) -> u64
 {
     let mut held = [0u64; committee::MAX_MEMBERS];
     let n = host_calls::stakes_of(stakes, &mut held);
-    match payload_bytes::payload_place(&held[..n], store, locator) {
+    match host_payload_bytes::payload_place(&held[..n], store, locator) {
         PayloadPlace::Stands(start, _) => start as u64,
         PayloadPlace::Refused(number) => host_calls::REFUSED + number,
     }

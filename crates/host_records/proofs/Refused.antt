@@ -7,11 +7,11 @@ use native.Mathlib.Omega.{arith}
 use lib.ListN.{length}
 use Rattle.base.specs.Lists.{allOf}
 use Rattle.base.specs.Checks.{refused}
-use Rattle.drafts.specs.Draft.{Draft, Request, draftIn}
-use Rattle.drafts.specs.Writing.{recordBytes, formChecks, writeChecks, writeDraft, writeTimed}
-use Rattle.write_record.specs.Answers.{asWriteAnswer}
-use Rattle.write_record.specs.declared.WriteAnswer.{WriteAnswer}
-use Rattle.write_record.specs.declared.WriteAnswer.the-variants.{Written, Refused}
+use Rattle.draft_spec.specs.Draft.{Draft, Request, draftIn}
+use Rattle.draft_spec.specs.Writing.{recordBytes, formChecks, writeChecks, writeDraft, writeTimed}
+use Rattle.draft_writer.specs.Answers.{asWriteAnswer}
+use Rattle.draft_writer.specs.declared.WriteAnswer.{WriteAnswer}
+use Rattle.draft_writer.specs.declared.WriteAnswer.the-variants.{Written, Refused}
 use Rattle.host_calls.specs.Calls.{encoded}
 use Rattle.host_calls.proofs.Numbers.{checked-most}
 

@@ -1,11 +1,11 @@
 // What the host's calls that write a record are made of.
 use committee::AuthorityIndex;
 use committee::RoundNumber;
-use write_record::WriteAnswer;
+use draft_writer::WriteAnswer;
 ghost use mathlib.Core.Path.{_≡_};
 ghost use mathlib.Core.Option.{some};
-ghost use Rattle.drafts.specs.Writing.{writeTimed, writeRecord};
-ghost use Rattle.record_size.specs.Asked.{requested};
+ghost use Rattle.draft_spec.specs.Writing.{writeTimed, writeRecord};
+ghost use Rattle.draft_size.specs.Asked.{requested};
 ghost use Rattle.host_calls.specs.Calls.{encoded};
 
 pub fn write_record_of(
@@ -20,7 +20,7 @@ pub fn write_record_of(
     ensures { λ r. ⌜ r ≡ encoded (writeRecord (requested author round (now (digest .entry)) mark (now (includes .entry)) (now (statements .entry))) (now (out .entry)) .answer) ⌝ }
     ensures { λ r. ⌜ now (out .exit) ≡ writeRecord (requested author round (now (digest .entry)) mark (now (includes .entry)) (now (statements .entry))) (now (out .entry)) .out ⌝ }
 {
-    match write_record::write_record(
+    match draft_writer::write_record(
         AuthorityIndex(author),
         RoundNumber(round),
         digest,
@@ -47,7 +47,7 @@ pub fn write_timed_record_of(
     ensures { λ r. ⌜ r ≡ encoded (writeTimed (some time) (requested author round (now (digest .entry)) mark (now (includes .entry)) (now (statements .entry))) (now (out .entry)) .answer) ⌝ }
     ensures { λ r. ⌜ now (out .exit) ≡ writeTimed (some time) (requested author round (now (digest .entry)) mark (now (includes .entry)) (now (statements .entry))) (now (out .entry)) .out ⌝ }
 {
-    match write_record::write_timed_record(
+    match draft_writer::write_timed_record(
         AuthorityIndex(author),
         RoundNumber(round),
         digest,

@@ -14,18 +14,18 @@ use Rattle.base.specs.Le.{Bytes}
 use Rattle.base.specs.Checks.{Check, _⇒_, refusal, passes, Answer, refused, answered}
 use Rattle.base.proofs.Refusals.{refusal-first, refusal-then}
 use Rattle.committee.specs.Committee.{Committee, broken}
-use Rattle.authority_set.specs.AuthoritySet.{AuthoritySet}
-use Rattle.rung_owners.specs.Ranked.{Ring, ringChecks, ring}
-use Rattle.blocks.specs.Reference.{TransactionLocator}
-use Rattle.pending_items.specs.Items.{Item, itemAt}
-use Rattle.pending_items.specs.Table.{itemsOf}
-use Rattle.store_layout.specs.Layout.{entries, positionOf, lookup}
-use Rattle.store_layout.specs.Store.{recordsOf}
+use Rattle.committee_set.specs.AuthoritySet.{AuthoritySet}
+use Rattle.ring_owners.specs.Ranked.{Ring, ringChecks, ring}
+use Rattle.record_spec.specs.Reference.{TransactionLocator}
+use Rattle.pending_spec.specs.Items.{Item, itemAt}
+use Rattle.pending_spec.specs.Table.{itemsOf}
+use Rattle.store_spec.specs.Layout.{entries, positionOf, lookup}
+use Rattle.store_spec.specs.Store.{recordsOf}
 use Rattle.words.specs.Words.{wordsIn, wordsOf}
-use Rattle.feeds.specs.Pending.{pendingChecks}
-use Rattle.feeds.proofs.Checks.{pending-numbered}
-use Rattle.whom_to_ring.specs.WhomToRing.{ringFor, ringAt, whomToRing}
-use Rattle.whom_to_ring.proofs.Asked.{asked-refused, asked-at}
+use Rattle.feed_spec.specs.Pending.{pendingChecks}
+use Rattle.feed_spec.proofs.Checks.{pending-numbered}
+use Rattle.ring_pending.specs.WhomToRing.{ringFor, ringAt, whomToRing}
+use Rattle.ring_pending.proofs.Asked.{asked-refused, asked-at}
 use Rattle.host_calls.specs.Calls.{committeeOf}
 use Rattle.host_calls.proofs.Numbers.{refusal-most, checked-most}
 use Rattle.host_locators.specs.Locators.{locatorOf, refusalBefore}

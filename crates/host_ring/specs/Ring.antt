@@ -9,12 +9,12 @@ use Rattle.base.specs.Lists.{pick}
 use Rattle.base.specs.Le.{Bytes}
 use Rattle.base.specs.Checks.{_⇒_, refusal, Answer, refused, answered}
 use Rattle.committee.specs.Committee.{Committee, broken}
-use Rattle.authority_set.specs.AuthoritySet.{AuthoritySet, numberOfVoters}
-use Rattle.rung_owners.specs.Ranked.{Ring, ring}
-use Rattle.blocks.specs.Reference.{TransactionLocator}
+use Rattle.committee_set.specs.AuthoritySet.{AuthoritySet, numberOfVoters}
+use Rattle.ring_owners.specs.Ranked.{Ring, ring}
+use Rattle.record_spec.specs.Reference.{TransactionLocator}
 use Rattle.words.specs.Words.{wordsOf, bytesOf}
-use Rattle.feeds.specs.Pending.{pendingChecks}
-use Rattle.whom_to_ring.specs.WhomToRing.{whomToRing}
+use Rattle.feed_spec.specs.Pending.{pendingChecks}
+use Rattle.ring_pending.specs.WhomToRing.{whomToRing}
 use Rattle.host_calls.specs.Calls.{committeeOf}
 use Rattle.host_locators.specs.Locators.{locatorOf, refusalBefore}
 

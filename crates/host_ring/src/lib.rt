@@ -1,15 +1,15 @@
 // Whom to ring, for a host: stakes, table and locator as bytes, the answer's set and stake as three words.
-use authority_set::AuthoritySet;
 use committee::NewCommittee;
-use ring::RingAnswer;
-use stake_aggregator::StakeAggregator;
+use committee_aggregator::StakeAggregator;
+use committee_set::AuthoritySet;
+use ring_fewest::RingAnswer;
 ghost use mathlib.Core.Path.{_≡_};
 ghost use mathlib.Core.Bool.{true};
 ghost use mathlib.Core.List.{[], _∷_};
 ghost use lib.ListN.{length};
 ghost use Rattle.base.specs.Checks.{_⇒_, refusal};
 ghost use Rattle.committee.specs.Committee.{broken};
-ghost use Rattle.ring.specs.Answers.{asRing};
+ghost use Rattle.ring_fewest.specs.Answers.{asRing};
 ghost use Rattle.host_calls.specs.Calls.{encoded};
 ghost use Rattle.host_locators.specs.Locators.{locatorOf};
 ghost use Rattle.host_ring.specs.Ring.{ringIn, askedRing, ringTold, whomToRingCall, fewestIn, fewestOwnersCall};
@@ -26,7 +26,7 @@ fn ring_in(
 ) -> RingAnswer
     ensures { λ r. ⌜ asRing r ≡ ringIn (now (stakes .entry)) (now (store .entry)) (now (table .entry)) reachable (locatorOf (now (locator .entry))) room ⌝ }
 {
-    let refusal = pending::lent_refusal(stakes, store, table);
+    let refusal = pending_question::lent_refusal(stakes, store, table);
     if refusal != 0 {
         return RingAnswer::Refused(refusal);
     }
@@ -36,12 +36,12 @@ fn ring_in(
     if room != 24 {
         return RingAnswer::Refused(40);
     }
-    whom_to_ring::ring_at(
+    ring_pending::ring_at(
         stakes,
         store,
         table,
         reachable,
-        reference_bytes::read_locator(locator, 0),
+        record_reference_bytes::read_locator(locator, 0),
     )
 }
 
@@ -55,10 +55,10 @@ fn ring_of(
 ) -> RingAnswer
     ensures { λ r. ⌜ asRing r ≡ askedRing (now (stakes .entry)) (now (store .entry)) (now (table .entry)) reachable (locatorOf (now (locator .entry))) room ⌝ }
 {
-    if table.len() != 49160 {
+    if table.len() != host_calls::TABLE_BYTES {
         return RingAnswer::Refused(host_locators::refusal_before(11, stakes, store));
     }
-    let mut words = [0u64; 6145];
+    let mut words = [0u64; host_calls::TABLE_WORDS];
     words::words_of(table, &mut words);
     ring_in(stakes, store, &words, reachable, locator, room)
 }
@@ -124,7 +124,7 @@ fn fewest_of(
     if room != 24 {
         return RingAnswer::Refused(no_room(stakes));
     }
-    ring::fewest_owners(stakes, voters, reachable)
+    ring_fewest::fewest_owners(stakes, voters, reachable)
 }
 
 // The same for any set of voters, without a store or a table.

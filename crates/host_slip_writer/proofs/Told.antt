@@ -8,14 +8,14 @@ use Rattle.base.specs.Lists.{allOf}
 use Rattle.base.specs.Le.{Bytes}
 use Rattle.base.specs.Checks.{refused}
 use Rattle.committee.specs.Committee.{Committee}
-use Rattle.blocks.specs.Reference.{TransactionLocator}
-use Rattle.finality.specs.Finality.{blocksOf}
-use Rattle.readings.specs.Readings.{Reading}
-use Rattle.slips.specs.Slip.{slipBytes}
-use Rattle.slips.specs.Writing.{slipFor, writeChecks, writeSlip}
-use Rattle.slip_bytes.specs.Answers.{asSlipAnswer}
-use Rattle.slip_bytes.specs.declared.SlipAnswer.{SlipAnswer}
-use Rattle.slip_bytes.specs.declared.SlipAnswer.the-variants.{Written as Length, Refused}
+use Rattle.record_spec.specs.Reference.{TransactionLocator}
+use Rattle.final_spec.specs.Finality.{blocksOf}
+use Rattle.final_readings_spec.specs.Readings.{Reading}
+use Rattle.slip_spec.specs.Slip.{slipBytes}
+use Rattle.slip_spec.specs.Writing.{slipFor, writeChecks, writeSlip}
+use Rattle.slip_write_bytes.specs.Answers.{asSlipAnswer}
+use Rattle.slip_write_bytes.specs.declared.SlipAnswer.{SlipAnswer}
+use Rattle.slip_write_bytes.specs.declared.SlipAnswer.the-variants.{Written as Length, Refused}
 use Rattle.host_calls.specs.Calls.{committeeOf, encoded}
 use Rattle.host_calls.proofs.Numbers.{checked-most}
 use Rattle.host_locators.specs.Locators.{locatorOf, refusalBefore}

@@ -3,9 +3,9 @@ use mathlib.Core.Option.{Option, none, some}
 use Rattle.base.specs.Le.{Bytes}
 use Rattle.base.specs.Checks.{refused}
 use Rattle.committee.specs.Committee.{Committee}
-use Rattle.blocks.specs.Reference.{TransactionLocator}
-use Rattle.readings.specs.Readings.{Reading}
-use Rattle.slips.specs.Writing.{Written, writeSlip}
+use Rattle.record_spec.specs.Reference.{TransactionLocator}
+use Rattle.final_readings_spec.specs.Readings.{Reading}
+use Rattle.slip_spec.specs.Writing.{Written, writeSlip}
 use Rattle.host_calls.specs.Calls.{committeeOf}
 use Rattle.host_locators.specs.Locators.{locatorOf, refusalBefore}
 

@@ -1,8 +1,9 @@
 // The writer of slips, for a host: stakes and locator as bytes.
-use slip_bytes::SlipAnswer;
+use final_readings_spec::Reading;
+use slip_write_bytes::SlipAnswer;
 ghost use mathlib.Core.Path.{_≡_};
-ghost use Rattle.readings.specs.Readings.{readingOf};
-ghost use Rattle.slip_bytes.specs.Answers.{asSlipAnswer};
+ghost use Rattle.final_readings_spec.specs.Answers.{asReading};
+ghost use Rattle.slip_write_bytes.specs.Answers.{asSlipAnswer};
 ghost use Rattle.host_calls.specs.Calls.{encoded};
 ghost use Rattle.host_locators.specs.Locators.{locatorOf};
 ghost use Rattle.host_slip_writer.specs.WriteSlip.{askedSlip, writeSlipCall};
@@ -12,20 +13,20 @@ fn write_slip_of(
     stakes: &[u64],
     store: &[u8],
     locator: &[u8],
-    withdrawing: bool,
+    reading: Reading,
     out: &mut [u8],
 ) -> SlipAnswer
-    ensures { λ r. ⌜ asSlipAnswer r ≡ askedSlip (readingOf withdrawing) (now (stakes .entry)) (now (store .entry)) (locatorOf (now (locator .entry))) (now (out .entry)) .answer ⌝ }
-    ensures { λ r. ⌜ now (out .exit) ≡ askedSlip (readingOf withdrawing) (now (stakes .entry)) (now (store .entry)) (locatorOf (now (locator .entry))) (now (out .entry)) .out ⌝ }
+    ensures { λ r. ⌜ asSlipAnswer r ≡ askedSlip (asReading reading) (now (stakes .entry)) (now (store .entry)) (locatorOf (now (locator .entry))) (now (out .entry)) .answer ⌝ }
+    ensures { λ r. ⌜ now (out .exit) ≡ askedSlip (asReading reading) (now (stakes .entry)) (now (store .entry)) (locatorOf (now (locator .entry))) (now (out .entry)) .out ⌝ }
 {
     if locator.len() != types::LOCATOR_BYTES {
         return SlipAnswer::Refused(host_locators::refusal_before(20, stakes, store));
     }
-    slip_writer::write_slip_in(
+    slip_write_call::write_slip_in(
         stakes,
         store,
-        reference_bytes::read_locator(locator, 0),
-        withdrawing,
+        record_reference_bytes::read_locator(locator, 0),
+        reading,
         out,
     )
 }
@@ -35,15 +36,15 @@ pub fn write_slip(
     stakes: &[u8],
     store: &[u8],
     locator: &[u8],
-    withdrawing: bool,
+    reading: Reading,
     out: &mut [u8],
 ) -> u64
-    ensures { λ r. ⌜ r ≡ encoded (writeSlipCall (readingOf withdrawing) (now (stakes .entry)) (now (store .entry)) (now (locator .entry)) (now (out .entry)) .answer) ⌝ }
-    ensures { λ r. ⌜ now (out .exit) ≡ writeSlipCall (readingOf withdrawing) (now (stakes .entry)) (now (store .entry)) (now (locator .entry)) (now (out .entry)) .out ⌝ }
+    ensures { λ r. ⌜ r ≡ encoded (writeSlipCall (asReading reading) (now (stakes .entry)) (now (store .entry)) (now (locator .entry)) (now (out .entry)) .answer) ⌝ }
+    ensures { λ r. ⌜ now (out .exit) ≡ writeSlipCall (asReading reading) (now (stakes .entry)) (now (store .entry)) (now (locator .entry)) (now (out .entry)) .out ⌝ }
 {
     let mut held = [0u64; committee::MAX_MEMBERS];
     let n = host_calls::stakes_of(stakes, &mut held);
-    match write_slip_of(&held[..n], store, locator, withdrawing, out) {
+    match write_slip_of(&held[..n], store, locator, reading, out) {
         SlipAnswer::Written(length) => length as u64,
         SlipAnswer::Refused(number) => host_calls::REFUSED + number,
     }

@@ -6,11 +6,11 @@ use Rattle.base.specs.Lists.{allOf}
 use Rattle.base.specs.Le.{Bytes}
 use Rattle.base.specs.Checks.{refused}
 use Rattle.committee.specs.Committee.{Committee}
-use Rattle.slips.specs.Slip.{slipIn}
-use Rattle.slips.specs.Reading.{readChecks, readAnswer}
-use Rattle.slip_reader.specs.Answers.{asSlipAnswer}
-use Rattle.slip_reader.specs.declared.SlipAnswer.{SlipAnswer}
-use Rattle.slip_reader.specs.declared.SlipAnswer.the-variants.{Accepted, Refused}
+use Rattle.slip_spec.specs.Slip.{slipIn}
+use Rattle.slip_spec.specs.Reading.{readChecks, readAnswer}
+use Rattle.slip_read_call.specs.Answers.{asSlipAnswer}
+use Rattle.slip_read_call.specs.declared.SlipAnswer.{SlipAnswer}
+use Rattle.slip_read_call.specs.declared.SlipAnswer.the-variants.{Accepted, Refused}
 use Rattle.host_calls.specs.Calls.{encoded}
 use Rattle.host_calls.proofs.Numbers.{checked-most}
 

@@ -7,10 +7,10 @@ use Rattle.base.specs.Lists.{allOf}
 use Rattle.base.specs.Le.{Bytes}
 use Rattle.base.specs.Checks.{refused}
 use Rattle.committee.specs.Committee.{Committee}
-use Rattle.sorted_replies.specs.Sorted.{asked, sortedChecks, AskedSorted, answerSorted}
-use Rattle.answer_sorted.specs.Answers.{asSorted}
-use Rattle.answer_sorted.specs.declared.SortedAnswer.{SortedAnswer}
-use Rattle.answer_sorted.specs.declared.SortedAnswer.the-variants.{Replies, Refused}
+use Rattle.sorted_spec.specs.Sorted.{asked, sortedChecks, AskedSorted, answerSorted}
+use Rattle.sorted_question.specs.Answers.{asSorted}
+use Rattle.sorted_question.specs.declared.SortedAnswer.{SortedAnswer}
+use Rattle.sorted_question.specs.declared.SortedAnswer.the-variants.{Replies, Refused}
 use Rattle.host_calls.specs.Calls.{encoded}
 use Rattle.host_calls.proofs.Numbers.{checked-most}
 

@@ -1,7 +1,7 @@
 // A sorted list of locators answered for a host: stakes as bytes, index and replies as words.
-use answer_sorted::SortedAnswer;
+use sorted_question::SortedAnswer;
 ghost use mathlib.Core.Path.{_≡_};
-ghost use Rattle.sorted_replies.specs.Sorted.{answerSorted};
+ghost use Rattle.sorted_spec.specs.Sorted.{answerSorted};
 ghost use Rattle.host_calls.specs.Calls.{encoded, committeeOf};
 
 // The number of locators; their replies stand in front of `replies`.
@@ -17,7 +17,7 @@ pub fn answer_sorted_of(
 {
     let mut held = [0u64; committee::MAX_MEMBERS];
     let n = host_calls::stakes_of(stakes, &mut held);
-    match answer_sorted::answer_sorted(&held[..n], store, index, locators, replies) {
+    match sorted_question::answer_sorted(&held[..n], store, index, locators, replies) {
         SortedAnswer::Replies(count) => count,
         SortedAnswer::Refused(number) => host_calls::REFUSED + number,
     }

@@ -14,11 +14,11 @@ use Rattle.base.specs.Checks.{Answer, refused}
 use Rattle.base.proofs.Fixed.{reads-at, short-at}
 use Rattle.base.proofs.Lists.{isEmpty-false}
 use Rattle.committee.specs.Committee.{Committee}
-use Rattle.blocks.specs.Reference.{BlockReference}
-use Rattle.blocks.specs.Record.{readReference}
-use Rattle.reference_bytes.specs.Step.{referenceAt}
-use Rattle.reference_bytes.proofs.Fixed.{fixed-reference, reference-value}
-use Rattle.block_time.specs.Times.{timeChecks, askTime}
+use Rattle.record_spec.specs.Reference.{BlockReference}
+use Rattle.record_spec.specs.Record.{readReference}
+use Rattle.record_reference_bytes.specs.Step.{referenceAt}
+use Rattle.record_reference_bytes.proofs.Fixed.{fixed-reference, reference-value}
+use Rattle.store_time.specs.Times.{timeChecks, askTime}
 use Rattle.host_calls.proofs.Numbers.{checked-most}
 use Rattle.host_locators.specs.Locators.{refusalBefore}
 use Rattle.host_times.specs.Times.{referenceOf, foundIn, askedTime}

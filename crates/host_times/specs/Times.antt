@@ -8,9 +8,9 @@ use Rattle.base.specs.Le.{Bytes, leBytes}
 use Rattle.base.specs.Read.{complete}
 use Rattle.base.specs.Checks.{Answer, refused, answered}
 use Rattle.committee.specs.Committee.{Committee}
-use Rattle.blocks.specs.Reference.{BlockReference}
-use Rattle.blocks.specs.Record.{readReference}
-use Rattle.block_time.specs.Times.{askTime}
+use Rattle.record_spec.specs.Reference.{BlockReference}
+use Rattle.record_spec.specs.Record.{readReference}
+use Rattle.store_time.specs.Times.{askTime}
 use Rattle.host_calls.specs.Calls.{committeeOf}
 use Rattle.host_locators.specs.Locators.{refusalBefore}
 

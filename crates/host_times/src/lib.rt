@@ -1,5 +1,5 @@
 // What the host's call about a stored block's time is made of, over byte slices.
-use block_time::TimeAnswer;
+use store_time::TimeAnswer;
 ghost use mathlib.Core.Path.{_≡_};
 ghost use Rattle.host_calls.specs.Calls.{encoded};
 ghost use Rattle.host_times.specs.Times.{referenceOf, askedTime, creationTimeCall};
@@ -13,7 +13,11 @@ fn time_of(stakes: &[u64], store: &[u8], reference: &[u8], found: &mut [u8]) -> 
     if found.len() != 8 {
         return host_calls::REFUSED + host_locators::refusal_before(40, stakes, store);
     }
-    match block_time::creation_time(stakes, store, reference_bytes::read_reference(reference, 0)) {
+    match store_time::creation_time(
+        stakes,
+        store,
+        record_reference_bytes::read_reference(reference, 0),
+    ) {
         TimeAnswer::Found(time) => {
             base::write_u64(found, 0, time);
             1

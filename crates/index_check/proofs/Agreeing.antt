@@ -17,26 +17,26 @@ use Rattle.base.proofs.Le.{AllBytes}
 use Rattle.base.proofs.Members.{in-empty, in-cases, in-right, map-in}
 use Rattle.base.proofs.Lists.{every-in}
 use Rattle.committee.specs.Committee.{Committee}
-use Rattle.blocks.specs.Reference.{BlockReference, referenceBefore}
-use Rattle.blocks.specs.Block.{Block}
-use Rattle.blocks.proofs.References.{reference-refl, other-reference, reference-irrefl}
-use Rattle.blocks.proofs.Records.{ReferenceFits, BlockFits, blockOf-fits}
-use Rattle.store_layout.specs.Layout.{Record, usedBy}
-use Rattle.store_layout.specs.Store.{recordsOf}
-use Rattle.store_layout.proofs.Search.{referenceIn, order-rises}
-use Rattle.store_layout.proofs.Store.{recordsOf-bytes, recordsOf-right, right-block}
-use Rattle.store_layout.specs.Entry.{blockAt}
-use Rattle.store_layout.proofs.Stored.{WellStored, stored}
-use Rattle.store_layout.proofs.Accepted.{blocks}
-use Rattle.finality.specs.Finality.{blocksOf}
-use Rattle.block_votes.specs.Walk.{Sorted, blockAtPlace}
-use Rattle.voters_index.specs.Runs.{Run}
-use Rattle.voters_index.specs.Part.{partFrom, partIn}
-use Rattle.voters_index.specs.Index.{partWords, indexed, bodyWords, usedWords, indexAgrees}
-use Rattle.voters_index.proofs.Grown.{used-grows, agrees-used}
-use Rattle.voters_index.proofs.Checking.{agrees-part, Checked, checked-start, checked-on, checked-end}
-use Rattle.voters_index.proofs.Reading.{part-back, part-length}
-use Rattle.voters_index.proofs.Fitting.{run-reference}
+use Rattle.record_spec.specs.Reference.{BlockReference, referenceBefore}
+use Rattle.record_spec.specs.Block.{Block}
+use Rattle.record_spec.proofs.References.{reference-refl, other-reference, reference-irrefl}
+use Rattle.record_spec.proofs.Records.{ReferenceFits, BlockFits, blockOf-fits}
+use Rattle.store_spec.specs.Layout.{Record, usedBy}
+use Rattle.store_spec.specs.Store.{recordsOf}
+use Rattle.store_spec.proofs.Search.{referenceIn, order-rises}
+use Rattle.store_spec.proofs.Store.{recordsOf-bytes, recordsOf-right, right-block}
+use Rattle.store_spec.specs.Entry.{blockAt}
+use Rattle.store_spec.proofs.Stored.{WellStored, stored}
+use Rattle.store_spec.proofs.Accepted.{blocks}
+use Rattle.final_spec.specs.Finality.{blocksOf}
+use Rattle.final_block_votes.specs.Walk.{Sorted, blockAtPlace}
+use Rattle.index_spec.specs.Runs.{Run}
+use Rattle.index_spec.specs.Part.{partFrom, partIn}
+use Rattle.index_spec.specs.Index.{partWords, indexed, bodyWords, usedWords, indexAgrees}
+use Rattle.index_spec.proofs.Grown.{used-grows, agrees-used}
+use Rattle.index_spec.proofs.Checking.{agrees-part, Checked, checked-start, checked-on, checked-end}
+use Rattle.index_spec.proofs.Reading.{part-back, part-length}
+use Rattle.index_spec.proofs.Fitting.{run-reference}
 use Rattle.index_parts.proofs.Words.{part-count}
 use Rattle.index_check.specs.Known.{Stands, Known}
 use Rattle.index_check.proofs.Fits.{span-fits}
@@ -96,22 +96,26 @@ module _ (c : Committee) (s : Bytes) (order ix starts₀ : List ℕ) (o : Sorted
     unfolding blocksOf
     agreeing-differs f =
         fails (indexAgrees (blocks rs) ix) λ t.
-        let u : indexAgrees (blocks (a .newer) ++ b ∷ blocks older) ix ≡ true = subst (λ (bs : List Block). indexAgrees bs ix ≡ true) (ap blocks (a .are) ∙ map-append (λ r. r .block) (a .newer) (a .own ∷ older)) t in
+        let u : indexAgrees (blocks (a .newer) ++ b ∷ blocks older) ix ≡ true = subst (λ (bs : List Block). indexAgrees bs ix ≡ true) (ap blocks (a .are) ∙
+        map-append (λ r. r .block) (a .newer) (a .own ∷ older)) t in
         let p = agrees-part (blocks (a .newer)) b (blocks older) ix u in
         f (p .0) (ap (λ (n : ℕ). drop n ix) (g .words) ∙ p .1 ∙ ap (λ (xs : List Run). partWords xs ++ p .0) (newest-part b (blocks older)))
 
     module _ (e : ℕ) (ends : e ≡ pos + length (partWords part)) (inside : e ≤ length ix) (there-is : drop pos ix ≡ partWords part ++ drop e ix) where
       part-words : drop (usedWords (indexed (blocks older))) ix ≡ partWords (partIn (b ∷ blocks older) (b .reference)) ++ drop e ix
-      part-words = ap (λ (n : ℕ). drop n ix) (sym (g .words)) ∙ there-is ∙ ap (λ (xs : List Run). partWords xs ++ drop e ix) (sym (newest-part b (blocks older)))
+      part-words = ap (λ (n : ℕ). drop n ix) (sym (g .words)) ∙ there-is ∙ ap (λ (xs : List Run). partWords xs ++ drop e ix) (sym (newest-part b (blocks
+          older)))
 
       stored-in : (d : Block) → d ∈ (b ∷ blocks older) → d ∈ blocks rs
-      stored-in d m = subst (λ (bs : List Block). d ∈ bs) (sym (ap blocks (a .are) ∙ map-append (λ r. r .block) (a .newer) (a .own ∷ older))) (in-right (blocks (a .newer)) m)
+      stored-in d m = subst (λ (bs : List Block). d ∈ bs) (sym (ap blocks (a .are) ∙ map-append (λ r. r .block) (a .newer) (a .own ∷ older))) (in-right
+          (blocks (a .newer)) m)
 
       block-fits : (d : Block) → d ∈ blocks rs → BlockFits d
       block-fits d m =
           let r = map-in (λ x. x .block) rs m in
           subst BlockFits (r .2)
-          (blockOf-fits (r .0 .bytes) (r .0 .block) (every-in rs (r .0) (recordsOf-bytes s bytes) (r .1)) (right-block (r .0) (every-in rs (r .0) (recordsOf-right s) (r .1))))
+          (blockOf-fits (r .0 .bytes) (r .0 .block) (every-in rs (r .0) (recordsOf-bytes s bytes) (r .1)) (right-block (r .0) (every-in rs (r .0)
+          (recordsOf-right s) (r .1))))
 
       run-fits : (x : Run) → x ∈ partIn (b ∷ blocks older) (b .reference) → ReferenceFits (x .reference)
       run-fits x m = run-reference (b ∷ blocks older) (b .reference) x m ReferenceFits (λ d n q k. span-fits d (block-fits d (stored-in d n)) q k)
@@ -130,11 +134,13 @@ module _ (c : Committee) (s : Bytes) (order ix starts₀ : List ℕ) (o : Sorted
         unfolding blockAtPlace
         one-place j n q = go (decLt j k) (decLt k j)
           where
-            apart : (x y : ℕ) → x < y → y < length order → blockAt s (getD order x 0) .reference ≡ b .reference → blockAt s (getD order y 0) .reference ≡ b .reference → ⊥
+            apart : (x y : ℕ) → x < y → y < length order → blockAt s (getD order x 0) .reference ≡ b .reference → blockAt s (getD order y 0) .reference ≡ b
+                .reference → ⊥
             apart x y u v e₁ e₂ =
                 reference-irrefl (b .reference)
                 (subst (λ (z : BlockReference). referenceBefore z (b .reference) ≡ true) e₁
-                (subst (λ (z : BlockReference). referenceBefore (blockAt s (getD order x 0) .reference) z ≡ true) e₂ (unfold referenceIn in order-rises s (o .laid) order (o .places) x y u v)))
+                (subst (λ (z : BlockReference). referenceBefore (blockAt s (getD order x 0) .reference) z ≡ true) e₂ (unfold referenceIn in order-rises s
+                (o .laid) order (o .places) x y u v)))
 
             go : Dec (j < k) → Dec (k < j) → j ≡ k
             go (yes u) v = absurd (apart j k u m q r)
@@ -154,15 +160,22 @@ module _ (c : Committee) (s : Bytes) (order ix starts₀ : List ℕ) (o : Sorted
               parts = λ j n d p q. split j n d q (in-cases p);
             }
           where
-            split : (j : ℕ) → j < length order → (d : Block) → d .reference ≡ blockAtPlace s order j .reference → (d ≡ b) ⊎ (d ∈ blocks older) → Stands ix (getD (set starts k pos) j 0) (partIn (b ∷ blocks older) (d .reference))
+            split : (j : ℕ) → j < length order → (d : Block) → d .reference ≡ blockAtPlace s order j .reference → (d ≡ b) ⊎ (d ∈ blocks older) → Stands ix
+                (getD (set starts k pos) j 0) (partIn (b ∷ blocks older) (d .reference))
             split j n d q (inl z) =
                 let w : d .reference ≡ b .reference = ap (λ (x : Block). x .reference) z in
                 let u : j ≡ k = one-place j n (sym q ∙ w) in
-                let v : getD (set starts k pos) j 0 ≡ pos = ap (λ (x : ℕ). getD (set starts k pos) x 0) u ∙ getD-set-same starts k pos 0 (omega (arith, g .known .long)) in
-                subst (λ (x : ℕ). Stands ix x (partIn (b ∷ blocks older) (d .reference))) (sym v) (subst (λ (x : BlockReference). Stands ix pos (partIn (b ∷ blocks older) x)) (sym w) newest-stands)
+                let v : getD (set starts k pos) j 0 ≡ pos = ap (λ (x : ℕ). getD (set starts k pos) x 0) u ∙ getD-set-same starts k pos 0 (omega (
+                  arith,
+                  g
+                      .known .long,
+                )) in
+                subst (λ (x : ℕ). Stands ix x (partIn (b ∷ blocks older) (d .reference))) (sym v) (subst (λ (x : BlockReference). Stands ix pos (partIn (b
+                ∷ blocks older) x)) (sym w) newest-stands)
             split j n d q (inr z) =
                 let u : j ≡ k → ⊥ = λ y. new d z (q ∙ ap (λ (x : ℕ). blockAtPlace s order x .reference) y ∙ r) in
-                let f : partIn (b ∷ blocks older) (d .reference) ≡ partIn (blocks older) (d .reference) = other-part b (blocks older) (d .reference) (λ y. new d z (sym y)) in
+                let f : partIn (b ∷ blocks older) (d .reference) ≡ partIn (blocks older) (d .reference) = other-part b (blocks older) (d .reference) (λ y.
+                new d z (sym y)) in
                 subst (λ (x : ℕ). Stands ix x (partIn (b ∷ blocks older) (d .reference))) (sym (getD-set-other starts k j pos 0 u))
                 (subst (Stands ix (getD starts j 0)) (sym f) (g .known .parts j n d z q))
 
@@ -175,7 +188,8 @@ module _ (c : Committee) (s : Bytes) (order ix starts₀ : List ℕ) (o : Sorted
               place = sized ∙ ap usedBy (sym (a .next));
               words = used ∙ ap (λ (qs : List Record). usedWords (indexed (blocks qs))) (sym (a .next));
               within = inside;
-              checked = subst (λ (qs : List Record). Checked (blocks qs) ix) (sym (a .next)) (checked-on b (blocks older) ix (drop e ix) (g .checked) part-words);
+              checked = subst (λ (qs : List Record). Checked (blocks qs) ix) (sym (a .next)) (checked-on b (blocks older) ix (drop e ix) (g .checked)
+                  part-words);
               known = subst (λ (qs : List Record). Known s order ix (set starts k pos) (blocks qs)) (sym (a .next)) known-next;
             }
           where
@@ -201,7 +215,8 @@ module _ (c : Committee) (s : Bytes) (order ix starts₀ : List ℕ) (o : Sorted
         words = g .words ∙ ap (λ (qs : List Record). usedWords (indexed (blocks qs))) whole
 
         go : Dec (getD ix 0 0 ≡ pos) → eqb (getD ix 0 0) pos ≡ indexAgrees (blocks rs) ix
-        go (yes e) = eq-eqb (getD ix 0 0) pos e ∙ sym (checked-end (blocks rs) ix (subst (λ (qs : List Record). Checked (blocks qs) ix) whole (g .checked)) (e ∙ words))
+        go (yes e) = eq-eqb (getD ix 0 0) pos e ∙ sym (checked-end (blocks rs) ix (subst (λ (qs : List Record). Checked (blocks qs) ix) whole (g .checked))
+            (e ∙ words))
         go (no e) = ne-eqb (getD ix 0 0) pos e ∙ sym (fails (indexAgrees (blocks rs) ix) (λ t. e (agrees-used (blocks rs) ix t ∙ sym words)))
 
     pub agreeing-known : Known s order ix starts (blocksOf s)
@@ -210,5 +225,6 @@ module _ (c : Committee) (s : Bytes) (order ix starts₀ : List ℕ) (o : Sorted
 
 -- no words are no index
 pub no-index : (bs : List Block) (ix : List ℕ) → length ix ≤ 0 → indexAgrees bs ix ≡ false
-no-index bs [] h = fails (indexAgrees bs []) (λ t. let e = agrees-used bs [] t in let u : usedWords (indexed bs) ≡ 1 + length (bodyWords (indexed bs)) = unfold usedWords in refl in omega arith)
+no-index bs [] h = fails (indexAgrees bs []) (λ t. let e = agrees-used bs [] t in let u : usedWords (indexed bs) ≡ 1 + length (bodyWords (indexed bs)) =
+    unfold usedWords in refl in omega arith)
 no-index bs (w ∷ ix) h = absurd (omega arith)

@@ -16,24 +16,24 @@ use Rattle.base.proofs.Lists.{every-in}
 use Rattle.base.proofs.Members.{in-right, in-any, map-in}
 use Rattle.committee.specs.Committee.{Committee}
 use Rattle.committee.proofs.Bounds.{few-members, known-below}
-use Rattle.blocks.specs.Reference.{BlockReference, sameReference}
-use Rattle.blocks.specs.Block.{Block, author, spans}
-use Rattle.blocks.proofs.References.{same-reference}
-use Rattle.blocks.proofs.Records.{BlockFits, blockOf-fits}
-use Rattle.store_layout.specs.Layout.{Record, usedBy}
-use Rattle.store_layout.specs.Store.{recordsOf, recordIn}
-use Rattle.store_layout.specs.Accept.{isStored, blockChecks, allAccepted}
-use Rattle.store_layout.specs.Entry.{recordAt, blockAt, positions, isEntry}
-use Rattle.store_layout.proofs.Walk.{Walked, then, walked-drop, Stands}
-use Rattle.store_layout.proofs.Loops.{formed-at, block-at, place-entry, length-positions}
-use Rattle.store_layout.proofs.Sorted.{is-in}
-use Rattle.store_layout.proofs.Search.{laid-out}
-use Rattle.store_layout.proofs.Lookups.{accepted-older, position-at}
-use Rattle.store_layout.proofs.Store.{in-order, recordsOf-bytes, recordsOf-right, right-block}
-use Rattle.store_layout.proofs.Stored.{WellStored, stored}
-use Rattle.store_layout.proofs.Accepted.{blocks, known-author, accepted-stored}
-use Rattle.block_votes.specs.Walk.{Sorted}
-use Rattle.own_runs.specs.Own.{EndsFit, Voting}
+use Rattle.record_spec.specs.Reference.{BlockReference, sameReference}
+use Rattle.record_spec.specs.Block.{Block, author, spans}
+use Rattle.record_spec.proofs.References.{same-reference}
+use Rattle.record_spec.proofs.Records.{BlockFits, blockOf-fits}
+use Rattle.store_spec.specs.Layout.{Record, usedBy}
+use Rattle.store_spec.specs.Store.{recordsOf, recordIn}
+use Rattle.store_spec.specs.Accept.{isStored, blockChecks, allAccepted}
+use Rattle.store_spec.specs.Entry.{recordAt, blockAt, positions, isEntry}
+use Rattle.store_spec.proofs.Walk.{Walked, then, walked-drop, Stands}
+use Rattle.store_spec.proofs.Loops.{formed-at, block-at, place-entry, length-positions}
+use Rattle.store_spec.proofs.Sorted.{is-in}
+use Rattle.store_spec.proofs.Search.{laid-out}
+use Rattle.store_spec.proofs.Lookups.{accepted-older, position-at}
+use Rattle.store_spec.proofs.Store.{in-order, recordsOf-bytes, recordsOf-right, right-block}
+use Rattle.store_spec.proofs.Stored.{WellStored, stored}
+use Rattle.store_spec.proofs.Accepted.{blocks, known-author, accepted-stored}
+use Rattle.final_block_votes.specs.Walk.{Sorted}
+use Rattle.index_own_runs.specs.Own.{EndsFit, Voting}
 use Rattle.index_check.specs.Known.{Rooted}
 use Rattle.index_check.proofs.Fits.{ends-fit}
 
@@ -129,14 +129,20 @@ module _ (c : Committee) (s : Bytes) (order : List ℕ) (o : Sorted c s order) (
   own-in = subst (λ (qs : List Record). own ∈ qs) (sym (a .are)) (in-right (a .newer) here)
 
   pub own-fits : BlockFits (own .block)
-  own-fits = blockOf-fits (own .bytes) (own .block) (every-in rs own (recordsOf-bytes s bytes) own-in) (right-block own (every-in rs own (recordsOf-right s) own-in))
+  own-fits = blockOf-fits (own .bytes) (own .block) (every-in rs own (recordsOf-bytes s bytes) own-in) (right-block own (every-in rs own (recordsOf-right
+      s) own-in))
 
   pub arrived-voting : Voting (recordAt s (usedBy older))
   unfolding blockAt
   arrived-voting =
       record {
         formed = formed-at s (usedBy older) own own-stands;
-        author = subst (λ (b : Block). author b < 128) (sym arrived-block) (omega (arith, few-members c (o .sound), known-below c (author (own .block)) (known-author c older (own .block) own-passes)));
+        author = subst (λ (b : Block). author b < 128) (sym arrived-block) (omega (
+          arith,
+          few-members c (o .sound),
+          known-below c (author (own .block))
+              (known-author c older (own .block) own-passes),
+        ));
         ends = subst (λ (b : Block). EndsFit (spans b)) (sym arrived-block) (ends-fit (own .block) own-fits c older own-passes);
       }
 

@@ -7,14 +7,14 @@ use Rattle.base.specs.Lists.{_∈_}
 use Rattle.base.specs.Checks.{passes}
 use Rattle.base.proofs.Lists.{every-in}
 use Rattle.committee.specs.Committee.{Committee}
-use Rattle.blocks.specs.Reference.{TransactionLocatorRange, locator, newRange, oneRange}
-use Rattle.blocks.specs.Block.{Statement, share, accept, reject, voteRange, Block, votedRange, spans}
-use Rattle.blocks.proofs.Spans.{Span, ofShare, ofVote, span-of}
-use Rattle.blocks.proofs.Records.{ReferenceFits, StatementFits, BlockFits}
-use Rattle.store_layout.specs.Layout.{Record}
-use Rattle.store_layout.specs.Accept.{blockChecks}
-use Rattle.own_runs.specs.Own.{EndsFit}
-use Rattle.store_layout.proofs.Ends.{accept-lower, span-end}
+use Rattle.record_spec.specs.Reference.{TransactionLocatorRange, locator, newRange, oneRange}
+use Rattle.record_spec.specs.Block.{Statement, share, accept, reject, voteRange, Block, votedRange, spans}
+use Rattle.record_spec.proofs.Spans.{Span, ofShare, ofVote, span-of}
+use Rattle.record_spec.proofs.Records.{ReferenceFits, StatementFits, BlockFits}
+use Rattle.store_spec.specs.Layout.{Record}
+use Rattle.store_spec.specs.Accept.{blockChecks}
+use Rattle.index_own_runs.specs.Own.{EndsFit}
+use Rattle.store_spec.proofs.Ends.{accept-lower, span-end}
 
 module _ (b : Block) (f : BlockFits b) where
   voted-fits : (x : Statement) → StatementFits x → (q : TransactionLocatorRange) → votedRange x ≡ some q → ReferenceFits (q .block)

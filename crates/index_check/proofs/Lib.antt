@@ -2,3 +2,4 @@ pub mod Opening
 pub mod Fits
 pub mod Arriving
 pub mod Agreeing
+mod Next

@@ -8,23 +8,23 @@ use lib.ListN.{length, getD, take, drop, set, length-set}
 use lib.Seq.{take-suc, take-length, getD-set-same, getD-set-other}
 use Rattle.base.specs.Le.{Bytes}
 use Rattle.base.proofs.Places.{in-place}
-use Rattle.authority_set.specs.AuthoritySet.{AuthoritySet, united}
-use Rattle.authority_set.proofs.Words.{nobody-united}
-use Rattle.blocks.specs.Reference.{BlockReference, TransactionLocator}
-use Rattle.blocks.specs.Block.{Block}
-use Rattle.blocks.specs.Record.{noReference}
-use Rattle.finality.specs.Voters.{ownVote, unions}
-use Rattle.block_votes.specs.Walk.{blockAtPlace}
-use Rattle.voters_index.specs.Runs.{Run, votersIn}
-use Rattle.voters_index.specs.Part.{RunsOf, ownRuns, partFrom, partIn}
-use Rattle.voters_index.specs.Walk.{Place, anywhere, runsFrom, partAt}
-use Rattle.voters_index.proofs.Chain.{Anything, Chain, end, link, Differs}
-use Rattle.voters_index.proofs.Relation.{runs-chain}
-use Rattle.voters_index.proofs.Ascending.{stretched-runs}
-use Rattle.voters_index.proofs.Parts.{part-runs, from-names}
+use Rattle.committee_set.specs.AuthoritySet.{AuthoritySet, united}
+use Rattle.committee_set.proofs.Words.{nobody-united}
+use Rattle.record_spec.specs.Reference.{BlockReference, TransactionLocator}
+use Rattle.record_spec.specs.Block.{Block}
+use Rattle.record_spec.specs.Record.{noReference}
+use Rattle.final_spec.specs.Voters.{ownVote, unions}
+use Rattle.final_block_votes.specs.Walk.{blockAtPlace}
+use Rattle.index_spec.specs.Runs.{Run, votersIn}
+use Rattle.index_spec.specs.Part.{RunsOf, ownRuns, partFrom, partIn}
+use Rattle.index_spec.specs.Walk.{Place, anywhere, runsFrom, partAt}
+use Rattle.index_spec.proofs.Chain.{Anything, Chain, end, link, Differs}
+use Rattle.index_spec.proofs.Relation.{runs-chain}
+use Rattle.index_spec.proofs.Ascending.{stretched-runs}
+use Rattle.index_spec.proofs.Parts.{part-runs, from-names}
 use Rattle.index_merge.specs.Sources.{cursorAt, cursorLeft, source, namedBy, Ready, together}
-use Rattle.own_runs.specs.Own.{OwnRuns}
-use Rattle.finality.proofs.Spoken.{unions-more}
+use Rattle.index_own_runs.specs.Own.{OwnRuns}
+use Rattle.final_spec.proofs.Spoken.{unions-more}
 use Rattle.index_check.specs.Known.{Stands, Known, Rooted, Opened}
 
 map-last : {A B : Type 0} (f : A → B) (xs : List A) (x : A) → map f (xs ++ (x ∷ [])) ≡ map f xs ++ (f x ∷ [])
@@ -60,11 +60,13 @@ module _ (s : Bytes) (order ix starts : List ℕ) (bs : List Block) (b : Block) 
 
     at-same : cursorAt next-cs j ≡ start + 1
     unfolding cursorAt
-    at-same = getD-set-other (set cs (2 * j) (start + 1)) (2 * j + 1) (2 * j) (getD ix start 0) 0 (λ (e : 2 * j ≡ 2 * j + 1). omega arith) ∙ getD-set-same cs (2 * j) (start + 1) 0 (omega arith)
+    at-same = getD-set-other (set cs (2 * j) (start + 1)) (2 * j + 1) (2 * j) (getD ix start 0) 0 (λ (e : 2 * j ≡ 2 * j + 1). omega arith) ∙ getD-set-same
+        cs (2 * j) (start + 1) 0 (omega arith)
 
     left-same : cursorLeft next-cs j ≡ getD ix start 0
     unfolding cursorLeft
-    left-same = let h : 2 * j + 1 < length (set cs (2 * j) (start + 1)) = omega (arith, length-set cs (2 * j) (start + 1)) in getD-set-same (set cs (2 * j) (start + 1)) (2 * j + 1) (getD ix start 0) 0 h
+    left-same = let h : 2 * j + 1 < length (set cs (2 * j) (start + 1)) = omega (arith, length-set cs (2 * j) (start + 1)) in getD-set-same (set cs (2 * j)
+        (start + 1)) (2 * j + 1) (getD ix start 0) 0 h
 
     at-before : (m : ℕ) → m < j → cursorAt next-cs m ≡ cursorAt cs m
     unfolding cursorAt
@@ -78,7 +80,8 @@ module _ (s : Bytes) (order ix starts : List ℕ) (bs : List Block) (b : Block) 
         getD-set-other (set cs (2 * j) (start + 1)) (2 * j + 1) (2 * m + 1) (getD ix start 0) 0 (λ (e : 2 * m + 1 ≡ 2 * j + 1). omega arith)
         ∙ getD-set-other cs (2 * j) (2 * m + 1) (start + 1) 0 (λ (e : 2 * m + 1 ≡ 2 * j). omega arith)
 
-    pub opening-on : Opening bs b ix cs j → Stands ix start (partIn bs (getD (b .includes) j noReference)) → Opening bs b ix (set (set cs (2 * j) (start + 1)) (2 * j + 1) (getD ix start 0)) (j + 1)
+    pub opening-on : Opening bs b ix cs j → Stands ix start (partIn bs (getD (b .includes) j noReference)) → Opening bs b ix (set (set cs (2 * j) (start +
+        1)) (2 * j + 1) (getD ix start 0)) (j + 1)
     unfolding source partAt
     opening-on h k =
         record {
@@ -90,7 +93,8 @@ module _ (s : Bytes) (order ix starts : List ℕ) (bs : List Block) (b : Block) 
         within m (yes n) u = rw (at-before m n, left-before m n) (h .inside m n)
         within m (no n) u = let z : m ≡ j = omega arith in rw (z, at-same, left-same) (k .inside)
 
-        equal : (m : ℕ) → Dec (m < j) → m < j + 1 → runsFrom (cursorLeft next-cs m) (drop (cursorAt next-cs m) ix) ≡ partIn bs (getD (b .includes) m noReference)
+        equal : (m : ℕ) → Dec (m < j) → m < j + 1 → runsFrom (cursorLeft next-cs m) (drop (cursorAt next-cs m) ix) ≡ partIn bs (getD (b .includes) m
+            noReference)
         equal m (yes n) u = rw (at-before m n, left-before m n) (h .are m n)
         equal m (no n) u = let z : m ≡ j = omega arith in rw (z, at-same, left-same) (k .are)
 
@@ -102,9 +106,11 @@ module _ (s : Bytes) (order ix starts : List ℕ) (bs : List Block) (b : Block) 
           room = room;
           inside = h .inside;
           chains = λ k m. subst (λ (xs : List Run). Chain Anything anywhere xs) (sym (h .are k m))
-              (loosened (partIn bs (getD (b .includes) k noReference)) (runs-chain (partIn bs (getD (b .includes) k noReference)) (part-runs bs (getD (b .includes) k noReference))));
+              (loosened (partIn bs (getD (b .includes) k noReference)) (runs-chain (partIn bs (getD (b .includes) k noReference)) (part-runs bs (getD (b
+              .includes) k noReference))));
         };
-        names = λ l. all l n (omega arith) ∙ ap (λ (is : List BlockReference). unions (map (λ i. votersIn (partIn bs i) l) is)) (ap (λ (k : ℕ). take k (b .includes)) e ∙ take-length (b .includes));
+        names = λ l. all l n (omega arith) ∙ ap (λ (is : List BlockReference). unions (map (λ i. votersIn (partIn bs i) l) is)) (ap (λ (k : ℕ). take k (b
+            .includes)) e ∙ take-length (b .includes));
       }
     where
       all : (l : TransactionLocator) (k : ℕ) → k ≤ n → namedBy ix cs k l ≡ unions (map (λ i. votersIn (partIn bs i) l) (take k (b .includes)))
@@ -115,7 +121,8 @@ module _ (s : Bytes) (order ix starts : List ℕ) (bs : List Block) (b : Block) 
           ap (λ (v : AuthoritySet). united v (votersIn (source ix cs k) l)) (all l k (omega arith))
           ∙ ap (λ (xs : List Run). united (unions (map (λ i. votersIn (partIn bs i) l) (take k (b .includes)))) (votersIn xs l)) (h .are k (omega arith))
           ∙ sym (unions-more (map (λ i. votersIn (partIn bs i) l) (take k (b .includes))) (votersIn (partIn bs i) l))
-          ∙ sym (ap unions (ap (map (λ i. votersIn (partIn bs i) l)) (take-suc (b .includes) k noReference (omega arith)) ∙ map-last (λ i. votersIn (partIn bs i) l) (take k (b .includes)) i))
+          ∙ sym (ap unions (ap (map (λ i. votersIn (partIn bs i) l)) (take-suc (b .includes) k noReference (omega arith)) ∙ map-last (λ i. votersIn (partIn
+          bs i) l) (take k (b .includes)) i))
 
 -- ---- the part
 
@@ -141,7 +148,8 @@ module _ (b : Block) (ws : List ℕ) (m : ℕ) (o : OwnRuns b ws m) (ms : List �
   unfolding namedBy
   own-names l = nobody-united (votersIn (source ws ms 0) l) ∙ ap (λ (xs : List Run). votersIn xs l) own-source ∙ o .names l
 
-  pub opened-runs : (bs : List Block) (ix cs : List ℕ) (n : ℕ) → Opened bs b ix cs n → RunsOf (together ws ms ix cs n) (partFrom b (map (partIn bs) (b .includes)))
+  pub opened-runs : (bs : List Block) (ix cs : List ℕ) (n : ℕ) → Opened bs b ix cs n → RunsOf (together ws ms ix cs n) (partFrom b (map (partIn bs) (b
+      .includes)))
   unfolding partFrom together
   opened-runs bs ix cs n h =
       stretched-runs (λ l. united (namedBy ws ms 1 l) (namedBy ix cs n l)) (ownRuns b ++ flatten (map (partIn bs) (b .includes)))

@@ -6,15 +6,15 @@ use mathlib.Core.List.{List, map}
 use lib.ListN.{length, getD}
 use Rattle.base.specs.Lists.{_∈_}
 use Rattle.base.specs.Le.{Bytes}
-use Rattle.blocks.specs.Reference.{BlockReference, TransactionLocator}
-use Rattle.blocks.specs.Block.{Block}
-use Rattle.store_layout.specs.Store.{recordsOf}
-use Rattle.store_layout.specs.Accept.{isStored}
-use Rattle.finality.specs.Voters.{unions}
-use Rattle.block_votes.specs.Walk.{blockAtPlace}
-use Rattle.voters_index.specs.Runs.{Run, votersIn}
-use Rattle.voters_index.specs.Part.{partIn}
-use Rattle.voters_index.specs.Walk.{partAt}
+use Rattle.record_spec.specs.Reference.{BlockReference, TransactionLocator}
+use Rattle.record_spec.specs.Block.{Block}
+use Rattle.store_spec.specs.Store.{recordsOf}
+use Rattle.store_spec.specs.Accept.{isStored}
+use Rattle.final_spec.specs.Voters.{unions}
+use Rattle.final_block_votes.specs.Walk.{blockAtPlace}
+use Rattle.index_spec.specs.Runs.{Run, votersIn}
+use Rattle.index_spec.specs.Part.{partIn}
+use Rattle.index_spec.specs.Walk.{partAt}
 use Rattle.index_merge.specs.Sources.{Ready, namedBy}
 
 -- these runs stand at a position
@@ -25,7 +25,8 @@ pub record Stands (ix : List ℕ) (p : ℕ) (xs : List Run) : Type 0 where
 -- for each place in ascending reference order whose block is among bs, where its part stands
 pub record Known (s : Bytes) (order ix starts : List ℕ) (bs : List Block) : Type 0 where
   pub long : length order ≤ length starts
-  pub parts : (k : ℕ) → k < length order → (d : Block) → d ∈ bs → d .reference ≡ blockAtPlace s order k .reference → Stands ix (getD starts k 0) (partIn bs (d .reference))
+  pub parts : (k : ℕ) → k < length order → (d : Block) → d ∈ bs → d .reference ≡ blockAtPlace s order k .reference → Stands ix (getD starts k 0)
+      (partIn bs (d .reference))
 
 -- the includes of a block are among bs, and stored
 pub record Rooted (s : Bytes) (bs : List Block) (b : Block) : Type 0 where

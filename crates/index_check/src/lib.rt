@@ -5,13 +5,13 @@ ghost use mathlib.Core.Bool.{true};
 ghost use mathlib.Core.List.{List, map};
 ghost use Prim.Native.Nat.{_≤_};
 ghost use lib.ListN.{length};
-ghost use Rattle.blocks.specs.Block.{Block};
-ghost use Rattle.blocks.specs.Record.{wellFormed, blockIn};
-ghost use Rattle.finality.specs.Finality.{blocksOf};
-ghost use Rattle.block_votes.specs.Walk.{SortedStore};
-ghost use Rattle.voters_index.specs.Part.{partFrom, partIn};
-ghost use Rattle.voters_index.specs.Index.{indexAgrees};
-ghost use Rattle.own_runs.specs.Own.{Voting};
+ghost use Rattle.record_spec.specs.Block.{Block};
+ghost use Rattle.record_spec.specs.Record.{wellFormed, blockIn};
+ghost use Rattle.final_spec.specs.Finality.{blocksOf};
+ghost use Rattle.final_block_votes.specs.Walk.{SortedStore};
+ghost use Rattle.index_spec.specs.Part.{partFrom, partIn};
+ghost use Rattle.index_spec.specs.Index.{indexAgrees};
+ghost use Rattle.index_own_runs.specs.Own.{Voting};
 ghost use Rattle.index_parts.specs.Parts.{Compared};
 ghost use Rattle.index_check.specs.Known.{Known, Rooted, Opened};
 
@@ -30,10 +30,10 @@ pub fn open_sources(
     requires room { ⌜ 512 ≤ length (now cursors) ⌝ }
     ensures { λ r. ⌜ ((bs : List Block) → Known (now (store .entry)) (now (order .entry)) (now (index .entry)) (now (starts .entry)) bs → Rooted (now (store .entry)) bs (blockIn (now (rec .entry))) → Opened bs (blockIn (now (rec .entry))) (now (index .entry)) (now (cursors .exit)) r) ⌝ }
 {
-    let count = block_record::include_count(rec);
+    let count = record_reader::include_count(rec);
     let mut j: usize = 0;
     while j < count {
-        let place = block_votes::place_of(store, order, block_record::include(rec, j));
+        let place = final_block_votes::place_of(store, order, record_reader::include(rec, j));
         let start = starts[place] as usize;
         cursors[2 * j] = (start + 1) as u64;
         cursors[2 * j + 1] = index[start];
@@ -62,7 +62,7 @@ fn record_part_end(
     let mut cursors = [0u64; 512];
     let n = open_sources(store, order, starts, index, rec, &mut cursors);
     let mut mine = [0u64; 2];
-    mine[1] = own_runs::own_runs(rec, rows, own) as u64;
+    mine[1] = index_own_runs::own_runs(rec, rows, own) as u64;
     let mut ahead = [0u64; 512];
     index_parts::part_end(index, &mut cursors, &mut ahead, n, own, &mut mine, at)
 }
@@ -103,7 +103,11 @@ fn parts_agree(
         let PartEnd::Ends(next) = ended else {
             return false;
         };
-        let place = block_votes::place_of(store, order, store_entries::reference_at(store, at));
+        let place = final_block_votes::place_of(
+            store,
+            order,
+            store_entries::reference_at(store, at),
+        );
         starts[place] = pos as u64;
         pos = next;
         at = end;
@@ -118,7 +122,7 @@ pub fn index_agrees(store: &[u8], order: &[u64], index: &[u64], starts: &mut [u6
     ensures { λ r. ⌜ r ≡ indexAgrees (blocksOf (now (store .entry))) (now (index .entry)) ⌝ }
     ensures { λ r. ⌜ (r ≡ true → Known (now (store .entry)) (now (order .entry)) (now (index .entry)) (now (starts .exit)) (blocksOf (now (store .entry)))) ⌝ }
 {
-    let mut rows = [0u64; own_runs::ROWS_WORDS];
-    let mut own = [0u64; own_runs::RUNS_WORDS];
+    let mut rows = [0u64; index_own_runs::ROWS_WORDS];
+    let mut own = [0u64; index_own_runs::RUNS_WORDS];
     parts_agree(store, order, index, starts, &mut rows, &mut own)
 }

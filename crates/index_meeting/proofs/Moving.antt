@@ -7,11 +7,11 @@ use native.Mathlib.Decide.{decLt}
 use native.Mathlib.Numerals.{add-one}
 use lib.ListN.{length, getD, take, drop, set, length-set, length-append, length-drop}
 use lib.Seq.{getD-take, take-at, length-take-le}
-use Rattle.authority_set.specs.AuthoritySet.{AuthoritySet, nobody, united}
-use Rattle.blocks.specs.Reference.{TransactionLocator}
-use Rattle.voters_index.specs.Runs.{Run, votersIn}
-use Rattle.voters_index.specs.Walk.{Past, Place, anywhere, beyond, At, runsFrom}
-use Rattle.voters_index.proofs.Chain.{Anything, Chain}
+use Rattle.committee_set.specs.AuthoritySet.{AuthoritySet, nobody, united}
+use Rattle.record_spec.specs.Reference.{TransactionLocator}
+use Rattle.index_spec.specs.Runs.{Run, votersIn}
+use Rattle.index_spec.specs.Walk.{Past, Place, anywhere, beyond, At, runsFrom}
+use Rattle.index_spec.proofs.Chain.{Anything, Chain}
 use Rattle.index_merge.specs.Sources.{cursorAt, cursorLeft, source, namedBy, Ready, Moved}
 use Rattle.index_merge.proofs.Cursors.{at-same, left-same, at-other, left-other, source-same, source-other}
 use Rattle.index_meeting.specs.Step.{Meets, MetBy}
@@ -22,12 +22,19 @@ pub record Going (x : Run) (ws cs₀ cs : List ℕ) (k : ℕ) (votes after : Aut
   pub meets : Meets x (namedBy ws cs₀ k) votes after
   pub inside : (j : ℕ) → j < k → cursorAt cs j + 10 * cursorLeft cs j ≤ length ws
   pub chains : (j : ℕ) → j < k → Chain Anything anywhere (source ws cs j)
-  pub names : (j : ℕ) → j < k → (l : TransactionLocator) → Past (x .reference) (x .end) (l .block) (l .offset) → votersIn (source ws cs j) l ≡ votersIn (source ws cs₀ j) l
+  pub names : (j : ℕ) → j < k → (l : TransactionLocator) → Past (x .reference) (x .end) (l .block) (l .offset) → votersIn (source ws cs j) l ≡ votersIn
+      (source ws cs₀ j) l
 
 module _ (x : Run) (ws cs₀ : List ℕ) where
   pub going-start : (cs : List ℕ) → Going x ws cs₀ cs 0 nobody nobody
   unfolding namedBy
-  going-start cs = record { meets = meets-none x; inside = λ j h. absurd (omega arith); chains = λ j h. absurd (omega arith); names = λ j h. absurd (omega arith) }
+  going-start cs = record {
+    meets = meets-none x;
+    inside = λ j h. absurd (omega arith);
+    chains = λ j h. absurd (omega arith);
+    names = λ j h. absurd
+        (omega arith);
+  }
 
   module _ (cs : List ℕ) (k : ℕ) (v a : AuthoritySet) (g : Going x ws cs₀ cs k v a) (room : 2 * k + 1 < length cs) (at left : ℕ) (w b : AuthoritySet)
       (inside : at + 10 * left ≤ length ws) (m : MetBy x (source ws cs₀ k) (runsFrom left (drop at ws)) w b) where
@@ -51,18 +58,21 @@ module _ (x : Run) (ws cs₀ : List ℕ) where
         apart j n e = omega arith
 
         fits : (j : ℕ) → Dec (j < k) → j < k + 1 → cursorAt cs′ j + 10 * cursorLeft cs′ j ≤ length ws
-        fits j (yes n) h = rw (at-other ws anywhere cs₀ cs k at left room j (apart j n), left-other ws anywhere cs₀ cs k at left room j (apart j n)) (g .inside j n)
+        fits j (yes n) h = rw (at-other ws anywhere cs₀ cs k at left room j (apart j n), left-other ws anywhere cs₀ cs k at left room j (apart j n))
+            (g .inside j n)
         fits j (no n) h = rw (here j n h, at-same ws anywhere cs₀ cs k at left room, left-same ws anywhere cs₀ cs k at left room) inside
 
         chained : (j : ℕ) → Dec (j < k) → j < k + 1 → Chain Anything anywhere (source ws cs′ j)
         chained j (yes n) h = rw (source-other ws anywhere cs₀ cs k at left room j (apart j n)) (g .chains j n)
         chained j (no n) h = rw (here j n h, source-same ws anywhere cs₀ cs k at left room) (m .chain)
 
-        named : (j : ℕ) → Dec (j < k) → j < k + 1 → (l : TransactionLocator) → Past (x .reference) (x .end) (l .block) (l .offset) → votersIn (source ws cs′ j) l ≡ votersIn (source ws cs₀ j) l
+        named : (j : ℕ) → Dec (j < k) → j < k + 1 → (l : TransactionLocator) → Past (x .reference) (x .end) (l .block) (l .offset) → votersIn
+            (source ws cs′ j) l ≡ votersIn (source ws cs₀ j) l
         named j (yes n) h l q = rw (source-other ws anywhere cs₀ cs k at left room j (apart j n)) (g .names j n l q)
         named j (no n) h l q = rw (here j n h, source-same ws anywhere cs₀ cs k at left room) (m .names l q)
 
-  pub going-end : (cs : List ℕ) (n : ℕ) (v a : AuthoritySet) → length cs ≡ length cs₀ → 2 * n ≤ length cs₀ → Going x ws cs₀ cs n v a → Moved ws n (beyond (x .reference) (x .end)) cs₀ cs
+  pub going-end : (cs : List ℕ) (n : ℕ) (v a : AuthoritySet) → length cs ≡ length cs₀ → 2 * n ≤ length cs₀ → Going x ws cs₀ cs n v a → Moved ws n
+      (beyond (x .reference) (x .end)) cs₀ cs
   unfolding namedBy
   going-end cs n v a long room g =
       record {
@@ -78,7 +88,8 @@ module _ (x : Run) (ws cs₀ : List ℕ) where
 -- ---- cursors copied
 
 -- cursors of which the first n are those that were moved
-module _ (ws : List ℕ) (n : ℕ) (p : Place) (cs₀ ahead : List ℕ) (m : Moved ws n p cs₀ ahead) (cs : List ℕ) (e : cs ≡ take (2 * n) ahead ++ drop (2 * n) cs₀) where
+module _ (ws : List ℕ) (n : ℕ) (p : Place) (cs₀ ahead : List ℕ) (m : Moved ws n p cs₀ ahead) (cs : List ℕ)
+    (e : cs ≡ take (2 * n) ahead ++ drop (2 * n) cs₀) where
   front : 2 * n ≤ length ahead
   front = omega (arith, m .ready .room)
 
@@ -101,7 +112,8 @@ module _ (ws : List ℕ) (n : ℕ) (p : Place) (cs₀ ahead : List ℕ) (m : Mov
   same-source j h = rw (same-at j h, same-left j h)
 
   long : length cs ≡ length cs₀
-  long = ap length e ∙ length-append (take (2 * n) ahead) (drop (2 * n) cs₀) ∙ omega (arith, length-take-le (2 * n) ahead front, length-drop (2 * n) cs₀, m .long, front)
+  long = ap length e ∙ length-append (take (2 * n) ahead) (drop (2 * n) cs₀) ∙ omega
+      (arith, length-take-le (2 * n) ahead front, length-drop (2 * n) cs₀, m .long, front)
 
   pub moved-copied : Moved ws n p cs₀ cs
   unfolding namedBy

@@ -9,16 +9,16 @@ use lib.ListN.{getD, drop}
 use lib.Seq.{getD-drop}
 use Rattle.base.specs.Lists.{pick}
 use Rattle.base.proofs.Tests.{not-both, fails}
-use Rattle.authority_set.specs.AuthoritySet.{AuthoritySet, nobody, united}
-use Rattle.authority_set.proofs.Words.{united-nobody}
-use Rattle.blocks.specs.Reference.{BlockReference, TransactionLocator, locator, sameReference}
-use Rattle.blocks.proofs.References.{reference-same, same-reference}
+use Rattle.committee_set.specs.AuthoritySet.{AuthoritySet, nobody, united}
+use Rattle.committee_set.proofs.Words.{united-nobody}
+use Rattle.record_spec.specs.Reference.{BlockReference, TransactionLocator, locator, sameReference}
+use Rattle.record_spec.proofs.References.{reference-same, same-reference}
 use Rattle.types.specs.Values.{referenceOrder}
-use Rattle.types.specs.declared.Ordering.the-variants.{Less, Equal}
-use Rattle.types.proofs.Words.{compared-equal, compared-less}
-use Rattle.voters_index.specs.Runs.{Run, votersIn, touches}
-use Rattle.voters_index.specs.Walk.{Past, byBlock, byOffset, Place, anywhere, beyond, At, NextRun, digestOf, runFrom, runsFrom}
-use Rattle.voters_index.proofs.Chain.{past-trans, touching, touched, Covered, Anything, Chain, end, link, past-head, chain-from, nobody-before, at-head, passed-out}
+use Rattle.types.specs.declared.Ordering.the-variants.{Equal}
+use Rattle.types.proofs.Words.{compared-equal}
+use Rattle.index_spec.specs.Runs.{Run, votersIn, touches}
+use Rattle.index_spec.specs.Walk.{Past, byBlock, byOffset, Place, anywhere, beyond, At, NextRun, digestOf, runFrom, runsFrom}
+use Rattle.index_spec.proofs.Chain.{past-trans, touching, touched, Covered, Anything, Chain, end, link, past-head, chain-from, nobody-before, at-head, passed-out}
 use Rattle.index_merge.proofs.Cursors.{next}
 use Rattle.index_meeting.specs.Step.{SameOffsets, afterVotes, Meets, MetBy, NextIf}
 
@@ -60,14 +60,7 @@ votes-read ws at =
     let b = sym (getD-drop at ws 9 0) in
     λ i. record { low = a i; high = b i }
 
--- ---- the order of two runs
-
-module _ (q r : BlockReference) (e o : ℕ) where
-  pub order-less : referenceOrder q r ≡ Less → Past q e r o
-  order-less h = byBlock (compared-less q r h .1)
-
-  pub order-equal : referenceOrder q r ≡ Equal → e ≤ o → Past q e r o
-  order-equal h m = byOffset (reference-same q r (compared-equal q r h)) m
+-- ---- runs that touch
 
 module _ (x y : Run) where
   pub touch-yes : referenceOrder (x .reference) (y .reference) ≡ Equal → x .end ≡ y .start → touches x y ≡ true
@@ -81,7 +74,8 @@ module _ (x y : Run) where
 
 -- ---- at the end of a run
 
-pub after-chain : (x : Run) (zs : List Run) → Chain Anything (beyond (x .reference) (x .end)) zs → votersIn zs (locator (x .reference) (x .end)) ≡ afterVotes x zs
+pub after-chain : (x : Run) (zs : List Run) → Chain Anything (beyond (x .reference) (x .end)) zs → votersIn zs (locator (x .reference) (x .end)) ≡
+    afterVotes x zs
 unfolding afterVotes votersIn locator
 after-chain x [] end = refl
 after-chain x (z ∷ zs) (link a g d h) = go (touches x z) refl
@@ -109,7 +103,8 @@ module _ (x : Run) (full : x .start < x .end) where
   met-same y zs s (link a g d h) =
       record {
         meets = record {
-          told = λ o i j. at-head y zs h (locator (x .reference) o) (record { of = sym (s .of); from = omega (arith, s .start); below = omega (arith, s .end) });
+          told = λ o i j. at-head y zs h (locator (x .reference) o)
+              (record { of = sym (s .of); from = omega (arith, s .start); below = omega (arith, s .end) });
           end = past-head y zs (locator (x .reference) (x .end)) (λ c. omega (arith, c .below, s .end)) ∙ after-chain x zs onward;
           first = λ l q. nobody-before (l .block) (l .offset) (y ∷ zs) (link (moved l q) g d h);
         };
@@ -118,13 +113,16 @@ module _ (x : Run) (full : x .start < x .end) where
       }
     where
       onward : Chain Anything (beyond (x .reference) (x .end)) zs
-      onward = subst (λ (r : BlockReference). Chain Anything (beyond r (x .end)) zs) (sym (s .of)) (subst (λ (e : ℕ). Chain Anything (beyond (y .reference) e) zs) (sym (s .end)) h)
+      onward = subst (λ (r : BlockReference). Chain Anything (beyond r (x .end)) zs) (sym (s .of))
+          (subst (λ (e : ℕ). Chain Anything (beyond (y .reference) e) zs) (sym (s .end)) h)
 
       moved : (l : TransactionLocator) → Past (l .block) (l .offset + 1) (x .reference) (x .start) → Past (l .block) (l .offset + 1) (y .reference) (y .start)
-      moved l q = subst (λ (r : BlockReference). Past (l .block) (l .offset + 1) r (y .start)) (s .of) (subst (Past (l .block) (l .offset + 1) (x .reference)) (s .start) q)
+      moved l q = subst (λ (r : BlockReference). Past (l .block) (l .offset + 1) r (y .start)) (s .of)
+          (subst (Past (l .block) (l .offset + 1) (x .reference)) (s .start) q)
 
       ended : (l : TransactionLocator) → Past (x .reference) (x .end) (l .block) (l .offset) → Past (y .reference) (y .end) (l .block) (l .offset)
-      ended l q = subst (λ (r : BlockReference). Past r (y .end) (l .block) (l .offset)) (s .of) (subst (λ (e : ℕ). Past (x .reference) e (l .block) (l .offset)) (s .end) q)
+      ended l q = subst (λ (r : BlockReference). Past r (y .end) (l .block) (l .offset)) (s .of)
+          (subst (λ (e : ℕ). Past (x .reference) e (l .block) (l .offset)) (s .end) q)
 
   -- it begins past the run
   pub met-past : (ys : List Run) → Chain Anything (beyond (x .reference) (x .end)) ys → MetBy x ys ys nobody (afterVotes x ys)
@@ -132,7 +130,8 @@ module _ (x : Run) (full : x .start < x .end) where
   met-past ys h =
       record {
         meets = record {
-          told = λ o i j. nobody-before (x .reference) o ys (chain-from (λ r k b. past-trans {o = x .end} (byOffset refl (omega (arith, j))) (omega arith) b) ys h);
+          told = λ o i j. nobody-before (x .reference) o ys
+              (chain-from (λ r k b. past-trans {o = x .end} (byOffset refl (omega (arith, j))) (omega arith) b) ys h);
           end = after-chain x ys h;
           first = λ l q. nobody-before (l .block) (l .offset) ys (chain-from (λ r k b. past-trans q (omega arith) b) ys h);
         };
@@ -151,16 +150,20 @@ module _ (x : Run) (full : x .start < x .end) where
       chained = subst (Chain Anything anywhere) (next anywhere ws at left some) c
 
       pub cursor-same : SameOffsets x (runFrom (drop at ws))
-          → MetBy x (runsFrom left (drop at ws)) (runsFrom (left - 1) (drop (at + 10) ws)) (runFrom (drop at ws) .votes) (afterVotes x (runsFrom (left - 1) (drop (at + 10) ws)))
+          → MetBy x (runsFrom left (drop at ws)) (runsFrom (left - 1) (drop (at + 10) ws)) (runFrom (drop at ws) .votes)
+          (afterVotes x (runsFrom (left - 1) (drop (at + 10) ws)))
       cursor-same s =
-          subst (λ (ys : List Run). MetBy x ys (runsFrom (left - 1) (drop (at + 10) ws)) (runFrom (drop at ws) .votes) (afterVotes x (runsFrom (left - 1) (drop (at + 10) ws))))
+          subst (λ (ys : List Run). MetBy x ys (runsFrom (left - 1) (drop (at + 10) ws)) (runFrom (drop at ws) .votes)
+          (afterVotes x (runsFrom (left - 1) (drop (at + 10) ws))))
           (sym (next anywhere ws at left some)) (met-same (runFrom (drop at ws)) (runsFrom (left - 1) (drop (at + 10) ws)) s chained)
 
       pub cursor-past : Past (x .reference) (x .end) (runFrom (drop at ws) .reference) (runFrom (drop at ws) .start)
           → MetBy x (runsFrom left (drop at ws)) (runsFrom left (drop at ws)) nobody (afterVotes x (runsFrom left (drop at ws)))
-      cursor-past q = met-past (runsFrom left (drop at ws)) (subst (Chain Anything (beyond (x .reference) (x .end))) (sym (next anywhere ws at left some)) (begun chained))
+      cursor-past q = met-past (runsFrom left (drop at ws))
+          (subst (Chain Anything (beyond (x .reference) (x .end))) (sym (next anywhere ws at left some)) (begun chained))
         where
-          begun : Chain Anything anywhere (runFrom (drop at ws) ∷ runsFrom (left - 1) (drop (at + 10) ws)) → Chain Anything (beyond (x .reference) (x .end)) (runFrom (drop at ws) ∷ runsFrom (left - 1) (drop (at + 10) ws))
+          begun : Chain Anything anywhere (runFrom (drop at ws) ∷ runsFrom (left - 1) (drop (at + 10) ws)) → Chain Anything
+              (beyond (x .reference) (x .end)) (runFrom (drop at ws) ∷ runsFrom (left - 1) (drop (at + 10) ws))
           begun (link a g d h) = link q g d h
 
 -- whom the first of a cursor's runs names at the end of a run
@@ -169,7 +172,8 @@ module _ (x : Run) (ws : List ℕ) (at left : ℕ) where
   unfolding afterVotes runsFrom
   after-none e = rw e
 
-  pub after-next : 0 < left → (t : Bool) → touches x (runFrom (drop at ws)) ≡ t → pick t (runFrom (drop at ws) .votes) nobody ≡ afterVotes x (runsFrom left (drop at ws))
+  pub after-next : 0 < left → (t : Bool) → touches x (runFrom (drop at ws)) ≡ t → pick t (runFrom (drop at ws) .votes) nobody ≡ afterVotes x
+      (runsFrom left (drop at ws))
   unfolding afterVotes
   after-next h t e = ap (λ (u : Bool). pick u (runFrom (drop at ws) .votes) nobody) (sym e) ∙ ap (afterVotes x) (sym (next anywhere ws at left h))
 
@@ -179,7 +183,8 @@ module _ (x : Run) where
   pub meets-none : Meets x (λ l. nobody) nobody nobody
   meets-none = record { told = λ o i j. refl; end = refl; first = λ l q. refl }
 
-  pub meets-both : (f g : TransactionLocator → AuthoritySet) (v w a b : AuthoritySet) → Meets x f v a → Meets x g w b → Meets x (λ l. united (f l) (g l)) (united v w) (united a b)
+  pub meets-both : (f g : TransactionLocator → AuthoritySet) (v w a b : AuthoritySet) → Meets x f v a → Meets x g w b → Meets x (λ l. united (f l) (g l))
+      (united v w) (united a b)
   meets-both f g v w a b h k =
       record {
         told = λ o i j. ap (united (f (locator (x .reference) o))) (k .told o i j) ∙ ap (λ (u : AuthoritySet). united u w) (h .told o i j);

@@ -4,11 +4,11 @@ use mathlib.Core.Path.{_≡_}
 use mathlib.Core.List.{List, [], _∷_}
 use lib.ListN.{length, drop}
 use Rattle.base.specs.Lists.{pick}
-use Rattle.authority_set.specs.AuthoritySet.{AuthoritySet, nobody}
-use Rattle.blocks.specs.Reference.{TransactionLocator, locator}
-use Rattle.voters_index.specs.Runs.{Run, votersIn, touches}
-use Rattle.voters_index.specs.Walk.{Past, Place, anywhere, beyond, At, NextRun, runsFrom}
-use Rattle.voters_index.proofs.Chain.{Anything, Chain}
+use Rattle.committee_set.specs.AuthoritySet.{AuthoritySet, nobody}
+use Rattle.record_spec.specs.Reference.{TransactionLocator, locator}
+use Rattle.index_spec.specs.Runs.{Run, votersIn, touches}
+use Rattle.index_spec.specs.Walk.{Past, Place, anywhere, beyond, At, NextRun, runsFrom}
+use Rattle.index_spec.proofs.Chain.{Anything, Chain}
 use Rattle.index_merge.specs.Sources.{namedBy, Moved, together}
 use Rattle.index_meeting.specs.declared.Meeting.{Meeting}
 use Rattle.index_meeting.specs.declared.Meeting.the-variants.{Met, Across}
@@ -41,7 +41,8 @@ pub record MetBy (x : Run) (ys zs : List Run) (votes after : AuthoritySet) : Typ
 unfoldable pub SourceMet : Run → List ℕ → ℕ → ℕ → Meeting → Type 0
 SourceMet x ws at left (Met m) =
     (m .at + 10 * m .left ≤ length ws)
-    × (x .start < x .end → Chain Anything anywhere (runsFrom left (drop at ws)) → MetBy x (runsFrom left (drop at ws)) (runsFrom (m .left) (drop (m .at) ws)) (m .votes) (m .after))
+    × (x .start < x .end → Chain Anything anywhere (runsFrom left (drop at ws)) → MetBy x (runsFrom left (drop at ws))
+    (runsFrom (m .left) (drop (m .at) ws)) (m .votes) (m .after))
 SourceMet x ws at left Across = Unit {0}
 
 unfoldable pub MetAll : Run → List ℕ → ℕ → List ℕ → List ℕ → Voters → Type 0

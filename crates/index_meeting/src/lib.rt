@@ -1,5 +1,5 @@
 // A run of a part where each source has a run of the same offsets next, or begins past it: it is held against them without a merge.
-use authority_set::AuthoritySet;
+use committee_set::AuthoritySet;
 use index_runs::Place;
 use index_runs::Run;
 use types::Ordering;
@@ -7,8 +7,8 @@ ghost use mathlib.Core.Path.{_≡_};
 ghost use mathlib.Core.Bool.{true, false};
 ghost use Prim.Native.Nat.{_+_, _*_, _≤_};
 ghost use lib.ListN.{length, drop};
-ghost use Rattle.voters_index.specs.Runs.{sameVoters};
-ghost use Rattle.voters_index.specs.Walk.{Past, At, runFrom, runsFrom};
+ghost use Rattle.index_spec.specs.Runs.{sameVoters};
+ghost use Rattle.index_spec.specs.Walk.{runFrom, runsFrom};
 ghost use Rattle.index_runs.specs.Values.{asRun, asPlace};
 ghost use Rattle.index_merge.specs.Sources.{Ready};
 ghost use Rattle.index_meeting.specs.Step.{SameOffsets, afterVotes, SourceMet, MetAll, NextIf, Passed};
@@ -46,18 +46,6 @@ fn same_offsets(index: &[u64], pos: usize, words: &[u64], at: usize) -> bool
         i += 1;
     }
     true
-}
-
-// Whether a run begins at the end of another or past it.
-fn begins_past(x: Run, y: Run) -> bool
-    ensures { λ r. ⌜ (r ≡ true → Past (asRun x .reference) (asRun x .end) (asRun y .reference) (asRun y .start)) ⌝ }
-{
-    let order = types::compare(x.block, y.block);
-    match order {
-        Ordering::Less => true,
-        Ordering::Greater => false,
-        Ordering::Equal => x.end <= y.start,
-    }
 }
 
 // Whom the next run of a source names at the end of the run at a position, past which it begins.
@@ -109,7 +97,7 @@ fn source_meets(index: &[u64], pos: usize, words: &[u64], at: usize, left: usize
             after,
         });
     }
-    if !begins_past(
+    if !index_run_order::begins_past(
         index_runs::read_run(index, pos),
         index_runs::read_run(words, at),
     ) {
@@ -152,26 +140,11 @@ fn sources_meet(
         };
         ahead[2 * k] = m.at as u64;
         ahead[2 * k + 1] = m.left as u64;
-        votes = index_pieces::united(votes, m.votes);
-        after = index_pieces::united(after, m.after);
+        votes = committee_set::union(votes, m.votes);
+        after = committee_set::union(after, m.after);
         k = k + 1;
     }
     Voters::Named(votes, after)
-}
-
-// Whether a run begins at a place or past it.
-fn is_there(place: Place, x: Run) -> bool
-    ensures { λ r. ⌜ (r ≡ true → At (asPlace place) (asRun x .reference) (asRun x .start)) ⌝ }
-{
-    let Place::Beyond(block, offset) = place else {
-        return true;
-    };
-    let order = types::compare(block, x.block);
-    match order {
-        Ordering::Less => true,
-        Ordering::Greater => false,
-        Ordering::Equal => offset <= x.start,
-    }
 }
 
 // Whether two sets have the same voters.
@@ -200,7 +173,7 @@ fn is_next(x: Run, place: Place, votes: AuthoritySet, after: AuthoritySet) -> bo
     if same_voters(after, votes) {
         return false;
     }
-    is_there(place, x)
+    index_run_order::is_there(place, x)
 }
 
 // Whether the run at a position is the next one from a place on of a source in some words and n in the index, each of which meets it; the cursors
@@ -229,12 +202,12 @@ pub fn run_meets(
     let Voters::Named(w, w_after) = voters else {
         return false;
     };
-    let votes = index_pieces::united(v, w);
-    let after = index_pieces::united(v_after, w_after);
+    let votes = committee_set::union(v, w);
+    let after = committee_set::union(v_after, w_after);
     if !is_next(index_runs::read_run(index, pos), place, votes, after) {
         return false;
     }
-    row_sort::copy_words(&next, mine, 2);
-    row_sort::copy_words(ahead, cursors, 2 * n);
+    list_row_sort::copy_words(&next, mine, 2);
+    list_row_sort::copy_words(ahead, cursors, 2 * n);
     true
 }

@@ -8,12 +8,12 @@ use native.Mathlib.Decide.{decLt}
 use native.Mathlib.Numerals.{add-one, sub-one}
 use lib.ListN.{length, getD, drop, set, length-set}
 use lib.Seq.{drop-drop, getD-set-same, getD-set-other}
-use Rattle.authority_set.specs.AuthoritySet.{AuthoritySet, nobody, united}
-use Rattle.authority_set.proofs.Words.{united-nobody, united-assoc}
-use Rattle.blocks.specs.Reference.{TransactionLocator}
-use Rattle.voters_index.specs.Runs.{Run, votersIn}
-use Rattle.voters_index.specs.Walk.{Place, anywhere, At, runFrom, runsFrom}
-use Rattle.voters_index.proofs.Chain.{Anything, Chain}
+use Rattle.committee_set.specs.AuthoritySet.{AuthoritySet, nobody, united}
+use Rattle.committee_set.proofs.Words.{united-nobody, united-assoc}
+use Rattle.record_spec.specs.Reference.{TransactionLocator}
+use Rattle.index_spec.specs.Runs.{Run, votersIn}
+use Rattle.index_spec.specs.Walk.{Place, anywhere, At, runFrom, runsFrom}
+use Rattle.index_spec.proofs.Chain.{Anything, Chain}
 use Rattle.index_pieces.specs.Pieces.{PieceOr, fromPlace, both, orElse, firstPiece, keptIf, skipped}
 use Rattle.index_pieces.proofs.Pieces.{pieces-same, both-pieces, first-piece, skipped-chain, skipped-names}
 use Rattle.index_merge.specs.Sources.{cursorAt, cursorLeft, source, namedBy, Ready, Moved}

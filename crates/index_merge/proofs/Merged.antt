@@ -8,14 +8,14 @@ use native.Mathlib.Omega.{arith}
 use native.Mathlib.Decide.{decLt}
 use lib.ListN.{length}
 use Rattle.base.proofs.Tests.{and-both, and-left, and-right, not-both}
-use Rattle.authority_set.specs.AuthoritySet.{AuthoritySet, nobody, united}
-use Rattle.authority_set.proofs.Words.{nobody-united}
-use Rattle.blocks.specs.Reference.{BlockReference, TransactionLocator, locator}
-use Rattle.voters_index.specs.Runs.{Run, run, touches, sameVoters}
-use Rattle.voters_index.specs.Walk.{Past, Place, beyond, At, NextRun}
-use Rattle.voters_index.proofs.Sets.{same-voters, voters-same}
-use Rattle.voters_index.proofs.Chain.{past-itself, past-trans, touching, touched}
-use Rattle.voters_index.proofs.Unique.{PlaceOrder, earlier, later, alike, place-order}
+use Rattle.committee_set.specs.AuthoritySet.{AuthoritySet, nobody, united}
+use Rattle.committee_set.proofs.Words.{nobody-united}
+use Rattle.record_spec.specs.Reference.{BlockReference, TransactionLocator, locator}
+use Rattle.index_spec.specs.Runs.{Run, run, touches, sameVoters}
+use Rattle.index_spec.specs.Walk.{Past, Place, beyond, At, NextRun}
+use Rattle.index_spec.proofs.Sets.{same-voters, voters-same}
+use Rattle.index_spec.proofs.Chain.{past-itself, past-trans, touching, touched}
+use Rattle.index_spec.proofs.Unique.{PlaceOrder, earlier, later, alike, place-order}
 use Rattle.index_pieces.specs.Pieces.{Piece, NobodyFrom, PieceOr}
 use Rattle.index_pieces.proofs.Pieces.{past-not, pieces-same}
 use Rattle.index_merge.specs.Sources.{namedBy, Ready, Moved, together, Merging, ended, GrownFrom}

@@ -5,11 +5,11 @@ use mathlib.Core.Path.{_≡_}
 use mathlib.Core.List.{List}
 use mathlib.Core.Option.{Option}
 use lib.ListN.{length, getD, drop}
-use Rattle.authority_set.specs.AuthoritySet.{AuthoritySet, nobody, united}
-use Rattle.blocks.specs.Reference.{TransactionLocator}
-use Rattle.voters_index.specs.Runs.{Run, run, votersIn}
-use Rattle.voters_index.specs.Walk.{Place, anywhere, beyond, At, NextRun, runsFrom}
-use Rattle.voters_index.proofs.Chain.{Anything, Chain}
+use Rattle.committee_set.specs.AuthoritySet.{AuthoritySet, nobody, united}
+use Rattle.record_spec.specs.Reference.{TransactionLocator}
+use Rattle.index_spec.specs.Runs.{Run, run, votersIn}
+use Rattle.index_spec.specs.Walk.{Place, anywhere, beyond, At, NextRun, runsFrom}
+use Rattle.index_spec.proofs.Chain.{Anything, Chain}
 use Rattle.index_pieces.specs.Pieces.{Piece, PieceOr}
 
 -- where a source's next run stands, and how many are left

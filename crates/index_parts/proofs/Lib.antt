@@ -1,4 +1,7 @@
 pub mod Unfolded
 pub mod Stepping
+pub mod Striding
 pub mod Words
 pub mod Writing
+mod Appending
+mod Held

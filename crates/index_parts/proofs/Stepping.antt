@@ -1,25 +1,26 @@
 -- The runs of a part found one after the other: what is known after k of them. Assumes nothing.
 use mathlib.Core.Path.{_≡_, refl, sym, ap, subst, _∙_}
 use mathlib.Core.Bool.{true, false}
-use mathlib.Core.List.{List, [], _∷_}
+use mathlib.Core.List.{List, [], _∷_, _++_}
 use mathlib.Core.Option.{Option, none, some}
 use Prim.Native.Nat.{ℕ, _+_, _≤_, _<_}
 use native.Mathlib.Omega.{arith}
 use lib.ListN.{length, drop, length-drop}
 use lib.Seq.{drop-drop}
 use Rattle.base.proofs.Tests.{not-both}
-use Rattle.authority_set.specs.AuthoritySet.{AuthoritySet, united}
-use Rattle.blocks.specs.Reference.{TransactionLocator, locator}
-use Rattle.voters_index.specs.Runs.{Run}
-use Rattle.voters_index.specs.Part.{RunsOf}
-use Rattle.voters_index.specs.Index.{runWords}
-use Rattle.voters_index.specs.Walk.{Place, anywhere, beyond, At, NextRun, Unfolded, done, more}
-use Rattle.voters_index.proofs.Relation.{runs-chain, runs-told, chain-runs}
+use Rattle.committee_set.specs.AuthoritySet.{AuthoritySet, united}
+use Rattle.record_spec.specs.Reference.{TransactionLocator, locator}
+use Rattle.index_spec.specs.Runs.{Run}
+use Rattle.index_spec.specs.Part.{RunsOf}
+use Rattle.index_spec.specs.Index.{runWords}
+use Rattle.index_spec.specs.Walk.{Place, anywhere, beyond, At, NextRun, Unfolded, done, more}
+use Rattle.index_spec.proofs.Relation.{runs-chain, runs-told, chain-runs}
 use Rattle.index_pieces.specs.Pieces.{NobodyFrom, Piece, PieceOr}
 use Rattle.index_pieces.proofs.Pieces.{at-later, at-beyond, pieces-same}
 use Rattle.index_runs.specs.Values.{startsWith}
 use Rattle.index_merge.specs.Sources.{namedBy, Ready, Moved, together, Merging, GrownFrom}
 use Rattle.index_meeting.specs.Step.{Passed}
+use Rattle.index_shared.specs.Shared.{Nexts, here, onward}
 use Rattle.index_parts.specs.Parts.{RunPassed}
 use Rattle.index_parts.proofs.Unfolded.{runs-unfolded, none-left, one-next, First, next-first}
 
@@ -48,15 +49,78 @@ pub record Next (x : Run) (k : ℕ) (xs : List Run) : Type 0 where
   pub are : drop k xs ≡ x ∷ drop (k + 1) xs
 
 -- the next run of what names the same from the place on
-next-same : (f g : TransactionLocator → AuthoritySet) (p : Place) (x : Run) → ((l : TransactionLocator) → At p (l .block) (l .offset) → f l ≡ g l) → NextRun f p x → NextRun g p x
+pub next-same : (f g : TransactionLocator → AuthoritySet) (p : Place) (x : Run) → ((l : TransactionLocator) → At p (l .block) (l .offset) → f l ≡ g l) →
+    NextRun f p x → NextRun g p x
 unfolding locator
 next-same f g p x e n =
     record {
       there = n .there;
-      stretch = record { full = n .stretch .full; voted = n .stretch .voted; told = λ o i j. sym (e (locator (x .reference) o) (at-later p (x .reference) (x .start) o (n .there) i)) ∙ n .stretch .told o i j };
-      onward = λ z. n .onward (e (locator (x .reference) (x .end)) (at-later p (x .reference) (x .start) (x .end) (n .there) (omega (arith, n .stretch .full))) ∙ z);
+      stretch = record {
+        full = n .stretch .full;
+        voted = n .stretch .voted;
+        told = λ o i j. sym
+            (e (locator (x .reference) o) (at-later p (x .reference) (x .start) o (n .there) i)) ∙ n .stretch .told o i j;
+      };
+      onward = λ z. n .onward (e (locator (x .reference) (x .end))
+          (at-later p (x .reference) (x .start) (x .end) (n .there) (omega (arith, n .stretch .full))) ∙ z);
       first = λ l a q. sym (e l a) ∙ n .first l a q;
     }
+
+-- ---- the next run is the first of those that are left
+
+module _ {f : TransactionLocator → AuthoritySet} (p : Place) (k : ℕ) (x : Run) (xs : List Run) (n : NextRun f p x) (l : Left f p k xs) where
+  first-left : First f x (drop k xs)
+  first-left = next-first p x (drop k xs) n (l .unfolded)
+
+  rest-left : drop (k + 1) xs ≡ first-left .rest
+  rest-left = sym (drop-drop 1 k xs) ∙ ap (drop 1) (first-left .are)
+
+  pub next-left : Next x k xs
+  next-left =
+      record {
+        more = omega (arith, l .few, length-drop k xs, ap length (first-left .are));
+        are = first-left .are ∙ ap (λ (ys : List Run). x ∷ ys) (sym rest-left);
+      }
+
+  pub left-on : Left f (beyond (x .reference) (x .end)) (k + 1) xs
+  left-on =
+      record {
+        few = omega (arith, next-left .more);
+        unfolded = subst (Unfolded f (beyond (x .reference) (x .end))) (sym rest-left) (first-left .unfolded);
+      }
+
+-- ---- the next runs, one after the other
+
+-- the runs that are left begin with these; what is left after them
+pub record Begun (f : TransactionLocator → AuthoritySet) (q : Place) (k : ℕ) (ys xs : List Run) : Type 0 where
+  pub left : Left f q (k + length ys) xs
+  pub are : drop k xs ≡ ys ++ drop (k + length ys) xs
+
+module _ {f : TransactionLocator → AuthoritySet} where
+  -- what is at the place after some runs is at the place before them
+  pub nexts-at : {p q : Place} {xs : List Run} → Nexts f p xs q → (l : TransactionLocator) → At q (l .block) (l .offset) → At p (l .block) (l .offset)
+  nexts-at here l a = a
+  nexts-at {p} (onward {x = x} n h) l a =
+      at-beyond p (x .reference) (x .start) (x .end) (n .there) (omega (arith, n .stretch .full)) (l .block) (l .offset) (nexts-at h l a)
+
+  pub nexts-same : {g : TransactionLocator → AuthoritySet} {p q : Place} {xs : List Run}
+      → ((l : TransactionLocator) → At p (l .block) (l .offset) → f l ≡ g l) → Nexts f p xs q → Nexts g p xs q
+  nexts-same e here = here
+  nexts-same {g} {p} e (onward {x = x} n h) =
+      onward (next-same f g p x e n)
+      (nexts-same (λ l a. e l (at-beyond p (x .reference) (x .start) (x .end) (n .there) (omega (arith, n .stretch .full)) (l .block) (l .offset) a)) h)
+
+  pub begun : {p q : Place} {ys : List Run} (k : ℕ) (xs : List Run) → Nexts f p ys q → Left f p k xs → Begun f q k ys xs
+  begun {p} k xs here l =
+      let e : k ≡ k + 0 = omega arith in
+      record { left = subst (λ (m : ℕ). Left f p m xs) e l; are = ap (λ (m : ℕ). drop m xs) e }
+  begun {p} {q} k xs (onward {x = x} {xs = ys} n h) l =
+      let t = begun (k + 1) xs h (left-on p k x xs n l) in
+      let e : k + 1 + length ys ≡ k + length (x ∷ ys) = omega arith in
+      record {
+        left = subst (λ (m : ℕ). Left f q m xs) e (t .left);
+        are = next-left p k x xs n l .are ∙ ap (λ (zs : List Run). x ∷ zs) (t .are ∙ ap (λ (m : ℕ). ys ++ drop m xs) e);
+      }
 
 -- ---- one run passed
 
@@ -78,7 +142,8 @@ module _ (own ms ix : List ℕ) (n : ℕ) (cs : List ℕ) (p : Place) where
       }
 
   -- from its first piece on
-  pub grown-passed : (ms′ cs′ : List ℕ) (first x : Run) (next : Option Run) → Piece g p first → GrownFrom own ms ms′ ix n cs cs′ first x next → RunPassed own ms ms′ ix n cs cs′ p x
+  pub grown-passed : (ms′ cs′ : List ℕ) (first x : Run) (next : Option Run) → Piece g p first → GrownFrom own ms ms′ ix n cs cs′ first x next → RunPassed
+      own ms ms′ ix n cs cs′ p x
   grown-passed ms′ cs′ first x next c w =
       record {
         next = w .run g p (record { told = λ l a. refl }) c;
@@ -89,14 +154,8 @@ module _ (own ms ix : List ℕ) (n : ℕ) (cs : List ℕ) (p : Place) where
         told = λ l a. w .merging g (record { told = λ m b. refl }) .told l a;
       }
 
-  -- the piece after it
-  pub grown-piece : (ms′ cs′ : List ℕ) (first x : Run) (next : Option Run) → GrownFrom own ms ms′ ix n cs cs′ first x next → PieceOr (together own ms′ ix cs′ n) (beyond (x .reference) (x .end)) next
-  grown-piece ms′ cs′ first x next w =
-      let m : Merging g own ms ix cs n first = record { told = λ l a. refl } in
-      pieces-same g (together own ms′ ix cs′ n) (beyond (x .reference) (x .end)) next (λ l a. sym (w .merging g m .told l a)) (w .piece g m)
-
   module _ (ms₁ cs₁ : List ℕ) (m : Moved ix n p cs cs₁) (w : Moved own 1 p ms ms₁) where
-    moved-names : (l : TransactionLocator) → At p (l .block) (l .offset) → together own ms₁ ix cs₁ n l ≡ g l
+    pub moved-names : (l : TransactionLocator) → At p (l .block) (l .offset) → together own ms₁ ix cs₁ n l ≡ g l
     unfolding together
     moved-names l a = ap (λ (v : AuthoritySet). united v (namedBy ix cs₁ n l)) (w .names l a) ∙ ap (united (namedBy own ms 1 l)) (m .names l a)
 
@@ -112,7 +171,8 @@ module _ (own ms ix : List ℕ) (n : ℕ) (cs : List ℕ) (p : Place) where
           ownLong = r .ownLong ∙ w .long;
           ready = r .ready;
           ownReady = r .ownReady;
-          told = λ l a. r .told l a ∙ moved-names l (at-beyond p (x .reference) (x .start) (x .end) (r .next .there) (omega (arith, r .next .stretch .full)) (l .block) (l .offset) a);
+          told = λ l a. r .told l a ∙ moved-names l
+              (at-beyond p (x .reference) (x .start) (x .end) (r .next .there) (omega (arith, r .next .stretch .full)) (l .block) (l .offset) a);
         }
 
   -- nobody is named any more: there is no next run
@@ -129,12 +189,21 @@ module _ (own ms ix : List ℕ) (n : ℕ) (cs : List ℕ) (p : Place) where
 -- ---- all of them
 
 -- the first piece was found, and the cursors were moved
-pub stepping-first : (own ms₀ ix : List ℕ) (n : ℕ) (cs₀ ms cs : List ℕ) (o : Option Run) → PieceOr (together own ms₀ ix cs₀ n) anywhere o → Moved ix n anywhere cs₀ cs → Moved own 1 anywhere ms₀ ms
+pub stepping-first : (own ms₀ ix : List ℕ) (n : ℕ) (cs₀ ms cs : List ℕ) (o : Option Run) → PieceOr (together own ms₀ ix cs₀ n) anywhere o → Moved ix n
+    anywhere cs₀ cs → Moved own 1 anywhere ms₀ ms
     → Stepping own ms ms ix n cs cs o 0
 stepping-first own ms₀ ix n cs₀ ms cs o d m w =
     record {
       place = anywhere;
-      standing = record { long = refl; ownLong = refl; ready = m .ready; ownReady = w .ready; told = λ l a. refl; left = λ xs h. record { few = omega arith; unfolded = runs-unfolded xs h } };
+      standing = record {
+        long = refl;
+        ownLong = refl;
+        ready = m .ready;
+        ownReady = w .ready;
+        told = λ l a. refl;
+        left = λ xs h. record
+            { few = omega arith; unfolded = runs-unfolded xs h };
+      };
       piece = moved-piece own ms₀ ix n cs₀ anywhere ms cs m w o d;
     }
 
@@ -143,7 +212,15 @@ module _ (own ms₀ ix : List ℕ) (n : ℕ) (cs₀ : List ℕ) where
   f = together own ms₀ ix cs₀ n
 
   pub standing-start : Ready ix cs₀ n → Ready own ms₀ 1 → Standing own ms₀ ms₀ ix n cs₀ cs₀ anywhere 0
-  standing-start r o = record { long = refl; ownLong = refl; ready = r; ownReady = o; told = λ l a. refl; left = λ xs h. record { few = omega arith; unfolded = runs-unfolded xs h } }
+  standing-start r o = record {
+    long = refl;
+    ownLong = refl;
+    ready = r;
+    ownReady = o;
+    told = λ l a. refl;
+    left = λ xs h. record
+        { few = omega arith; unfolded = runs-unfolded xs h };
+  }
 
   module _ (ms cs : List ℕ) (p : Place) (k : ℕ) (s : Standing own ms₀ ms ix n cs₀ cs p k) where
     module _ (o : Option Run) (d : PieceOr (together own ms ix cs n) p o) where
@@ -170,7 +247,8 @@ module _ (own ms₀ ix : List ℕ) (n : ℕ) (cs₀ : List ℕ) where
           l = s .left xs r
 
           go : (ys : List Run) → drop k xs ≡ ys → Unfolded f p ys → k < length xs
-          go [] z (done h) = absurd (here .ahead .stretch .voted (sym (here .ahead .stretch .told (x .start) (omega arith) (here .ahead .stretch .full)) ∙ h (locator (x .reference) (x .start)) (here .there)))
+          go [] z (done h) = absurd (here .ahead .stretch .voted
+              (sym (here .ahead .stretch .told (x .start) (omega arith) (here .ahead .stretch .full)) ∙ h (locator (x .reference) (x .start)) (here .there)))
           go (y ∷ ys) z u = omega (arith, l .few, length-drop k xs, ap length z)
 
     -- the next of the runs that are left
@@ -179,57 +257,17 @@ module _ (own ms₀ ix : List ℕ) (n : ℕ) (cs₀ : List ℕ) where
       where
         go : (ys : List Run) → drop k xs ≡ ys → Unfolded f p ys → (y : Run) × (NextRun (together own ms ix cs n) p y × (drop k xs ≡ y ∷ drop (k + 1) xs))
         go [] z u = absurd (omega (arith, length-drop k xs, ap length z))
-        go (y ∷ ys) z (more m u) =
-            (y, (next-same f (together own ms ix cs n) p y (λ l a. sym (s .told l a)) m, z ∙ ap (λ (zs : List Run). y ∷ zs) (sym (sym (drop-drop 1 k xs) ∙ ap (drop 1) z))))
-
-    module _ (ms′ cs′ : List ℕ) (x : Run) (w : RunPassed own ms ms′ ix n cs cs′ p x) where
-      first-of : (xs : List Run) → RunsOf f xs → First f x (drop k xs)
-      first-of xs r = next-first p x (drop k xs) (next-same (together own ms ix cs n) f p x (s .told) (w .next)) (s .left xs r .unfolded)
-
-      rest-are : (xs : List Run) (r : RunsOf f xs) → drop (k + 1) xs ≡ first-of xs r .rest
-      rest-are xs r = sym (drop-drop 1 k xs) ∙ ap (drop 1) (first-of xs r .are)
-
-      pub standing-next : (xs : List Run) → RunsOf f xs → Next x k xs
-      standing-next xs r =
-          record {
-            more = omega (arith, s .left xs r .few, length-drop k xs, ap length (first-of xs r .are));
-            are = first-of xs r .are ∙ ap (λ (ys : List Run). x ∷ ys) (sym (rest-are xs r));
-          }
-
-      pub standing-on : Standing own ms₀ ms′ ix n cs₀ cs′ (beyond (x .reference) (x .end)) (k + 1)
-      standing-on =
-          record {
-            long = w .long ∙ s .long;
-            ownLong = w .ownLong ∙ s .ownLong;
-            ready = w .ready;
-            ownReady = w .ownReady;
-            told = λ l a. w .told l a ∙ s .told l (at-beyond p (x .reference) (x .start) (x .end) (w .next .there) (omega (arith, w .next .stretch .full)) (l .block) (l .offset) a);
-            left = λ xs r.
-                record {
-                  few = omega (arith, standing-next xs r .more);
-                  unfolded = subst (Unfolded f (beyond (x .reference) (x .end))) (sym (rest-are xs r)) (first-of xs r .unfolded);
-                };
-          }
+        go (y ∷ ys) z (more m u) = (
+          y,
+          (
+            next-same f (together own ms ix cs n) p y (λ l a. sym (s .told l a)) m,
+            z ∙ ap (λ (zs : List Run). y ∷ zs)
+                (sym (sym (drop-drop 1 k xs) ∙ ap (drop 1) z)),
+          ),
+        )
 
   module _ (ms cs : List ℕ) (m : Moved ix n anywhere cs₀ cs) (w : Moved own 1 anywhere ms₀ ms) where
     -- cursors that were moved name the same
     pub runs-moved : (xs : List Run) → RunsOf f xs → RunsOf (together own ms ix cs n) xs
-    runs-moved xs r = chain-runs (together own ms ix cs n) xs (runs-chain xs r) (λ l. runs-told xs r l ∙ sym (moved-names own ms₀ ix n cs₀ anywhere ms cs m w l tt))
-
-  -- a run from the piece at hand on
-  module _ (ms cs : List ℕ) (next : Option Run) (k : ℕ) (s : Stepping own ms₀ ms ix n cs₀ cs next k) (x : Run) (e : next ≡ some x)
-      (ms′ cs′ : List ℕ) (y : Run) (next′ : Option Run) (w : GrownFrom own ms ms′ ix n cs cs′ x y next′) where
-    passed : RunPassed own ms ms′ ix n cs cs′ (s .place) y
-    unfolding PieceOr
-    passed = grown-passed own ms ix n cs (s .place) ms′ cs′ x y next′ (subst (PieceOr (together own ms ix cs n) (s .place)) e (s .piece)) w
-
-    pub stepping-next : (xs : List Run) → RunsOf f xs → Next y k xs
-    stepping-next = standing-next ms cs (s .place) k (s .standing) ms′ cs′ y passed
-
-    pub stepping-on : Stepping own ms₀ ms′ ix n cs₀ cs′ next′ (k + 1)
-    stepping-on =
-        record {
-          place = beyond (y .reference) (y .end);
-          standing = standing-on ms cs (s .place) k (s .standing) ms′ cs′ y passed;
-          piece = grown-piece own ms ix n cs (s .place) ms′ cs′ x y next′ w;
-        }
+    runs-moved xs r = chain-runs (together own ms ix cs n) xs (runs-chain xs r)
+        (λ l. runs-told xs r l ∙ sym (moved-names own ms₀ ix n cs₀ anywhere ms cs m w l tt))

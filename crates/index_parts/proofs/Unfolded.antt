@@ -5,15 +5,15 @@ use mathlib.Core.List.{List, [], _∷_}
 use Prim.Native.Nat.{ℕ, _+_, _≤_, _<_}
 use native.Mathlib.Omega.{arith}
 use native.Mathlib.Decide.{decLt}
-use Rattle.authority_set.specs.AuthoritySet.{AuthoritySet, nobody}
-use Rattle.blocks.specs.Reference.{BlockReference, TransactionLocator, locator, referenceBefore}
-use Rattle.blocks.proofs.References.{reference-irrefl}
-use Rattle.voters_index.specs.Runs.{Run, votersIn}
-use Rattle.voters_index.specs.Part.{RunsOf}
-use Rattle.voters_index.specs.Walk.{Past, byBlock, byOffset, Place, anywhere, beyond, At, NextRun, Unfolded, done, more}
-use Rattle.voters_index.proofs.Chain.{Covered, Chain, end, link, Differs, past-head, nobody-before, at-head}
-use Rattle.voters_index.proofs.Unique.{PlaceOrder, earlier, later, alike, place-order, at-end}
-use Rattle.voters_index.proofs.Relation.{runs-chain, runs-told}
+use Rattle.committee_set.specs.AuthoritySet.{AuthoritySet, nobody}
+use Rattle.record_spec.specs.Reference.{BlockReference, TransactionLocator, locator, referenceBefore}
+use Rattle.record_spec.proofs.References.{reference-irrefl}
+use Rattle.index_spec.specs.Runs.{Run, votersIn}
+use Rattle.index_spec.specs.Part.{RunsOf}
+use Rattle.index_spec.specs.Walk.{Past, byBlock, byOffset, Place, anywhere, beyond, At, NextRun, Unfolded, done, more}
+use Rattle.index_spec.proofs.Chain.{Covered, Chain, end, link, Differs, past-head, nobody-before, at-head}
+use Rattle.index_spec.proofs.Unique.{PlaceOrder, earlier, later, alike, place-order, at-end}
+use Rattle.index_spec.proofs.Relation.{runs-chain, runs-told}
 use Rattle.index_pieces.proofs.Pieces.{at-beyond}
 
 -- the next run is the first of those that are left
@@ -23,7 +23,8 @@ pub record First (f : TransactionLocator → AuthoritySet) (x : Run) (xs : List 
   pub unfolded : Unfolded f (beyond (x .reference) (x .end)) rest
 
 module _ {f : TransactionLocator → AuthoritySet} where
-  chain-unfolded : (p : Place) (xs : List Run) → Chain Differs p xs → ((l : TransactionLocator) → At p (l .block) (l .offset) → f l ≡ votersIn xs l) → Unfolded f p xs
+  chain-unfolded : (p : Place) (xs : List Run) → Chain Differs p xs → ((l : TransactionLocator) → At p (l .block) (l .offset) → f l ≡ votersIn xs l) →
+      Unfolded f p xs
   unfolding locator votersIn
   chain-unfolded p [] end e = done e
   chain-unfolded p (x ∷ xs) (link a g d h) e = more next (chain-unfolded (beyond (x .reference) (x .end)) xs h rest)
@@ -38,10 +39,16 @@ module _ {f : TransactionLocator → AuthoritySet} where
       next =
           record {
             there = a;
-            stretch = record { full = g .full; voted = g .voted; told = λ o i j. e (locator (x .reference) o) (there o i) ∙ at-head x xs h (locator (x .reference) o) (covers o i j) };
+            stretch = record {
+              full = g .full;
+              voted = g .voted;
+              told = λ o i j. e (locator (x .reference) o) (there o i) ∙ at-head x xs h
+                  (locator (x .reference) o) (covers o i j);
+            };
             onward = λ z.
                 at-end x xs g d h
-                (sym (past-head x xs (locator (x .reference) (x .end)) (λ c. omega (arith, c .below))) ∙ sym (e (locator (x .reference) (x .end)) (there (x .end) (omega (arith, g .full)))) ∙ z);
+                (sym (past-head x xs (locator (x .reference) (x .end)) (λ c. omega (arith, c .below))) ∙ sym
+                (e (locator (x .reference) (x .end)) (there (x .end) (omega (arith, g .full)))) ∙ z);
             first = λ l i j. e l i ∙ nobody-before (l .block) (l .offset) (x ∷ xs) (link j g d h);
           }
 
@@ -70,7 +77,8 @@ module _ {f : TransactionLocator → AuthoritySet} where
   no-later p x y n m k =
       n .stretch .voted (sym (n .stretch .told (x .start) (omega arith) (n .stretch .full)) ∙ m .first (locator (x .reference) (x .start)) (n .there) k)
 
-  no-longer : (p : Place) (x y : Run) → NextRun f p x → NextRun f p y → x .reference ≡ y .reference → x .start ≡ y .start → x .votes ≡ y .votes → x .end < y .end → ⊥
+  no-longer : (p : Place) (x y : Run) → NextRun f p x → NextRun f p y → x .reference ≡ y .reference → x .start ≡ y .start → x .votes ≡ y .votes → x .end <
+      y .end → ⊥
   no-longer p x y n m r s v k =
       n .onward (ap (λ (z : BlockReference). f (locator z (x .end))) r ∙ m .stretch .told (x .end) (omega (arith, n .stretch .full)) k ∙ sym v)
 
@@ -83,7 +91,8 @@ module _ {f : TransactionLocator → AuthoritySet} where
       split (later k) = absurd (no-later p y x m n k)
       split (alike r s) =
           let v : x .votes ≡ y .votes =
-          sym (n .stretch .told (x .start) (omega arith) (n .stretch .full)) ∙ ap f (λ i. locator (r i) (s i)) ∙ m .stretch .told (y .start) (omega arith) (m .stretch .full) in
+          sym (n .stretch .told (x .start) (omega arith) (n .stretch .full)) ∙ ap f (λ i. locator (r i) (s i)) ∙ m .stretch .told (y .start) (omega arith)
+          (m .stretch .full) in
           let a = no-longer p x y n m r s v in
           let b = no-longer p y x m n (sym r) (sym s) (sym v) in
           let e : x .end ≡ y .end = ends a b (decLt (x .end) (y .end)) (decLt (y .end) (x .end)) in

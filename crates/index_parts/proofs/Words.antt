@@ -5,17 +5,17 @@ use mathlib.Core.List.{List, [], _∷_, _++_, map, flatten, append-assoc, append
 use Prim.Native.Nat.{ℕ, zero, suc, _+_, _*_, _≤_, _<_}
 use native.Mathlib.Omega.{arith}
 use lib.Dec.{eqb}
-use lib.ListN.{length, getD, take, drop, length-drop, length-append}
-use lib.Seq.{drop-drop, take-length, getD-drop}
+use lib.ListN.{length, getD, take, drop, length-drop, length-append, take-append-drop, List·getD-append}
+use lib.Seq.{drop-drop, take-length, take-add, take-append-seam, drop-append-le, getD-drop}
 use borrow.Author.Tests.{eq-eqb, eqb-true}
 use Rattle.base.specs.Le.{leBytes}
 use Rattle.base.proofs.Le.{leNumber-leBytes}
 use Rattle.base.proofs.Loops.{drop-next}
 use Rattle.base.proofs.Tests.{and-left, and-right, and-both, not-both}
-use Rattle.voters_index.specs.Runs.{Run}
-use Rattle.voters_index.specs.Index.{digestWords, runWords, partWords}
-use Rattle.voters_index.specs.Walk.{digestOf, runFrom}
-use Rattle.voters_index.proofs.Reading.{length-run, part-length}
+use Rattle.index_spec.specs.Runs.{Run}
+use Rattle.index_spec.specs.Index.{digestWords, runWords, partWords}
+use Rattle.index_spec.specs.Walk.{digestOf, runFrom, runsFrom}
+use Rattle.index_spec.proofs.Reading.{length-run, part-length}
 use Rattle.index_runs.specs.Values.{startsWith}
 
 abbrev pub runsWords : List Run → List ℕ
@@ -25,22 +25,18 @@ words-drop : (k : ℕ) (xs : List Run) (rest : List ℕ) → k ≤ length xs →
 unfolding flatten runWords digestWords
 words-drop zero xs rest h = refl
 words-drop (suc k) [] rest h = absurd (omega arith)
-words-drop (suc k) (x ∷ xs) rest h = let e : 10 * suc k ≡ 10 + 10 * k = omega arith in rw e (sym (drop-drop (10 * k) 10 (runsWords (x ∷ xs) ++ rest)) ∙ words-drop k xs rest (omega arith))
+words-drop (suc k) (x ∷ xs) rest h = let e : 10 * suc k ≡ 10 + 10 * k = omega arith in rw e
+    (sym (drop-drop (10 * k) 10 (runsWords (x ∷ xs) ++ rest)) ∙ words-drop k xs rest (omega arith))
 
 pub words-append : (xs ys : List Run) → runsWords (xs ++ ys) ≡ runsWords xs ++ runsWords ys
 unfolding flatten
 words-append [] ys = refl
 words-append (x ∷ xs) ys = ap (λ (ws : List ℕ). runWords x ++ ws) (words-append xs ys) ∙ sym (append-assoc (runWords x) (runsWords xs) (runsWords ys))
 
-pub take-more : (k : ℕ) (xs : List Run) (y : Run) (ys : List Run) → drop k xs ≡ y ∷ ys → take (k + 1) xs ≡ take k xs ++ (y ∷ [])
-take-more zero (x ∷ xs) y ys e = ap (λ (z : Run). z ∷ []) (ap (λ (zs : List Run). headOr zs) e)
-  where
-    headOr : List Run → Run
-    headOr [] = y
-    headOr (z ∷ zs) = z
-take-more zero [] y ys e = absurd (let z : _≡_ {A = ℕ} 0 1 = cc in omega arith)
-take-more (suc k) [] y ys e = absurd (let z : _≡_ {A = ℕ} 0 1 = cc in omega arith)
-take-more (suc k) (x ∷ xs) y ys e = let s : suc k + 1 ≡ suc (k + 1) = omega arith in rw s (ap (λ (zs : List Run). x ∷ zs) (take-more k xs y ys e))
+-- the runs after the first k
+pub take-over : (k : ℕ) (xs ys zs : List Run) → drop k xs ≡ ys ++ zs → take (k + length ys) xs ≡ take k xs ++ ys
+take-over k xs ys zs e =
+    take-add k (length ys) xs ∙ ap (λ (ws : List Run). take k xs ++ ws) (ap (take (length ys)) e ∙ take-append-seam ys zs)
 
 -- ---- beginning with words
 
@@ -74,16 +70,13 @@ module _ (ix : List ℕ) (at : ℕ) (xs : List Run) (rest : List ℕ) (e : drop 
   part-body = sym (drop-drop 1 at ix) ∙ ap (drop 1) e
 
 module _ (ix : List ℕ) (at : ℕ) (xs : List Run) (rest : List ℕ) (e : drop (at + 1) ix ≡ runsWords xs ++ rest) where
-  pub part-from : (k : ℕ) → k ≤ length xs → drop (at + 1 + 10 * k) ix ≡ runsWords (drop k xs) ++ rest
+  part-from : (k : ℕ) → k ≤ length xs → drop (at + 1 + 10 * k) ix ≡ runsWords (drop k xs) ++ rest
   part-from k h = sym (drop-drop (10 * k) (at + 1) ix) ∙ ap (drop (10 * k)) e ∙ words-drop k xs rest h
 
   module _ (k : ℕ) (y : Run) (h : k < length xs) (f : drop k xs ≡ y ∷ drop (k + 1) xs) where
     run-from : drop (at + 1 + 10 * k) ix ≡ runWords y ++ (runsWords (drop (k + 1) xs) ++ rest)
     unfolding flatten
     run-from = part-from k (omega arith) ∙ ap (λ (zs : List Run). runsWords zs ++ rest) f ∙ append-assoc (runWords y) (runsWords (drop (k + 1) xs)) rest
-
-    pub run-room : at + 1 + 10 * k + 10 ≤ length ix
-    run-room = omega (arith, length-drop (at + 1 + 10 * k) ix, ap length run-from, length-append (runWords y) (runsWords (drop (k + 1) xs) ++ rest), length-run y)
 
     pub run-stands : startsWith (runWords y) (drop (at + 1 + 10 * k) ix) ≡ true
     run-stands = ap (startsWith (runWords y)) run-from ∙ words-starts (runWords y) (runsWords (drop (k + 1) xs) ++ rest)
@@ -99,19 +92,16 @@ module _ (ix : List ℕ) (at : ℕ) (xs : List Run) where
   unfolding Stood flatten
   stood-start = let e : at + 1 + 10 * 0 ≡ at + 1 = omega arith in rw e
 
-  pub stood-on : (k : ℕ) (y : Run) → Stood ix at k xs → drop k xs ≡ y ∷ drop (k + 1) xs → startsWith (runWords y) (drop (at + 1 + 10 * k) ix) ≡ true → Stood ix at (k + 1) xs
-  unfolding Stood flatten
-  stood-on k y h f s =
-      let e : at + 1 + 10 * k + 10 ≡ at + 1 + 10 * (k + 1) = omega arith in
-      let next : drop (at + 1 + 10 * k) ix ≡ runWords y ++ drop (at + 1 + 10 * (k + 1)) ix =
-      starts-words (runWords y) (drop (at + 1 + 10 * k) ix) s
-      ∙ ap (λ (m : ℕ). runWords y ++ drop m (drop (at + 1 + 10 * k) ix)) (length-run y)
-      ∙ ap (λ (ws : List ℕ). runWords y ++ ws) (drop-drop 10 (at + 1 + 10 * k) ix ∙ ap (λ (m : ℕ). drop m ix) e) in
+  -- some more
+  pub stood-on : (k : ℕ) (ys : List Run) → Stood ix at k xs → drop k xs ≡ ys ++ drop (k + length ys) xs
+      → drop (at + 1 + 10 * k) ix ≡ runsWords ys ++ drop (at + 1 + 10 * (k + length ys)) ix → Stood ix at (k + length ys) xs
+  unfolding Stood
+  stood-on k ys h f next =
       h
       ∙ ap (λ (ws : List ℕ). runsWords (take k xs) ++ ws) next
-      ∙ sym (append-assoc (runsWords (take k xs)) (runWords y) (drop (at + 1 + 10 * (k + 1)) ix))
-      ∙ ap (λ (ws : List ℕ). ws ++ drop (at + 1 + 10 * (k + 1)) ix)
-      (ap (λ (ws : List ℕ). runsWords (take k xs) ++ ws) (sym (append-nil (runWords y))) ∙ sym (words-append (take k xs) (y ∷ [])) ∙ ap runsWords (sym (take-more k xs y (drop (k + 1) xs) f)))
+      ∙ sym (append-assoc (runsWords (take k xs)) (runsWords ys) (drop (at + 1 + 10 * (k + length ys)) ix))
+      ∙ ap (λ (ws : List ℕ). ws ++ drop (at + 1 + 10 * (k + length ys)) ix)
+      (sym (words-append (take k xs) ys) ∙ ap runsWords (sym (take-over k xs ys (drop (k + length ys) xs) f)))
 
   stood-end : Stood ix at (length xs) xs → drop (at + 1) ix ≡ runsWords xs ++ drop (at + 1 + 10 * length xs) ix
   unfolding Stood
@@ -129,7 +119,8 @@ module _ (ix : List ℕ) (at : ℕ) (xs : List Run) where
 -- ---- a run where it stands
 
 -- ten words, through their run
-run-words : (ws : List ℕ) → ((i : ℕ) → getD ws i 0 < 18446744073709551616) → (rest : List ℕ) → runWords (runFrom ws) ++ rest ≡ getD ws 0 0 ∷ getD ws 1 0 ∷ getD ws 2 0 ∷ getD ws 3 0 ∷ getD ws 4 0 ∷ getD ws 5 0 ∷ getD ws 6 0 ∷ getD ws 7 0 ∷ getD ws 8 0 ∷ getD ws 9 0 ∷ rest
+run-words : (ws : List ℕ) → ((i : ℕ) → getD ws i 0 < 18446744073709551616) → (rest : List ℕ) → runWords (runFrom ws) ++ rest ≡ getD ws 0 0 ∷ getD ws 1 0 ∷
+    getD ws 2 0 ∷ getD ws 3 0 ∷ getD ws 4 0 ∷ getD ws 5 0 ∷ getD ws 6 0 ∷ getD ws 7 0 ∷ getD ws 8 0 ∷ getD ws 9 0 ∷ rest
 unfolding runWords runFrom digestWords digestOf leBytes
 run-words ws h rest =
     let a = leNumber-leBytes 8 (getD ws 2 0) (h 2) in
@@ -139,7 +130,8 @@ run-words ws h rest =
     λ i. getD ws 0 0 ∷ getD ws 1 0 ∷ a i ∷ b i ∷ c i ∷ d i ∷ getD ws 6 0 ∷ getD ws 7 0 ∷ getD ws 8 0 ∷ getD ws 9 0 ∷ rest
 
 ten : (ws : List ℕ) → 10 ≤ length ws
-    → ws ≡ getD ws 0 0 ∷ getD ws 1 0 ∷ getD ws 2 0 ∷ getD ws 3 0 ∷ getD ws 4 0 ∷ getD ws 5 0 ∷ getD ws 6 0 ∷ getD ws 7 0 ∷ getD ws 8 0 ∷ getD ws 9 0 ∷ drop 10 ws
+    → ws ≡ getD ws 0 0 ∷ getD ws 1 0 ∷ getD ws 2 0 ∷ getD ws 3 0 ∷ getD ws 4 0 ∷ getD ws 5 0 ∷ getD ws 6 0 ∷ getD ws 7 0 ∷ getD ws 8 0 ∷ getD ws 9 0 ∷ drop
+    10 ws
 ten [] m = absurd (omega arith)
 ten (a ∷ []) m = absurd (omega arith)
 ten (a ∷ b ∷ []) m = absurd (omega arith)
@@ -153,9 +145,74 @@ ten (a ∷ b ∷ c ∷ d ∷ e ∷ f ∷ g ∷ h ∷ i ∷ []) m = absurd (omega
 ten (a ∷ b ∷ c ∷ d ∷ e ∷ f ∷ g ∷ h ∷ i ∷ j ∷ rest) m = refl
 
 -- the words of the run that stands there
-pub run-here : (ix : List ℕ) (pos : ℕ) → ((i : ℕ) → getD ix i 0 < 18446744073709551616) → pos + 10 ≤ length ix → startsWith (runWords (runFrom (drop pos ix))) (drop pos ix) ≡ true
+pub run-here : (ix : List ℕ) (pos : ℕ) → ((i : ℕ) → getD ix i 0 < 18446744073709551616) → pos + 10 ≤ length ix → startsWith
+    (runWords (runFrom (drop pos ix))) (drop pos ix) ≡ true
 run-here ix pos h m =
     ap (startsWith (runWords (runFrom (drop pos ix))))
     (ten (drop pos ix) (omega (arith, length-drop pos ix))
     ∙ sym (run-words (drop pos ix) (λ i. subst (λ (w : ℕ). w < 18446744073709551616) (sym (getD-drop pos ix i 0)) (h (pos + i))) (drop 10 (drop pos ix))))
     ∙ words-starts (runWords (runFrom (drop pos ix))) (drop 10 (drop pos ix))
+
+-- ---- runs where they stand
+
+-- the words of the runs that are read from words
+pub runs-words : (m : ℕ) (ws : List ℕ) → ((i : ℕ) → getD ws i 0 < 18446744073709551616) → 10 * m ≤ length ws → runsWords (runsFrom m ws) ≡ take (10 * m) ws
+unfolding runsFrom flatten
+runs-words zero ws h k = refl
+runs-words (suc m) ws h k =
+    let e : 10 * suc m ≡ 10 + 10 * m = omega arith in
+    let first : runWords (runFrom ws) ≡ take 10 ws =
+    sym (append-nil (runWords (runFrom ws))) ∙ run-words ws h [] ∙ sym (ap (take 10) (ten ws (omega arith))) in
+    let rest = runs-words m (drop 10 ws) (λ i. subst (λ (w : ℕ). w < 18446744073709551616) (sym (getD-drop 10 ws i 0)) (h (10 + i)))
+    (omega (arith, length-drop 10 ws)) in
+    rw e ((λ i. first i ++ rest i) ∙ sym (take-add 10 (10 * m) ws))
+
+-- ten words are enough for a run
+run-more : (ws more : List ℕ) → 10 ≤ length ws → runFrom (ws ++ more) ≡ runFrom ws
+unfolding runFrom
+run-more ws more h =
+    rw (
+      List·getD-append ws more 0 0 (omega arith),
+      List·getD-append ws more 0 1 (omega arith),
+      List·getD-append ws more 0 2 (omega arith),
+      List·getD-append ws more 0 3 (omega arith),
+      List·getD-append ws more 0 4 (omega arith),
+      List·getD-append ws more 0 5 (omega arith),
+      List·getD-append ws more 0 6 (omega arith),
+      List·getD-append ws more 0 7 (omega arith),
+      List·getD-append ws more 0 8 (omega arith),
+      List·getD-append ws more 0 9 (omega arith),
+    )
+
+-- words after them change no runs
+pub runs-more : (n : ℕ) (ws more : List ℕ) → 10 * n ≤ length ws → runsFrom n (ws ++ more) ≡ runsFrom n ws
+unfolding runsFrom
+runs-more zero ws more h = refl
+runs-more (suc n) ws more h =
+    rw (run-more ws more (omega arith), drop-append-le 10 ws more (omega arith), runs-more n (drop 10 ws) more (omega (arith, length-drop 10 ws)))
+
+-- runs in the first words
+pub runs-take : (n pos used : ℕ) (ix : List ℕ) → pos + 10 * n ≤ length (take used ix) → runsFrom n (drop pos ix) ≡ runsFrom n (drop pos (take used ix))
+runs-take n pos used ix h =
+    ap (λ (ws : List ℕ). runsFrom n (drop pos ws)) (sym (take-append-drop used ix))
+    ∙ ap (runsFrom n) (drop-append-le pos (take used ix) (drop used ix) (omega arith))
+    ∙ runs-more n (drop pos (take used ix)) (drop used ix) (omega (arith, length-drop pos (take used ix)))
+
+-- a run and those that are read after it
+pub row-stands : (ix : List ℕ) (pos : ℕ) (x : Run) (m : ℕ) → ((i : ℕ) → getD ix i 0 < 18446744073709551616) → startsWith (runWords x) (drop pos ix) ≡ true
+    → pos + 10 * (1 + m) ≤ length ix
+    → drop pos ix ≡ runsWords (x ∷ runsFrom m (drop (pos + 10) ix)) ++ drop (pos + 10 * (1 + m)) ix
+unfolding flatten
+row-stands ix pos x m h s k =
+    let ws = drop (pos + 10) ix in
+    let e : pos + 10 + 10 * m ≡ pos + 10 * (1 + m) = omega arith in
+    let rest : ws ≡ runsWords (runsFrom m ws) ++ drop (pos + 10 * (1 + m)) ix =
+    sym (take-append-drop (10 * m) ws)
+    ∙ ap (λ (vs : List ℕ). vs ++ drop (10 * m) ws)
+    (sym (runs-words m ws (λ i. subst (λ (w : ℕ). w < 18446744073709551616) (sym (getD-drop (pos + 10) ix i 0)) (h (pos + 10 + i)))
+    (omega (arith, length-drop (pos + 10) ix))))
+    ∙ ap (λ (vs : List ℕ). runsWords (runsFrom m ws) ++ vs) (drop-drop (10 * m) (pos + 10) ix ∙ ap (λ (i : ℕ). drop i ix) e) in
+    starts-words (runWords x) (drop pos ix) s
+    ∙ ap (λ (n : ℕ). runWords x ++ drop n (drop pos ix)) (length-run x)
+    ∙ ap (λ (vs : List ℕ). runWords x ++ vs) (drop-drop 10 pos ix ∙ rest)
+    ∙ sym (append-assoc (runWords x) (runsWords (runsFrom m ws)) (drop (pos + 10 * (1 + m)) ix))

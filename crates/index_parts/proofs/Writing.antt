@@ -1,16 +1,17 @@
 -- The runs of a part written one after the other behind the used words. Assumes nothing.
-use mathlib.Core.Path.{_≡_, refl, sym, ap, _∙_}
-use mathlib.Core.List.{List, [], _∷_, _++_, flatten, append-nil}
-use Prim.Native.Nat.{ℕ, suc, _+_, _*_, _≤_}
+use mathlib.Core.Path.{_≡_, refl, sym, ap, subst, _∙_}
+use mathlib.Core.List.{List, [], _∷_, _++_, flatten}
+use Prim.Native.Nat.{ℕ, suc, _+_, _*_, _≤_, _<_}
 use native.Mathlib.Omega.{arith}
 use native.Mathlib.Numerals.{add-one}
-use lib.ListN.{length, take, drop, set}
-use lib.Seq.{sets, take-set-le, length-take-le, take-length}
+use lib.ListN.{length, getD, take, drop, set, length-drop}
+use lib.Seq.{sets, take-set-le, length-take-le, take-length, take-add, drop-at, getD-drop, length-sets}
 use Rattle.base.proofs.Le.{sets-append}
-use Rattle.voters_index.specs.Runs.{Run}
-use Rattle.voters_index.specs.Index.{runWords, partWords}
-use Rattle.voters_index.proofs.Reading.{runs-length}
-use Rattle.index_parts.proofs.Words.{runsWords, words-append, take-more}
+use Rattle.index_spec.specs.Runs.{Run}
+use Rattle.index_spec.specs.Index.{runWords, partWords}
+use Rattle.index_spec.specs.Walk.{runsFrom}
+use Rattle.index_spec.proofs.Reading.{length-run, runs-length}
+use Rattle.index_parts.proofs.Words.{runsWords, words-append, take-over, runs-words}
 
 -- words written past the first n leave these
 pub take-sets : (n : ℕ) (l vs : List ℕ) (i : ℕ) → n ≤ i → take n (sets l i vs) ≡ take n l
@@ -26,13 +27,16 @@ module _ (l₀ : List ℕ) (p : ℕ) (xs : List Run) where
   unfolding Written flatten
   written-start = refl
 
-  pub written-on : (l : List ℕ) (k : ℕ) (y : Run) → k ≤ length xs → Written l₀ l p k xs → drop k xs ≡ y ∷ drop (k + 1) xs → Written l₀ (sets l (p + 10 * k) (runWords y)) p (k + 1) xs
-  unfolding Written flatten
-  written-on l k y h w e =
-      ap (λ (m : List ℕ). sets m (p + 10 * k) (runWords y)) w
-      ∙ ap (λ (n : ℕ). sets (sets l₀ p (runsWords (take k xs))) (p + n) (runWords y)) (sym (runs-length (take k xs) ∙ ap (λ (n : ℕ). 10 * n) (length-take-le k xs h)))
-      ∙ sym (sets-append (runsWords (take k xs)) (runWords y) l₀ p)
-      ∙ ap (sets l₀ p) (ap (λ (ws : List ℕ). runsWords (take k xs) ++ ws) (sym (append-nil (runWords y))) ∙ sym (words-append (take k xs) (y ∷ [])) ∙ ap runsWords (sym (take-more k xs y (drop (k + 1) xs) e)))
+  -- some more
+  pub written-over : (l : List ℕ) (k : ℕ) (ys : List Run) → k ≤ length xs → Written l₀ l p k xs → drop k xs ≡ ys ++ drop (k + length ys) xs → Written l₀
+      (sets l (p + 10 * k) (runsWords ys)) p (k + length ys) xs
+  unfolding Written
+  written-over l k ys h w e =
+      ap (λ (m : List ℕ). sets m (p + 10 * k) (runsWords ys)) w
+      ∙ ap (λ (n : ℕ). sets (sets l₀ p (runsWords (take k xs))) (p + n) (runsWords ys))
+      (sym (runs-length (take k xs) ∙ ap (λ (n : ℕ). 10 * n) (length-take-le k xs h)))
+      ∙ sym (sets-append (runsWords (take k xs)) (runsWords ys) l₀ p)
+      ∙ ap (sets l₀ p) (sym (words-append (take k xs) ys) ∙ ap runsWords (sym (take-over k xs ys (drop (k + length ys) xs) e)))
 
   pub written-end : (l : List ℕ) (k : ℕ) → length xs ≡ k → Written l₀ l p k xs → l ≡ sets l₀ p (runsWords xs)
   unfolding Written
@@ -45,3 +49,28 @@ part-written l₀ l used k xs e w =
     written-end (set l₀ used k) (used + 1) xs l k e w
     ∙ ap (λ (n : ℕ). sets (set l₀ used n) (used + 1) (runsWords xs)) (sym e)
     ∙ ap (λ (n : ℕ). sets (set l₀ used (length xs)) n (runsWords xs)) (add-one used)
+
+-- ---- runs copied to a position past them
+
+part-take : (p m : ℕ) (l : List ℕ) → p ≤ length l → drop p (take (p + m) l) ≡ take m (drop p l)
+part-take p m l h = ap (drop p) (take-add p m l) ∙ drop-at (take p l) (take m (drop p l)) p (length-take-le p l h)
+
+-- words written past others leave these
+part-sets : (p m : ℕ) (l vs : List ℕ) (i : ℕ) → p + m ≤ i → p ≤ length l → take m (drop p (sets l i vs)) ≡ take m (drop p l)
+part-sets p m l vs i h k =
+    sym (part-take p m (sets l i vs) (omega (arith, length-sets l i vs))) ∙ ap (drop p) (take-sets (p + m) l vs i h) ∙ part-take p m l k
+
+pub copied : (l : List ℕ) (at pos m : ℕ) (y : Run) → ((i : ℕ) → getD l i 0 < 18446744073709551616) → pos + 10 * m ≤ at → at ≤ length l
+    → sets (sets l at (runWords y)) (at + 10) (take (10 * m) (drop pos (sets l at (runWords y)))) ≡ sets l at (runsWords (y ∷ runsFrom m (drop pos l)))
+unfolding flatten
+copied l at pos m y h k j =
+    let same : take (10 * m) (drop pos (sets l at (runWords y))) ≡ runsWords (runsFrom m (drop pos l)) =
+    part-sets pos (10 * m) l (runWords y) at k (omega arith) ∙ sym
+    (runs-words m (drop pos l) (λ i. subst (λ (w : ℕ). w < 18446744073709551616) (sym (getD-drop pos l i 0)) (h (pos + i))) (omega (
+      arith,
+      length-drop pos
+          l,
+    ))) in
+    ap (sets (sets l at (runWords y)) (at + 10)) same
+    ∙ ap (λ (n : ℕ). sets (sets l at (runWords y)) (at + n) (runsWords (runsFrom m (drop pos l)))) (sym (length-run y))
+    ∙ sym (sets-append (runWords y) (runsWords (runsFrom m (drop pos l))) l at)

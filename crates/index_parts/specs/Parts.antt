@@ -1,17 +1,23 @@
 -- Machinery for the contracts of inner functions: the part that some sources make, held against words, counted and written.
 -- Assumes nothing: these are definitions.
-use Prim.Native.Nat.{ℕ, _+_, _≤_, _<_}
+use Prim.Native.Nat.{ℕ, _+_, _*_, _≤_, _<_}
 use mathlib.Core.Path.{_≡_}
 use mathlib.Core.Bool.{true}
-use mathlib.Core.List.{List, _++_}
+use mathlib.Core.List.{List, _∷_, _++_}
 use mathlib.Core.Option.{Option, none, some}
 use lib.ListN.{length, drop}
-use Rattle.blocks.specs.Reference.{TransactionLocator}
-use Rattle.voters_index.specs.Runs.{Run}
-use Rattle.voters_index.specs.Index.{runWords, partWords}
-use Rattle.voters_index.specs.Walk.{Place, beyond, At, NextRun}
-use Rattle.index_runs.specs.Values.{startsWith}
+use Rattle.record_spec.specs.Reference.{TransactionLocator}
+use Rattle.index_spec.specs.Runs.{Run}
+use Rattle.index_spec.specs.Index.{runWords, partWords}
+use Rattle.index_spec.specs.Walk.{Place, beyond, At, NextRun, runsFrom}
+use Rattle.index_runs.specs.Values.{asRun, asMaybe, asPlace, startsWith}
+use Rattle.index_pieces.specs.Pieces.{Piece, PieceOr}
 use Rattle.index_merge.specs.Sources.{Ready, together}
+use Rattle.index_shared.specs.Shared.{Nexts}
+use Rattle.index_shared.specs.declared.Spot.{Spot}
+use Rattle.index_parts.specs.declared.Stride.{Stride}
+use Rattle.index_parts.specs.declared.Stands.{Stands}
+use Rattle.index_parts.specs.declared.Stands.the-variants.{On, Elsewhere}
 use Rattle.index_parts.specs.declared.PartEnd.{PartEnd}
 use Rattle.index_parts.specs.declared.PartEnd.the-variants.{Ends, Differs}
 use Rattle.index_parts.specs.declared.RunCount.{RunCount}
@@ -31,10 +37,46 @@ unfoldable pub StandsNext : List ℕ → List ℕ → List ℕ → List ℕ → 
 StandsNext own ms₀ ms ix n cs₀ cs p pos (some x) = RunPassed own ms₀ ms ix n cs₀ cs p x × (startsWith (runWords x) (drop pos ix) ≡ true)
 StandsNext own ms₀ ms ix n cs₀ cs p pos none = (y : Run) → NextRun (together own ms₀ ix cs₀ n) p y → startsWith (runWords y) (drop pos ix) ≡ true → ⊥
 
+-- a run that stands at a spot and those after it that the sources share were passed, up to another spot
+pub record StoodOver (own ms₀ ms ix : List ℕ) (n : ℕ) (cs₀ cs : List ℕ) (s r : Spot) : Type 0 where
+  pub first : Run
+  pub more : ℕ
+  pub stands : startsWith (runWords first) (drop (s .pos) ix) ≡ true
+  pub next : NextRun (together own ms₀ ix cs₀ n) (asPlace (s .place)) first
+  pub nexts : Nexts (together own ms₀ ix cs₀ n) (beyond (first .reference) (first .end)) (runsFrom more (drop (s .pos + 10) ix)) (asPlace (r .place))
+  pub pos : r .pos ≡ s .pos + 10 * (more + 1)
+  pub left : r .left + (more + 1) ≡ s .left
+  pub long : length cs ≡ length cs₀
+  pub ownLong : length ms ≡ length ms₀
+  pub ready : Ready ix cs n
+  pub ownReady : Ready own ms 1
+  pub told : (l : TransactionLocator) → At (asPlace (r .place)) (l .block) (l .offset) → together own ms ix cs n l ≡ together own ms₀ ix cs₀ n l
+
+unfoldable pub StandsOn : List ℕ → List ℕ → List ℕ → List ℕ → ℕ → List ℕ → List ℕ → Spot → Stands → Type 0
+StandsOn own ms₀ ms ix n cs₀ cs s (On r) = StoodOver own ms₀ ms ix n cs₀ cs s r
+StandsOn own ms₀ ms ix n cs₀ cs s Elsewhere = (y : Run) → NextRun (together own ms₀ ix cs₀ n) (asPlace (s .place)) y → startsWith (runWords y)
+    (drop (s .pos) ix) ≡ true → ⊥
+
 -- the part stands there and ends so; or it does not stand there
 unfoldable pub Compared : List ℕ → ℕ → List Run → PartEnd → Type 0
 Compared ix at xs (Ends e) = (e ≡ at + length (partWords xs)) × ((e ≤ length ix) × (drop at ix ≡ partWords xs ++ drop e ix))
 Compared ix at xs Differs = (rest : List ℕ) → drop at ix ≡ partWords xs ++ rest → ⊥
+
+-- runs in a row, some of which stand in the index
+unfoldable pub strideRuns : List ℕ → Stride → List Run
+strideRuns ix r = asRun (r .run) ∷ runsFrom (r .more) (drop (r .pos) ix)
+
+-- they are the next ones from a piece on, up to a place, and were passed; the piece there
+pub record Strode (own ms₀ ms ix : List ℕ) (n : ℕ) (cs₀ cs : List ℕ) (first : Run) (r : Stride) : Type 0 where
+  pub place : Place
+  pub inside : r .pos + 10 * r .more ≤ length ix
+  pub nexts : (p : Place) → Piece (together own ms₀ ix cs₀ n) p first → Nexts (together own ms₀ ix cs₀ n) p (strideRuns ix r) place
+  pub long : length cs ≡ length cs₀
+  pub ownLong : length ms ≡ length ms₀
+  pub ready : Ready ix cs n
+  pub ownReady : Ready own ms 1
+  pub told : (l : TransactionLocator) → At place (l .block) (l .offset) → together own ms ix cs n l ≡ together own ms₀ ix cs₀ n l
+  pub piece : PieceOr (together own ms ix cs n) place (asMaybe (r .next))
 
 -- the number of its runs; or there are more
 unfoldable pub Counted : ℕ → List Run → RunCount → Type 0

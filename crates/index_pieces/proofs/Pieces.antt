@@ -8,18 +8,18 @@ use native.Mathlib.Omega.{arith}
 use lib.Dec.{ltb, leb}
 use borrow.Author.Tests.{ltb-true, ltb-false, leb-true, leb-false}
 use Rattle.base.specs.Lists.{pick}
-use Rattle.authority_set.specs.AuthoritySet.{AuthoritySet, nobody, united}
-use Rattle.authority_set.proofs.Words.{united-nobody, nobody-united}
-use Rattle.blocks.specs.Reference.{BlockReference, TransactionLocator, locator, referenceBefore}
-use Rattle.blocks.proofs.References.{reference-same, reference-irrefl, reference-trans}
+use Rattle.committee_set.specs.AuthoritySet.{AuthoritySet, nobody, united}
+use Rattle.committee_set.proofs.Words.{united-nobody, nobody-united}
+use Rattle.record_spec.specs.Reference.{BlockReference, TransactionLocator, locator, referenceBefore}
+use Rattle.record_spec.proofs.References.{reference-same, reference-irrefl, reference-trans}
 use Rattle.types.specs.Values.{referenceOrder}
 use Rattle.types.specs.declared.Ordering.{Ordering}
 use Rattle.types.specs.declared.Ordering.the-variants.{Less, Equal, Greater}
 use Rattle.types.proofs.Words.{compared-equal, compared-less, compared-greater}
-use Rattle.voters_index.specs.Runs.{Run, run, votersIn}
-use Rattle.voters_index.specs.Walk.{Past, byBlock, byOffset, Place, anywhere, beyond, At}
-use Rattle.voters_index.proofs.Sets.{united-comm, united-nobody-left}
-use Rattle.voters_index.proofs.Chain.{past-trans, Covered, Chain, end, link, past-head, nobody-before, at-head}
+use Rattle.index_spec.specs.Runs.{Run, run, votersIn}
+use Rattle.index_spec.specs.Walk.{Past, byBlock, byOffset, Place, anywhere, beyond, At}
+use Rattle.index_spec.proofs.Sets.{united-comm, united-nobody-left}
+use Rattle.index_spec.proofs.Chain.{past-trans, Covered, Chain, end, link, past-head, nobody-before, at-head}
 use Rattle.index_pieces.specs.Pieces.{Ahead, Piece, NobodyFrom, PieceOr, fromOffset, fromPlace, nearer, cut, overlaidBy, overlaid, both, orElse, firstPiece, keptIf, skipped}
 
 -- ---- places

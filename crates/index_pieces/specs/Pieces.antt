@@ -6,14 +6,14 @@ use mathlib.Core.List.{List, [], _∷_}
 use mathlib.Core.Option.{Option, none, some}
 use lib.Dec.{ltb, leb}
 use Rattle.base.specs.Lists.{pick}
-use Rattle.authority_set.specs.AuthoritySet.{AuthoritySet, nobody, united}
-use Rattle.blocks.specs.Reference.{TransactionLocator}
+use Rattle.committee_set.specs.AuthoritySet.{AuthoritySet, nobody, united}
+use Rattle.record_spec.specs.Reference.{TransactionLocator}
 use Rattle.types.specs.Values.{referenceOrder}
 use Rattle.types.specs.declared.Ordering.{Ordering}
 use Rattle.types.specs.declared.Ordering.the-variants.{Less, Equal, Greater}
-use Rattle.voters_index.specs.Runs.{Run, run}
-use Rattle.voters_index.specs.Part.{Stretch}
-use Rattle.voters_index.specs.Walk.{Place, anywhere, beyond, Past, At}
+use Rattle.index_spec.specs.Runs.{Run, run}
+use Rattle.index_spec.specs.Part.{Stretch}
+use Rattle.index_spec.specs.Walk.{Place, anywhere, beyond, Past, At}
 
 -- ---- what a piece is
 

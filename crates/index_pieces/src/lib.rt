@@ -1,13 +1,12 @@
 // The first stretch from a place on in one run or in two: what a merge of parts is made of.
-use authority_set::AuthoritySet;
+use committee_set::AuthoritySet;
 use index_runs::MaybeRun;
 use index_runs::Place;
 use index_runs::Run;
 use types::Ordering;
 ghost use mathlib.Core.Path.{_≡_};
 ghost use mathlib.Core.Bool.{_&&_};
-ghost use Rattle.authority_set.specs.AuthoritySet.{united};
-ghost use Rattle.voters_index.specs.Runs.{touches, sameVoters};
+ghost use Rattle.index_spec.specs.Runs.{touches, sameVoters};
 ghost use Rattle.index_runs.specs.Values.{asRun, asMaybe, asPlace};
 ghost use Rattle.index_pieces.specs.Pieces.{nearer, cut, overlaid, both, fromPlace};
 
@@ -38,16 +37,6 @@ pub fn from_place(place: Place, x: Run) -> MaybeRun
                 votes,
             })
         }
-    }
-}
-
-// The voters of either set.
-pub fn united(v: AuthoritySet, w: AuthoritySet) -> AuthoritySet
-    ensures { λ r. ⌜ r ≡ united v w ⌝ }
-{
-    AuthoritySet {
-        low: v.low | w.low,
-        high: v.high | w.high,
     }
 }
 
@@ -91,7 +80,7 @@ fn overlaid(x: Run, y: Run) -> Run
                 return cut(y, x.start);
             }
             let block = x.block;
-            let votes = united(x.votes, y.votes);
+            let votes = committee_set::union(x.votes, y.votes);
             Run {
                 block,
                 start: x.start,

@@ -13,11 +13,11 @@ use Rattle.base.specs.Le.{leNumber, leBytes}
 use Rattle.base.proofs.Le.{leNumber-leBytes, sets-append}
 use Rattle.base.proofs.Loops.{drop-next}
 use Rattle.types.specs.Values.{beBytes, digestBytes}
-use Rattle.reference_bytes.proofs.Written.{length-beBytes, next-word}
+use Rattle.record_reference_bytes.proofs.Written.{length-beBytes, next-word}
 use Rattle.types.specs.declared.BlockDigest as digest
-use Rattle.voters_index.specs.Runs.{Run, run}
-use Rattle.voters_index.specs.Index.{digestWords, runWords}
-use Rattle.voters_index.specs.Walk.{runFrom}
+use Rattle.index_spec.specs.Runs.{Run, run}
+use Rattle.index_spec.specs.Index.{digestWords, runWords}
+use Rattle.index_spec.specs.Walk.{runFrom}
 use Rattle.index_runs.specs.Values.{digestAt, startsWith}
 
 -- turned twice a word is as it was

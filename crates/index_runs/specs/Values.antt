@@ -7,8 +7,8 @@ use lib.Dec.{eqb}
 use lib.ListN.{getD}
 use Rattle.base.specs.Le.{Bytes}
 use Rattle.types.specs.Values.{asReference}
-use Rattle.voters_index.specs.Runs as runs
-use Rattle.voters_index.specs.Walk as walk
+use Rattle.index_spec.specs.Runs as runs
+use Rattle.index_spec.specs.Walk as walk
 use Rattle.index_runs.specs.declared.Run as run
 use Rattle.index_runs.specs.declared.MaybeRun.{MaybeRun}
 use Rattle.index_runs.specs.declared.MaybeRun.the-variants.{Here, Nothing}

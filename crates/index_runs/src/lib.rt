@@ -1,7 +1,7 @@
 // Runs of the index, and their ten words: read, held against a run, and written.
-use authority_set::AuthoritySet;
 use committee::AuthorityIndex;
 use committee::RoundNumber;
+use committee_set::AuthoritySet;
 use types::BlockDigest;
 use types::BlockReference;
 ghost use mathlib.Core.Path.{_≡_};
@@ -10,8 +10,8 @@ ghost use Prim.Native.Nat.{_+_, _≤_};
 ghost use lib.ListN.{length, drop};
 ghost use lib.Seq.{sets};
 ghost use Rattle.types.specs.Values.{digestBytes};
-ghost use Rattle.voters_index.specs.Index.{digestWords, runWords};
-ghost use Rattle.voters_index.specs.Walk.{runFrom};
+ghost use Rattle.index_spec.specs.Index.{digestWords, runWords};
+ghost use Rattle.index_spec.specs.Walk.{runFrom};
 ghost use Rattle.index_runs.specs.Values.{asRun, digestAt, startsWith};
 
 // The words of a run.
@@ -43,10 +43,10 @@ fn read_digest(index: &[u64], at: usize) -> BlockDigest
     requires { ⌜ at + 4 ≤ length (now index) ⌝ }
     ensures { λ r. ⌜ digestBytes r ≡ digestAt (now (index .entry)) at ⌝ }
 {
-    let first = turned_words::turned(index[at]);
-    let second = turned_words::turned(index[at + 1]);
-    let third = turned_words::turned(index[at + 2]);
-    let fourth = turned_words::turned(index[at + 3]);
+    let first = index_turned_words::turned(index[at]);
+    let second = index_turned_words::turned(index[at + 1]);
+    let third = index_turned_words::turned(index[at + 2]);
+    let fourth = index_turned_words::turned(index[at + 3]);
     BlockDigest(first, second, third, fourth)
 }
 
@@ -99,10 +99,10 @@ fn digest_stands_at(index: &[u64], at: usize, digest: BlockDigest) -> bool
     requires { ⌜ at + 4 ≤ length (now index) ⌝ }
     ensures { λ r. ⌜ r ≡ startsWith (digestWords (digestBytes digest)) (drop at (now (index .entry))) ⌝ }
 {
-    let first = turned_words::turned(digest.0);
-    let second = turned_words::turned(digest.1);
-    let third = turned_words::turned(digest.2);
-    let fourth = turned_words::turned(digest.3);
+    let first = index_turned_words::turned(digest.0);
+    let second = index_turned_words::turned(digest.1);
+    let third = index_turned_words::turned(digest.2);
+    let fourth = index_turned_words::turned(digest.3);
     stand_at(index, at, first, second, third, fourth)
 }
 
@@ -132,10 +132,10 @@ fn write_digest(index: &mut [u64], at: usize, digest: BlockDigest)
     requires { ⌜ at + 4 ≤ length (now index) ⌝ }
     ensures { λ _. ⌜ now (index .exit) ≡ sets (now (index .entry)) at (digestWords (digestBytes digest)) ⌝ }
 {
-    index[at] = turned_words::turned(digest.0);
-    index[at + 1] = turned_words::turned(digest.1);
-    index[at + 2] = turned_words::turned(digest.2);
-    index[at + 3] = turned_words::turned(digest.3);
+    index[at] = index_turned_words::turned(digest.0);
+    index[at + 1] = index_turned_words::turned(digest.1);
+    index[at + 2] = index_turned_words::turned(digest.2);
+    index[at + 3] = index_turned_words::turned(digest.3);
 }
 
 // Writes the ten words of a run.

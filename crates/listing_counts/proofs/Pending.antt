@@ -7,7 +7,7 @@ use native.Mathlib.Nat.{mod-add-mod, mod-eq-of-lt}
 use lib.ListN.{length, drop, getD}
 use Rattle.base.specs.Lists.{sumOf}
 use Rattle.base.proofs.Loops.{sum-on, sum-end}
-use Rattle.pending_items.specs.Items.{Item, noItem}
+use Rattle.pending_spec.specs.Items.{Item, noItem}
 use Rattle.listing_counts.specs.Pending.{itemOffsets, pendingOffsets}
 
 -- what is summed of the first k items, with the rest, makes all

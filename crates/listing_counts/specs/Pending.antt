@@ -2,7 +2,7 @@
 use Prim.Native.Nat.{ℕ, _-_}
 use mathlib.Core.List.{List, map}
 use Rattle.base.specs.Lists.{sumOf}
-use Rattle.pending_items.specs.Items.{Item}
+use Rattle.pending_spec.specs.Items.{Item}
 
 unfoldable pub itemOffsets : Item → ℕ
 itemOffsets x = x .end - x .start

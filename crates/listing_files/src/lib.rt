@@ -1,5 +1,6 @@
 // Listings of files under headings: of each file that a program's arguments name, or of one with each of them as the file of stakes.
 use libc::STDOUT_FILENO;
+use list_readings_spec::FinalList;
 
 fn print_heading(name: &[u8]) {
     io::write_all(STDOUT_FILENO, b"== ");
@@ -7,44 +8,40 @@ fn print_heading(name: &[u8]) {
     io::write_all(STDOUT_FILENO, b"\n");
 }
 
-// The listing of an input, with a file of stakes; with the wide list where that is asked for.
-fn run_input(input: &[u8], stakes: &[u8], wide: bool) {
+// The listing of an input, with a file of stakes.
+fn run_input(input: &[u8], stakes: &[u8], list: FinalList) {
     let fd = os::open_read(input);
     if fd < 0 {
         os::fail(input);
         return;
     }
-    if wide {
-        listing_run::listing_wide(fd, stakes);
-    } else {
-        listing_run::listing(fd, stakes);
-    }
+    listing_run::listing(fd, stakes, list);
     libc::close(fd);
 }
 
 // The listing of one file, under a heading; its stakes, where it asks for a file, are those of `stakes`.
-fn run_headed(name: &[u8], wide: bool) {
+fn run_headed(name: &[u8], list: FinalList) {
     print_heading(name);
-    run_input(name, b"stakes", wide);
+    run_input(name, b"stakes", list);
 }
 
 // The same with the ordinary list.
 pub fn run_file(name: &[u8]) {
-    run_headed(name, false);
+    run_headed(name, FinalList::Ordinary);
 }
 
-fn run_argument(i: usize, wide: bool) {
+fn run_argument(i: usize, list: FinalList) {
     let mut path = io::buffer();
     let length = os::arg(i, &mut path);
-    run_headed(&path[..length], wide);
+    run_headed(&path[..length], list);
 }
 
 // Prints the listing of every argument's file, with the ordinary list or the wide one.
-pub fn run_arguments(wide: bool) {
+pub fn run_arguments(list: FinalList) {
     let count = os::arg_count();
     let mut i = 1;
     while i < count {
-        run_argument(i, wide);
+        run_argument(i, list);
         i += 1;
     }
 }
@@ -53,7 +50,7 @@ fn run_table(input: &[u8], i: usize) {
     let mut path = io::buffer();
     let length = os::arg(i, &mut path);
     print_heading(&path[..length]);
-    run_input(input, &path[..length], false);
+    run_input(input, &path[..length], FinalList::Ordinary);
 }
 
 // Prints the listing of one input with every argument as the file of stakes.

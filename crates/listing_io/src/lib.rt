@@ -1,100 +1,104 @@
-// Input and output of `listing`: read piece by piece, written through a buffer.
+// Input and output of `listing`: what is asked of the system, and what it answers.
 use listing_input::Size;
+ghost use Prim.Native.Nat.{_≤_};
 ghost use mathlib.Core.Path.{_≡_};
-ghost use Prim.Native.Nat.{_+_, _≤_, _<_};
 ghost use lib.ListN.{length};
-ghost use Rattle.listing_io.specs.Sizes.{sizeAtMost};
+ghost use Rattle.listing_io.specs.Sizes.{sizeAtMost, filledAtMost};
 
-// How far the buffer is filled, and the number of what was counted in printing: events that are processed ones, or final locators.
-pub struct Printed {
-    pub at: usize,
-    pub counted: u64,
+// How reading went: so many bytes stand in front, fewer than were asked for where the input ended; or a read failed.
+pub enum Filled {
+    Of(usize),
+    Failed,
 }
 
-// Fills the first `size` bytes, and answers how many there were.
-pub fn read_front(fd: i32, bytes: &mut [u8], size: usize) -> usize
-    requires { ⌜ size ≤ length (now bytes) ⌝ }
-    ensures { λ r. ⌜ r ≤ size ⌝ }
+// One read: some bytes, none where the input ended.
+fn read_some(fd: i32, bytes: &mut [u8]) -> Filled
+    ensures { λ r. ⌜ filledAtMost (length (now (bytes .entry))) r ⌝ }
 {
-    io::read_full(fd, &mut bytes[..size])
+    let got = libc::read(fd, bytes);
+    if got < 0 {
+        return Filled::Failed;
+    }
+    Filled::Of(io::count(got, bytes))
+}
+
+// Reads until all bytes are filled or the input ends.
+pub fn fill(fd: i32, bytes: &mut [u8]) -> Filled
+    ensures { λ r. ⌜ filledAtMost (length (now (bytes .entry))) r ⌝ }
+{
+    let mut done = 0;
+    while done < bytes.len() {
+        let some = read_some(fd, &mut bytes[done..]);
+        let Filled::Of(n) = some else {
+            return some;
+        };
+        if n == 0 {
+            return Filled::Of(done);
+        }
+        done += n;
+    }
+    Filled::Of(done)
+}
+
+// The same for the first `size` bytes.
+pub fn fill_front(fd: i32, bytes: &mut [u8], size: usize) -> Filled
+    requires { ⌜ size ≤ length (now bytes) ⌝ }
+    ensures { λ r. ⌜ filledAtMost size r ⌝ }
+{
+    fill(fd, &mut bytes[..size])
+}
+
+// The size of the next record, or that reading failed.
+pub struct NextSize {
+    pub size: Size,
+    pub failed: bool,
 }
 
 // What the next four bytes say.
-fn read_size(fd: i32) -> Size
-    ensures { λ r. ⌜ sizeAtMost 8192 r ⌝ }
+fn read_size(fd: i32) -> NextSize
+    ensures { λ r. ⌜ sizeAtMost 8192 (r .size) ⌝ }
 {
     let mut head = [0u8; 4];
-    let got = io::read_full(fd, &mut head);
-    listing_input::size_of(&head[..got])
+    let filled = fill(fd, &mut head);
+    match filled {
+        Filled::Of(got) => NextSize {
+            size: listing_input::size_of(&head[..got]),
+            failed: false,
+        },
+        Filled::Failed => NextSize {
+            size: Size::End,
+            failed: true,
+        },
+    }
+}
+
+// Reads the bytes of a record of that size to the front of `rec`: one past the end is broken.
+fn read_body(fd: i32, rec: &mut [u8], n: usize) -> NextSize
+    requires { ⌜ (length (now rec) ≡ 8192) × (n ≤ 8192) ⌝ }
+    ensures { λ r. ⌜ sizeAtMost 8192 (r .size) ⌝ }
+{
+    let filled = fill_front(fd, rec, n);
+    match filled {
+        Filled::Of(got) => NextSize {
+            size: listing_input::whole_size(n, got),
+            failed: false,
+        },
+        Filled::Failed => NextSize {
+            size: Size::End,
+            failed: true,
+        },
+    }
 }
 
 // Reads the next record to the front of `rec`.
-pub fn read_record(fd: i32, rec: &mut [u8]) -> Size
+pub fn read_record(fd: i32, rec: &mut [u8]) -> NextSize
     requires { ⌜ length (now rec) ≡ 8192 ⌝ }
-    ensures { λ r. ⌜ sizeAtMost 8192 r ⌝ }
+    ensures { λ r. ⌜ sizeAtMost 8192 (r .size) ⌝ }
 {
-    let size = read_size(fd);
+    let head = read_size(fd);
+    let size = head.size;
     let Size::Of(n) = size else {
-        return size;
+        return head;
     };
-    let got = read_front(fd, rec, n);
-    if got < n {
-        return Size::Broken;
-    }
-    size
-}
-
-// Prints the refusal of record k; 0 is the committee.
-pub fn print_refused(out: &mut [u8], from: usize, k: u64, number: u64) -> usize
-    requires { ⌜ (from ≤ length (now out)) × (128 ≤ length (now out)) ⌝ }
-    ensures { λ r. ⌜ (r ≤ length (now (out .entry))) × (length (now (out .exit)) ≡ length (now (out .entry))) ⌝ }
-{
-    let at = listing_buffer::room(out, from);
-    listing_lines::put_refused(out, at, k, number)
-}
-
-// Prints one event of record k: three words from i on.
-fn print_event(out: &mut [u8], from: usize, k: u64, events: &[u64], i: usize) -> usize
-    requires { ⌜ (from ≤ length (now out)) × ((128 ≤ length (now out)) × (i + 2 < length (now events))) ⌝ }
-    ensures { λ r. ⌜ (r ≤ length (now (out .entry))) × (length (now (out .exit)) ≡ length (now (out .entry))) ⌝ }
-{
-    let at = listing_buffer::room(out, from);
-    listing_lines::put_event(out, at, events[i], k, events[i + 1], events[i + 2])
-}
-
-fn one_if_processed(kind: u64) -> u64 {
-    if kind == 1 { 1 } else { 0 }
-}
-
-// Prints the events of record k.
-pub fn print_events(out: &mut [u8], from: usize, k: u64, events: &[u64]) -> Printed
-    requires { ⌜ (from ≤ length (now out)) × (128 ≤ length (now out)) ⌝ }
-    ensures { λ r. ⌜ (r .at ≤ length (now (out .entry))) × (length (now (out .exit)) ≡ length (now (out .entry))) ⌝ }
-{
-    let mut at = from;
-    let mut counted: u64 = 0;
-    let mut i = 0;
-    while i + 2 < events.len() {
-        at = print_event(out, at, k, events, i);
-        counted = std::num::wrapping_add_u64(counted, one_if_processed(events[i]));
-        i += 3;
-    }
-    Printed { at, counted }
-}
-
-// Prints the last line and writes out the rest.
-pub fn print_end(
-    out: &mut [u8],
-    from: usize,
-    accepted: u64,
-    refused: u64,
-    processed: u64,
-    pending: u64,
-    finals: u64,
-)
-    requires { ⌜ (from ≤ length (now out)) × (128 ≤ length (now out)) ⌝ }
-{
-    let at = listing_buffer::room(out, from);
-    let end = listing_lines::put_end(out, at, accepted, refused, processed, pending, finals);
-    listing_buffer::flush(out, end);
+    read_body(fd, rec, n)
 }

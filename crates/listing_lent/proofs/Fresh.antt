@@ -4,7 +4,7 @@ use mathlib.Core.Path.{_≡_, refl}
 use mathlib.Core.List.{[], _++_, flatten}
 use lib.ListN.{replicate, set, replicate-append-replicate}
 use Rattle.base.specs.Le.{leBytes}
-use Rattle.store_layout.specs.Layout.{layout, headerBytes, bodyBytes, entries, firstPosition, positionOf, least, usedBy}
+use Rattle.store_spec.specs.Layout.{layout, headerBytes, bodyBytes, entries, firstPosition, positionOf, least, usedBy}
 
 -- zeros with the used length of a fresh store
 pub zeros-fresh : (n : ℕ) → set (replicate (16 + n) 0) 4 16 ≡ layout [] ++ replicate n 0

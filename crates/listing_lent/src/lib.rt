@@ -1,9 +1,8 @@
-// What a run of `listing` lends to its feeds: a fresh store, and words for events.
+// What a run of `listing` lends to its feeds: a fresh store.
 ghost use mathlib.Core.Path.{_≡_};
 ghost use mathlib.Core.List.{[], _++_};
-ghost use Prim.Native.Nat.{_≤_};
 ghost use lib.ListN.{replicate};
-ghost use Rattle.store_layout.specs.Layout.{layout};
+ghost use Rattle.store_spec.specs.Layout.{layout};
 
 // Makes zeros a fresh store, which only differs from them by its used length.
 pub fn fresh_store(store: &mut [u8])
@@ -11,14 +10,4 @@ pub fn fresh_store(store: &mut [u8])
     ensures { λ _. ⌜ now (store .exit) ≡ layout [] ++ replicate 65520 0 ⌝ }
 {
     store[4] = 16;
-}
-
-// The words of n events, or all that there are, if these are fewer.
-pub fn event_words(n: u64) -> usize
-    ensures { λ r. ⌜ r ≤ 8192 ⌝ }
-{
-    if 2730 < n {
-        return 8192;
-    }
-    3 * (n as usize)
 }

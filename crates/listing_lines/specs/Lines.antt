@@ -1,9 +1,10 @@
 -- The lines of `listing`, as bytes. Assumes nothing: these are definitions.
 use Prim.Native.Nat.{ℕ}
-use mathlib.Core.List.{[], _∷_}
+use mathlib.Core.List.{[], _∷_, reverse}
 use lib.Dec.{eqb}
+use lib.ListN.{take}
 use Rattle.base.specs.Lists.{pick}
-use Rattle.base.specs.Le.{Bytes}
+use Rattle.base.specs.Le.{Bytes, leNumber}
 use Rattle.listing_text.specs.Text.{decimal, hex, line}
 
 -- 01: "`refused K N` (record K from 1, 0 the committee)"
@@ -21,8 +22,12 @@ eventName kind =
 unfoldable pub eventLine : ℕ → ℕ → ℕ → ℕ → Bytes
 eventLine kind k s o = line (eventName kind) (decimal k ∷ decimal s ∷ decimal o ∷ [])
 
+-- 01: "the digest's first four bytes": as a number, the first one highest
+unfoldable pub headOf : Bytes → ℕ
+headOf digest = leNumber (reverse (take 4 digest))
+
 -- 01: "`final ROUND AUTHOR D OFFSET BLOCKS STAKE` ascending, D the digest's first four bytes as 8 lowercase hex digits (the rest decimal)":
--- head is the number of these four bytes, the first one highest
+-- head is the number of these four bytes
 unfoldable pub finalLine : ℕ → ℕ → ℕ → ℕ → ℕ → ℕ → Bytes
 finalLine round author head offset blocks stake =
     line (102 ∷ 105 ∷ 110 ∷ 97 ∷ 108 ∷ []) (decimal round ∷ decimal author ∷ hex 8 head ∷ decimal offset ∷ decimal blocks ∷ decimal stake ∷ [])

@@ -1,69 +1,105 @@
 // The committee of a listing: its stakes from the input, or from the file of stakes.
+use listing_input::FileRead;
+use listing_io::Filled;
+use stakes_file::LoadAnswer;
 ghost use mathlib.Core.Path.{_≡_};
-ghost use Prim.Native.Nat.{_≤_};
 ghost use lib.ListN.{length};
 ghost use Rattle.stakes_file.specs.Answers.{membersAtMost};
-use stakes_file::LoadAnswer;
+ghost use Rattle.listing_input.specs.Read.{readAtMost};
 
-// Reads a file to its end, and answers how many bytes there were: all that are lent where it is longer, or where reading fails.
-fn read_to_end(fd: i32, bytes: &mut [u8]) -> usize
-    ensures { λ r. ⌜ r ≤ length (now (bytes .entry)) ⌝ }
+// Reads an open file to its end, or as far as there is room.
+fn read_open(fd: i32, bytes: &mut [u8]) -> FileRead
+    ensures { λ r. ⌜ readAtMost (length (now (bytes .entry))) r ⌝ }
 {
-    let got = io::read_full(fd, bytes);
-    let mut next = [0u8; 1];
-    if libc::read(fd, &mut next) == 0 {
-        return got;
+    let filled = listing_io::fill(fd, bytes);
+    match filled {
+        Filled::Of(n) => FileRead::Of(n),
+        Filled::Failed => FileRead::Failed,
     }
-    bytes.len()
 }
 
-// The same of a file by its name: no bytes where it is absent.
-fn read_file(name: &[u8], bytes: &mut [u8]) -> usize
-    ensures { λ r. ⌜ r ≤ length (now (bytes .entry)) ⌝ }
+// The file of that name: absent only where opening it says that there is none.
+fn read_file(name: &[u8], bytes: &mut [u8]) -> FileRead
+    ensures { λ r. ⌜ readAtMost (length (now (bytes .entry))) r ⌝ }
 {
     let fd = os::open_read(name);
     if fd < 0 {
         if os::errno() == libc::ENOENT {
-            return 0;
+            return FileRead::Absent;
         }
-        return bytes.len();
+        return FileRead::Failed;
     }
-    let got = read_to_end(fd, bytes);
+    let file = read_open(fd, bytes);
     libc::close(fd);
-    got
+    file
 }
 
-// The file of stakes where the count asks for it. One byte more than the file may have is lent, so that a longer one, and one that cannot
-// be read, is broken.
-fn read_table(count: u8, name: &[u8], bytes: &mut [u8]) -> usize
-    ensures { λ r. ⌜ r ≤ length (now (bytes .entry)) ⌝ }
+// The file of stakes where the count asks for it.
+fn read_table(count: u8, name: &[u8], bytes: &mut [u8]) -> FileRead
+    ensures { λ r. ⌜ readAtMost (length (now (bytes .entry))) r ⌝ }
 {
     if count == 255 {
         return read_file(name, bytes);
     }
-    0
+    FileRead::Absent
+}
+
+// The members that were read, or a refusal; or reading failed.
+pub struct CommitteeRead {
+    pub answer: LoadAnswer,
+    pub failed: bool,
+}
+
+// Reading the input failed: there is no committee.
+fn unread() -> CommitteeRead
+    ensures { λ r. ⌜ membersAtMost 254 (r .answer) ⌝ }
+{
+    CommitteeRead {
+        answer: LoadAnswer::Refused(0),
+        failed: true,
+    }
+}
+
+// The committee from the bytes that follow the count, or from the file. One byte more than the file may have is lent, so that a longer one is broken.
+fn read_members(count: u8, bytes: &[u8], name: &[u8], stakes: &mut [u64]) -> CommitteeRead
+    requires { ⌜ length (now stakes) ≡ 254 ⌝ }
+    ensures { λ r. ⌜ membersAtMost 254 (r .answer) ⌝ }
+{
+    let mut file = [0u8; 65537];
+    let read = read_table(count, name, &mut file);
+    let answer = listing_input::committee_of(count, bytes, read, &file, stakes);
+    CommitteeRead {
+        answer,
+        failed: false,
+    }
 }
 
 // The stakes that follow the member count, or those of the file.
-fn read_stakes(fd: i32, count: u8, name: &[u8], stakes: &mut [u64]) -> LoadAnswer
+fn read_stakes(fd: i32, count: u8, name: &[u8], stakes: &mut [u64]) -> CommitteeRead
     requires { ⌜ length (now stakes) ≡ 254 ⌝ }
-    ensures { λ r. ⌜ membersAtMost 254 r ⌝ }
+    ensures { λ r. ⌜ membersAtMost 254 (r .answer) ⌝ }
 {
     let mut bytes = [0u8; 2032];
     let size = listing_input::stake_bytes(count);
-    let got = listing_io::read_front(fd, &mut bytes, size);
-    let mut file = [0u8; 65537];
-    let n = read_table(count, name, &mut file);
-    listing_input::committee_of(count, &bytes[..got], &file[..n], stakes)
+    let filled = listing_io::fill_front(fd, &mut bytes, size);
+    match filled {
+        Filled::Of(got) => read_members(count, &bytes[..got], name, stakes),
+        Filled::Failed => unread(),
+    }
 }
 
 // Reads the committee's stakes, and puts them in front.
-pub fn read_committee(fd: i32, name: &[u8], stakes: &mut [u64]) -> LoadAnswer
+pub fn read_committee(fd: i32, name: &[u8], stakes: &mut [u64]) -> CommitteeRead
     requires { ⌜ length (now stakes) ≡ 254 ⌝ }
-    ensures { λ r. ⌜ membersAtMost 254 r ⌝ }
+    ensures { λ r. ⌜ membersAtMost 254 (r .answer) ⌝ }
 {
     let mut head = [0u8; 1];
-    let got = io::read_full(fd, &mut head);
-    let count = listing_input::member_count(&head[..got]);
-    read_stakes(fd, count, name, stakes)
+    let filled = listing_io::fill(fd, &mut head);
+    match filled {
+        Filled::Of(got) => {
+            let count = listing_input::member_count(&head[..got]);
+            read_stakes(fd, count, name, stakes)
+        }
+        Filled::Failed => unread(),
+    }
 }

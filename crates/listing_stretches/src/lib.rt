@@ -1,84 +1,64 @@
-// The lines of final locators, printed stretch by stretch.
-use listing_io::Printed;
+// The stretches of a list in bulk, read from the 80 bytes of each: author, round, digest, first offset, end, certifying blocks, stake.
+use list_after::MaybeLocator;
+use listing_final_lines::Stretch;
+use types::TransactionLocator;
 ghost use mathlib.Core.Path.{_≡_};
-ghost use Prim.Native.Nat.{_+_, _≤_, _<_};
+ghost use Prim.Native.Nat.{_+_, _-_, _*_, _≤_};
 ghost use lib.ListN.{length};
+ghost use Rattle.list_after.specs.Answers.{asMaybe};
+ghost use Rattle.listing_stretches.specs.Stretches.{ReadStretch, lastOf};
 
-fn print_final(
-    out: &mut [u8],
-    from: usize,
-    round: u64,
-    author: u64,
-    digest: u64,
-    offset: u64,
-    blocks: u64,
-    stake: u64,
-) -> usize
-    requires { ⌜ (from ≤ length (now out)) × (128 ≤ length (now out)) ⌝ }
-    ensures { λ r. ⌜ (r ≤ length (now (out .entry))) × (length (now (out .exit)) ≡ length (now (out .entry))) ⌝ }
+// How many offsets there are from the first to the end.
+fn offsets(first: u64, end: u64) -> u64
+    ensures { λ r. ⌜ r ≡ end - first ⌝ }
 {
-    let at = listing_buffer::room(out, from);
-    listing_lines::put_final(out, at, round, author, digest, offset, blocks, stake)
-}
-
-// A line for each offset from `first` to `end`.
-fn print_offsets(
-    out: &mut [u8],
-    from: usize,
-    round: u64,
-    author: u64,
-    digest: u64,
-    first: u64,
-    end: u64,
-    blocks: u64,
-    stake: u64,
-) -> usize
-    requires { ⌜ (from ≤ length (now out)) × (128 ≤ length (now out)) ⌝ }
-    ensures { λ r. ⌜ (r ≤ length (now (out .entry))) × (length (now (out .exit)) ≡ length (now (out .entry))) ⌝ }
-{
-    let mut at = from;
-    let mut offset = first;
-    while offset < end {
-        at = print_final(out, at, round, author, digest, offset, blocks, stake);
-        offset += 1;
+    if end < first {
+        return 0;
     }
-    at
+    end - first
 }
 
-// Prints a stretch of final locators, 80 bytes from i on: author, round, digest, first offset, end, certifying blocks, stake.
-fn print_stretch(out: &mut [u8], from: usize, stretches: &[u8], i: usize) -> usize
-    requires { ⌜ (from ≤ length (now out)) × ((128 ≤ length (now out)) × (i + 79 < length (now stretches))) ⌝ }
-    ensures { λ r. ⌜ (r ≤ length (now (out .entry))) × (length (now (out .exit)) ≡ length (now (out .entry))) ⌝ }
+// The stretch of that index.
+pub fn read_stretch(stretches: &[u8], i: usize) -> Stretch
+    requires { ⌜ 80 * i + 80 ≤ length (now stretches) ⌝ }
+    ensures { λ r. ⌜ ReadStretch (now (stretches .entry)) (80 * i) r ⌝ }
 {
-    let block = reference_bytes::read_reference(stretches, i);
+    let at = 80 * i;
+    let block = record_reference_bytes::read_reference(stretches, at);
     let digest = block.digest;
-    print_offsets(
-        out,
-        from,
-        block.round.0,
-        block.authority.0,
-        digest.0 / 4294967296,
-        base::read_u64(stretches, i + 48),
-        base::read_u64(stretches, i + 56),
-        base::read_u64(stretches, i + 64),
-        base::read_u64(stretches, i + 72),
-    )
+    let first = base::read_u64(stretches, at + 48);
+    let end = base::read_u64(stretches, at + 56);
+    Stretch {
+        round: block.round.0,
+        author: block.authority.0,
+        head: digest.0 / 4294967296,
+        first,
+        lines: offsets(first, end),
+        blocks: base::read_u64(stretches, at + 64),
+        stake: base::read_u64(stretches, at + 72),
+    }
 }
 
-// Prints stretches of final locators, and counts these.
-pub fn print_stretches(out: &mut [u8], from: usize, stretches: &[u8]) -> Printed
-    requires { ⌜ (from ≤ length (now out)) × (128 ≤ length (now out)) ⌝ }
-    ensures { λ r. ⌜ (r .at ≤ length (now (out .entry))) × (length (now (out .exit)) ≡ length (now (out .entry))) ⌝ }
+// The offset before an end.
+fn before(end: u64) -> u64
+    ensures { λ r. ⌜ r ≡ end - 1 ⌝ }
 {
-    let mut at = from;
-    let mut counted: u64 = 0;
-    let mut i = 0;
-    while i + 79 < stretches.len() {
-        at = print_stretch(out, at, stretches, i);
-        let first = base::read_u64(stretches, i + 48);
-        let end = base::read_u64(stretches, i + 56);
-        counted = std::num::wrapping_add_u64(counted, std::num::wrapping_sub_u64(end, first));
-        i += 80;
+    if end == 0 {
+        return 0;
     }
-    Printed { at, counted }
+    end - 1
+}
+
+// The last locator of n stretches, after which the list goes on; the one before them where there are none.
+pub fn last_locator(stretches: &[u8], n: usize, after: MaybeLocator) -> MaybeLocator
+    requires { ⌜ 80 * n ≤ length (now stretches) ⌝ }
+    ensures { λ r. ⌜ asMaybe r ≡ lastOf (now (stretches .entry)) n (asMaybe after) ⌝ }
+{
+    if n == 0 {
+        return after;
+    }
+    let at = 80 * (n - 1);
+    let block = record_reference_bytes::read_reference(stretches, at);
+    let offset = before(base::read_u64(stretches, at + 56));
+    MaybeLocator::Locator(TransactionLocator { block, offset })
 }

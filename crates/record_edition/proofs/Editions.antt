@@ -17,7 +17,7 @@ use Rattle.base.proofs.Tests.{not-both, and-right}
 use Rattle.base.proofs.Le.{AllBytes, bytes-left, bytes-drop, leNumber-lt, leAt-add}
 use Rattle.base.proofs.Read.{part}
 use Rattle.base.proofs.Fixed.{fixed-number, short-at, number-at}
-use Rattle.blocks.specs.Record.{Edition, old, timed, editionBytes, readTime, editionOf, bodyFrom, bodyStart}
+use Rattle.record_spec.specs.Record.{Edition, old, timed, editionBytes, readTime, editionOf, bodyFrom, bodyStart}
 use Rattle.record_edition.specs.Step.{editionRight}
 
 -- ---- the three bytes

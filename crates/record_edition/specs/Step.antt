@@ -3,7 +3,7 @@ use mathlib.Core.Bool.{Bool, not, _&&_}
 use lib.ListN.{take, drop}
 use Rattle.base.specs.Lists.{same, isNone}
 use Rattle.base.specs.Le.{Bytes}
-use Rattle.blocks.specs.Record.{editionBytes, readTime, editionOf}
+use Rattle.record_spec.specs.Record.{editionBytes, readTime, editionOf}
 
 -- the three bytes of the edition, and its time
 unfoldable pub editionRight : Bytes → Bool

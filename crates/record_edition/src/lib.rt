@@ -2,7 +2,7 @@
 ghost use mathlib.Core.Path.{_≡_};
 ghost use Prim.Native.Nat.{_≤_};
 ghost use lib.ListN.{length};
-ghost use Rattle.blocks.specs.Record.{bodyStart};
+ghost use Rattle.record_spec.specs.Record.{bodyStart};
 ghost use Rattle.record_edition.specs.Step.{editionRight};
 
 // The bytes before the time of edition 2, or before the includes.

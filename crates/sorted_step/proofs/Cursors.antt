@@ -6,15 +6,15 @@ use native.Mathlib.Omega.{arith}
 use native.Mathlib.Decide.{ℕ-discrete}
 use lib.ListN.{length, drop, drop-of-length-le}
 use Rattle.base.specs.Le.{Bytes}
-use Rattle.authority_set.specs.AuthoritySet.{AuthoritySet, nobody}
-use Rattle.blocks.specs.Reference.{TransactionLocator, locator}
-use Rattle.reference_bytes.specs.Step.{locatorAt}
-use Rattle.voters_index.specs.Runs.{Run, votersIn}
-use Rattle.voters_index.specs.Part.{RunsOf}
-use Rattle.voters_index.specs.Walk.{Past, Place, beyond}
-use Rattle.voters_index.proofs.Chain.{covered, Chain, link, Differs, past-head, nobody-before, at-head, chain-drop, passed-out}
-use Rattle.voters_index.proofs.Relation.{runs-chain}
-use Rattle.voters_index.proofs.Fitting.{past-sorted}
+use Rattle.committee_set.specs.AuthoritySet.{AuthoritySet, nobody}
+use Rattle.record_spec.specs.Reference.{TransactionLocator, locator}
+use Rattle.record_reference_bytes.specs.Step.{locatorAt}
+use Rattle.index_spec.specs.Runs.{Run, votersIn}
+use Rattle.index_spec.specs.Part.{RunsOf}
+use Rattle.index_spec.specs.Walk.{Past, Place, beyond}
+use Rattle.index_spec.proofs.Chain.{covered, Chain, link, Differs, past-head, nobody-before, at-head, chain-drop, passed-out}
+use Rattle.index_spec.proofs.Relation.{runs-chain}
+use Rattle.index_spec.proofs.Fitting.{past-sorted}
 use Rattle.sorted_step.specs.Step.{Beside, Listed}
 use Rattle.sorted_step.specs.declared.Side.the-variants as side
 

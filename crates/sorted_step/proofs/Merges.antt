@@ -8,14 +8,14 @@ use lib.ListN.{length, getD, drop}
 use lib.Seq.{sets}
 use Rattle.base.specs.Le.{Bytes}
 use Rattle.committee.specs.Committee.{Committee, isQuorum}
-use Rattle.authority_set.specs.AuthoritySet.{AuthoritySet, inserted, stakeOf}
-use Rattle.blocks.specs.Reference.{TransactionLocator}
-use Rattle.blocks.specs.Block.{Block, author}
-use Rattle.voters_index.specs.Runs.{Run}
-use Rattle.voters_index.specs.Certified.{partCertifies}
-use Rattle.voters_index.specs.Walk.{runFrom, partAt}
+use Rattle.committee_set.specs.AuthoritySet.{AuthoritySet, inserted, stakeOf}
+use Rattle.record_spec.specs.Reference.{TransactionLocator}
+use Rattle.record_spec.specs.Block.{Block, author}
+use Rattle.index_spec.specs.Runs.{Run}
+use Rattle.index_spec.specs.Certified.{partCertifies}
+use Rattle.index_spec.specs.Walk.{runFrom, partAt}
 use Rattle.sorted_step.proofs.Runs.{part-next, length-part}
-use Rattle.sorted_replies.specs.Sorted.{replyWords, replyOf, asked}
+use Rattle.sorted_spec.specs.Sorted.{replyWords, replyOf, asked}
 use Rattle.sorted_step.specs.Step.{Beside, replyFrom, stepWords, SettledReply, Settled, Listed, PartWords}
 use Rattle.sorted_step.specs.declared.Side.{Side}
 use Rattle.sorted_step.specs.declared.Side.the-variants as side

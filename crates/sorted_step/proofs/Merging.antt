@@ -9,12 +9,12 @@ use lib.ListN.{length, take, drop, drop-of-length-le, length-append}
 use lib.Seq.{take-add, drop-drop, take-all, take-at, drop-at, sets, sets-eq, length-sets, length-take-le}
 use Rattle.base.specs.Le.{Bytes}
 use Rattle.committee.specs.Committee.{Committee}
-use Rattle.authority_set.specs.AuthoritySet.{inserted}
-use Rattle.blocks.specs.Reference.{TransactionLocator}
-use Rattle.blocks.specs.Block.{Block, author}
-use Rattle.voters_index.specs.Runs.{Run}
-use Rattle.voters_index.specs.Certified.{partCertifies}
-use Rattle.sorted_replies.specs.Sorted.{replyWords, replyOf, stepReply, step}
+use Rattle.committee_set.specs.AuthoritySet.{inserted}
+use Rattle.record_spec.specs.Reference.{TransactionLocator}
+use Rattle.record_spec.specs.Block.{Block, author}
+use Rattle.index_spec.specs.Runs.{Run}
+use Rattle.index_spec.specs.Certified.{partCertifies}
+use Rattle.sorted_spec.specs.Sorted.{replyWords, replyOf, stepReply, step}
 use Rattle.sorted_step.specs.Step.{replyFrom, repliesFrom, repliesWords, stepWords, Settled, Listed}
 use Rattle.sorted_step.proofs.Words.{reply-stays, reply-grows}
 use Rattle.sorted_step.proofs.Cursors.{at}

@@ -6,8 +6,8 @@ use native.Mathlib.Omega.{arith}
 use native.Mathlib.Nat.{suc-add}
 use lib.ListN.{length, getD, drop}
 use lib.Seq.{drop-drop}
-use Rattle.voters_index.specs.Walk.{runFrom, runsFrom, partAt}
-use Rattle.voters_index.proofs.Reading.{length-runs}
+use Rattle.index_spec.specs.Walk.{runFrom, runsFrom, partAt}
+use Rattle.index_spec.proofs.Reading.{length-runs}
 
 -- the run of an index, and those after it
 pub run-next : (n j : ℕ) (ws : List ℕ) → j < n → drop j (runsFrom n ws) ≡ runFrom (drop (10 * j) ws) ∷ drop (j + 1) (runsFrom n ws)

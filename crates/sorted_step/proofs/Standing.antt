@@ -2,14 +2,14 @@
 use mathlib.Core.Path.{_≡_, sym}
 use Prim.Native.Nat.{_≤_, _<_}
 use native.Mathlib.Omega.{arith}
-use Rattle.blocks.specs.Reference.{TransactionLocator}
-use Rattle.blocks.proofs.References.{reference-same}
+use Rattle.record_spec.specs.Reference.{TransactionLocator}
+use Rattle.record_spec.proofs.References.{reference-same}
 use Rattle.types.specs.Values.{referenceOrder}
 use Rattle.types.specs.declared.Ordering.the-variants.{Less, Equal, Greater}
 use Rattle.types.proofs.Words.{compared-equal, compared-less, compared-greater}
-use Rattle.voters_index.specs.Runs.{Run}
-use Rattle.voters_index.specs.Walk.{byBlock, byOffset}
-use Rattle.voters_index.proofs.Chain.{is-covered}
+use Rattle.index_spec.specs.Runs.{Run}
+use Rattle.index_spec.specs.Walk.{byBlock, byOffset}
+use Rattle.index_spec.proofs.Chain.{is-covered}
 use Rattle.sorted_step.specs.Step.{Beside}
 use Rattle.sorted_step.specs.declared.Side.the-variants.{Before, Inside, Past}
 

@@ -14,14 +14,14 @@ use Rattle.base.specs.Lists.{pick}
 use Rattle.base.proofs.Tests.{or-left, flag-back}
 use Rattle.base.proofs.Lists.{Every, none-of, and}
 use Rattle.committee.specs.Committee.{Committee, totalStake, isQuorum}
-use Rattle.authority_set.specs.AuthoritySet.{AuthoritySet, nobody, inserted, member, stakeOf}
-use Rattle.authority_set.proofs.Votes.{stake-nobody, member-inserted}
-use Rattle.authority_set.proofs.Words.{Small, small-inserted, set-ext}
-use Rattle.blocks.specs.Reference.{TransactionLocator}
-use Rattle.blocks.specs.Block.{Block, author}
-use Rattle.voters_index.specs.Runs.{Run, votersIn}
-use Rattle.voters_index.specs.Certified.{partCertifies}
-use Rattle.sorted_replies.specs.Sorted.{Reply, replyWords, replyOf, stepReply}
+use Rattle.committee_set.specs.AuthoritySet.{AuthoritySet, nobody, inserted, member, stakeOf}
+use Rattle.committee_set.proofs.Votes.{stake-nobody, member-inserted}
+use Rattle.committee_set.proofs.Words.{Small, small-inserted, set-ext}
+use Rattle.record_spec.specs.Reference.{TransactionLocator}
+use Rattle.record_spec.specs.Block.{Block, author}
+use Rattle.index_spec.specs.Runs.{Run, votersIn}
+use Rattle.index_spec.specs.Certified.{partCertifies}
+use Rattle.sorted_spec.specs.Sorted.{Reply, replyWords, replyOf, stepReply}
 use Rattle.sorted_step.specs.Step.{replyFrom, repliesFrom, repliesWords, SettledReply, Settled}
 
 -- ---- replies read back

@@ -7,14 +7,14 @@ use lib.Dec.{eqb}
 use lib.ListN.{length, getD, take, drop}
 use Rattle.base.specs.Le.{Bytes}
 use Rattle.committee.specs.Committee.{Committee}
-use Rattle.authority_set.specs.AuthoritySet.{AuthoritySet}
-use Rattle.blocks.specs.Reference.{TransactionLocator, locatorBefore}
-use Rattle.blocks.specs.Block.{Block}
-use Rattle.reference_bytes.specs.Step.{locatorAt}
-use Rattle.voters_index.specs.Runs.{Run, runCovers}
-use Rattle.voters_index.specs.Part.{RunsOf}
-use Rattle.voters_index.specs.Walk as walk
-use Rattle.sorted_replies.specs.Sorted.{Reply, replyWords, replyOf, step}
+use Rattle.committee_set.specs.AuthoritySet.{AuthoritySet}
+use Rattle.record_spec.specs.Reference.{TransactionLocator, locatorBefore}
+use Rattle.record_spec.specs.Block.{Block}
+use Rattle.record_reference_bytes.specs.Step.{locatorAt}
+use Rattle.index_spec.specs.Runs.{Run, runCovers}
+use Rattle.index_spec.specs.Part.{RunsOf}
+use Rattle.index_spec.specs.Walk as walk
+use Rattle.sorted_spec.specs.Sorted.{Reply, replyWords, replyOf, step}
 use Rattle.sorted_step.specs.declared.Side.{Side}
 use Rattle.sorted_step.specs.declared.Side.the-variants.{Before, Inside, Past}
 

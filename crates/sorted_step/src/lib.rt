@@ -1,7 +1,7 @@
 // One step of the answer to a sorted list of locators: a stored block's part of the index merged with the list.
-use authority_set::AuthoritySet;
 use committee::AuthorityIndex;
 use committee::Stake;
+use committee_set::AuthoritySet;
 use index_runs::Run;
 use types::Ordering;
 use types::TransactionLocator;
@@ -12,13 +12,13 @@ ghost use lib.ListN.{length, drop};
 ghost use lib.Seq.{sets};
 ghost use Rattle.base.specs.Lists.{pick};
 ghost use Rattle.committee.specs.Committee.{broken, totalStake, isQuorum};
-ghost use Rattle.authority_set.specs.AuthoritySet.{inserted, stakeOf};
-ghost use Rattle.blocks.specs.Block.{Block, author as authorOf};
-ghost use Rattle.blocks.specs.Record.{wellFormed, blockIn};
+ghost use Rattle.committee_set.specs.AuthoritySet.{inserted, stakeOf};
+ghost use Rattle.record_spec.specs.Block.{Block, author as authorOf};
+ghost use Rattle.record_spec.specs.Record.{wellFormed, blockIn};
 ghost use Rattle.types.specs.Values.{asLocator};
-ghost use Rattle.voters_index.specs.Walk.{partAt};
+ghost use Rattle.index_spec.specs.Walk.{partAt};
 ghost use Rattle.index_runs.specs.Values.{asRun};
-ghost use Rattle.sorted_replies.specs.Sorted.{replyWords, replyOf, asked};
+ghost use Rattle.sorted_spec.specs.Sorted.{replyWords, replyOf, asked};
 ghost use Rattle.sorted_step.specs.Step.{Beside, replyFrom, stepWords, SettledReply, Settled, Listed, PartWords};
 
 // How a locator stands to a run.
@@ -52,7 +52,7 @@ fn final_word(stakes: &[u64], total: Stake, authors: AuthoritySet) -> u64
     requires { ⌜ (broken (now stakes) ≡ false) × (total .0 ≡ totalStake (now stakes)) ⌝ }
     ensures { λ r. ⌜ r ≡ pick (isQuorum (now (stakes .entry)) (stakeOf (now (stakes .entry)) authors)) 1 0 ⌝ }
 {
-    if committee::is_quorum(total, authority_set::stake_of(stakes, authors)) {
+    if committee::is_quorum(total, committee_set::stake_of(stakes, authors)) {
         return 1;
     }
     0
@@ -90,7 +90,7 @@ fn merge(
 {
     let n = locators.len() / types::LOCATOR_BYTES;
     let m = part[0] as usize;
-    let mut last = quorum_check::nobody();
+    let mut last = committee_quorum::nobody();
     let mut i: usize = 0;
     let mut j: usize = 0;
     while i < n {
@@ -99,7 +99,7 @@ fn merge(
             return;
         }
         let run = index_runs::read_run(part, index_runs::RUN_WORDS * j + 1);
-        let locator = reference_bytes::read_locator(locators, types::LOCATOR_BYTES * i);
+        let locator = record_reference_bytes::read_locator(locators, types::LOCATOR_BYTES * i);
         let stands = side_of(run, locator);
         match stands {
             Side::Past => {
@@ -111,7 +111,7 @@ fn merge(
             Side::Inside => {
                 let k = i;
                 i += 1;
-                last = quorum_check::check(stakes, total, last, run.votes);
+                last = committee_quorum::check(stakes, total, last, run.votes);
                 if !last.quorum {
                     continue;
                 }
@@ -134,9 +134,9 @@ pub fn step(
     requires { ⌜ ((broken (now stakes) ≡ false) × (total .0 ≡ totalStake (now stakes))) × (((wellFormed (now rec) ≡ true) × ((authorOf (blockIn (now rec)) < 128) × PartWords (now part))) × (Listed (now locators) (asked (now locators)) × Settled (now stakes) (length (asked (now locators))) (now replies))) ⌝ }
     ensures { λ _. ⌜ now (replies .exit) ≡ stepWords (now (stakes .entry)) (blockIn (now (rec .entry))) (partAt (now (part .entry)) 0) (asked (now (locators .entry))) (now (replies .entry)) ⌝ }
 {
-    if block_record::epoch_changed(rec) {
+    if record_reader::epoch_changed(rec) {
         return;
     }
-    let block = block_record::reference(rec);
+    let block = record_reader::reference(rec);
     merge(stakes, total, block.authority, part, locators, replies);
 }

@@ -1,6 +1,6 @@
 pub mod Computing
-mod Loaded
-mod Claimed
+pub mod Loaded
+pub mod Claimed
 mod Evaluated
 mod Fills
 pub mod Front

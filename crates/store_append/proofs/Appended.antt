@@ -16,21 +16,21 @@ use Rattle.base.proofs.Lists.{Every, none-of, every-in, with-later}
 use Rattle.base.proofs.Members.{in-append, in-right, in-left}
 use Rattle.base.proofs.Covered.{Around, around}
 use Rattle.base.proofs.Le.{AllBytes, length-leBytes, sets-append}
-use Rattle.blocks.specs.Reference.{BlockReference, sameReference, referenceBefore}
-use Rattle.blocks.specs.Record.{blockIn}
-use Rattle.blocks.proofs.References.{reference-irrefl, reference-same}
-use Rattle.store_layout.specs.Layout.{Record, usedBy, Entry, referenceOf, entries, positionOf, firstPosition, nextPosition, entryBytes, bodyBytes, layout, ascending}
-use Rattle.store_layout.specs.Store.{usedLength, blockCount, recordsOf, recordIn, storeFull, storeHolding}
-use Rattle.store_layout.specs.Entry.{laidOut}
-use Rattle.store_layout.specs.Step.{first}
-use Rattle.block_store.specs.Step.{LastAt, none-last, last-at, Neighbours}
-use Rattle.store_layout.proofs.Store.{laid, length-body, length-layout, Within, entries-within}
-use Rattle.store_layout.proofs.Chain.{Distinct, next-new, next-higher, first-new, first-same}
-use Rattle.store_layout.proofs.Splice.{sets-left, sets-seam, sets-right, body-same, body-patched, entries-apart, ascending-apart, one-changed}
-use Rattle.store_layout.proofs.Walk.{walked-inside}
-use Rattle.store_layout.proofs.Check.{in-every, laid-used}
-use Rattle.store_layout.proofs.Visit.{ascending-in, in-ascending}
-use Rattle.store_layout.proofs.Search.{laid-out}
+use Rattle.record_spec.specs.Reference.{BlockReference, sameReference, referenceBefore}
+use Rattle.record_spec.specs.Record.{blockIn}
+use Rattle.record_spec.proofs.References.{reference-irrefl, reference-same}
+use Rattle.store_spec.specs.Layout.{Record, usedBy, Entry, referenceOf, entries, positionOf, firstPosition, nextPosition, entryBytes, bodyBytes, layout, ascending}
+use Rattle.store_spec.specs.Store.{usedLength, blockCount, recordsOf, recordIn, storeFull, storeHolding}
+use Rattle.store_spec.specs.Entry.{laidOut}
+use Rattle.store_spec.specs.Step.{first}
+use Rattle.store_lookup.specs.Step.{LastAt, none-last, last-at, Neighbours}
+use Rattle.store_spec.proofs.Store.{laid, length-body, length-layout, Within, entries-within}
+use Rattle.store_spec.proofs.Chain.{Distinct, next-new, next-higher, first-new, first-same}
+use Rattle.store_spec.proofs.Splice.{sets-left, sets-seam, sets-right, body-same, body-patched, entries-apart, ascending-apart, one-changed}
+use Rattle.store_spec.proofs.Walk.{walked-inside}
+use Rattle.store_spec.proofs.Check.{in-every, laid-used}
+use Rattle.store_spec.proofs.Visit.{ascending-in, in-ascending}
+use Rattle.store_spec.proofs.Search.{laid-out}
 
 -- ---- the writes, on parts of known lengths
 

@@ -6,10 +6,10 @@ ghost use mathlib.Core.List.{_∷_, _++_};
 ghost use lib.ListN.{length};
 ghost use lib.Seq.{sets};
 ghost use Rattle.base.specs.Le.{leBytes};
-ghost use Rattle.blocks.specs.Record.{wellFormed, blockIn};
-ghost use Rattle.store_layout.specs.Accept.{isStored};
-ghost use Rattle.store_layout.specs.Store.{recordsOf, recordIn, storeFull, storeHolding};
-ghost use Rattle.store_layout.specs.Entry.{laidOut};
+ghost use Rattle.record_spec.specs.Record.{wellFormed, blockIn};
+ghost use Rattle.store_spec.specs.Accept.{isStored};
+ghost use Rattle.store_spec.specs.Store.{recordsOf, recordIn, storeFull, storeHolding};
+ghost use Rattle.store_spec.specs.Entry.{laidOut, sortedPositions};
 
 // Writes an entry: next position, record length, record.
 fn write_entry(store: &mut [u8], at: usize, next: u32, rec: &[u8])
@@ -37,14 +37,15 @@ pub fn is_full(store: &[u8], rec: &[u8]) -> bool
 }
 
 // Accepts a record whose block is not stored: its entry after all others, the used length, the block count, and the one position that changes,
-// which is the first position or the next position of the last lower block. (The first position stands at zero.)
-pub fn append(store: &mut [u8], rec: &[u8])
-    requires { ⌜ (laidOut (now store) ≡ true) × ((wellFormed (now rec) ≡ true) × ((isStored (recordsOf (now store)) (blockIn (now rec) .reference) ≡ false) × (storeFull (now store) (recordIn (now rec)) ≡ false))) ⌝ }
+// which is the first position or the next position of the last lower block. (The first position stands at zero.) `order` has the positions in
+// ascending reference order.
+pub fn append(store: &mut [u8], order: &[u64], rec: &[u8])
+    requires { ⌜ (laidOut (now store) ≡ true) × ((wellFormed (now rec) ≡ true) × ((isStored (recordsOf (now store)) (blockIn (now rec) .reference) ≡ false) × ((storeFull (now store) (recordIn (now rec)) ≡ false) × (now order ≡ sortedPositions (recordsOf (now store)))))) ⌝ }
     ensures { λ r. ⌜ now (store .exit) ≡ storeHolding (recordIn (now (rec .entry)) ∷ recordsOf (now (store .entry))) (now (store .entry)) ⌝ }
 {
     let used = base::read_u32(store, 4);
     let count = base::read_u16(store, 8);
-    let place = block_store::chain_place(store, block_record::reference(rec));
+    let place = store_lookup::chain_place(store, order, record_reader::reference(rec));
     let below = place.below;
     let end = used + 8 + rec.len() as u32;
     write_entry(store, used as usize, place.above as u32, rec);

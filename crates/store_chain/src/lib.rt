@@ -6,8 +6,8 @@ ghost use mathlib.Core.Bool.{true};
 ghost use lib.Dec.{ltb};
 ghost use lib.ListN.{length, take};
 ghost use Rattle.base.specs.Lists.{pairwise};
-ghost use Rattle.store_layout.specs.Store.{recordsOf};
-ghost use Rattle.store_layout.specs.Entry.{positions, sortedPositions, isIn, readable, chained, isEntry, noneOrEntry, follows};
+ghost use Rattle.store_spec.specs.Store.{recordsOf};
+ghost use Rattle.store_spec.specs.Entry.{positions, sortedPositions, isIn, readable, chained, isEntry, noneOrEntry, follows};
 
 // Whether a number is among ascending numbers.
 fn contains(sorted: &[u64], x: u64) -> bool

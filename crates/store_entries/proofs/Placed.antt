@@ -6,18 +6,18 @@ use Prim.Native.Nat.{ℕ, _+_, _≤_, _<_}
 use native.Mathlib.Omega.{arith}
 use lib.ListN.{length, getD}
 use Rattle.base.specs.Le.{Bytes, leAt}
-use Rattle.blocks.specs.Reference.{BlockReference}
-use Rattle.reference_bytes.specs.Step.{referenceAt}
-use Rattle.block_record.proofs.Shape.{reference-within}
-use Rattle.reference_search.specs.Places.{referenceFrom, Ascending, Between, FoundAmong}
-use Rattle.reference_search.specs.declared.FoundPlace.{FoundPlace}
-use Rattle.reference_search.specs.declared.FoundPlace.the-variants.{At, Before}
-use Rattle.reference_search.proofs.Known.{known-ascend, known-at, known-between}
-use Rattle.store_layout.specs.Layout.{entries, positionOf, lookup}
-use Rattle.store_layout.specs.Store.{recordsOf}
-use Rattle.store_layout.specs.Entry.{recordAt, blockAt, sortedPositions, laidOut, isEntry}
-use Rattle.store_layout.proofs.Loops.{entry-room}
-use Rattle.store_layout.proofs.Search.{referenceIn, order-entry, order-rises, found-nowhere}
+use Rattle.record_spec.specs.Reference.{BlockReference}
+use Rattle.record_reference_bytes.specs.Step.{referenceAt}
+use Rattle.record_reader.proofs.Shape.{reference-within}
+use Rattle.record_reference_search.specs.Places.{referenceFrom, Ascending, Between, FoundAmong}
+use Rattle.record_reference_search.specs.declared.FoundPlace.{FoundPlace}
+use Rattle.record_reference_search.specs.declared.FoundPlace.the-variants.{At, Before}
+use Rattle.record_reference_search.proofs.Known.{known-ascend, known-at, known-between}
+use Rattle.store_spec.specs.Layout.{entries, positionOf, lookup}
+use Rattle.store_spec.specs.Store.{recordsOf}
+use Rattle.store_spec.specs.Entry.{recordAt, blockAt, sortedPositions, laidOut, isEntry}
+use Rattle.store_spec.proofs.Loops.{entry-room}
+use Rattle.store_spec.proofs.Search.{referenceIn, order-entry, order-rises, found-nowhere}
 
 -- an entry's record begins with the reference of its block
 pub entry-reference : (s : Bytes) (p : ℕ) → isEntry s p ≡ true → (p + 8 + 48 ≤ length s) × (referenceAt s (p + 8) ≡ blockAt s p .reference)

@@ -3,8 +3,8 @@ ghost use Prim.Native.Nat.{_≤_};
 ghost use mathlib.Core.Path.{_≡_};
 ghost use mathlib.Core.Bool.{true};
 ghost use lib.ListN.{length, take};
-ghost use Rattle.store_layout.specs.Store.{blockCount, recordsOf};
-ghost use Rattle.store_layout.specs.Entry.{positions, headerRight, readable};
+ghost use Rattle.store_spec.specs.Store.{blockCount, recordsOf};
+ghost use Rattle.store_spec.specs.Entry.{positions, headerRight, readable};
 
 // The most bytes of a store, and the most blocks, as its count of two bytes has it.
 const MAX_BYTES: usize = 4294967295;
@@ -53,7 +53,7 @@ pub fn entries_readable(store: &[u8], starts: &mut [u64]) -> bool
             return false;
         }
         let end = from + n;
-        if !block_record::well_formed(&store[from..end]) {
+        if !record_reader::well_formed(&store[from..end]) {
             return false;
         }
         starts[i] = at as u64;

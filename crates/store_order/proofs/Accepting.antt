@@ -12,20 +12,20 @@ use Rattle.base.proofs.Tests.{fails, not-both, and-left}
 use Rattle.base.proofs.Lists.{every-in, with-later}
 use Rattle.base.proofs.Refusals.{passes-zero}
 use Rattle.committee.specs.Committee.{Committee}
-use Rattle.blocks.specs.Reference.{BlockReference}
-use Rattle.blocks.specs.Block.{Block}
-use Rattle.blocks.specs.Verify.{headChecks, bodyChecks}
-use Rattle.blocks.proofs.References.{same-reference}
-use Rattle.threshold_clock.proofs.Checking.{head-passes, body-passes}
-use Rattle.store_layout.specs.Layout.{Record, usedBy, Entry, referenceOf, entries}
-use Rattle.store_layout.specs.Accept.{isStored, blockChecks, allAccepted}
-use Rattle.store_layout.specs.Store.{recordsOf}
-use Rattle.store_layout.specs.Entry.{blockAt, positions, laidOut, isEntry}
-use Rattle.store_layout.specs.Check.{storedBefore, acceptedAt}
-use Rattle.store_layout.proofs.Chain.{Distinct}
-use Rattle.store_layout.proofs.Loops.{EntryAt, entry-at, block-of-entry}
-use Rattle.store_layout.proofs.Lookups.{entry-stored, stored-older, Split, split-at-entry, accepted-at, checks-new, accepted-older, position-at}
-use Rattle.store_layout.proofs.Search.{laid-out}
+use Rattle.record_spec.specs.Reference.{BlockReference}
+use Rattle.record_spec.specs.Block.{Block}
+use Rattle.record_spec.specs.Verify.{headChecks, bodyChecks}
+use Rattle.record_spec.proofs.References.{same-reference}
+use Rattle.record_clock.proofs.Checking.{head-passes, body-passes}
+use Rattle.store_spec.specs.Layout.{Record, usedBy, Entry, referenceOf, entries}
+use Rattle.store_spec.specs.Accept.{isStored, blockChecks, allAccepted}
+use Rattle.store_spec.specs.Store.{recordsOf}
+use Rattle.store_spec.specs.Entry.{blockAt, positions, laidOut, isEntry}
+use Rattle.store_spec.specs.Check.{storedBefore, acceptedAt}
+use Rattle.store_spec.proofs.Chain.{Distinct}
+use Rattle.store_spec.proofs.Loops.{EntryAt, entry-at, block-of-entry}
+use Rattle.store_spec.proofs.Lookups.{entry-stored, stored-older, Split, split-at-entry, accepted-at, checks-new, accepted-older, position-at}
+use Rattle.store_spec.proofs.Search.{laid-out}
 
 -- ---- one record
 

@@ -5,22 +5,22 @@ ghost use mathlib.Core.Path.{_≡_};
 ghost use mathlib.Core.Bool.{true, false};
 ghost use Rattle.base.specs.Lists.{allOf};
 ghost use Rattle.committee.specs.Committee.{broken, totalStake};
-ghost use Rattle.blocks.specs.Record.{wellFormed, blockIn};
-ghost use Rattle.store_layout.specs.Layout.{entries};
-ghost use Rattle.store_layout.specs.Accept.{allAccepted};
-ghost use Rattle.store_layout.specs.Store.{recordsOf, storeInOrder};
-ghost use Rattle.store_layout.specs.Entry.{positions, sortedPositions, laidOut, isEntry};
-ghost use Rattle.store_layout.specs.Check.{storedBefore, acceptedAt};
+ghost use Rattle.record_spec.specs.Record.{wellFormed, blockIn};
+ghost use Rattle.store_spec.specs.Layout.{entries};
+ghost use Rattle.store_spec.specs.Accept.{allAccepted};
+ghost use Rattle.store_spec.specs.Store.{recordsOf, storeInOrder};
+ghost use Rattle.store_spec.specs.Entry.{positions, sortedPositions, laidOut, isEntry};
+ghost use Rattle.store_spec.specs.Check.{storedBefore, acceptedAt};
 
 // Whether every include of a record is stored before a position.
 fn includes_before(store: &[u8], order: &[u64], rec: &[u8], at: usize) -> bool
     requires { ⌜ (laidOut (now store) ≡ true) × ((now order ≡ sortedPositions (recordsOf (now store))) × (wellFormed (now rec) ≡ true)) ⌝ }
     ensures { λ r. ⌜ r ≡ allOf (storedBefore (entries (recordsOf (now (store .entry)))) at) (blockIn (now (rec .entry)) .includes) ⌝ }
 {
-    let count = block_record::include_count(rec);
+    let count = record_reader::include_count(rec);
     let mut k: usize = 0;
     while k < count {
-        let p = store_entries::find_ordered(store, order, block_record::include(rec, k));
+        let p = store_entries::find_ordered(store, order, record_reader::include(rec, k));
         if p == 0 {
             return false;
         }
@@ -39,10 +39,10 @@ fn entry_accepted(stakes: &[u64], total: Stake, store: &[u8], order: &[u64], at:
 {
     let from = at + 8;
     let end = store_entries::record_end(store, at);
-    if threshold_clock::head_refusal(stakes, &store[from..end]) != 0 {
+    if record_clock::head_refusal(stakes, &store[from..end]) != 0 {
         return false;
     }
-    if threshold_clock::body_refusal(stakes, total, &store[from..end]) != 0 {
+    if record_clock::body_refusal(stakes, total, &store[from..end]) != 0 {
         return false;
     }
     includes_before(store, order, &store[from..end], at)

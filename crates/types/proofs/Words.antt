@@ -10,12 +10,12 @@ use lib.Dec.{eqb, ltb}
 use borrow.Author.Tests.{eq-eqb, ne-eqb, lt-ltb, le-ltb}
 use Rattle.base.specs.Lists.{pick, same, before}
 use Rattle.base.specs.Le.{leBytes}
-use Rattle.blocks.specs.Reference.{BlockReference, TransactionLocator, referenceKey, sameReference, referenceBefore, sameLocator, locatorBefore}
+use Rattle.record_spec.specs.Reference.{BlockReference, TransactionLocator, referenceKey, sameReference, referenceBefore, sameLocator, locatorBefore}
 use Rattle.types.specs.Values.{beBytes, digestBytes, asReference, orderOf, wordOrder, keyOrder, referenceOrder, locatorOrder}
 use mir.Syntax.{w64}
 use mir.Val.{Fits}
 use Rattle.base.proofs.Tests.{fails}
-use Rattle.blocks.proofs.References.{reference-same, reference-irrefl, reference-other}
+use Rattle.record_spec.proofs.References.{reference-same, reference-irrefl, reference-other}
 use Rattle.types.specs.declared.BlockDigest as digest
 use Rattle.types.specs.declared.BlockReference as declared
 use Rattle.types.specs.declared.Ordering.{Ordering}

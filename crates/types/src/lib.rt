@@ -3,7 +3,7 @@ use committee::AuthorityIndex;
 use committee::RoundNumber;
 ghost use mathlib.Core.Path.{_≡_};
 ghost use Prim.Native.Nat.{_<_};
-ghost use Rattle.blocks.specs.Reference.{newRange, oneRange, locatorBefore};
+ghost use Rattle.record_spec.specs.Reference.{newRange, oneRange, locatorBefore};
 ghost use Rattle.types.specs.Values.{digestBytes, asReference, asLocator, asRange, wordOrder, keyOrder, referenceOrder, locatorOrder};
 
 // The bytes of a reference, and of a locator.

@@ -2,9 +2,9 @@
 
 mod counted;
 mod course;
-mod input;
+pub(crate) mod input;
 mod refused;
-mod stakes;
+pub(crate) mod stakes;
 
 use std::fs;
 use std::path::Path;

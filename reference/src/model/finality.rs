@@ -1,6 +1,6 @@
 //! 01, "Interpreter": voters, certificates, final locators.
 
-use std::collections::BTreeSet;
+use std::collections::{BTreeMap, BTreeSet};
 
 use super::committee::{Committee, Votes};
 use super::mistake::Mistake;
@@ -31,17 +31,20 @@ pub enum Listed {
     Wide,
 }
 
-/// The stored blocks in ascending order of reference, each with its inclusive ancestry as places in this order.
+/// The stored blocks in ascending order of reference, each with its inclusive ancestry: whether the block at each place up to its own is in it.
 pub struct Graph<'a> {
     committee: &'a Committee,
     blocks: Vec<&'a Block>,
-    ancestries: Vec<Vec<usize>>,
+    ancestries: Vec<Vec<bool>>,
 }
+
+/// Locators, each with the places of the blocks that say something about it, ascending.
+type Said = BTreeMap<Locator, Vec<usize>>;
 
 impl<'a> Graph<'a> {
     pub fn new(committee: &'a Committee, stores: &'a Stores) -> Graph<'a> {
         let blocks: Vec<&Block> = stores.index.values().map(|i| &stores.blocks[*i].block).collect();
-        let mut ancestries: Vec<Vec<usize>> = Vec::new();
+        let mut ancestries: Vec<Vec<bool>> = Vec::new();
         for (place, block) in blocks.iter().enumerate() {
             if block.marked && committee.makes(Mistake::MarkedBlock) {
                 ancestries.push(vec![]);
@@ -51,9 +54,9 @@ impl<'a> Graph<'a> {
             ancestry[place] = true;
             for include in &block.includes {
                 let include = blocks.binary_search_by_key(include, |block| block.reference).unwrap();
-                ancestries[include].iter().for_each(|below| ancestry[*below] = true);
+                ancestry.iter_mut().zip(&ancestries[include]).for_each(|(has, below)| *has |= *below);
             }
-            ancestries.push((0..=place).filter(|below| ancestry[*below]).collect());
+            ancestries.push(ancestry);
         }
         Graph { committee, blocks, ancestries }
     }
@@ -63,18 +66,24 @@ impl<'a> Graph<'a> {
     }
 
     pub fn finality_in(&self, reading: Reading, locator: &Locator) -> Finality {
-        let votes: Vec<bool> = self.blocks.iter().map(|block| votes_for(block, locator)).collect();
-        let withdraws = |block: &&Block| reading == Reading::Withdrawing && rejects(block, locator);
-        let rejects: Vec<bool> = self.blocks.iter().map(withdraws).collect();
+        let places = |says: fn(&Block, &Locator) -> bool| {
+            (0..self.blocks.len()).filter(|place| says(self.blocks[*place], locator)).collect::<Vec<_>>()
+        };
+        let rejecting = if reading == Reading::Withdrawing { places(rejects) } else { vec![] };
+        self.judged(&places(votes_for), &rejecting)
+    }
+
+    /// The finality of what the blocks at these places vote for and those at the others reject.
+    fn judged(&self, voting: &[usize], rejecting: &[usize]) -> Finality {
         let mut certifying = Vec::new();
         let mut authors = Votes::default();
         let mut is_final = false;
         for (block, ancestry) in self.blocks.iter().zip(&self.ancestries) {
-            let owners = |said: &[bool]| {
-                let saying = ancestry.iter().filter(|below| said[**below]);
-                saying.fold(0u128, |owners, below| owners | 1 << self.blocks[*below].reference.author)
+            let owners = |saying: &[usize]| {
+                let below = saying.iter().filter(|place| ancestry.get(**place) == Some(&true));
+                below.fold(0u128, |owners, place| owners | 1 << self.blocks[*place].reference.author)
             };
-            let voters = owners(&votes) & !owners(&rejects);
+            let voters = owners(voting) & !owners(rejecting);
             if !block.marked && self.committee.is_quorum(self.committee.stake_of(voters)) {
                 certifying.push(block.reference);
                 is_final = self.committee.vote(&mut authors, block.reference.author);
@@ -83,22 +92,46 @@ impl<'a> Graph<'a> {
         Finality { is_final, certifying, stake: authors.stake }
     }
 
-    /// Every locator with a vote, ascending: no other can be final.
-    pub fn voted(&self) -> BTreeSet<Locator> {
-        let mut voted = BTreeSet::new();
-        for block in &self.blocks {
+    /// Every locator that the blocks say something about, by what each of their statements names.
+    fn said<L: IntoIterator<Item = Locator>>(&self, named: impl Fn(&Block, u64, &Statement) -> L) -> Said {
+        let mut said = Said::new();
+        for (place, block) in self.blocks.iter().enumerate() {
             for (offset, statement) in block.statements.iter().enumerate() {
-                match statement {
-                    Statement::Share(_) => voted.extend([Locator::new(block.reference, offset as u64)]),
-                    Statement::Accept(locator) => voted.extend([*locator]),
-                    Statement::Range(reference, start, end) => {
-                        voted.extend((*start..*end).map(|offset| Locator::new(*reference, offset)))
+                for locator in named(block, offset as u64, statement) {
+                    let places = said.entry(locator).or_default();
+                    if places.last() != Some(&place) {
+                        places.push(place);
                     }
-                    Statement::Reject(..) => {}
                 }
             }
         }
-        voted
+        said
+    }
+
+    /// Every locator with a vote: no other can be final.
+    fn votes(&self) -> Said {
+        self.said(|block, index, statement| {
+            let (reference, offsets) = match statement {
+                Statement::Share(_) => (block.reference, index..index + 1),
+                Statement::Accept(locator) => (locator.block, locator.offset..locator.offset + 1),
+                Statement::Range(reference, start, end) => (*reference, *start..*end),
+                Statement::Reject(..) => (block.reference, 0..0),
+            };
+            offsets.map(move |offset| Locator::new(reference, offset))
+        })
+    }
+
+    /// Every locator with a reject, its first.
+    fn rejections(&self) -> Said {
+        self.said(|_, _, statement| match statement {
+            Statement::Reject(locator, _) => Some(*locator),
+            _ => None,
+        })
+    }
+
+    /// Every locator with a vote, ascending.
+    pub fn voted(&self) -> BTreeSet<Locator> {
+        self.votes().into_keys().collect()
     }
 
     /// Every final locator: the wide list.
@@ -106,8 +139,17 @@ impl<'a> Graph<'a> {
         self.final_list_in(Reading::Old)
     }
 
+    /// What `finality_in` says of each locator with a vote, where the statements are read once for all of them. The voters of a block are among all
+    /// who vote: where these hold no quorum, nothing is asked.
     pub fn final_list_in(&self, reading: Reading) -> Vec<(Locator, Finality)> {
-        let each = self.voted().into_iter().map(|locator| (locator, self.finality_in(reading, &locator)));
+        let rejections = if reading == Reading::Withdrawing { self.rejections() } else { Said::new() };
+        let rejecting = |locator: &Locator| rejections.get(locator).map_or(&[][..], Vec::as_slice);
+        let of_quorum = |voting: &[usize]| {
+            let owners = voting.iter().fold(0u128, |owners, place| owners | 1 << self.blocks[*place].reference.author);
+            self.committee.is_quorum(self.committee.stake_of(owners))
+        };
+        let voted = self.votes().into_iter().filter(|(_, voting)| of_quorum(voting));
+        let each = voted.map(|(locator, voting)| (locator, self.judged(&voting, rejecting(&locator))));
         each.filter(|(_, finality)| finality.is_final).collect()
     }
 
@@ -118,21 +160,19 @@ impl<'a> Graph<'a> {
 
     /// The same in a reading of a reject.
     pub fn listed_in(&self, reading: Reading, list: Listed) -> Vec<(Locator, Finality)> {
-        let names_share = |locator: &Locator| {
-            self.blocks.iter().any(|block| block.reference == locator.block && block.shares(locator.offset))
-        };
         let finals = self.final_list_in(reading).into_iter();
-        finals.filter(|(locator, _)| list == Listed::Wide || names_share(locator)).collect()
+        finals.filter(|(locator, _)| list == Listed::Wide || self.names_share(locator)).collect()
+    }
+
+    /// Whether a stored block has the share.
+    pub fn names_share(&self, locator: &Locator) -> bool {
+        let place = self.blocks.binary_search_by_key(&locator.block, |block| block.reference);
+        place.is_ok_and(|place| self.blocks[place].shares(locator.offset))
     }
 
     /// Every locator that a stored block rejects.
     pub fn rejected(&self) -> BTreeSet<Locator> {
-        let statements = self.blocks.iter().flat_map(|block| &block.statements);
-        let first = |statement: &Statement| match statement {
-            Statement::Reject(locator, _) => Some(*locator),
-            _ => None,
-        };
-        statements.filter_map(first).collect()
+        self.rejections().into_keys().collect()
     }
 }
 

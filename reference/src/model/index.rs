@@ -6,7 +6,7 @@ use std::collections::{BTreeMap, BTreeSet};
 use super::committee::Committee;
 use super::feed::State;
 use super::finality::votes_for;
-use super::lent::{write_back, Answer};
+use super::lent::{framed, write_back, Answer};
 use super::record::{number, Block, Locator, Reference, Statement};
 use super::store::Stores;
 
@@ -120,11 +120,57 @@ pub fn feed_indexed(
     }
     let told = state.feed(&committee, store.len(), events.len(), record)?;
     let new = &state.stores.blocks.last().expect("the block that was fed").block;
-    let part = part(&state.stores, new);
-    let used = index[0] as usize;
-    let room = index.get_mut(used..used + part.len()).ok_or(55u64)?;
-    room.copy_from_slice(&part);
-    index[0] += part.len() as u64;
+    append(index, &part(&state.stores, new))?;
     write_back(&state, &told, store, table, events);
     Ok(told.len() as u64)
+}
+
+/// Records fed one after the other with the index: 5, 10, 11, 54, 64; 55 is an outcome, and leaves everything as it was.
+pub fn feed_records_indexed(
+    stakes: &[u8],
+    store: &mut [u8],
+    table: &mut [u8],
+    index: &mut [u64],
+    events: &mut [u64],
+    outcomes: &mut [u64],
+    records: &[u8],
+) -> Answer {
+    let committee = Committee::lent(stakes)?;
+    let mut state = State::read(&committee, store, table)?;
+    if !agrees(&state.stores, index) {
+        return Err(54);
+    }
+    let records = framed(records);
+    if outcomes.len() < records.len() {
+        return Err(64);
+    }
+    let mut used = 0;
+    for (outcome, record) in outcomes.iter_mut().zip(&records) {
+        let mut next = state.clone();
+        let told = next.feed_with(&committee, store.len(), Some(events.len() - used), record).and_then(|told| {
+            let new = &next.stores.blocks.last().expect("the block that was fed").block;
+            append(index, &part(&next.stores, new)).map(|()| told)
+        });
+        *outcome = match told {
+            Ok(told) => {
+                state = next;
+                for event in &told {
+                    events[used..used + 3].copy_from_slice(&[event.kind as u64, event.statement, event.offset]);
+                    used += 3;
+                }
+                told.len() as u64
+            }
+            Err(number) => (1 << 63) + number,
+        };
+    }
+    write_back(&state, &[], store, table, &mut []);
+    Ok(records.len() as u64)
+}
+
+/// A part behind the used words, or 55.
+fn append(index: &mut [u64], part: &[u64]) -> Result<(), u64> {
+    let used = index[0] as usize;
+    index.get_mut(used..used + part.len()).ok_or(55u64)?.copy_from_slice(part);
+    index[0] += part.len() as u64;
+    Ok(())
 }

@@ -84,7 +84,7 @@ pub fn feed_records(
 }
 
 /// Records each after a length of four bytes.
-fn framed(mut bytes: &[u8]) -> Vec<&[u8]> {
+pub fn framed(mut bytes: &[u8]) -> Vec<&[u8]> {
     let mut records = Vec::new();
     while !bytes.is_empty() {
         let rest = bytes.get(4..);
@@ -110,7 +110,12 @@ pub fn fewest_owners(stakes: &[u8], voters: u128, reachable: u128, found: &mut [
     if found.len() != 24 {
         return Err(40);
     }
-    let (owners, stake) = ring::whom_to_ring(&committee, voters, reachable)?;
+    write_ring(&committee, voters, reachable, found)
+}
+
+/// The number of owners to ring beside these voters, their set and stake written; or 60.
+pub fn write_ring(committee: &Committee, voters: u128, reachable: u128, found: &mut [u8]) -> Answer {
+    let (owners, stake) = ring::whom_to_ring(committee, voters, reachable)?;
     put_words(found, &[owners as u64, (owners >> 64) as u64, stake]);
     Ok(owners.count_ones() as u64)
 }
@@ -143,9 +148,7 @@ pub fn whom_to_ring(stakes: &[u8], store: &[u8], table: &[u8], reachable: u128, 
         _ if found.len() != 24 => return Err(40),
         votes => votes?,
     };
-    let (owners, stake) = ring::whom_to_ring(&Committee::lent(stakes)?, votes.voters, reachable)?;
-    put_words(found, &[owners as u64, (owners >> 64) as u64, stake]);
-    Ok(owners.count_ones() as u64)
+    write_ring(&Committee::lent(stakes)?, votes.voters, reachable, found)
 }
 
 /// Where a payload stands, and its length: 5, 10, 20, 41.

@@ -1,8 +1,10 @@
 //! 02, "Seven": a gain table after its program. What a payload needs, which stored shares are loadable, and the list of them, in both readings of
 //! "An owner may withdraw".
 
+use std::collections::BTreeSet;
+
 use super::committee::Committee;
-use super::finality::{Graph, Reading};
+use super::finality::{Graph, Listed, Reading};
 use super::lent::Answer;
 use super::record::{locator_of, Locator, Statement};
 use super::store::Stores;
@@ -44,9 +46,17 @@ pub fn stored_shares(stores: &Stores) -> Vec<Locator> {
     shares.collect()
 }
 
-/// The list of all loadable stored shares.
+/// The list of all loadable stored shares: those that `is_loadable` says yes of. They ascend by round first, so that what a share needs was
+/// judged before it.
 pub fn loadable(reading: Reading, graph: &Graph, stores: &Stores) -> Vec<Locator> {
-    stored_shares(stores).into_iter().filter(|share| is_loadable(reading, graph, stores, share)).collect()
+    let mut found = BTreeSet::new();
+    for (share, _) in graph.listed_in(reading, Listed::Ordinary) {
+        let change = payload(stores, &share).and_then(needed);
+        if change.is_none_or(|change| change.block.round < share.block.round && found.contains(&change)) {
+            found.insert(share);
+        }
+    }
+    found.into_iter().collect()
 }
 
 // ---- as the host calls them

@@ -78,8 +78,9 @@ pub fn look(world: &mut World, n: usize) -> Outcome {
     let mut loads = Vec::new();
     for (reading, host) in [(Reading::Old, lomkhvide::Reading::Old), (Reading::Withdrawing, lomkhvide::Reading::Withdrawing)] {
         let right = loadable(reading, &graph, stores);
-        let got = node.plain.loadable(host).map(|list| list.iter().map(HostLocator::to_bytes).collect()).map_err(Refusal::number);
-        same(&format!("node {n}, loadable, {reading:?} reading"), "engine", got, Ok(bytes(&right)))?;
+        let got =
+            node.plain.loadable(host).map(|list| list.iter().map(HostLocator::to_bytes).collect()).map_err(Refusal::number);
+        same(format_args!("node {n}, loadable, {reading:?} reading"), "engine", got, Ok(bytes(&right)))?;
         loads.push(right);
     }
     let blocks: Vec<Reference> = stores.index.keys().copied().collect();
@@ -95,14 +96,14 @@ fn shares(world: &mut World, n: usize) -> Outcome {
         let stored = node.state.stores.get(&share.block).unwrap();
         let Statement::Share(payload) = &stored.block.statements[share.offset as usize] else { continue };
         let known = world.payloads.entry(*share).or_insert_with(|| payload.clone());
-        same(&format!("node {n}, payload of {share:?}"), "stored", payload, known)?;
+        same(format_args!("node {n}, payload of {share:?}"), "stored", payload, known)?;
         // The table was compared as a whole: the questions are tried on some.
         if i % 5 == 0 {
             let votes = node.state.table.find(stored.position, share.offset).map(|item| node.state.table.items[item].votes);
             let right = votes.map(|votes| (votes.stake, votes.voters.count_ones() as u64)).ok_or(42);
             let got = node.plain.pending(&host(share)).map(|told| (told.stake.0, told.voters)).map_err(Refusal::number);
-            same(&format!("node {n}, pending {share:?}"), "engine", got, right)?;
-            same(&format!("node {n}, payload of {share:?}"), "engine", node.plain.payload(&host(share)), Ok(&payload[..]))?;
+            same(format_args!("node {n}, pending {share:?}"), "engine", got, right)?;
+            same(format_args!("node {n}, payload of {share:?}"), "engine", node.plain.payload(&host(share)), Ok(&payload[..]))?;
         }
     }
     Ok(())
@@ -125,7 +126,7 @@ fn alike(world: &mut World, n: usize, blocks: Vec<Reference>, lists: Lists) -> O
     world.tally.loadable += lists.loadable[0].len() as u64;
     if let Some(before) = world.lists.get(&blocks) {
         world.tally.alike += 1;
-        return same(&format!("node {n}, beside a node with the same records"), "this one", &lists, before);
+        return same(format_args!("node {n}, beside a node with the same records"), "this one", &lists, before);
     }
     world.lists.insert(blocks, lists);
     Ok(())
@@ -146,7 +147,7 @@ pub fn slips(world: &mut World, n: usize, rng: &mut Rng) -> Outcome {
         let right = slip_for(reading, &world.committee, &blocks, &locator).ok_or("a final locator has no slip")?;
         let told = |refusal: Refusal| format!("node {n}, slip of {locator:?}: {refusal}");
         let slip = node.plain.slip(&host(&locator), host_reading(reading)).map_err(told)?;
-        same(&format!("node {n}, slip of {locator:?}"), "engine", slip.as_bytes(), &right.encode()[..])?;
+        same(format_args!("node {n}, slip of {locator:?}"), "engine", slip.as_bytes(), &right.encode()[..])?;
         let records = node.plain.slip_records(&slip).map_err(told)?;
         let names = named(&blocks, &right).ok_or("a slip names what its node has not")?;
         let got: BTreeSet<[u8; 48]> = records.iter().map(|record| record.reference().to_bytes()).collect();
@@ -180,7 +181,7 @@ fn elsewhere(world: &mut World, reading: Reading, locator: &Locator, names: &BTr
         if names.iter().all(|block| node.stores(block)) {
             world.tally.elsewhere += 1;
             let told = node.plain.finality(&host(locator), host_reading(reading)).map(|finality| finality.is_final);
-            same(&format!("node {n} has the records: {locator:?} is final there"), "engine", told, Ok(true))?;
+            same(format_args!("node {n} has the records: {locator:?} is final there"), "engine", told, Ok(true))?;
         }
     }
     Ok(())

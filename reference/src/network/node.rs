@@ -82,9 +82,9 @@ impl Node {
         let (store, table) = (self.state.stores.layout(), self.state.table.bytes());
         for (side, engine) in self.engines() {
             let parts = engine.parts();
-            same_bytes(&format!("{side}: store"), parts.store, &store)?;
-            same_bytes(&format!("{side}: table"), parts.table, &table[..parts.table.len()])?;
-            same(&format!("{side}: items"), side, parts.table.len(), 8 + 48 * self.state.table.items.len())?;
+            same_bytes(format_args!("{side}: store"), parts.store, &store)?;
+            same_bytes(format_args!("{side}: table"), parts.table, &table[..parts.table.len()])?;
+            same(format_args!("{side}: items"), side, parts.table.len(), 8 + 48 * self.state.table.items.len())?;
         }
         Ok(())
     }

@@ -2,10 +2,10 @@ use mathlib.Core.Path.{_≡_, refl, sym, _∙_}
 use Prim.Native.Nat.{ℕ}
 use native.Mathlib.Omega.{arith}
 use borrow.Author.Tests.{not-true, not-false}
-use Rattle.store_layout.specs.Layout.{readRecord}
-use Rattle.store_layout.specs.Store.{recordIn}
-use Rattle.feeds.specs.Feed.{Lent, lentOf, processed}
-use Rattle.pending.proofs.Lending.{lying}
+use Rattle.store_spec.specs.Layout.{readRecord}
+use Rattle.store_spec.specs.Store.{recordIn}
+use Rattle.feed_spec.specs.Feed.{Lent, lentOf, processed}
+use Rattle.pending_question.proofs.Lending.{lying}
 use Rattle.feed_refusals.proofs.Order.{feeds-work, feeds-record, feeds-asked, accepted, feeding, feeds-crowded, feeds-none}
 use borrow.Author.Needs.{needs}
 use Rattle.feed_refusals.proofs.record_refusal.Statement.{statement}
@@ -13,7 +13,7 @@ use Rattle.feed_refusals.proofs.record_refusal.Tie as tie
 
 returns : tie.Need-returns
 returns c =
-    let o = c .before .before .before .before .before .before .before in
+    let o = c .before .before .before .before .before .before .before .before in
     let a = o .args in
     let k = a .stakes .now in
     let r = a .rec .now in
@@ -22,14 +22,14 @@ returns c =
 
 record-refusal-requires : tie.Need-record-refusal-requires
 record-refusal-requires c κs =
-    let o = c .before .before .before .before .before .before .before in
+    let o = c .before .before .before .before .before .before .before .before in
     let a = o .args in
-    (lying (a .stakes .now) (a .store .now) (a .table .now) (o .pre .0) .committee, o .pre .1)
+    (lying (a .stakes .now) (a .store .now) (a .table .now) (o .pre .0) .committee, o .pre .1, o .pre .2)
 
 returns-2 : tie.Need-returns-2
 returns-2 c =
     let w = c .before .before in
-    let o = w .before .before .before .before .before .before .before in
+    let o = w .before .before .before .before .before .before .before .before in
     let a = o .args in
     let k = a .stakes .now in
     let r = a .rec .now in
@@ -44,13 +44,13 @@ items-fit-requires : tie.Need-items-fit-requires
 items-fit-requires c κs =
     let q = c .before .before in
     let w = q .before .before in
-    let o = w .before .before .before .before .before .before .before in
+    let o = w .before .before .before .before .before .before .before .before in
     let a = o .args in
     let k = a .stakes .now in
     let r = a .rec .now in
     let m : Lent = lentOf (a .store .now) (a .table .now) (a .work .now) (a .events .now) in
     let asked = sym (q .before .record-refusal .ensures) ∙ q .if2 .left in
-    (feeding k m r asked (o .pre .0) (o .pre .1), (omega (arith, w .if1 .left)))
+    (feeding k m r asked (o .pre .0) (o .pre .1), (omega (arith, w .if1 .left), o .pre .2))
 
 same-length : tie.Need-same-length
 same-length c = search needs
@@ -64,7 +64,7 @@ returns-3 c =
     let f = c .before .before .before .before .before in
     let q = f .before .before .before in
     let w = q .before .before in
-    let o = w .before .before .before .before .before .before .before in
+    let o = w .before .before .before .before .before .before .before .before in
     let a = o .args in
     let k = a .stakes .now in
     let r = a .rec .now in
@@ -87,7 +87,7 @@ returns-4 c =
     let f = c .before .before .before .before .before in
     let q = f .before .before .before in
     let w = q .before .before in
-    let o = w .before .before .before .before .before .before .before in
+    let o = w .before .before .before .before .before .before .before .before in
     let a = o .args in
     let k = a .stakes .now in
     let r = a .rec .now in

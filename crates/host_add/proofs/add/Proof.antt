@@ -1,7 +1,7 @@
 use Rattle.host_add.proofs.Added.{added-most, call-sound}
 use Rattle.host_calls.specs.Calls.{encoded}
 use Rattle.host_add.specs.Add.{toldNumber, numbered}
-use Rattle.vote_answer.specs.Answers.{asAddAnswer}
+use Rattle.committee_vote_answer.specs.Answers.{asAddAnswer}
 use native.Mathlib.Omega.{arith}
 use lib.ListN.{take}
 use lib.Seq.{length-take-le}

@@ -1,8 +1,8 @@
-use Rattle.stake_aggregator.specs.StakeAggregator.{Added}
+use Rattle.committee_aggregator.specs.StakeAggregator.{Added}
 use Rattle.host_add.proofs.Added.{added-other, added-sized}
 use Rattle.host_add.specs.Add.{AddCall, numbered, aggregatorBytes}
-use Rattle.vote_answer.specs.Answers.{asAddAnswer}
-use Rattle.stake_aggregator.specs.Answers.{asAdded}
+use Rattle.committee_vote_answer.specs.Answers.{asAddAnswer}
+use Rattle.committee_aggregator.specs.Answers.{asAdded}
 use mathlib.Core.Path.{ap, sym, _∙_}
 use borrow.Author.Needs.{needs}
 use Rattle.host_add.proofs.add_of.Statement.{statement}

@@ -1,4 +1,4 @@
-use Rattle.blocks.proofs.Claimed.{bytes-fit}
+use Rattle.record_spec.proofs.Claimed.{bytes-fit}
 use Rattle.host_add.proofs.Added.{add-kept}
 use Rattle.host_add.proofs.claims.Statement.{statement}
 use Rattle.host_add.proofs.claims.Tie as tie

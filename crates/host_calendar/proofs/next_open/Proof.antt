@@ -4,7 +4,7 @@ use lib.Seq.{length-take-le}
 use native.Mathlib.Omega.{arith}
 use Rattle.base.proofs.Le.{length-leBytes}
 use Rattle.words.proofs.Stores.{sets-complete}
-use Rattle.blast_calendar.specs.Answers.{asNextOpen}
+use Rattle.calendar_question.specs.Answers.{asNextOpen}
 use Rattle.host_calls.specs.Calls.{encoded}
 use Rattle.host_calendar.specs.Calendar.{NextOpenCall, foundIn}
 use Rattle.host_calendar.proofs.Calls.{next-refused, next-unsized, next-told, next-never}

@@ -5,7 +5,7 @@ use lib.Seq.{length-take-le, take-at}
 use native.Mathlib.Omega.{arith}
 use borrow.Author.Tests.{not-true, not-false}
 use Rattle.words.specs.Words.{wordsIn, wordsOf}
-use Rattle.blast_windows.specs.Calendar.{goodCalendar}
+use Rattle.calendar_windows.specs.Calendar.{goodCalendar}
 use Rattle.host_calendar.proofs.Calls.{ragged, long, judged}
 use borrow.Author.Needs.{needs}
 use Rattle.host_calendar.proofs.words_in.Statement.{statement}

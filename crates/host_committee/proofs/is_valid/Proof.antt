@@ -1,3 +1,5 @@
+use mathlib.Core.Path.{ap, _∙_}
+use Rattle.host_calls.specs.Calls.{flag}
 use borrow.Author.Needs.{needs}
 use Rattle.host_committee.proofs.is_valid.Statement.{statement}
 use Rattle.host_committee.proofs.is_valid.Tie as tie
@@ -9,7 +11,7 @@ flag-requires : tie.Need-flag-requires
 flag-requires c κs = search needs
 
 returns : tie.Need-returns
-returns c = rw (← c .before .is-valid .ensures) (c .flag .ensures)
+returns c = c .flag .ensures ∙ ap flag (c .before .is-valid .ensures)
 
 pub is-valid-spec : {M : Type 1} → statement M
 is-valid-spec = tie.close (tie.spec is-valid-requires flag-requires returns)

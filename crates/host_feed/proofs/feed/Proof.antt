@@ -1,7 +1,7 @@
-use Rattle.feed_bytes.proofs.Feeds.{fed-most}
+use Rattle.host_feed_bytes.proofs.Feeds.{fed-most}
 use Rattle.host_calls.specs.Calls.{encoded}
-use Rattle.feed_bytes.specs.Feed.{feedCall}
-use Rattle.feeding.specs.Answers.{asFeedAnswer}
+use Rattle.host_feed_bytes.specs.Feed.{feedCall}
+use Rattle.feed_single.specs.Answers.{asFeedAnswer}
 use native.Mathlib.Omega.{arith}
 use lib.ListN.{take}
 use lib.Seq.{length-take-le}

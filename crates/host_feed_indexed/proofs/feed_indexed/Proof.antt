@@ -1,7 +1,7 @@
 use Rattle.host_feed_indexed.specs.IndexedFeed.{feedIndexedCall}
 use Rattle.host_feed_indexed.proofs.Sizes.{fed-below}
 use Rattle.host_calls.specs.Calls.{encoded}
-use Rattle.feeding.specs.Answers.{asFeedAnswer}
+use Rattle.feed_single.specs.Answers.{asFeedAnswer}
 use native.Mathlib.Omega.{arith}
 use lib.ListN.{take}
 use lib.Seq.{length-take-le}

@@ -2,8 +2,8 @@ use Rattle.host_feed_indexed.specs.IndexedFeed.{IndexedCall, refusedCall
 use Rattle.host_feed_indexed.proofs.Sizes.{feed-unsized, feed-eventless, feed-sized}
 use Rattle.base.specs.Checks.{refused}
 use Rattle.words.specs.Words.{wordsOf, bytesOf}
-use Rattle.indexed_feeds.specs.IndexedFeed.{IndexedFed}
-use Rattle.feeding.specs.Answers.{asFeedAnswer}
+use Rattle.index_feed_spec.specs.IndexedFeed.{IndexedFed}
+use Rattle.feed_single.specs.Answers.{asFeedAnswer}
 use mathlib.Core.Path.{sym, ap, _∙_}
 use borrow.Author.Needs.{needs}
 use Rattle.host_feed_indexed.proofs.feed_of.Statement.{statement}

@@ -1,6 +1,6 @@
 use Rattle.host_feed_indexed.proofs.Sizes.{fed-lent}
 use Rattle.words.specs.Words.{bytesOf}
-use Rattle.indexed_feeds.specs.IndexedFeed.{IndexedFed}
+use Rattle.index_feed_spec.specs.IndexedFeed.{IndexedFed}
 use Prim.Native.Nat.{ℕ}
 use lib.ListN.{length-replicate}
 use mathlib.Core.Path.{sym, ap, _∙_}

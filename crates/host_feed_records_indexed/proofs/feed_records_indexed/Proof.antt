@@ -2,7 +2,7 @@ use mathlib.Core.Path.{sym, ap, _∙_}
 use native.Mathlib.Omega.{arith}
 use lib.ListN.{take}
 use lib.Seq.{length-take-le}
-use Rattle.feed_records.specs.Answers.{asRecordsAnswer}
+use Rattle.feed_many.specs.Answers.{asRecordsAnswer}
 use Rattle.host_calls.specs.Calls.{encoded}
 use Rattle.host_feed_records_indexed.specs.FeedRecords.{feedRecordsIndexedCall}
 use Rattle.host_feed_records_indexed.proofs.Sizes.{host-most}

@@ -1,4 +1,4 @@
-use Rattle.blocks.proofs.Claimed.{bytes-fit}
+use Rattle.record_spec.proofs.Claimed.{bytes-fit}
 use Rattle.host_finality.proofs.Finals.{refused-kept}
 use Rattle.host_finality.proofs.claims.Statement.{statement}
 use Rattle.host_finality.proofs.claims.Tie as tie

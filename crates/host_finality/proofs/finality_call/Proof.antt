@@ -2,7 +2,7 @@ use mathlib.Core.Path.{sym}
 use lib.Seq.{length-take-le}
 use native.Mathlib.Omega.{arith}
 use borrow.Author.Needs.{needs}
-use Rattle.finalization_interpreter.specs.Answers.{asFinality}
+use Rattle.final_question.specs.Answers.{asFinality}
 use Rattle.host_finality.specs.Finality.{finalityNumber, finalityCall}
 use Rattle.host_calls.specs.Calls.{encoded}
 use Rattle.host_finality.proofs.finality_call.Statement.{statement}

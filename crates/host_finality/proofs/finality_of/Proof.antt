@@ -1,8 +1,8 @@
 use mathlib.Core.Path.{sym, ap}
 use native.Mathlib.Omega.{arith}
 use borrow.Author.Needs.{needs}
-use Rattle.readings.specs.Readings.{readingOf}
-use Rattle.finalization_interpreter.specs.Answers.{asFinality}
+use Rattle.final_readings_spec.specs.Answers.{asReading}
+use Rattle.final_question.specs.Answers.{asFinality}
 use Rattle.host_finality.specs.Finality.{FinalityCall, finalityNumber}
 use Rattle.host_finality.proofs.Finals.{asked-none, asked-ragged}
 use Rattle.host_locators.proofs.Locators.{before-most}
@@ -16,7 +16,7 @@ returns : tie.Need-returns
 unfolding finalityNumber asFinality
 returns c =
     let start = c .before .before .before .before .before .before .args in
-    let e = asked-none (readingOf (start .withdrawing)) (start .stakes .now) (start .store .now) (start .positions .now) (start .locator .now) (c .before .if1 .taken) in
+    let e = asked-none (asReading (start .reading)) (start .stakes .now) (start .store .now) (start .positions .now) (start .locator .now) (c .before .if1 .taken) in
     let number = c .refusal-before .ensures in
     ((rw number (sym (ap (λ (x : FinalityCall). x .answer) e)), sym (ap (λ (x : FinalityCall). x .positions) e)), omega (arith, number, before-most 20 (start .stakes .now) (start .store .now) (omega arith)))
 
@@ -27,7 +27,7 @@ returns-2 : tie.Need-returns-2
 unfolding finalityNumber asFinality
 returns-2 c =
     let start = c .before .before .before .before .before .before .before .args in
-    let e = asked-ragged (readingOf (start .withdrawing)) (start .stakes .now) (start .store .now) (start .positions .now) (start .locator .now) (c .before .before .if1 .left) (c .before .if2 .taken) in
+    let e = asked-ragged (asReading (start .reading)) (start .stakes .now) (start .store .now) (start .positions .now) (start .locator .now) (c .before .before .if1 .left) (c .before .if2 .taken) in
     let number = c .refusal-before2 .ensures in
     ((rw number (sym (ap (λ (x : FinalityCall). x .answer) e)), sym (ap (λ (x : FinalityCall). x .positions) e)), omega (arith, number, before-most 40 (start .stakes .now) (start .store .now) (omega arith)))
 

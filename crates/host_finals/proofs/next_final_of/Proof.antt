@@ -1,9 +1,10 @@
-use Rattle.readings.specs.Readings.{readingOf}
-use Rattle.reading_lists.specs.Lists.{listing}
-use Rattle.finality.specs.Finality.{blocksOf}
+use Rattle.final_readings_spec.specs.Answers.{asReading}
+use Rattle.list_readings_spec.specs.Answers.{isOrdinary}
+use Rattle.list_readings_spec.specs.Lists.{listing}
+use Rattle.final_spec.specs.Finality.{blocksOf}
 use Rattle.host_finals.proofs.NextFinals.{next-malformed, next-unsized, next-asked, next-fits}
 use Rattle.host_locators.proofs.Locators.{before-most}
-use Rattle.final_answers.specs.Answers.{NextFinalCall, asAfter, afterOf}
+use Rattle.host_final_answers.specs.Answers.{NextFinalCall, asAfter, afterOf}
 use Rattle.host_calls.specs.Calls.{encoded}
 use native.Mathlib.Omega.{arith}
 use mathlib.Core.Path.{sym, ap, _∙_}
@@ -33,7 +34,7 @@ unfolding encoded asAfter
 returns c =
     let start = c .before .before .before .before .before .before .before .before .args in
     let place = sym (c .before .before .before .after-of .ensures) ∙ ap asAfter (c .before .enum-told .given .1) in
-    let e = next-malformed (start .stakes .now) (start .store .now) (listing (start .ordinary) (readingOf (start .withdrawing)) (start .stakes .now) (blocksOf (start .store .now))) (afterOf (start .after .now)) (start .found .now) place in
+    let e = next-malformed (start .stakes .now) (start .store .now) (listing (isOrdinary (start .list)) (asReading (start .reading)) (start .stakes .now) (blocksOf (start .store .now))) (afterOf (start .after .now)) (start .found .now) place in
     (rw (c .refusal-before .ensures) (sym (ap (λ (x : NextFinalCall). encoded (x .answer)) e)), sym (ap (λ (x : NextFinalCall). x .found) e))
 
 holds-locator-requires : tie.Need-holds-locator-requires
@@ -54,7 +55,7 @@ returns-2 c =
     let start = c .before .before .before .before .before .before .before .before .before .before .before .before .args in
     let place = sym (c .before .before .before .before .before .before .before .after-of .ensures) ∙ ap asAfter (c .before .before .before .before .before .place .given .1) in
     let room = sym (c .before .before .holds-locator .ensures) ∙ not-true _ (c .before .if1 .taken) in
-    let e = next-unsized (start .stakes .now) (start .store .now) (listing (start .ordinary) (readingOf (start .withdrawing)) (start .stakes .now) (blocksOf (start .store .now))) (afterOf (start .after .now)) (start .found .now) _ place room in
+    let e = next-unsized (start .stakes .now) (start .store .now) (listing (isOrdinary (start .list)) (asReading (start .reading)) (start .stakes .now) (blocksOf (start .store .now))) (afterOf (start .after .now)) (start .found .now) _ place room in
     (rw (c .refusal-before2 .ensures) (sym (ap (λ (x : NextFinalCall). encoded (x .answer)) e)), sym (ap (λ (x : NextFinalCall). x .found) e))
 
 next-listed-requires : tie.Need-next-listed-requires
@@ -64,7 +65,7 @@ found-in-requires : tie.Need-found-in-requires
 found-in-requires c κs =
     let start = c .before .before .before .before .before .before .before .before .before .before .before .before .before .args in
     let room = sym (c .before .before .before .holds-locator .ensures) ∙ not-false _ (c .before .before .if1 .left) in
-    (eqb-true (length (start .found .now)) 56 room, λ n e. next-fits (start .stakes .now) (start .store .now) (listing (start .ordinary) (readingOf (start .withdrawing)) (start .stakes .now) (blocksOf (start .store .now))) _ n (sym (c .before .next-listed .ensures) ∙ e))
+    (eqb-true (length (start .found .now)) 56 room, λ n e. next-fits (start .stakes .now) (start .store .now) (listing (isOrdinary (start .list)) (asReading (start .reading)) (start .stakes .now) (blocksOf (start .store .now))) _ n (sym (c .before .next-listed .ensures) ∙ e))
 
 same-length-2 : tie.Need-same-length-2
 same-length-2 c = search needs
@@ -75,7 +76,7 @@ returns-3 c =
     let start = c .before .before .before .before .before .before .before .before .before .before .before .before .before .before .before .before .args in
     let place = sym (c .before .before .before .before .before .before .before .before .before .before .before .after-of .ensures) ∙ ap asAfter (c .before .before .before .before .before .before .before .before .before .place .given .1) in
     let room = sym (c .before .before .before .before .before .before .holds-locator .ensures) ∙ not-false _ (c .before .before .before .before .before .if1 .left) in
-    let e = next-asked (start .stakes .now) (start .store .now) (listing (start .ordinary) (readingOf (start .withdrawing)) (start .stakes .now) (blocksOf (start .store .now))) (afterOf (start .after .now)) (start .found .now) _ _ place room (sym (c .before .before .before .before .next-listed .ensures)) in
+    let e = next-asked (start .stakes .now) (start .store .now) (listing (isOrdinary (start .list)) (asReading (start .reading)) (start .stakes .now) (blocksOf (start .store .now))) (afterOf (start .after .now)) (start .found .now) _ _ place room (sym (c .before .before .before .before .next-listed .ensures)) in
     let told = c .before .before .found-in .ensures in
     (told .0 ∙ sym (ap (λ (x : NextFinalCall). encoded (x .answer)) e), told .1 ∙ sym (ap (λ (x : NextFinalCall). x .found) e))
 

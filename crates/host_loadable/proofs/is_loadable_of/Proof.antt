@@ -1,6 +1,6 @@
 use mathlib.Core.Path.{ap}
 use Rattle.base.specs.Checks.{refused}
-use Rattle.loadable_share.specs.Answers.{asLoadable}
+use Rattle.load_question.specs.Answers.{asLoadable}
 use Rattle.host_locators.specs.Locators.{asked}
 use Rattle.host_locators.proofs.Locators.{locator-none, locator-read}
 use borrow.Author.Needs.{needs}

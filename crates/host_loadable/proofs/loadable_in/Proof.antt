@@ -1,8 +1,8 @@
-use Rattle.readings.specs.Readings.{readingOf}
+use Rattle.final_readings_spec.specs.Answers.{asReading}
 use mathlib.Core.Path.{sym, ap, _∙_}
 use native.Mathlib.Omega.{arith}
 use lib.Seq.{length-take-le}
-use Rattle.loadable.specs.Question.{AskedList}
+use Rattle.load_spec.specs.Question.{AskedList}
 use Rattle.host_loadable.proofs.Told.{list-same, told-number, told-denied}
 use borrow.Author.Needs.{needs}
 use Rattle.host_loadable.proofs.loadable_in.Statement.{statement}
@@ -35,8 +35,8 @@ add-result : tie.Need-add-result
 add-result c =
     let a = c .before .before .before .before .before .before .before .before .before .before .before .before .before .before .args in
     let w = c .before .before .before .before .before .loadable-in in
-    let e = list-same (readingOf (a .withdrawing)) (a .stakes .now) (a .store .now) (a .places .now) _ (c .before .before .before .before .before .before .before .before .before .stakes-of .ensures .1) in
-    omega (arith, told-denied (readingOf (a .withdrawing)) (a .stakes .now) (a .store .now) (a .places .now) (w .result) (w .ensures .0 ∙ ap (λ (x : AskedList). x .answer) e) (c .before .number .given .0 .0) (c .before .number .given .1) .0)
+    let e = list-same (asReading (a .reading)) (a .stakes .now) (a .store .now) (a .places .now) _ (c .before .before .before .before .before .before .before .before .before .stakes-of .ensures .1) in
+    omega (arith, told-denied (asReading (a .reading)) (a .stakes .now) (a .store .now) (a .places .now) (w .result) (w .ensures .0 ∙ ap (λ (x : AskedList). x .answer) e) (c .before .number .given .0 .0) (c .before .number .given .1) .0)
 
 same-length : tie.Need-same-length
 same-length c = search needs
@@ -45,8 +45,8 @@ returns : tie.Need-returns
 returns c =
     let a = c .before .before .before .before .before .before .before .before .before .before .before .before .before .before .args in
     let w = c .before .before .before .before .before .loadable-in in
-    let e = list-same (readingOf (a .withdrawing)) (a .stakes .now) (a .store .now) (a .places .now) _ (c .before .before .before .before .before .before .before .before .before .stakes-of .ensures .1) in
-    (told-number (readingOf (a .withdrawing)) (a .stakes .now) (a .store .now) (a .places .now) (w .result) (w .ensures .0 ∙ ap (λ (x : AskedList). x .answer) e) (c .before .count .given .0 .0) (c .before .count .given .1), w .ensures .1 ∙ ap (λ (x : AskedList). x .places) e)
+    let e = list-same (asReading (a .reading)) (a .stakes .now) (a .store .now) (a .places .now) _ (c .before .before .before .before .before .before .before .before .before .stakes-of .ensures .1) in
+    (told-number (asReading (a .reading)) (a .stakes .now) (a .store .now) (a .places .now) (w .result) (w .ensures .0 ∙ ap (λ (x : AskedList). x .answer) e) (c .before .count .given .0 .0) (c .before .count .given .1), w .ensures .1 ∙ ap (λ (x : AskedList). x .places) e)
 
 same-length-2 : tie.Need-same-length-2
 same-length-2 c = search needs
@@ -55,8 +55,8 @@ returns-2 : tie.Need-returns-2
 returns-2 c =
     let a = c .before .before .before .before .before .before .before .before .before .before .before .before .before .before .args in
     let w = c .before .before .before .before .before .loadable-in in
-    let e = list-same (readingOf (a .withdrawing)) (a .stakes .now) (a .store .now) (a .places .now) _ (c .before .before .before .before .before .before .before .before .before .stakes-of .ensures .1) in
-    (told-denied (readingOf (a .withdrawing)) (a .stakes .now) (a .store .now) (a .places .now) (w .result) (w .ensures .0 ∙ ap (λ (x : AskedList). x .answer) e) (c .before .number .given .0 .0) (c .before .number .given .1) .1, w .ensures .1 ∙ ap (λ (x : AskedList). x .places) e)
+    let e = list-same (asReading (a .reading)) (a .stakes .now) (a .store .now) (a .places .now) _ (c .before .before .before .before .before .before .before .before .before .stakes-of .ensures .1) in
+    (told-denied (asReading (a .reading)) (a .stakes .now) (a .store .now) (a .places .now) (w .result) (w .ensures .0 ∙ ap (λ (x : AskedList). x .answer) e) (c .before .number .given .0 .0) (c .before .number .given .1) .1, w .ensures .1 ∙ ap (λ (x : AskedList). x .places) e)
 
 pub loadable-in-spec : {M : Type 1} → statement M
 loadable-in-spec =

@@ -3,13 +3,13 @@ use lib.Seq.{length-take-le}
 use lib.ListN.{take}
 use native.Mathlib.Omega.{arith}
 use borrow.Author.Needs.{needs}
-use Rattle.payload.specs.Answers.{asPayloadLength}
-use Rattle.store_layout.specs.Payload.{payloadLength}
+use Rattle.store_payload.specs.Answers.{asPayloadLength}
+use Rattle.store_spec.specs.Payload.{payloadLength}
 use Rattle.host_locators.specs.Locators.{locatorOf}
-use Rattle.payload_bytes.specs.Payload.{payloadLengthCall}
+use Rattle.host_payload_bytes.specs.Payload.{payloadLengthCall}
 use Rattle.host_calls.specs.Calls.{encoded}
 use Rattle.host_locators.proofs.Locators.{asked-most}
-use Rattle.payload_bytes.proofs.Payloads.{length-most}
+use Rattle.host_payload_bytes.proofs.Payloads.{length-most}
 use Rattle.host_payload.proofs.payload_length.Statement.{statement}
 use Rattle.host_payload.proofs.payload_length.Tie as tie
 

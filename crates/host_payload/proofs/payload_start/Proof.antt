@@ -3,12 +3,12 @@ use lib.Seq.{length-take-le}
 use lib.ListN.{take}
 use native.Mathlib.Omega.{arith}
 use borrow.Author.Needs.{needs}
-use Rattle.payload.specs.Answers.{asPlace, payloadPlace}
+use Rattle.store_payload.specs.Answers.{asPlace, payloadPlace}
 use Rattle.host_locators.specs.Locators.{locatorOf}
-use Rattle.payload_bytes.specs.Payload.{startOf, payloadStartCall}
+use Rattle.host_payload_bytes.specs.Payload.{startOf, payloadStartCall}
 use Rattle.host_calls.specs.Calls.{encoded}
 use Rattle.host_locators.proofs.Locators.{asked-most}
-use Rattle.payload_bytes.proofs.Payloads.{place-most}
+use Rattle.host_payload_bytes.proofs.Payloads.{place-most}
 use Rattle.host_payload.proofs.payload_start.Statement.{statement}
 use Rattle.host_payload.proofs.payload_start.Tie as tie
 

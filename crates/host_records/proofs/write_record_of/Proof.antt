@@ -1,5 +1,5 @@
 use mathlib.Core.Option.{none}
-use Rattle.drafts.specs.Writing.{writeRecord}
+use Rattle.draft_spec.specs.Writing.{writeRecord}
 use native.Mathlib.Omega.{arith}
 use borrow.Author.Needs.{needs}
 use Rattle.host_records.proofs.Refused.{told-length, told-refusal}

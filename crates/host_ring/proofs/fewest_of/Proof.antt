@@ -1,6 +1,6 @@
 use mathlib.Core.Path.{sym, ap, _∙_}
 use Rattle.base.specs.Checks.{refused}
-use Rattle.ring.specs.Answers.{asRing}
+use Rattle.ring_fewest.specs.Answers.{asRing}
 use Rattle.host_ring.proofs.Rings.{fewest-small, fewest-asked}
 use borrow.Author.Needs.{needs}
 use Rattle.host_ring.proofs.fewest_of.Statement.{statement}

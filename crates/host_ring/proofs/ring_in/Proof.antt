@@ -1,7 +1,7 @@
 use mathlib.Core.Path.{sym, ap, _∙_}
 use Rattle.base.specs.Checks.{refused}
-use Rattle.ring.specs.Answers.{asRing}
-use Rattle.pending.proofs.Lending.{lying, lying-holds}
+use Rattle.ring_fewest.specs.Answers.{asRing}
+use Rattle.pending_question.proofs.Lending.{lying, lying-holds}
 use Rattle.host_locators.proofs.Locators.{locator-none, locator-read}
 use Rattle.host_ring.proofs.Rings.{in-refused, in-none, in-small, in-asked}
 use borrow.Author.Needs.{needs}

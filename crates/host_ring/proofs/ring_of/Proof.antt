@@ -1,6 +1,6 @@
 use mathlib.Core.Path.{ap, sym, _∙_}
 use Rattle.base.specs.Checks.{refused}
-use Rattle.ring.specs.Answers.{asRing}
+use Rattle.ring_fewest.specs.Answers.{asRing}
 use Rattle.host_ring.proofs.Rings.{ring-sized, ring-other}
 use borrow.Author.Needs.{needs}
 use Rattle.host_ring.proofs.ring_of.Statement.{statement}

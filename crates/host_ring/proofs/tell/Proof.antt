@@ -1,6 +1,6 @@
 use mathlib.Core.Path.{refl, ap}
 use native.Mathlib.Omega.{arith}
-use Rattle.ring.specs.Answers.{asRing}
+use Rattle.ring_fewest.specs.Answers.{asRing}
 use Rattle.host_calls.specs.Calls.{encoded}
 use Rattle.host_add.specs.Add.{aggregatorBytes}
 use Rattle.host_ring.specs.Ring.{ringTold}

@@ -1,8 +1,8 @@
 use mathlib.Core.Path.{sym, ap, _∙_}
 use native.Mathlib.Omega.{arith}
 use lib.Seq.{length-take-le}
-use Rattle.readings.specs.Readings.{readingOf}
-use Rattle.slips.specs.Writing.{Written}
+use Rattle.final_readings_spec.specs.Answers.{asReading}
+use Rattle.slip_spec.specs.Writing.{Written}
 use Rattle.host_slip_writer.proofs.Told.{call-same, told-length, told-refusal}
 use borrow.Author.Needs.{needs}
 use Rattle.host_slip_writer.proofs.write_slip.Statement.{statement}
@@ -33,8 +33,8 @@ enum-known-number c = search needs
 add-result : tie.Need-add-result
 add-result c = let a = c .before .before .before .before .before .before .before .before .before .before .before .before .before .before .before .args in
     let w = c .before .before .before .before .before .write-slip-of in
-    let e = call-same (readingOf (a .withdrawing)) (a .stakes .now) (a .store .now) (a .locator .now) (a .out .now) _ (c .before .before .before .before .before .before .before .before .before .stakes-of .ensures .1) in
-    omega (arith, told-refusal (readingOf (a .withdrawing)) (a .stakes .now) (a .store .now) (a .locator .now) (a .out .now) (w .result) (w .ensures .0 ∙ ap (λ (x : Written). x .answer) e) (c .before .number .given .0 .0) (c .before .number .given .1) .0)
+    let e = call-same (asReading (a .reading)) (a .stakes .now) (a .store .now) (a .locator .now) (a .out .now) _ (c .before .before .before .before .before .before .before .before .before .stakes-of .ensures .1) in
+    omega (arith, told-refusal (asReading (a .reading)) (a .stakes .now) (a .store .now) (a .locator .now) (a .out .now) (w .result) (w .ensures .0 ∙ ap (λ (x : Written). x .answer) e) (c .before .number .given .0 .0) (c .before .number .given .1) .0)
 
 same-length : tie.Need-same-length
 same-length c = search needs
@@ -42,8 +42,8 @@ same-length c = search needs
 returns : tie.Need-returns
 returns c = let a = c .before .before .before .before .before .before .before .before .before .before .before .before .before .before .before .args in
     let w = c .before .before .before .before .before .write-slip-of in
-    let e = call-same (readingOf (a .withdrawing)) (a .stakes .now) (a .store .now) (a .locator .now) (a .out .now) _ (c .before .before .before .before .before .before .before .before .before .stakes-of .ensures .1) in
-    (told-length (readingOf (a .withdrawing)) (a .stakes .now) (a .store .now) (a .locator .now) (a .out .now) (w .result) (w .ensures .0 ∙ ap (λ (x : Written). x .answer) e) (c .before .length .given .0 .0) (c .before .length .given .1), w .ensures .1 ∙ ap (λ (x : Written). x .out) e)
+    let e = call-same (asReading (a .reading)) (a .stakes .now) (a .store .now) (a .locator .now) (a .out .now) _ (c .before .before .before .before .before .before .before .before .before .stakes-of .ensures .1) in
+    (told-length (asReading (a .reading)) (a .stakes .now) (a .store .now) (a .locator .now) (a .out .now) (w .result) (w .ensures .0 ∙ ap (λ (x : Written). x .answer) e) (c .before .length .given .0 .0) (c .before .length .given .1), w .ensures .1 ∙ ap (λ (x : Written). x .out) e)
 
 same-length-2 : tie.Need-same-length-2
 same-length-2 c = search needs
@@ -51,8 +51,8 @@ same-length-2 c = search needs
 returns-2 : tie.Need-returns-2
 returns-2 c = let a = c .before .before .before .before .before .before .before .before .before .before .before .before .before .before .before .args in
     let w = c .before .before .before .before .before .write-slip-of in
-    let e = call-same (readingOf (a .withdrawing)) (a .stakes .now) (a .store .now) (a .locator .now) (a .out .now) _ (c .before .before .before .before .before .before .before .before .before .stakes-of .ensures .1) in
-    (told-refusal (readingOf (a .withdrawing)) (a .stakes .now) (a .store .now) (a .locator .now) (a .out .now) (w .result) (w .ensures .0 ∙ ap (λ (x : Written). x .answer) e) (c .before .number .given .0 .0) (c .before .number .given .1) .1, w .ensures .1 ∙ ap (λ (x : Written). x .out) e)
+    let e = call-same (asReading (a .reading)) (a .stakes .now) (a .store .now) (a .locator .now) (a .out .now) _ (c .before .before .before .before .before .before .before .before .before .stakes-of .ensures .1) in
+    (told-refusal (asReading (a .reading)) (a .stakes .now) (a .store .now) (a .locator .now) (a .out .now) (w .result) (w .ensures .0 ∙ ap (λ (x : Written). x .answer) e) (c .before .number .given .0 .0) (c .before .number .given .1) .1, w .ensures .1 ∙ ap (λ (x : Written). x .out) e)
 
 pub write-slip-spec : {M : Type 1} → statement M
 write-slip-spec =

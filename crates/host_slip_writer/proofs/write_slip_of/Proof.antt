@@ -1,6 +1,6 @@
 use mathlib.Core.Path.{refl, ap}
 use Rattle.base.specs.Checks.{refused}
-use Rattle.slip_bytes.specs.Answers.{asSlipAnswer}
+use Rattle.slip_write_bytes.specs.Answers.{asSlipAnswer}
 use Rattle.host_locators.proofs.Locators.{locator-none, locator-read}
 use Rattle.host_slip_writer.specs.WriteSlip.{askedSlip}
 use borrow.Author.Needs.{needs}

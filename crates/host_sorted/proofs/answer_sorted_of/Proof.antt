@@ -1,7 +1,7 @@
 use mathlib.Core.Path.{sym, ap, _∙_}
 use native.Mathlib.Omega.{arith}
 use lib.Seq.{length-take-le}
-use Rattle.sorted_replies.specs.Sorted.{AskedSorted}
+use Rattle.sorted_spec.specs.Sorted.{AskedSorted}
 use Rattle.host_calls.specs.Calls.{committeeOf}
 use Rattle.host_sorted.proofs.Told.{call-same, told-count, told-refusal}
 use borrow.Author.Needs.{needs}

@@ -2,11 +2,11 @@ use mathlib.Core.Path.{sym, ap, _∙_}
 use native.Mathlib.Omega.{arith}
 use Rattle.base.proofs.Le.{length-leBytes}
 use Rattle.words.proofs.Stores.{sets-complete}
-use Rattle.block_time.specs.Times.{askTime}
-use Rattle.block_time.specs.Answers.{asTimeAnswer}
+use Rattle.store_time.specs.Times.{askTime}
+use Rattle.store_time.specs.Answers.{asTimeAnswer}
 use Rattle.host_calls.specs.Calls.{encoded}
 use Rattle.host_locators.proofs.Locators.{before-most}
-use Rattle.reference_bytes.specs.Step.{referenceAt}
+use Rattle.record_reference_bytes.specs.Step.{referenceAt}
 use Rattle.host_times.specs.Times.{TimeCall, foundIn}
 use Rattle.host_times.proofs.Asked.{time-most, time-malformed, time-unsized, time-asked}
 use borrow.Author.Needs.{needs}

@@ -1,6 +1,6 @@
 use mathlib.Core.Path.{refl, sym}
 use mathlib.Core.List.{[], _∷_}
-use Rattle.blocks.specs.Record.{blockIn}
+use Rattle.record_spec.specs.Record.{blockIn}
 use Rattle.index_check.proofs.Opening.{own-ready, opened-runs}
 use borrow.Author.Needs.{needs}
 use native.Mathlib.Omega.{arith}
@@ -11,10 +11,21 @@ slice-aggregate-open-sources : tie.Need-slice-aggregate-open-sources
 slice-aggregate-open-sources c = search needs
 
 open-sources-requires : tie.Need-open-sources-requires
-open-sources-requires c κs = (c .before .before .before .before .before .before .before .before .pre .0, (c .before .before .before .before .before .before .before .before .pre .1 .0 .formed, (c .before .before .before .before .before .before .before .before .pre .1 .1 .0, omega arith)))
+open-sources-requires c κs = (
+  c .before .before .before .before .before .before .before .before .pre .0,
+  (
+    c .before .before .before .before .before .before
+        .before .before .pre .1 .0 .formed,
+    (c .before .before .before .before .before .before .before .before .pre .1 .1 .0, omega arith),
+  ),
+)
 
 own-runs-requires : tie.Need-own-runs-requires
-own-runs-requires c κs = (c .before .before .before .before .before .before .before .before .before .before .before .before .pre .1 .0, c .before .before .before .before .before .before .before .before .before .before .before .before .pre .1 .1 .1)
+own-runs-requires c κs = (
+  c .before .before .before .before .before .before .before .before .before .before .before .before .pre .1 .0,
+  c .before .before
+      .before .before .before .before .before .before .before .before .before .before .pre .1 .1 .1,
+)
 
 array-write-mine : tie.Need-array-write-mine
 array-write-mine c = search needs
@@ -29,7 +40,25 @@ slice-aggregate-part-end-3 : tie.Need-slice-aggregate-part-end-3
 slice-aggregate-part-end-3 c = search needs
 
 part-end-requires : tie.Need-part-end-requires
-part-end-requires c κs = ((c .before .before .before .before .before .before .before .before .before .before .before .before .open-sources .ensures (c .before .before .before .before .before .before .before .before .before .before .before .before .before .before .before .before .before .before .before .before .before .pre .1 .1 .0 .0) (c .before .before .before .before .before .before .before .before .before .before .before .before .before .before .before .before .before .before .before .before .before .pre .1 .1 .0 .1 .0) (c .before .before .before .before .before .before .before .before .before .before .before .before .before .before .before .before .before .before .before .before .before .pre .1 .1 .0 .1 .1) .ready, own-ready (blockIn (c .before .before .before .before .before .before .before .before .before .before .before .before .before .before .before .before .before .before .before .before .before .args .rec .now)) (c .before .before .before .before .before .before .before .before .own-runs .last .1 .1 .0) (c .before .before .before .before .before .before .before .before .own-runs .result) (c .before .before .before .before .before .before .before .before .own-runs .ensures .1) (0 ∷ c .before .before .before .before .before .before .before .before .own-runs .result ∷ []) refl refl refl), (sym (c .before .before .before .before .before .before .before .before .before .before .before .cursors2 .given), refl))
+part-end-requires c κs = (
+  (
+    c .before .before .before .before .before .before .before .before .before .before .before .before .open-sources .ensures (c
+        .before .before .before .before .before .before .before .before .before .before .before .before .before .before .before .before .before .before .before
+        .before .before .pre .1 .1 .0 .0) (c .before .before .before .before .before .before .before .before .before .before .before .before .before .before
+        .before .before .before .before .before .before .before .pre .1 .1 .0 .1 .0) (c .before .before .before .before .before .before .before .before .before
+        .before .before .before .before .before .before .before .before .before .before .before .before .pre .1 .1 .0 .1 .1) .ready,
+    own-ready (blockIn (c
+        .before .before .before .before .before .before .before .before .before .before .before .before .before .before .before .before .before .before .before
+        .before .before .args .rec .now)) (c .before .before .before .before .before .before .before .before .own-runs .last .1 .1 .0) (c .before .before
+        .before .before .before .before .before .before .own-runs .result) (c .before .before .before .before .before .before .before .before .own-runs
+        .ensures .1) (0 ∷ c .before .before .before .before .before .before .before .before .own-runs .result ∷ []) refl refl refl,
+  ),
+  (
+    sym (c .before .before
+        .before .before .before .before .before .before .before .before .before .cursors2 .given),
+    refl,
+  ),
+)
 
 same-length : tie.Need-same-length
 same-length c = search needs
@@ -38,7 +67,15 @@ same-length-2 : tie.Need-same-length-2
 same-length-2 c = search needs
 
 returns : tie.Need-returns
-returns c = λ bs k r. c .before .before .before .part-end .ensures _ (opened-runs (blockIn (c .before .before .before .before .before .before .before .before .before .before .before .before .before .before .before .before .before .before .before .before .before .before .before .before .before .args .rec .now)) (c .before .before .before .before .before .before .before .before .before .before .before .before .own-runs .last .1 .1 .0) (c .before .before .before .before .before .before .before .before .before .before .before .before .own-runs .result) (c .before .before .before .before .before .before .before .before .before .before .before .before .own-runs .ensures .1) (0 ∷ c .before .before .before .before .before .before .before .before .before .before .before .before .own-runs .result ∷ []) refl refl refl bs (c .before .before .before .before .before .before .before .before .before .before .before .before .before .before .before .before .before .before .before .before .before .before .before .before .before .args .index .now) _ _ (c .before .before .before .before .before .before .before .before .before .before .before .before .before .before .before .before .open-sources .ensures bs k r))
+returns c = λ bs k r. c .before .before .before .part-end .ensures _ (opened-runs (blockIn (c .before .before .before .before .before .before .before
+    .before .before .before .before .before .before .before .before .before .before .before .before .before .before .before .before .before .before .args
+    .rec .now)) (c .before .before .before .before .before .before .before .before .before .before .before .before .own-runs .last .1 .1 .0) (c .before
+    .before .before .before .before .before .before .before .before .before .before .before .own-runs .result) (c .before .before .before .before .before
+    .before .before .before .before .before .before .before .own-runs .ensures .1) (0 ∷ c .before .before .before .before .before .before .before .before
+    .before .before .before .before .own-runs .result ∷ []) refl refl refl bs (c .before .before .before .before .before .before .before .before .before
+    .before .before .before .before .before .before .before .before .before .before .before .before .before .before .before .before .args .index .now) _ _
+    (c .before .before .before .before .before .before .before .before .before .before .before .before .before .before .before .before .open-sources
+    .ensures bs k r))
 
 pub record-part-end-spec : {M : Type 1} → statement M
 record-part-end-spec =

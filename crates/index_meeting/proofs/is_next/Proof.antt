@@ -1,8 +1,8 @@
 use mathlib.Core.Path.{refl, sym, _∙_}
 use borrow.Author.Tests.{not-false}
 use Rattle.base.proofs.Tests.{not-both}
-use Rattle.voters_index.specs.Runs.{run}
-use Rattle.voters_index.proofs.Sets.{same-voters, voters-same}
+use Rattle.index_spec.specs.Runs.{run}
+use Rattle.index_spec.proofs.Sets.{same-voters, voters-same}
 use Rattle.index_runs.specs.Values.{asRun}
 use borrow.Author.Needs.{needs}
 use native.Mathlib.Omega.{arith}
@@ -41,9 +41,16 @@ unfolding asRun run
 returns-5 c = λ t.
     record {
       full = omega (arith, c .before .before .before .before .before .before .before .before .if1 .left);
-      same = same-voters (c .before .before .before .before .before .before .before .before .before .before .args .x .votes) (c .before .before .before .before .before .before .before .before .before .before .args .votes) (sym (c .before .before .before .before .before .before .before .same-voters .ensures) ∙ not-false (c .before .before .before .before .before .before .before .same-voters .result) (c .before .before .before .before .before .before .if2 .left));
-      voted = λ e. not-both (voters-same (c .before .before .before .before .before .before .before .before .before .before .args .votes) (c .before .before .before .before .before .new .result) (e ∙ sym (c .before .before .before .before .before .new .ensures))) (sym (c .before .before .before .before .same-voters2 .ensures) ∙ c .before .before .before .if3 .left);
-      other = λ e. not-both (voters-same (c .before .before .before .before .before .before .before .before .before .before .args .after) (c .before .before .before .before .before .before .before .before .before .before .args .votes) e) (sym (c .before .before .same-voters3 .ensures) ∙ c .before .if4 .left);
+      same = same-voters (c .before .before .before .before .before .before .before .before .before .before .args .x .votes)
+          (c .before .before .before .before .before .before .before .before .before .before .args .votes)
+          (sym (c .before .before .before .before .before .before .before .same-voters .ensures) ∙ not-false
+          (c .before .before .before .before .before .before .before .same-voters .result) (c .before .before .before .before .before .before .if2 .left));
+      voted = λ e. not-both (voters-same (c .before .before .before .before .before .before .before .before .before .before .args .votes)
+          (c .before .before .before .before .before .new .result) (e ∙ sym (c .before .before .before .before .before .new .ensures)))
+          (sym (c .before .before .before .before .same-voters2 .ensures) ∙ c .before .before .before .if3 .left);
+      other = λ e. not-both (voters-same (c .before .before .before .before .before .before .before .before .before .before .args .after)
+          (c .before .before .before .before .before .before .before .before .before .before .args .votes) e)
+          (sym (c .before .before .same-voters3 .ensures) ∙ c .before .if4 .left);
       there = c .is-there .ensures t;
     }
 

@@ -3,9 +3,9 @@ use mathlib.Core.Bool.{true, false}
 use lib.ListN.{drop}
 use borrow.Author.Tests.{not-false}
 use Rattle.base.proofs.Tests.{not-both}
-use Rattle.authority_set.specs.AuthoritySet.{united}
-use Rattle.voters_index.specs.Runs.{Run}
-use Rattle.voters_index.specs.Walk.{beyond, runFrom}
+use Rattle.committee_set.specs.AuthoritySet.{united}
+use Rattle.index_spec.specs.Runs.{Run}
+use Rattle.index_spec.specs.Walk.{beyond, runFrom}
 use Rattle.index_runs.specs.Values.{asRun, asPlace}
 use Rattle.index_merge.specs.Sources.{namedBy, together}
 use Rattle.index_meeting.specs.Step.{MetAll, NextIf}
@@ -55,14 +55,15 @@ same-length-4 c = search needs
 returns-2 : tie.Need-returns-2
 returns-2 c = (λ t. absurd (not-both t refl), λ t. (refl, refl))
 
-united-requires : tie.Need-united-requires
-united-requires c κs = search needs
+union-requires : tie.Need-union-requires
+union-requires c κs = search needs
 
-united-requires-2 : tie.Need-united-requires-2
-united-requires-2 c κs = search needs
+union-requires-2 : tie.Need-union-requires-2
+union-requires-2 c κs = search needs
 
 read-run-requires : tie.Need-read-run-requires
-read-run-requires c κs = c .before .before .before .before .before .before .before .before .before .before .before .before .before .before .before .before .before .before .before .before .before .before .pre .1 .0
+read-run-requires c κs = c .before .before .before .before .before .before .before .before .before .before .before .before .before .before .before .before
+    .before .before .before .before .before .before .pre .1 .0
 
 is-next-requires : tie.Need-is-next-requires
 is-next-requires c κs = search needs
@@ -80,16 +81,51 @@ returns-3 : tie.Need-returns-3
 returns-3 c = (λ t. absurd (not-both t refl), λ t. (refl, refl))
 
 slice-aggregate-copy-words : tie.Need-slice-aggregate-copy-words
-slice-aggregate-copy-words c = sym (c .before .before .before .before .before .before .before .before .before .before .before .before .before .before .before .before .before .next2 .given)
+slice-aggregate-copy-words c = sym
+    (c .before .before .before .before .before .before .before .before .before .before .before .before .before .before .before .before .before .next2 .given)
 
 copy-words-requires : tie.Need-copy-words-requires
-copy-words-requires c κs = (omega (arith, c .before .before .before .before .before .before .before .before .before .before .before .before .before .before .before .before .before .before .next2 .given), omega (arith, c .before .before .before .before .before .before .before .before .before .before .before .before .before .before .before .before .before .before .before .before .before .before .before .before .before .before .before .pre .1 .1 .1))
+copy-words-requires c κs = (
+  omega (
+    arith,
+    c .before .before .before .before .before .before .before .before .before .before .before .before .before .before .before .before .before
+        .before .next2 .given,
+  ),
+  omega (
+    arith,
+    c .before .before .before .before .before .before .before .before .before .before .before .before .before .before
+        .before .before .before .before .before .before .before .before .before .before .before .before .before .pre .1 .1 .1,
+  ),
+)
 
 mul-copy-words : tie.Need-mul-copy-words
-mul-copy-words c = omega (arith, c .before .before .before .before .before .before .before .before .before .before .before .before .before .before .before .before .before .before .before .before .before .before .before .before .before .before .before .before .before .before .before .before .pre .0 .0 .room, c .before .before .before .before .before .before .before .before .before .before .before .before .before .before .before .before .before .before .before .before .before .before .before .before .before .before .before .before .before .before .before .before .good .1 .0)
+mul-copy-words c = omega (
+  arith,
+  c .before .before .before .before .before .before .before .before .before .before .before .before .before .before .before
+      .before .before .before .before .before .before .before .before .before .before .before .before .before .before .before .before .before .pre .0 .0
+      .room,
+  c .before .before .before .before .before .before .before .before .before .before .before .before .before .before .before .before .before
+      .before .before .before .before .before .before .before .before .before .before .before .before .before .before .before .good .1 .0,
+)
 
 copy-words-requires-2 : tie.Need-copy-words-requires-2
-copy-words-requires-2 c κs = (omega (arith, c .before .before .before .before .before .before .before .before .before .before .before .before .before .before .before .before .before .before .before .before .before .before .before .before .before .before .before .before .before .before .before .before .pre .0 .0 .room, c .before .before .before .before .before .before .before .before .before .before .before .before .before .before .before .before .before .before .before .before .before .before .before .before .before .before .before .before .before .before .before .before .pre .1 .1 .0, c .before .before .before .before .before .before .before .before .before .before .before .before .before .before .before .before .ahead .given), omega (arith, c .before .before .before .before .before .before .before .before .before .before .before .before .before .before .before .before .before .before .before .before .before .before .before .before .before .before .before .before .before .before .before .before .pre .0 .0 .room))
+copy-words-requires-2 c κs = (
+  omega (
+    arith,
+    c .before .before .before .before .before .before .before .before .before .before .before .before .before .before .before .before .before
+        .before .before .before .before .before .before .before .before .before .before .before .before .before .before .before .pre .0 .0 .room,
+    c .before
+        .before .before .before .before .before .before .before .before .before .before .before .before .before .before .before .before .before .before .before
+        .before .before .before .before .before .before .before .before .before .before .before .before .pre .1 .1 .0,
+    c .before .before .before .before
+        .before .before .before .before .before .before .before .before .before .before .before .before .ahead .given,
+  ),
+  omega (
+    arith,
+    c .before .before .before .before .before .before .before .before .before .before .before .before .before .before .before .before .before
+        .before .before .before .before .before .before .before .before .before .before .before .before .before .before .before .pre .0 .0 .room,
+  ),
+)
 
 same-length-8 : tie.Need-same-length-8
 same-length-8 c = search needs
@@ -104,16 +140,123 @@ returns-4 : tie.Need-returns-4
 unfolding MetAll together
 returns-4 c = (
   λ t.
-      let x : Run = (runFrom (drop (c .before .before .before .before .before .before .before .before .before .before .before .before .before .before .before .before .before .before .before .before .before .before .before .before .before .before .before .before .before .before .before .before .before .before .before .args .pos) (c .before .before .before .before .before .before .before .before .before .before .before .before .before .before .before .before .before .before .before .before .before .before .before .before .before .before .before .before .before .before .before .before .before .before .before .args .index .now))) in
-      let own = subst (MetAll x (c .before .before .before .before .before .before .before .before .before .before .before .before .before .before .before .before .before .before .before .before .before .before .before .before .before .before .before .before .before .before .before .before .before .before .before .args .own .now) 1 (c .before .before .before .before .before .before .before .before .before .before .before .before .before .before .before .before .before .before .before .before .before .before .before .before .before .before .before .before .before .before .before .before .before .before .before .args .mine .now) (c .before .before .before .before .before .before .before .before .before .before .before .before .before .before .before .before .before .before .before .before .before .before .before .before .before .before .before .sources-meet .last .1 .1 .1 .1 .1 .0)) (c .before .before .before .before .before .before .before .before .before .before .before .before .before .before .before .before .before .before .before .before .before .before .before .before .own-voters .given .1) (c .before .before .before .before .before .before .before .before .before .before .before .before .before .before .before .before .before .before .before .before .before .before .before .before .before .before .before .sources-meet .ensures) in
-      let all = subst (MetAll x (c .before .before .before .before .before .before .before .before .before .before .before .before .before .before .before .before .before .before .before .before .before .before .before .before .before .before .before .before .before .before .before .before .before .before .before .args .index .now) (c .before .before .before .before .before .before .before .before .before .before .before .before .before .before .before .before .before .before .before .before .before .before .before .before .before .before .before .before .before .before .before .before .before .before .before .args .n) (c .before .before .before .before .before .before .before .before .before .before .before .before .before .before .before .before .before .before .before .before .before .before .before .before .before .before .before .before .before .before .before .before .before .before .before .args .cursors .now) (c .before .before .before .before .before .before .before .before .before .before .before .before .before .before .before .before .before .before .before .before .sources-meet2 .last .1 .1 .1 .1 .1 .0)) (c .before .before .before .before .before .before .before .before .before .before .before .before .before .before .before .before .voters .given .1) (c .before .before .before .before .before .before .before .before .before .before .before .before .before .before .before .before .before .before .before .before .sources-meet2 .ensures) in
-      let next : NextIf x (asPlace (c .before .before .before .before .before .before .before .before .before .before .before .before .before .before .before .before .before .before .before .before .before .before .before .before .before .before .before .before .before .before .before .before .before .before .before .args .place)) (united (c .before .before .before .before .before .before .before .before .before .before .before .before .before .before .before .before .before .before .before .before .before .before .before .before .own-voters .given .0 .0) (c .before .before .before .before .before .before .before .before .before .before .before .before .before .before .before .before .voters .given .0 .0)) (united (c .before .before .before .before .before .before .before .before .before .before .before .before .before .before .before .before .before .before .before .before .before .before .before .before .own-voters .given .0 .1 .0) (c .before .before .before .before .before .before .before .before .before .before .before .before .before .before .before .before .voters .given .0 .1 .0)) =
-      rw (← c .before .before .before .before .before .before .before .before .before .before .before .before .before .before .united .ensures, ← c .before .before .before .before .before .before .before .before .before .before .before .before .before .united2 .ensures) (subst (λ (y : Run). NextIf y (asPlace (c .before .before .before .before .before .before .before .before .before .before .before .before .before .before .before .before .before .before .before .before .before .before .before .before .before .before .before .before .before .before .before .before .before .before .before .args .place)) (c .before .before .before .before .before .before .before .before .before .before .before .before .before .before .united .result) (c .before .before .before .before .before .before .before .before .before .before .before .before .before .united2 .result)) (c .before .before .before .before .before .before .before .before .before .before .before .before .read-run .ensures) (c .before .before .before .before .before .before .before .before .before .before .before .is-next .ensures (not-false (c .before .before .before .before .before .before .before .before .before .before .before .is-next .result) (c .before .before .before .before .before .before .before .before .before .before .if1 .left)))) in
+      let x : Run = (runFrom (drop (c .before .before .before .before .before .before .before .before .before .before .before .before .before .before
+      .before .before .before .before .before .before .before .before .before .before .before .before .before .before .before .before .before .before
+      .before .before .before .args .pos)
+      (c .before .before .before .before .before .before .before .before .before .before .before .before .before .before .before .before .before
+      .before .before .before .before .before .before .before .before .before .before .before .before .before .before .before .before .before .before
+      .args .index .now))) in
+      let own = subst (MetAll x (c .before .before .before .before .before .before .before .before .before .before .before .before .before .before .before
+      .before .before .before .before .before .before .before .before .before .before .before .before .before .before .before .before .before .before
+      .before .before .args .own .now) 1
+      (c .before .before .before .before .before .before .before .before .before .before .before .before .before .before .before .before .before
+      .before .before .before .before .before .before .before .before .before .before .before .before .before .before .before .before .before .before
+      .args .mine .now) (c .before .before .before .before .before .before .before .before .before .before .before .before .before .before .before
+      .before .before .before .before .before .before .before .before .before .before .before .before .sources-meet .last .1 .1 .1 .1 .1 .0))
+      (c .before .before .before .before .before .before .before .before .before .before .before .before .before .before .before .before .before
+      .before .before .before .before .before .before .before .own-voters .given .1)
+      (c .before .before .before .before .before .before .before .before .before .before .before .before .before .before .before .before .before
+      .before .before .before .before .before .before .before .before .before .before .sources-meet .ensures) in
+      let all = subst (MetAll x (c .before .before .before .before .before .before .before .before .before .before .before .before .before .before .before
+      .before .before .before .before .before .before .before .before .before .before .before .before .before .before .before .before .before .before
+      .before .before .args .index .now)
+      (c .before .before .before .before .before .before .before .before .before .before .before .before .before .before .before .before .before
+      .before .before .before .before .before .before .before .before .before .before .before .before .before .before .before .before .before .before
+      .args .n) (c .before .before .before .before .before .before .before .before .before .before .before .before .before .before .before .before
+      .before .before .before .before .before .before .before .before .before .before .before .before .before .before .before .before .before .before
+      .before .args .cursors .now) (c .before .before .before .before .before .before .before .before .before .before .before .before .before .before
+      .before .before .before .before .before .before .sources-meet2 .last .1 .1 .1 .1 .1 .0))
+      (c .before .before .before .before .before .before .before .before .before .before .before .before .before .before .before .before .voters .given
+      .1) (c .before .before .before .before .before .before .before .before .before .before .before .before .before .before .before .before .before
+      .before .before .before .sources-meet2 .ensures) in
+      let next : NextIf x (asPlace (c .before .before .before .before .before .before .before .before .before .before .before .before .before .before
+      .before .before .before .before .before .before .before .before .before .before .before .before .before .before .before .before .before .before
+      .before .before .before .args .place))
+      (united (c .before .before .before .before .before .before .before .before .before .before .before .before .before .before .before .before
+      .before .before .before .before .before .before .before .before .own-voters .given .0 .0)
+      (c .before .before .before .before .before .before .before .before .before .before .before .before .before .before .before .before .voters .given
+      .0 .0)) (united (c .before .before .before .before .before .before .before .before .before .before .before .before .before .before .before
+      .before .before .before .before .before .before .before .before .before .own-voters .given .0 .1 .0)
+      (c .before .before .before .before .before .before .before .before .before .before .before .before .before .before .before .before .voters .given
+      .0 .1 .0)) =
+      rw (
+        ← c .before .before .before .before .before .before .before .before .before .before .before .before .before .before .union .ensures,
+        ← c .before
+            .before .before .before .before .before .before .before .before .before .before .before .before .union2 .ensures,
+      )
+      (subst (λ (y : Run). NextIf y (asPlace
+      (c .before .before .before .before .before .before .before .before .before .before .before .before .before .before .before .before .before
+      .before .before .before .before .before .before .before .before .before .before .before .before .before .before .before .before .before .before
+      .args .place)) (c .before .before .before .before .before .before .before .before .before .before .before .before .before .before .union
+      .result) (c .before .before .before .before .before .before .before .before .before .before .before .before .before .union2 .result))
+      (c .before .before .before .before .before .before .before .before .before .before .before .before .read-run .ensures)
+      (c .before .before .before .before .before .before .before .before .before .before .before .is-next .ensures
+      (not-false (c .before .before .before .before .before .before .before .before .before .before .before .is-next .result)
+      (c .before .before .before .before .before .before .before .before .before .before .if1 .left)))) in
       record {
-        next = next-met x (λ l. united (namedBy (c .before .before .before .before .before .before .before .before .before .before .before .before .before .before .before .before .before .before .before .before .before .before .before .before .before .before .before .before .before .before .before .before .before .before .before .args .own .now) (c .before .before .before .before .before .before .before .before .before .before .before .before .before .before .before .before .before .before .before .before .before .before .before .before .before .before .before .before .before .before .before .before .before .before .before .args .mine .now) 1 l) (namedBy (c .before .before .before .before .before .before .before .before .before .before .before .before .before .before .before .before .before .before .before .before .before .before .before .before .before .before .before .before .before .before .before .before .before .before .before .args .index .now) (c .before .before .before .before .before .before .before .before .before .before .before .before .before .before .before .before .before .before .before .before .before .before .before .before .before .before .before .before .before .before .before .before .before .before .before .args .cursors .now) (c .before .before .before .before .before .before .before .before .before .before .before .before .before .before .before .before .before .before .before .before .before .before .before .before .before .before .before .before .before .before .before .before .before .before .before .args .n) l)) (asPlace (c .before .before .before .before .before .before .before .before .before .before .before .before .before .before .before .before .before .before .before .before .before .before .before .before .before .before .before .before .before .before .before .before .before .before .before .args .place)) (united (c .before .before .before .before .before .before .before .before .before .before .before .before .before .before .before .before .before .before .before .before .before .before .before .before .own-voters .given .0 .0) (c .before .before .before .before .before .before .before .before .before .before .before .before .before .before .before .before .voters .given .0 .0)) (united (c .before .before .before .before .before .before .before .before .before .before .before .before .before .before .before .before .before .before .before .before .before .before .before .before .own-voters .given .0 .1 .0) (c .before .before .before .before .before .before .before .before .before .before .before .before .before .before .before .before .voters .given .0 .1 .0)) next
-            (meets-both x (namedBy (c .before .before .before .before .before .before .before .before .before .before .before .before .before .before .before .before .before .before .before .before .before .before .before .before .before .before .before .before .before .before .before .before .before .before .before .args .own .now) (c .before .before .before .before .before .before .before .before .before .before .before .before .before .before .before .before .before .before .before .before .before .before .before .before .before .before .before .before .before .before .before .before .before .before .before .args .mine .now) 1) (namedBy (c .before .before .before .before .before .before .before .before .before .before .before .before .before .before .before .before .before .before .before .before .before .before .before .before .before .before .before .before .before .before .before .before .before .before .before .args .index .now) (c .before .before .before .before .before .before .before .before .before .before .before .before .before .before .before .before .before .before .before .before .before .before .before .before .before .before .before .before .before .before .before .before .before .before .before .args .cursors .now) (c .before .before .before .before .before .before .before .before .before .before .before .before .before .before .before .before .before .before .before .before .before .before .before .before .before .before .before .before .before .before .before .before .before .before .before .args .n)) (c .before .before .before .before .before .before .before .before .before .before .before .before .before .before .before .before .before .before .before .before .before .before .before .before .own-voters .given .0 .0) (c .before .before .before .before .before .before .before .before .before .before .before .before .before .before .before .before .voters .given .0 .0) (c .before .before .before .before .before .before .before .before .before .before .before .before .before .before .before .before .before .before .before .before .before .before .before .before .own-voters .given .0 .1 .0) (c .before .before .before .before .before .before .before .before .before .before .before .before .before .before .before .before .voters .given .0 .1 .0) (own (next .full) .0) (all (next .full) .0));
-        parts = moved-copied (c .before .before .before .before .before .before .before .before .before .before .before .before .before .before .before .before .before .before .before .before .before .before .before .before .before .before .before .before .before .before .before .before .before .before .before .args .index .now) (c .before .before .before .before .before .before .before .before .before .before .before .before .before .before .before .before .before .before .before .before .before .before .before .before .before .before .before .before .before .before .before .before .before .before .before .args .n) (beyond (x .reference) (x .end)) (c .before .before .before .before .before .before .before .before .before .before .before .before .before .before .before .before .before .before .before .before .before .before .before .before .before .before .before .before .before .before .before .before .before .before .before .args .cursors .now) (c .before .before .before .before .before .before .before .before .before .before .before .before .before .before .before .before .before .before .before .before .sources-meet2 .last .1 .1 .1 .1 .1 .0) (all (next .full) .1) (c .before .before .copy-words2 .last .1 .0) (c .before .before .copy-words2 .ensures);
-        mine = moved-copied (c .before .before .before .before .before .before .before .before .before .before .before .before .before .before .before .before .before .before .before .before .before .before .before .before .before .before .before .before .before .before .before .before .before .before .before .args .own .now) 1 (beyond (x .reference) (x .end)) (c .before .before .before .before .before .before .before .before .before .before .before .before .before .before .before .before .before .before .before .before .before .before .before .before .before .before .before .before .before .before .before .before .before .before .before .args .mine .now) (c .before .before .before .before .before .before .before .before .before .before .before .before .before .before .before .before .before .before .before .before .before .before .before .before .before .before .before .sources-meet .last .1 .1 .1 .1 .1 .0) (own (next .full) .1) (c .before .before .before .before .before .before .before .copy-words .last .1 .0) (c .before .before .before .before .before .before .before .copy-words .ensures);
+        next = next-met x (λ l. united (namedBy
+            (c .before .before .before .before .before .before .before .before .before .before .before .before .before .before .before .before .before
+            .before .before .before .before .before .before .before .before .before .before .before .before .before .before .before .before .before .before
+            .args .own .now) (c .before .before .before .before .before .before .before .before .before .before .before .before .before .before .before
+            .before .before .before .before .before .before .before .before .before .before .before .before .before .before .before .before .before .before
+            .before .before .args .mine .now) 1 l)
+            (namedBy (c .before .before .before .before .before .before .before .before .before .before .before .before .before .before .before .before
+            .before .before .before .before .before .before .before .before .before .before .before .before .before .before .before .before .before .before
+            .before .args .index .now) (c .before .before .before .before .before .before .before .before .before .before .before .before .before .before
+            .before .before .before .before .before .before .before .before .before .before .before .before .before .before .before .before .before .before
+            .before .before .before .args .cursors .now)
+            (c .before .before .before .before .before .before .before .before .before .before .before .before .before .before .before .before .before
+            .before .before .before .before .before .before .before .before .before .before .before .before .before .before .before .before .before .before
+            .args .n) l)) (asPlace (c .before .before .before .before .before .before .before .before .before .before .before .before .before .before
+            .before .before .before .before .before .before .before .before .before .before .before .before .before .before .before .before .before .before
+            .before .before .before .args .place))
+            (united (c .before .before .before .before .before .before .before .before .before .before .before .before .before .before .before .before
+            .before .before .before .before .before .before .before .before .own-voters .given .0 .0)
+            (c .before .before .before .before .before .before .before .before .before .before .before .before .before .before .before .before .voters
+            .given .0 .0)) (united (c .before .before .before .before .before .before .before .before .before .before .before .before .before .before
+            .before .before .before .before .before .before .before .before .before .before .own-voters .given .0 .1 .0)
+            (c .before .before .before .before .before .before .before .before .before .before .before .before .before .before .before .before .voters
+            .given .0 .1 .0)) next
+            (meets-both x (namedBy (c .before .before .before .before .before .before .before .before .before .before .before .before .before .before
+            .before .before .before .before .before .before .before .before .before .before .before .before .before .before .before .before .before
+            .before .before .before .before .args .own .now)
+            (c .before .before .before .before .before .before .before .before .before .before .before .before .before .before .before .before .before
+            .before .before .before .before .before .before .before .before .before .before .before .before .before .before .before .before .before
+            .before .args .mine .now) 1) (namedBy
+            (c .before .before .before .before .before .before .before .before .before .before .before .before .before .before .before .before .before
+            .before .before .before .before .before .before .before .before .before .before .before .before .before .before .before .before .before
+            .before .args .index .now) (c .before .before .before .before .before .before .before .before .before .before .before .before .before
+            .before .before .before .before .before .before .before .before .before .before .before .before .before .before .before .before .before
+            .before .before .before .before .before .args .cursors .now)
+            (c .before .before .before .before .before .before .before .before .before .before .before .before .before .before .before .before .before
+            .before .before .before .before .before .before .before .before .before .before .before .before .before .before .before .before .before
+            .before .args .n)) (c .before .before .before .before .before .before .before .before .before .before .before .before .before .before
+            .before .before .before .before .before .before .before .before .before .before .own-voters .given .0 .0)
+            (c .before .before .before .before .before .before .before .before .before .before .before .before .before .before .before .before .voters
+            .given .0 .0) (c .before .before .before .before .before .before .before .before .before .before .before .before .before .before .before
+            .before .before .before .before .before .before .before .before .before .own-voters .given .0 .1 .0)
+            (c .before .before .before .before .before .before .before .before .before .before .before .before .before .before .before .before .voters
+            .given .0 .1 .0) (own (next .full) .0) (all (next .full) .0));
+        parts = moved-copied (c .before .before .before .before .before .before .before .before .before .before .before .before .before .before .before
+            .before .before .before .before .before .before .before .before .before .before .before .before .before .before .before .before .before .before
+            .before .before .args .index .now)
+            (c .before .before .before .before .before .before .before .before .before .before .before .before .before .before .before .before .before
+            .before .before .before .before .before .before .before .before .before .before .before .before .before .before .before .before .before .before
+            .args .n) (beyond (x .reference) (x .end))
+            (c .before .before .before .before .before .before .before .before .before .before .before .before .before .before .before .before .before
+            .before .before .before .before .before .before .before .before .before .before .before .before .before .before .before .before .before .before
+            .args .cursors .now) (c .before .before .before .before .before .before .before .before .before .before .before .before .before .before .before
+            .before .before .before .before .before .sources-meet2 .last .1 .1 .1 .1 .1 .0) (all (next .full) .1)
+            (c .before .before .copy-words2 .last .1 .0) (c .before .before .copy-words2 .ensures);
+        mine = moved-copied (c .before .before .before .before .before .before .before .before .before .before .before .before .before .before .before
+            .before .before .before .before .before .before .before .before .before .before .before .before .before .before .before .before .before .before
+            .before .before .args .own .now) 1 (beyond (x .reference) (x .end))
+            (c .before .before .before .before .before .before .before .before .before .before .before .before .before .before .before .before .before
+            .before .before .before .before .before .before .before .before .before .before .before .before .before .before .before .before .before .before
+            .args .mine .now) (c .before .before .before .before .before .before .before .before .before .before .before .before .before .before .before
+            .before .before .before .before .before .before .before .before .before .before .before .before .sources-meet .last .1 .1 .1 .1 .1 .0)
+            (own (next .full) .1) (c .before .before .before .before .before .before .before .copy-words .last .1 .0)
+            (c .before .before .before .before .before .before .before .copy-words .ensures);
       },
   λ t. absurd (not-both refl t),
 )
@@ -135,8 +278,8 @@ run-meets-spec =
     same-length-3
     same-length-4
     returns-2
-    united-requires
-    united-requires-2
+    union-requires
+    union-requires-2
     read-run-requires
     is-next-requires
     same-length-5

@@ -45,10 +45,17 @@ loop-less : tie.Need-loop-less Inv-loop μ-loop
 loop-less c = search needs
 
 loop-again : tie.Need-loop-again Inv-loop μ-loop
-loop-again c = (omega arith, same-more (c .before .before .before .before .before .args .index .now) (c .before .before .before .before .before .args .words .now) (c .before .before .before .before .before .args .pos) (c .before .before .before .before .before .args .at) (c .before .before .before .before .loop .i) (c .before .before .before .before .loop .inv .1) (c .if1 .left))
+loop-again c = (
+  omega arith,
+  same-more (c .before .before .before .before .before .args .index .now)
+      (c .before .before .before .before .before .args .words .now) (c .before .before .before .before .before .args .pos)
+      (c .before .before .before .before .before .args .at) (c .before .before .before .before .loop .i) (c .before .before .before .before .loop .inv .1)
+      (c .if1 .left),
+)
 
 returns-2 : tie.Need-returns-2 Inv-loop μ-loop
-returns-2 c = λ t. words-same (c .before .before .args .index .now) (c .before .before .args .words .now) (c .before .before .args .pos) (c .before .before .args .at) (λ j h. c .before .loop .inv .1 j (omega (arith, c .loop-test .left)))
+returns-2 c = λ t. words-same (c .before .before .args .index .now) (c .before .before .args .words .now) (c .before .before .args .pos)
+    (c .before .before .args .at) (λ j h. c .before .loop .inv .1 j (omega (arith, c .loop-test .left)))
 
 pub same-offsets-spec : {M : Type 1} → statement M
 same-offsets-spec =

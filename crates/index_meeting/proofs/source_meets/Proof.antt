@@ -3,9 +3,9 @@ use mathlib.Core.Bool.{true, false}
 use lib.ListN.{drop}
 use borrow.Author.Tests.{not-false}
 use Prim.Native.Nat.{_+_, _-_}
-use Rattle.authority_set.specs.AuthoritySet.{AuthoritySet, nobody}
-use Rattle.voters_index.specs.Runs.{Run}
-use Rattle.voters_index.specs.Walk.{Past, runFrom, runsFrom}
+use Rattle.committee_set.specs.AuthoritySet.{AuthoritySet, nobody}
+use Rattle.index_spec.specs.Runs.{Run}
+use Rattle.index_spec.specs.Walk.{Past, runFrom, runsFrom}
 use Rattle.index_runs.specs.Values.{asRun}
 use Rattle.index_meeting.specs.Step.{MetBy, SourceMet, afterVotes}
 use Rattle.index_meeting.proofs.One.{votes-read, cursor-none, cursor-same, cursor-past}
@@ -25,9 +25,22 @@ unfolding SourceMet
 returns c = (
   c .before .before .before .before .before .pre .1,
   λ h k.
-      subst (λ (v : AuthoritySet). MetBy (runFrom (drop (c .before .before .before .before .before .args .pos) (c .before .before .before .before .before .args .index .now))) (runsFrom (c .before .before .before .before .before .args .left) (drop (c .before .before .before .before .before .args .at) (c .before .before .before .before .before .args .words .now))) (runsFrom (c .before .before .before .before .before .args .left) (drop (c .before .before .before .before .before .args .at) (c .before .before .before .before .before .args .words .now))) v (c .new2 .result)) (sym (c .before .new .ensures))
-      (subst (MetBy (runFrom (drop (c .before .before .before .before .before .args .pos) (c .before .before .before .before .before .args .index .now))) (runsFrom (c .before .before .before .before .before .args .left) (drop (c .before .before .before .before .before .args .at) (c .before .before .before .before .before .args .words .now))) (runsFrom (c .before .before .before .before .before .args .left) (drop (c .before .before .before .before .before .args .at) (c .before .before .before .before .before .args .words .now))) nobody) (sym (c .new2 .ensures))
-      (cursor-none (runFrom (drop (c .before .before .before .before .before .args .pos) (c .before .before .before .before .before .args .index .now))) h (c .before .before .before .before .before .args .words .now) (c .before .before .before .before .before .args .at) (c .before .before .before .before .before .args .left) (omega arith))),
+      subst (λ (v : AuthoritySet). MetBy
+      (runFrom (drop (c .before .before .before .before .before .args .pos) (c .before .before .before .before .before .args .index .now)))
+      (runsFrom (c .before .before .before .before .before .args .left)
+      (drop (c .before .before .before .before .before .args .at) (c .before .before .before .before .before .args .words .now)))
+      (runsFrom (c .before .before .before .before .before .args .left)
+      (drop (c .before .before .before .before .before .args .at) (c .before .before .before .before .before .args .words .now))) v (c .new2 .result))
+      (sym (c .before .new .ensures))
+      (subst (MetBy (runFrom (drop (c .before .before .before .before .before .args .pos) (c .before .before .before .before .before .args .index .now)))
+      (runsFrom (c .before .before .before .before .before .args .left)
+      (drop (c .before .before .before .before .before .args .at) (c .before .before .before .before .before .args .words .now)))
+      (runsFrom (c .before .before .before .before .before .args .left)
+      (drop (c .before .before .before .before .before .args .at) (c .before .before .before .before .before .args .words .now))) nobody)
+      (sym (c .new2 .ensures))
+      (cursor-none (runFrom (drop (c .before .before .before .before .before .args .pos) (c .before .before .before .before .before .args .index .now))) h
+      (c .before .before .before .before .before .args .words .now) (c .before .before .before .before .before .args .at)
+      (c .before .before .before .before .before .args .left) (omega arith))),
 )
 
 same-offsets-requires : tie.Need-same-offsets-requires
@@ -65,9 +78,33 @@ unfolding SourceMet
 returns-2 c = (
   omega arith,
   λ h k.
-      subst (λ (v : AuthoritySet). MetBy (runFrom (drop (c .before .before .before .before .before .before .before .before .args .pos) (c .before .before .before .before .before .before .before .before .args .index .now))) (runsFrom (c .before .before .before .before .before .before .before .before .args .left) (drop (c .before .before .before .before .before .before .before .before .args .at) (c .before .before .before .before .before .before .before .before .args .words .now))) (runsFrom (c .before .before .before .before .before .before .before .before .args .left - 1) (drop (c .before .before .before .before .before .before .before .before .args .at + 10) (c .before .before .before .before .before .before .before .before .args .words .now))) v (c .before .before .after-votes .result)) (sym (votes-read (c .before .before .before .before .before .before .before .before .args .words .now) (c .before .before .before .before .before .before .before .before .args .at)))
-      (subst (MetBy (runFrom (drop (c .before .before .before .before .before .before .before .before .args .pos) (c .before .before .before .before .before .before .before .before .args .index .now))) (runsFrom (c .before .before .before .before .before .before .before .before .args .left) (drop (c .before .before .before .before .before .before .before .before .args .at) (c .before .before .before .before .before .before .before .before .args .words .now))) (runsFrom (c .before .before .before .before .before .before .before .before .args .left - 1) (drop (c .before .before .before .before .before .before .before .before .args .at + 10) (c .before .before .before .before .before .before .before .before .args .words .now))) (runFrom (drop (c .before .before .before .before .before .before .before .before .args .at) (c .before .before .before .before .before .before .before .before .args .words .now)) .votes)) (sym (c .before .before .after-votes .ensures))
-      (cursor-same (runFrom (drop (c .before .before .before .before .before .before .before .before .args .pos) (c .before .before .before .before .before .before .before .before .args .index .now))) h (c .before .before .before .before .before .before .before .before .args .words .now) (c .before .before .before .before .before .before .before .before .args .at) (c .before .before .before .before .before .before .before .before .args .left) (omega arith) k (c .before .before .before .before .same-offsets .ensures (c .before .before .before .if2 .taken)))),
+      subst (λ (v : AuthoritySet). MetBy
+      (runFrom (drop (c .before .before .before .before .before .before .before .before .args .pos)
+      (c .before .before .before .before .before .before .before .before .args .index .now)))
+      (runsFrom (c .before .before .before .before .before .before .before .before .args .left)
+      (drop (c .before .before .before .before .before .before .before .before .args .at)
+      (c .before .before .before .before .before .before .before .before .args .words .now)))
+      (runsFrom (c .before .before .before .before .before .before .before .before .args .left - 1)
+      (drop (c .before .before .before .before .before .before .before .before .args .at + 10)
+      (c .before .before .before .before .before .before .before .before .args .words .now))) v (c .before .before .after-votes .result))
+      (sym (votes-read (c .before .before .before .before .before .before .before .before .args .words .now)
+      (c .before .before .before .before .before .before .before .before .args .at)))
+      (subst (MetBy (runFrom (drop (c .before .before .before .before .before .before .before .before .args .pos)
+      (c .before .before .before .before .before .before .before .before .args .index .now)))
+      (runsFrom (c .before .before .before .before .before .before .before .before .args .left)
+      (drop (c .before .before .before .before .before .before .before .before .args .at)
+      (c .before .before .before .before .before .before .before .before .args .words .now)))
+      (runsFrom (c .before .before .before .before .before .before .before .before .args .left - 1)
+      (drop (c .before .before .before .before .before .before .before .before .args .at + 10)
+      (c .before .before .before .before .before .before .before .before .args .words .now)))
+      (runFrom (drop (c .before .before .before .before .before .before .before .before .args .at)
+      (c .before .before .before .before .before .before .before .before .args .words .now)) .votes)) (sym (c .before .before .after-votes .ensures))
+      (cursor-same (runFrom (drop (c .before .before .before .before .before .before .before .before .args .pos)
+      (c .before .before .before .before .before .before .before .before .args .index .now))) h
+      (c .before .before .before .before .before .before .before .before .args .words .now)
+      (c .before .before .before .before .before .before .before .before .args .at)
+      (c .before .before .before .before .before .before .before .before .args .left) (omega arith) k
+      (c .before .before .before .before .same-offsets .ensures (c .before .before .before .if2 .taken)))),
 )
 
 read-run-requires : tie.Need-read-run-requires
@@ -94,11 +131,38 @@ unfolding SourceMet
 returns-4 c = (
   c .before .before .before .before .before .before .before .before .before .before .before .pre .1,
   λ h k.
-      subst (λ (v : AuthoritySet). MetBy (runFrom (drop (c .before .before .before .before .before .before .before .before .before .before .before .args .pos) (c .before .before .before .before .before .before .before .before .before .before .before .args .index .now))) (runsFrom (c .before .before .before .before .before .before .before .before .before .before .before .args .left) (drop (c .before .before .before .before .before .before .before .before .before .before .before .args .at) (c .before .before .before .before .before .before .before .before .before .before .before .args .words .now))) (runsFrom (c .before .before .before .before .before .before .before .before .before .before .before .args .left) (drop (c .before .before .before .before .before .before .before .before .before .before .before .args .at) (c .before .before .before .before .before .before .before .before .before .before .before .args .words .now))) v (c .before .after-votes2 .result)) (sym (c .new3 .ensures))
-      (subst (MetBy (runFrom (drop (c .before .before .before .before .before .before .before .before .before .before .before .args .pos) (c .before .before .before .before .before .before .before .before .before .before .before .args .index .now))) (runsFrom (c .before .before .before .before .before .before .before .before .before .before .before .args .left) (drop (c .before .before .before .before .before .before .before .before .before .before .before .args .at) (c .before .before .before .before .before .before .before .before .before .before .before .args .words .now))) (runsFrom (c .before .before .before .before .before .before .before .before .before .before .before .args .left) (drop (c .before .before .before .before .before .before .before .before .before .before .before .args .at) (c .before .before .before .before .before .before .before .before .before .before .before .args .words .now))) nobody) (sym (c .before .after-votes2 .ensures))
-      (cursor-past (runFrom (drop (c .before .before .before .before .before .before .before .before .before .before .before .args .pos) (c .before .before .before .before .before .before .before .before .before .before .before .args .index .now))) h (c .before .before .before .before .before .before .before .before .before .before .before .args .words .now) (c .before .before .before .before .before .before .before .before .before .before .before .args .at) (c .before .before .before .before .before .before .before .before .before .before .before .args .left) (omega arith) k
-      (subst (λ (y : Run). Past ((runFrom (drop (c .before .before .before .before .before .before .before .before .before .before .before .args .pos) (c .before .before .before .before .before .before .before .before .before .before .before .args .index .now))) .reference) ((runFrom (drop (c .before .before .before .before .before .before .before .before .before .before .before .args .pos) (c .before .before .before .before .before .before .before .before .before .before .before .args .index .now))) .end) (y .reference) (y .start)) (c .before .before .before .before .read-run2 .ensures)
-      (subst (λ (x : Run). Past (x .reference) (x .end) (asRun (c .before .before .before .before .read-run2 .result) .reference) (asRun (c .before .before .before .before .read-run2 .result) .start)) (c .before .before .before .before .before .read-run .ensures)
+      subst (λ (v : AuthoritySet). MetBy
+      (runFrom (drop (c .before .before .before .before .before .before .before .before .before .before .before .args .pos)
+      (c .before .before .before .before .before .before .before .before .before .before .before .args .index .now)))
+      (runsFrom (c .before .before .before .before .before .before .before .before .before .before .before .args .left)
+      (drop (c .before .before .before .before .before .before .before .before .before .before .before .args .at)
+      (c .before .before .before .before .before .before .before .before .before .before .before .args .words .now)))
+      (runsFrom (c .before .before .before .before .before .before .before .before .before .before .before .args .left)
+      (drop (c .before .before .before .before .before .before .before .before .before .before .before .args .at)
+      (c .before .before .before .before .before .before .before .before .before .before .before .args .words .now))) v
+      (c .before .after-votes2 .result)) (sym (c .new3 .ensures))
+      (subst (MetBy (runFrom (drop (c .before .before .before .before .before .before .before .before .before .before .before .args .pos)
+      (c .before .before .before .before .before .before .before .before .before .before .before .args .index .now)))
+      (runsFrom (c .before .before .before .before .before .before .before .before .before .before .before .args .left)
+      (drop (c .before .before .before .before .before .before .before .before .before .before .before .args .at)
+      (c .before .before .before .before .before .before .before .before .before .before .before .args .words .now)))
+      (runsFrom (c .before .before .before .before .before .before .before .before .before .before .before .args .left)
+      (drop (c .before .before .before .before .before .before .before .before .before .before .before .args .at)
+      (c .before .before .before .before .before .before .before .before .before .before .before .args .words .now))) nobody)
+      (sym (c .before .after-votes2 .ensures))
+      (cursor-past (runFrom (drop (c .before .before .before .before .before .before .before .before .before .before .before .args .pos)
+      (c .before .before .before .before .before .before .before .before .before .before .before .args .index .now))) h
+      (c .before .before .before .before .before .before .before .before .before .before .before .args .words .now)
+      (c .before .before .before .before .before .before .before .before .before .before .before .args .at)
+      (c .before .before .before .before .before .before .before .before .before .before .before .args .left) (omega arith) k
+      (subst (λ (y : Run). Past ((runFrom
+      (drop (c .before .before .before .before .before .before .before .before .before .before .before .args .pos)
+      (c .before .before .before .before .before .before .before .before .before .before .before .args .index .now))) .reference)
+      ((runFrom (drop (c .before .before .before .before .before .before .before .before .before .before .before .args .pos)
+      (c .before .before .before .before .before .before .before .before .before .before .before .args .index .now))) .end) (y .reference) (y .start))
+      (c .before .before .before .before .read-run2 .ensures)
+      (subst (λ (x : Run). Past (x .reference) (x .end) (asRun (c .before .before .before .before .read-run2 .result) .reference)
+      (asRun (c .before .before .before .before .read-run2 .result) .start)) (c .before .before .before .before .before .read-run .ensures)
       (c .before .before .before .begins-past .ensures (not-false (c .before .before .before .begins-past .result) (c .before .before .if3 .left))))))),
 )
 

@@ -1,8 +1,8 @@
 use mathlib.Core.Path.{_≡_, refl, sym, ap, subst, _∙_}
 use Prim.Native.Nat.{ℕ, _+_, _-_, _*_, _≤_, _<_}
 use lib.ListN.{length, getD, drop, set, length-set}
-use Rattle.authority_set.specs.AuthoritySet.{AuthoritySet, nobody, united}
-use Rattle.voters_index.specs.Walk.{runFrom}
+use Rattle.committee_set.specs.AuthoritySet.{AuthoritySet, nobody, united}
+use Rattle.index_spec.specs.Walk.{runFrom}
 use Rattle.index_merge.specs.Sources.{cursorAt, cursorLeft, source}
 use Rattle.index_meeting.specs.Step.{SourceMet, MetAll}
 use Rattle.index_meeting.specs.declared.Meeting.{Meeting}
@@ -13,7 +13,9 @@ use Rattle.index_meeting.proofs.sources_meet.Statement.{statement}
 use Rattle.index_meeting.proofs.sources_meet.Tie as tie
 
 abbrev Inv-loop : tie.InvT-loop
-Inv-loop index pos words cursors n ahead₀ votes₀ after₀ k₀ ahead votes after k = (k ≤ n) × ((length ahead ≡ length cursors) × (runFrom (drop pos index) .start < runFrom (drop pos index) .end → Going (runFrom (drop pos index)) words cursors ahead k votes after))
+Inv-loop index pos words cursors n ahead₀ votes₀ after₀ k₀ ahead votes after k = (k ≤ n) ×
+    ((length ahead ≡ length cursors) ×
+    (runFrom (drop pos index) .start < runFrom (drop pos index) .end → Going (runFrom (drop pos index)) words cursors ahead k votes after))
 
 abbrev μ-loop : tie.MeasureT-loop
 μ-loop index pos words cursors n ahead₀ votes₀ after₀ k₀ ahead votes after k = n - k
@@ -25,7 +27,24 @@ new-requires-2 : tie.Need-new-requires-2 Inv-loop μ-loop
 new-requires-2 c κs = search needs
 
 loop-holds : tie.Need-loop-holds Inv-loop μ-loop
-loop-holds c = (omega arith, (c .before .before .before .before .before .before .pre .1 .1, λ h. subst (λ (v : AuthoritySet). Going (runFrom (drop (c .before .before .before .before .before .before .args .pos) (c .before .before .before .before .before .before .args .index .now))) (c .before .before .before .before .before .before .args .words .now) (c .before .before .before .before .before .before .args .cursors .now) (c .before .before .before .before .before .before .args .ahead .now) 0 v (c .new2 .result)) (sym (c .before .new .ensures)) (subst (Going (runFrom (drop (c .before .before .before .before .before .before .args .pos) (c .before .before .before .before .before .before .args .index .now))) (c .before .before .before .before .before .before .args .words .now) (c .before .before .before .before .before .before .args .cursors .now) (c .before .before .before .before .before .before .args .ahead .now) 0 nobody) (sym (c .new2 .ensures)) (going-start (runFrom (drop (c .before .before .before .before .before .before .args .pos) (c .before .before .before .before .before .before .args .index .now))) (c .before .before .before .before .before .before .args .words .now) (c .before .before .before .before .before .before .args .cursors .now) (c .before .before .before .before .before .before .args .ahead .now)))))
+loop-holds c = (
+  omega arith,
+  (
+    c .before .before .before .before .before .before .pre .1 .1,
+    λ h. subst
+        (λ (v : AuthoritySet). Going (runFrom
+        (drop (c .before .before .before .before .before .before .args .pos) (c .before .before .before .before .before .before .args .index .now)))
+        (c .before .before .before .before .before .before .args .words .now) (c .before .before .before .before .before .before .args .cursors .now)
+        (c .before .before .before .before .before .before .args .ahead .now) 0 v (c .new2 .result)) (sym (c .before .new .ensures))
+        (subst (Going (runFrom (drop (c .before .before .before .before .before .before .args .pos)
+        (c .before .before .before .before .before .before .args .index .now))) (c .before .before .before .before .before .before .args .words .now)
+        (c .before .before .before .before .before .before .args .cursors .now) (c .before .before .before .before .before .before .args .ahead .now) 0 nobody)
+        (sym (c .new2 .ensures)) (going-start
+        (runFrom (drop (c .before .before .before .before .before .before .args .pos) (c .before .before .before .before .before .before .args .index .now)))
+        (c .before .before .before .before .before .before .args .words .now) (c .before .before .before .before .before .before .args .cursors .now)
+        (c .before .before .before .before .before .before .args .ahead .now))),
+  ),
+)
 
 mul-source-meets : tie.Need-mul-source-meets Inv-loop μ-loop
 mul-source-meets c = search needs
@@ -50,7 +69,11 @@ shared-slice-read-source-meets-2 c = search needs
 
 source-meets-requires : tie.Need-source-meets-requires Inv-loop μ-loop
 unfolding cursorAt cursorLeft
-source-meets-requires c κs = (c .before .before .before .before .before .before .before .before .before .before .pre .1 .0, c .before .before .before .before .before .before .before .before .before .before .pre .0 .inside (c .before .before .before .loop .k) (c .before .before .loop-test .taken))
+source-meets-requires c κs = (
+  c .before .before .before .before .before .before .before .before .before .before .pre .1 .0,
+  c .before .before .before
+      .before .before .before .before .before .before .before .pre .0 .inside (c .before .before .before .loop .k) (c .before .before .loop-test .taken),
+)
 
 enum-known-met : tie.Need-enum-known-met Inv-loop μ-loop
 enum-known-met c = search needs
@@ -59,7 +82,8 @@ enum-told : tie.Need-enum-told Inv-loop μ-loop
 enum-told c = search needs
 
 same-length : tie.Need-same-length Inv-loop μ-loop
-same-length c = c .before .before .before .before .before .before .loop .inv .1 .0 ∙ sym (c .before .before .before .before .before .before .before .before .before .before .before .before .before .pre .1 .1)
+same-length c = c .before .before .before .before .before .before .loop .inv .1 .0 ∙ sym
+    (c .before .before .before .before .before .before .before .before .before .before .before .before .before .pre .1 .1)
 
 returns : tie.Need-returns Inv-loop μ-loop
 unfolding MetAll
@@ -72,7 +96,13 @@ mul-ahead-2 : tie.Need-mul-ahead-2 Inv-loop μ-loop
 mul-ahead-2 c = search needs
 
 slice-write-ahead : tie.Need-slice-write-ahead Inv-loop μ-loop
-slice-write-ahead c = omega (arith, c .before .before .before .before .before .before .before .loop .inv .1 .0, c .before .before .before .before .before .before .before .before .before .before .before .before .before .before .pre .0 .room, c .before .before .before .before .before .before .loop-test .taken)
+slice-write-ahead c = omega (
+  arith,
+  c .before .before .before .before .before .before .before .loop .inv .1 .0,
+  c .before .before .before .before .before
+      .before .before .before .before .before .before .before .before .before .pre .0 .room,
+  c .before .before .before .before .before .before .loop-test .taken,
+)
 
 mul-ahead-3 : tie.Need-mul-ahead-3 Inv-loop μ-loop
 mul-ahead-3 c = search needs
@@ -84,29 +114,77 @@ mul-ahead-4 : tie.Need-mul-ahead-4 Inv-loop μ-loop
 mul-ahead-4 c = search needs
 
 slice-write-ahead-2 : tie.Need-slice-write-ahead-2 Inv-loop μ-loop
-slice-write-ahead-2 c = simp length-set (omega (arith, c .before .before .before .before .before .before .before .loop .inv .1 .0, c .before .before .before .before .before .before .before .before .before .before .before .before .before .before .pre .0 .room, c .before .before .before .before .before .before .loop-test .taken))
+slice-write-ahead-2 c = simp length-set
+    (omega (
+      arith,
+      c .before .before .before .before .before .before .before .loop .inv .1 .0,
+      c .before .before .before .before .before .before .before
+          .before .before .before .before .before .before .before .pre .0 .room,
+      c .before .before .before .before .before .before .loop-test .taken,
+    ))
 
-united-requires : tie.Need-united-requires Inv-loop μ-loop
-united-requires c κs = search needs
+union-requires : tie.Need-union-requires Inv-loop μ-loop
+union-requires c κs = search needs
 
-united-requires-2 : tie.Need-united-requires-2 Inv-loop μ-loop
-united-requires-2 c κs = search needs
+union-requires-2 : tie.Need-union-requires-2 Inv-loop μ-loop
+union-requires-2 c κs = search needs
 
 add-k : tie.Need-add-k Inv-loop μ-loop
-add-k c = omega (arith, c .before .before .before .before .before .before .before .before .loop-test .taken, c .before .before .before .before .before .before .before .before .before .before .before .before .before .before .before .before .fits .n)
+add-k c = omega (
+  arith,
+  c .before .before .before .before .before .before .before .before .loop-test .taken,
+  c .before .before .before .before .before
+      .before .before .before .before .before .before .before .before .before .before .before .fits .n,
+)
 
 loop-less : tie.Need-loop-less Inv-loop μ-loop
 loop-less c = search needs
 
 loop-again : tie.Need-loop-again Inv-loop μ-loop
 unfolding source cursorAt cursorLeft SourceMet
-loop-again c = let s = subst (SourceMet (runFrom (drop (c .before .before .before .before .before .before .before .before .before .before .before .before .before .before .before .before .args .pos) (c .before .before .before .before .before .before .before .before .before .before .before .before .before .before .before .before .args .index .now))) (c .before .before .before .before .before .before .before .before .before .before .before .before .before .before .before .before .args .words .now) (getD (c .before .before .before .before .before .before .before .before .before .before .before .before .before .before .before .before .args .cursors .now) (2 * (c .before .before .before .before .before .before .before .before .before .loop .k)) 0) (getD (c .before .before .before .before .before .before .before .before .before .before .before .before .before .before .before .before .args .cursors .now) (2 * (c .before .before .before .before .before .before .before .before .before .loop .k) + 1) 0)) (c .before .before .before .met .given .1) (c .before .before .before .before .before .source-meets .ensures) in (
-  omega (arith, c .before .before .before .before .before .before .before .before .loop-test .taken),
-  (
-    length-set (set (c .before .before .before .before .before .before .before .before .before .loop .ahead) (2 * (c .before .before .before .before .before .before .before .before .before .loop .k)) (c .before .before .before .met .given .0 .0 .at)) (2 * (c .before .before .before .before .before .before .before .before .before .loop .k) + 1) (c .before .before .before .met .given .0 .0 .left) ∙ length-set (c .before .before .before .before .before .before .before .before .before .loop .ahead) (2 * (c .before .before .before .before .before .before .before .before .before .loop .k)) (c .before .before .before .met .given .0 .0 .at) ∙ c .before .before .before .before .before .before .before .before .before .loop .inv .1 .0,
-    λ h. rw (c .before .united .ensures, c .united2 .ensures) (going-on (runFrom (drop (c .before .before .before .before .before .before .before .before .before .before .before .before .before .before .before .before .args .pos) (c .before .before .before .before .before .before .before .before .before .before .before .before .before .before .before .before .args .index .now))) (c .before .before .before .before .before .before .before .before .before .before .before .before .before .before .before .before .args .words .now) (c .before .before .before .before .before .before .before .before .before .before .before .before .before .before .before .before .args .cursors .now) (c .before .before .before .before .before .before .before .before .before .loop .ahead) (c .before .before .before .before .before .before .before .before .before .loop .k) (c .before .before .before .before .before .before .before .before .before .loop .votes) (c .before .before .before .before .before .before .before .before .before .loop .after) (c .before .before .before .before .before .before .before .before .before .loop .inv .1 .1 h) (omega (arith, c .before .before .before .before .before .before .before .before .before .loop .inv .1 .0, c .before .before .before .before .before .before .before .before .before .before .before .before .before .before .before .before .pre .0 .room, c .before .before .before .before .before .before .before .before .loop-test .taken)) (c .before .before .before .met .given .0 .0 .at) (c .before .before .before .met .given .0 .0 .left) (c .before .before .before .met .given .0 .0 .votes) (c .before .before .before .met .given .0 .0 .after) (s .0) (s .1 h (c .before .before .before .before .before .before .before .before .before .before .before .before .before .before .before .before .pre .0 .chains (c .before .before .before .before .before .before .before .before .before .loop .k) (c .before .before .before .before .before .before .before .before .loop-test .taken)))),
-  ),
-)
+loop-again c = let s = subst (SourceMet
+    (runFrom (drop (c .before .before .before .before .before .before .before .before .before .before .before .before .before .before .before .before .args
+    .pos) (c .before .before .before .before .before .before .before .before .before .before .before .before .before .before .before .before .args .index
+    .now))) (c .before .before .before .before .before .before .before .before .before .before .before .before .before .before .before .before .args .words
+    .now) (getD (c .before .before .before .before .before .before .before .before .before .before .before .before .before .before .before .before .args
+    .cursors .now) (2 * (c .before .before .before .before .before .before .before .before .before .loop .k)) 0)
+    (getD (c .before .before .before .before .before .before .before .before .before .before .before .before .before .before .before .before .args .cursors
+    .now) (2 * (c .before .before .before .before .before .before .before .before .before .loop .k) + 1) 0)) (c .before .before .before .met .given .1)
+    (c .before .before .before .before .before .source-meets .ensures) in (
+      omega (arith, c .before .before .before .before .before .before .before .before .loop-test .taken),
+      (
+        length-set (set (c .before .before .before .before .before .before .before .before .before .loop .ahead)
+            (2 * (c .before .before .before .before .before .before .before .before .before .loop .k)) (c .before .before .before .met .given .0 .0 .at))
+            (2 * (c .before .before .before .before .before .before .before .before .before .loop .k) + 1) (c .before .before .before .met .given .0 .0 .left)
+            ∙ length-set (c .before .before .before .before .before .before .before .before .before .loop .ahead)
+            (2 * (c .before .before .before .before .before .before .before .before .before .loop .k)) (c .before .before .before .met .given .0 .0 .at) ∙ c
+            .before .before .before .before .before .before .before .before .before .loop .inv .1 .0,
+        λ h. rw (c .before .union .ensures, c .union2 .ensures)
+            (going-on (runFrom (drop (c .before .before .before .before .before .before .before .before .before .before .before .before .before .before .before
+            .before .args .pos) (c .before .before .before .before .before .before .before .before .before .before .before .before .before .before .before
+            .before .args .index .now))) (c .before .before .before .before .before .before .before .before .before .before .before .before .before .before
+            .before .before .args .words .now)
+            (c .before .before .before .before .before .before .before .before .before .before .before .before .before .before .before .before .args .cursors
+            .now) (c .before .before .before .before .before .before .before .before .before .loop .ahead)
+            (c .before .before .before .before .before .before .before .before .before .loop .k)
+            (c .before .before .before .before .before .before .before .before .before .loop .votes)
+            (c .before .before .before .before .before .before .before .before .before .loop .after)
+            (c .before .before .before .before .before .before .before .before .before .loop .inv .1 .1 h)
+            (omega (
+              arith,
+              c .before .before .before .before .before .before .before .before .before .loop .inv .1 .0,
+              c .before .before .before .before
+                  .before .before .before .before .before .before .before .before .before .before .before .before .pre .0 .room,
+              c .before .before .before .before
+                  .before .before .before .before .loop-test .taken,
+            )) (c .before .before .before .met .given .0 .0 .at)
+            (c .before .before .before .met .given .0 .0 .left) (c .before .before .before .met .given .0 .0 .votes)
+            (c .before .before .before .met .given .0 .0 .after) (s .0)
+            (s .1 h (c .before .before .before .before .before .before .before .before .before .before .before .before .before .before .before .before .pre .0
+            .chains (c .before .before .before .before .before .before .before .before .before .loop .k)
+            (c .before .before .before .before .before .before .before .before .loop-test .taken)))),
+      ),
+    )
 
 same-length-2 : tie.Need-same-length-2 Inv-loop μ-loop
 same-length-2 c = c .before .loop .inv .1 .0 ∙ sym (c .before .before .before .before .before .before .before .before .pre .1 .1)
@@ -114,9 +192,22 @@ same-length-2 c = c .before .loop .inv .1 .0 ∙ sym (c .before .before .before 
 returns-2 : tie.Need-returns-2 Inv-loop μ-loop
 unfolding MetAll
 returns-2 c = λ h.
-    let e : (c .before .loop .k) ≡ c .before .before .before .before .before .before .before .before .args .n = omega (arith, c .before .loop .inv .0, c .loop-test .left) in
-    let g = subst (λ (m : ℕ). Going (runFrom (drop (c .before .before .before .before .before .before .before .before .args .pos) (c .before .before .before .before .before .before .before .before .args .index .now))) (c .before .before .before .before .before .before .before .before .args .words .now) (c .before .before .before .before .before .before .before .before .args .cursors .now) (c .before .loop .ahead) m (c .before .loop .votes) (c .before .loop .after)) e (c .before .loop .inv .1 .1 h) in
-    (g .meets, going-end (runFrom (drop (c .before .before .before .before .before .before .before .before .args .pos) (c .before .before .before .before .before .before .before .before .args .index .now))) (c .before .before .before .before .before .before .before .before .args .words .now) (c .before .before .before .before .before .before .before .before .args .cursors .now) (c .before .loop .ahead) (c .before .before .before .before .before .before .before .before .args .n) (c .before .loop .votes) (c .before .loop .after) (c .before .loop .inv .1 .0) (c .before .before .before .before .before .before .before .before .pre .0 .room) g)
+    let e : (c .before .loop .k) ≡ c .before .before .before .before .before .before .before .before .args .n = omega
+    (arith, c .before .loop .inv .0, c .loop-test .left) in
+    let g = subst (λ (m : ℕ). Going
+    (runFrom (drop (c .before .before .before .before .before .before .before .before .args .pos)
+    (c .before .before .before .before .before .before .before .before .args .index .now)))
+    (c .before .before .before .before .before .before .before .before .args .words .now)
+    (c .before .before .before .before .before .before .before .before .args .cursors .now) (c .before .loop .ahead) m (c .before .loop .votes)
+    (c .before .loop .after)) e (c .before .loop .inv .1 .1 h) in (
+      g .meets,
+      going-end (runFrom (drop (c .before .before .before .before .before .before .before .before .args .pos)
+          (c .before .before .before .before .before .before .before .before .args .index .now)))
+          (c .before .before .before .before .before .before .before .before .args .words .now)
+          (c .before .before .before .before .before .before .before .before .args .cursors .now) (c .before .loop .ahead)
+          (c .before .before .before .before .before .before .before .before .args .n) (c .before .loop .votes) (c .before .loop .after)
+          (c .before .loop .inv .1 .0) (c .before .before .before .before .before .before .before .before .pre .0 .room) g,
+    )
 
 pub sources-meet-spec : {M : Type 1} → statement M
 sources-meet-spec =
@@ -146,8 +237,8 @@ sources-meet-spec =
     add-ahead
     mul-ahead-4
     slice-write-ahead-2
-    united-requires
-    united-requires-2
+    union-requires
+    union-requires-2
     add-k
     loop-less
     loop-again

@@ -1,5 +1,5 @@
 use mathlib.Core.Path.{refl}
-use Rattle.voters_index.specs.Runs.{run}
+use Rattle.index_spec.specs.Runs.{run}
 use Rattle.index_runs.specs.Values.{asRun}
 use Rattle.index_merge.specs.Sources.{ended}
 use Rattle.index_merge.proofs.ended.Statement.{statement}

@@ -1,7 +1,7 @@
 use mathlib.Core.Path.{_≡_, refl, sym, ap, _∙_}
 use Prim.Native.Nat.{_+_, _*_}
 use lib.ListN.{drop}
-use Rattle.voters_index.specs.Walk.{runsFrom}
+use Rattle.index_spec.specs.Walk.{runsFrom}
 use Rattle.index_runs.specs.Values.{asRun, asMaybe, asPlace}
 use Rattle.index_pieces.specs.Pieces.{fromPlace, firstPiece, skipped}
 use Rattle.index_merge.proofs.Cursors.{skip-stop, skip-on, skip-end, piece-stop, piece-on, piece-end}

@@ -3,7 +3,7 @@ use mathlib.Core.Path.{sym, ap, subst, _∙_}
 use mathlib.Core.Bool.{_&&_}
 use mathlib.Core.Option.{Option}
 use borrow.Author.Tests.{not-true, not-false}
-use Rattle.voters_index.specs.Runs.{Run, run, touches, sameVoters}
+use Rattle.index_spec.specs.Runs.{Run, run, touches, sameVoters}
 use Rattle.index_runs.specs.Values.{asRun, asMaybe, asPlace}
 use Rattle.index_merge.specs.Sources.{ended, GrownFrom}
 use Rattle.index_merge.proofs.Merged.{Growing, growing-start, grown-none, grown-other, grown-past, grown-on}

@@ -3,7 +3,7 @@ use mathlib.Core.Bool.{and-false}
 use borrow.Author.Tests.{eq-eqb, ne-eqb}
 use Rattle.types.specs.Values.{asReference}
 use Rattle.types.proofs.Words.{compared-equal, compared-less, compared-greater}
-use Rattle.voters_index.specs.Runs.{run, touches, sameVoters}
+use Rattle.index_spec.specs.Runs.{run, touches, sameVoters}
 use Rattle.index_runs.specs.Values.{asRun}
 use borrow.Author.Needs.{needs}
 use Rattle.index_pieces.proofs.continues.Statement.{statement}

@@ -1,4 +1,4 @@
-use Rattle.voters_index.specs.Runs.{run}
+use Rattle.index_spec.specs.Runs.{run}
 use Rattle.index_runs.specs.Values.{asRun}
 use Rattle.index_pieces.specs.Pieces.{cut}
 use borrow.Author.Needs.{needs}

@@ -1,5 +1,5 @@
 use borrow.Author.Tests.{le-leb, lt-leb}
-use Rattle.voters_index.specs.Runs.{run}
+use Rattle.index_spec.specs.Runs.{run}
 use Rattle.index_runs.specs.Values.{asRun, asMaybe, asPlace}
 use Rattle.index_pieces.specs.Pieces.{fromPlace, fromOffset}
 use borrow.Author.Needs.{needs}

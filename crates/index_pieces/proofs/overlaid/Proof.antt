@@ -1,5 +1,5 @@
 use borrow.Author.Tests.{lt-ltb, le-ltb}
-use Rattle.voters_index.specs.Runs.{run}
+use Rattle.index_spec.specs.Runs.{run}
 use Rattle.index_runs.specs.Values.{asRun}
 use Rattle.index_pieces.specs.Pieces.{overlaid, overlaidBy}
 use borrow.Author.Needs.{needs}
@@ -32,8 +32,8 @@ returns-2 : tie.Need-returns-2
 unfolding overlaid overlaidBy asRun run
 returns-2 c = rw (c .cut2 .ensures, ← c .before .before .before .before .before .before .before .before .before .compare .ensures, c .before .before .before .before .before .before .before .enum-told3 .given .1, le-ltb (c .before .before .before .before .before .before .before .before .before .before .args .x .start) (c .before .before .before .before .before .before .before .before .before .before .args .y .start) (c .before .before .before .before .if1 .left), lt-ltb (c .before .before .before .before .before .before .before .before .before .before .args .y .start) (c .before .before .before .before .before .before .before .before .before .before .args .x .start) (c .before .if2 .taken))
 
-united-requires : tie.Need-united-requires
-united-requires c κs = search needs
+union-requires : tie.Need-union-requires
+union-requires c κs = search needs
 
 nearer-requires : tie.Need-nearer-requires
 nearer-requires c κs = search needs
@@ -48,7 +48,7 @@ returns-4 c = rw (← c .before .before .compare .ensures, c .enum-told2 .given 
 
 returns-5 : tie.Need-returns-5
 unfolding overlaid overlaidBy asRun run
-returns-5 c = rw (← c .before .before .before .before .before .before .before .before .before .before .before .compare .ensures, c .before .before .before .before .before .before .before .before .before .enum-told3 .given .1, le-ltb (c .before .before .before .before .before .before .before .before .before .before .before .before .args .x .start) (c .before .before .before .before .before .before .before .before .before .before .before .before .args .y .start) (c .before .before .before .before .before .before .if1 .left), le-ltb (c .before .before .before .before .before .before .before .before .before .before .before .before .args .y .start) (c .before .before .before .before .before .before .before .before .before .before .before .before .args .x .start) (c .before .before .before .if2 .left), c .before .united .ensures, c .nearer .ensures)
+returns-5 c = rw (← c .before .before .before .before .before .before .before .before .before .before .before .compare .ensures, c .before .before .before .before .before .before .before .before .before .enum-told3 .given .1, le-ltb (c .before .before .before .before .before .before .before .before .before .before .before .before .args .x .start) (c .before .before .before .before .before .before .before .before .before .before .before .before .args .y .start) (c .before .before .before .before .before .before .if1 .left), le-ltb (c .before .before .before .before .before .before .before .before .before .before .before .before .args .y .start) (c .before .before .before .before .before .before .before .before .before .before .before .before .args .x .start) (c .before .before .before .if2 .left), c .before .union .ensures, c .nearer .ensures)
 
 pub overlaid-spec : {M : Type 1} → statement M
 overlaid-spec =
@@ -62,7 +62,7 @@ overlaid-spec =
     returns
     cut-requires-2
     returns-2
-    united-requires
+    union-requires
     nearer-requires
     returns-3
     returns-4

@@ -1,5 +1,5 @@
 use Rattle.types.specs.Values.{digestBytes}
-use Rattle.voters_index.specs.Walk.{digestOf}
+use Rattle.index_spec.specs.Walk.{digestOf}
 use Rattle.index_runs.specs.Values.{digestAt}
 use borrow.Author.Needs.{needs}
 use Rattle.index_runs.proofs.read_digest.Statement.{statement}

@@ -1,4 +1,4 @@
-use Rattle.voters_index.specs.Runs.{run}
+use Rattle.index_spec.specs.Runs.{run}
 use Rattle.types.specs.Values.{asReference}
 use Rattle.index_runs.specs.Values.{asRun}
 use Rattle.index_runs.proofs.Words.{run-at}

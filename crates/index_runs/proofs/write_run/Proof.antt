@@ -1,6 +1,6 @@
 use mathlib.Core.Path.{refl}
-use Rattle.voters_index.specs.Runs.{run}
-use Rattle.voters_index.specs.Index.{digestWords, runWords}
+use Rattle.index_spec.specs.Runs.{run}
+use Rattle.index_spec.specs.Index.{digestWords, runWords}
 use Rattle.types.specs.Values.{asReference, digestBytes}
 use Rattle.index_runs.specs.Values.{asRun}
 use Rattle.index_runs.proofs.Words.{run-stores}

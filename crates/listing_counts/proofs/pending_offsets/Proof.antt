@@ -1,10 +1,10 @@
 use Prim.Native.Nat.{_-_, _^_, _<_}
 use native.Mathlib.Omega.{arith}
 use borrow.Author.Needs.{needs}
-use Rattle.pending_items.specs.Items.{noItem}
-use Rattle.pending_items.specs.Table.{itemsOf}
-use Rattle.table_words.specs.Answers.{asItem}
-use Rattle.table_words.proofs.Slots.{holds-full}
+use Rattle.pending_spec.specs.Items.{noItem}
+use Rattle.pending_spec.specs.Table.{itemsOf}
+use Rattle.pending_words.specs.Answers.{asItem}
+use Rattle.pending_words.proofs.Slots.{holds-full}
 use Rattle.base.proofs.Places.{every-place}
 use mathlib.Core.Path.{ap}
 use lib.ListN.{length}

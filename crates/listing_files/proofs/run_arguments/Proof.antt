@@ -4,10 +4,10 @@ use Rattle.listing_files.proofs.run_arguments.Statement.{statement}
 use Rattle.listing_files.proofs.run_arguments.Tie as tie
 
 abbrev Inv-loop : tie.InvT-loop
-Inv-loop wide count i₀ i = Unit {0}
+Inv-loop list count i₀ i = Unit {0}
 
 abbrev μ-loop : tie.MeasureT-loop
-μ-loop wide count i₀ i = count - i
+μ-loop list count i₀ i = count - i
 
 arg-count-requires : tie.Need-arg-count-requires Inv-loop μ-loop
 arg-count-requires c κs = search needs

@@ -1,4 +1,3 @@
-use native.Mathlib.Omega.{arith}
 use borrow.Author.Needs.{needs}
 use Rattle.listing_io.proofs.read_record.Statement.{statement}
 use Rattle.listing_io.proofs.read_record.Tie as tie
@@ -12,8 +11,8 @@ enum-known-size c = search needs
 returns : tie.Need-returns
 returns c = search needs
 
-read-front-requires : tie.Need-read-front-requires
-read-front-requires c κs = omega (arith, rw (c .before .before .size .given .1) at (c .before .before .before .before .read-size .ensures))
+read-body-requires : tie.Need-read-body-requires
+read-body-requires c κs = (search needs, rw (c .before .before .size .given .1) at (c .before .before .before .before .read-size .ensures))
 
 same-length : tie.Need-same-length
 same-length c = search needs
@@ -21,21 +20,7 @@ same-length c = search needs
 returns-2 : tie.Need-returns-2
 returns-2 c = search needs
 
-same-length-2 : tie.Need-same-length-2
-same-length-2 c = search needs
-
-returns-3 : tie.Need-returns-3
-returns-3 c = rw (c .before .before .before .before .before .before .size .given .1) at (c .before .before .before .before .before .before .before .before .read-size .ensures)
-
 pub read-record-spec : {M : Type 1} → statement M
 read-record-spec =
     tie.close
-    (tie.spec
-    read-size-requires
-    enum-known-size
-    returns
-    read-front-requires
-    same-length
-    returns-2
-    same-length-2
-    returns-3)
+    (tie.spec read-size-requires enum-known-size returns read-body-requires same-length returns-2)

@@ -3,9 +3,9 @@ use Prim.Native.Nat.{_+_, _-_}
 use mathlib.Core.Path.{sym, ap, _∙_}
 use native.Mathlib.Omega.{arith}
 use borrow.Author.Tests.{not-true, not-false}
-use Rattle.voters_index.specs.Runs.{Run, run}
+use Rattle.index_spec.specs.Runs.{Run, run}
 use Rattle.index_runs.specs.Values.{asRun}
-use Rattle.quorum_check.specs.Sure.{Sure}
+use Rattle.committee_quorum.specs.Sure.{Sure}
 use Rattle.sorted_step.proofs.Merges.{Merges, found-side, merges-start, merges-out, merges-end, merges-past, merges-before, merges-few, merges-grows, merges-room}
 use Rattle.sorted_step.proofs.merge.Statement.{statement}
 use Rattle.sorted_step.proofs.merge.Tie as tie

@@ -1,8 +1,8 @@
 use mathlib.Core.Path.{sym, _∙_}
 use native.Mathlib.Omega.{arith}
-use Rattle.blocks.specs.Reference.{locator}
+use Rattle.record_spec.specs.Reference.{locator}
 use Rattle.types.specs.Values.{asLocator}
-use Rattle.voters_index.specs.Runs.{run}
+use Rattle.index_spec.specs.Runs.{run}
 use Rattle.index_runs.specs.Values.{asRun}
 use Rattle.sorted_step.proofs.Standing.{side-less, side-greater, side-before, side-inside, side-past}
 use borrow.Author.Needs.{needs}

@@ -1,9 +1,9 @@
 use Prim.Native.Nat.{ℕ, _<_}
 use mathlib.Core.Path.{sym, subst, _∙_}
-use Rattle.blocks.specs.Record.{blockIn}
+use Rattle.record_spec.specs.Record.{blockIn}
 use Rattle.types.proofs.References.{as-author}
-use Rattle.voters_index.specs.Walk.{partAt}
-use Rattle.sorted_replies.specs.Sorted.{asked}
+use Rattle.index_spec.specs.Walk.{partAt}
+use Rattle.sorted_spec.specs.Sorted.{asked}
 use Rattle.sorted_step.proofs.Merges.{marked-stays}
 use borrow.Author.Needs.{needs}
 use Rattle.sorted_step.proofs.step.Statement.{statement}

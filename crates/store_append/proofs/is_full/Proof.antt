@@ -1,8 +1,8 @@
 use borrow.Author.Needs.{needs}
 use mathlib.Core.Path.{sym}
 use native.Mathlib.Omega.{arith}
-use Rattle.store_layout.specs.Store.{usedLength}
-use Rattle.store_layout.proofs.Search.{laid-out}
+use Rattle.store_spec.specs.Store.{usedLength}
+use Rattle.store_spec.proofs.Search.{laid-out}
 use Rattle.store_append.proofs.Appended.{full-bytes, full-blocks}
 use Rattle.store_append.proofs.is_full.Statement.{statement}
 use Rattle.store_append.proofs.is_full.Tie as tie

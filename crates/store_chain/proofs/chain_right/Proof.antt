@@ -4,9 +4,9 @@ use mathlib.Core.Path.{_≡_, refl, sym, _∙_}
 use native.Mathlib.Omega.{arith}
 use lib.ListN.{length, length-set}
 use borrow.Author.Tests.{not-true, not-false}
-use Rattle.store_layout.specs.Store.{recordsOf}
-use Rattle.store_layout.proofs.Check.{is-readable}
-use Rattle.store_layout.proofs.Loops.{entry-room, positions-ascend, refuses, Visiting, visiting-start, place-entry, visiting-outside, visiting-falls, visiting-on, visiting-latest, visiting-done}
+use Rattle.store_spec.specs.Store.{recordsOf}
+use Rattle.store_spec.proofs.Check.{is-readable}
+use Rattle.store_spec.proofs.Loops.{entry-room, positions-ascend, refuses, Visiting, visiting-start, place-entry, visiting-outside, visiting-falls, visiting-on, visiting-latest, visiting-done}
 use Rattle.store_chain.proofs.chain_right.Statement.{statement}
 use Rattle.store_chain.proofs.chain_right.Tie as tie
 

@@ -2,13 +2,13 @@ use borrow.Author.Needs.{needs}
 use mathlib.Core.Path.{sym, _∙_}
 use mathlib.Core.Bool.{true, false}
 use borrow.Author.Tests.{eq-eqb}
-use Rattle.blocks.specs.Reference.{BlockReference, referenceBefore}
+use Rattle.record_spec.specs.Reference.{BlockReference, referenceBefore}
 use Rattle.base.proofs.Tests.{fails}
-use Rattle.blocks.proofs.References.{reference-same, reference-irrefl, reference-asymmetric}
+use Rattle.record_spec.proofs.References.{reference-same, reference-irrefl, reference-asymmetric}
 use Rattle.types.specs.Values.{asReference}
-use Rattle.store_layout.specs.Entry.{follows}
+use Rattle.store_spec.specs.Entry.{follows}
 use Rattle.types.proofs.Words.{compared-less, compared-equal, compared-greater}
-use Rattle.store_layout.proofs.Loops.{none-entry, follows-by}
+use Rattle.store_spec.proofs.Loops.{none-entry, follows-by}
 use Rattle.store_chain.proofs.comes_after.Statement.{statement}
 use Rattle.store_chain.proofs.comes_after.Tie as tie
 

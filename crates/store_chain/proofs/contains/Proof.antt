@@ -6,7 +6,7 @@ use lib.Arith.{lt-of-le-ne}
 use native.Mathlib.Omega.{arith}
 use lib.ListN.{length, getD}
 use Rattle.base.proofs.Narrowed.{Narrowed, narrowed-start, narrowed-up, narrowed-down, narrowed-all}
-use Rattle.store_layout.proofs.Sorted.{sorted-at, is-in, not-in}
+use Rattle.store_spec.proofs.Sorted.{sorted-at, is-in, not-in}
 use Rattle.store_chain.proofs.contains.Statement.{statement}
 use Rattle.store_chain.proofs.contains.Tie as tie
 

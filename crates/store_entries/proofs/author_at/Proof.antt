@@ -2,9 +2,9 @@ use borrow.Author.Needs.{needs}
 use mathlib.Core.Path.{ap, _∙_}
 use native.Mathlib.Omega.{arith}
 use Rattle.base.specs.Le.{Bytes}
-use Rattle.blocks.specs.Record.{blockIn}
-use Rattle.store_layout.specs.Entry.{blockAt}
-use Rattle.store_layout.proofs.Loops.{entry-room, record-part}
+use Rattle.record_spec.specs.Record.{blockIn}
+use Rattle.store_spec.specs.Entry.{blockAt}
+use Rattle.store_spec.proofs.Loops.{entry-room, record-part}
 use Rattle.store_entries.proofs.author_at.Statement.{statement}
 use Rattle.store_entries.proofs.author_at.Tie as tie
 

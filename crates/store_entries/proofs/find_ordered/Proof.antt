@@ -1,6 +1,6 @@
 use borrow.Author.Needs.{needs}
 use native.Mathlib.Omega.{arith}
-use Rattle.store_layout.proofs.Search.{found-there}
+use Rattle.store_spec.proofs.Search.{found-there}
 use Rattle.store_entries.proofs.Placed.{order-ascends, order-at, order-misses}
 use Rattle.store_entries.proofs.find_ordered.Statement.{statement}
 use Rattle.store_entries.proofs.find_ordered.Tie as tie

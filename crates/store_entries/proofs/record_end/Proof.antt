@@ -1,6 +1,6 @@
 use borrow.Author.Needs.{needs}
 use native.Mathlib.Omega.{arith}
-use Rattle.store_layout.proofs.Loops.{entry-room}
+use Rattle.store_spec.proofs.Loops.{entry-room}
 use Rattle.store_entries.proofs.record_end.Statement.{statement}
 use Rattle.store_entries.proofs.record_end.Tie as tie
 

@@ -5,10 +5,10 @@ use native.Mathlib.Omega.{arith}
 use lib.ListN.{length, length-set}
 use borrow.Author.Tests.{not-true, not-false}
 use Rattle.base.proofs.Tests.{not-both}
-use Rattle.blocks.specs.Record.{wellFormed}
-use Rattle.store_layout.specs.Store.{blockCount, usedLength}
-use Rattle.store_layout.proofs.Check.{header-right}
-use Rattle.store_layout.proofs.Loops.{formed-at, record-part, refuses, walking-done, Walking, walking-start, walking-on, walking-stop}
+use Rattle.record_spec.specs.Record.{wellFormed}
+use Rattle.store_spec.specs.Store.{blockCount, usedLength}
+use Rattle.store_spec.proofs.Check.{header-right}
+use Rattle.store_spec.proofs.Loops.{formed-at, record-part, refuses, walking-done, Walking, walking-start, walking-on, walking-stop}
 use Rattle.store_form.proofs.entries_readable.Statement.{statement}
 use Rattle.store_form.proofs.entries_readable.Tie as tie
 

@@ -4,8 +4,8 @@ use native.Mathlib.Omega.{arith}
 use lib.Dec.{eqb}
 use borrow.Author.Tests.{eqb-true, eq-eqb}
 use Rattle.base.proofs.Tests.{same-test}
-use Rattle.store_layout.specs.Store.{usedLength, blockCount}
-use Rattle.store_layout.proofs.Check.{HeaderRight, header-right, right-header, header-wrong}
+use Rattle.store_spec.specs.Store.{usedLength, blockCount}
+use Rattle.store_spec.proofs.Check.{HeaderRight, header-right, right-header, header-wrong}
 use Rattle.store_form.proofs.header_right.Statement.{statement}
 use Rattle.store_form.proofs.header_right.Tie as tie
 

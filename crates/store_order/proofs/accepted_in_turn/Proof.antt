@@ -5,13 +5,13 @@ use mathlib.Core.List.{List}
 use native.Mathlib.Omega.{arith}
 use lib.ListN.{length, getD}
 use borrow.Author.Tests.{not-true, not-false}
-use Rattle.store_layout.specs.Layout.{Record}
-use Rattle.store_layout.specs.Store.{recordsOf}
-use Rattle.store_layout.specs.Check.{acceptedAt}
-use Rattle.store_layout.specs.Entry.{positions}
-use Rattle.store_layout.proofs.Loops.{place-entry, length-positions}
-use Rattle.store_layout.proofs.Sorted.{is-in}
-use Rattle.store_layout.proofs.Search.{laid-out}
+use Rattle.store_spec.specs.Layout.{Record}
+use Rattle.store_spec.specs.Store.{recordsOf}
+use Rattle.store_spec.specs.Check.{acceptedAt}
+use Rattle.store_spec.specs.Entry.{positions}
+use Rattle.store_spec.proofs.Loops.{place-entry, length-positions}
+use Rattle.store_spec.proofs.Sorted.{is-in}
+use Rattle.store_spec.proofs.Search.{laid-out}
 use Rattle.store_order.proofs.Accepting.{Accepting, accepting-start, accepting-on, accepting-stop, accepting-end}
 use Rattle.store_order.proofs.accepted_in_turn.Statement.{statement}
 use Rattle.store_order.proofs.accepted_in_turn.Tie as tie

@@ -4,13 +4,13 @@ use native.Mathlib.Omega.{arith}
 use Rattle.base.specs.Lists.{allOf}
 use Rattle.base.specs.Le.{Bytes}
 use Rattle.base.specs.Checks.{refusal}
-use Rattle.blocks.specs.Record.{blockIn}
-use Rattle.blocks.specs.Verify.{headChecks, bodyChecks}
-use Rattle.store_layout.specs.Layout.{entries}
-use Rattle.store_layout.specs.Store.{recordsOf}
-use Rattle.store_layout.specs.Entry.{blockAt}
-use Rattle.store_layout.specs.Check.{storedBefore}
-use Rattle.store_layout.proofs.Loops.{entry-room, record-part}
+use Rattle.record_spec.specs.Record.{blockIn}
+use Rattle.record_spec.specs.Verify.{headChecks, bodyChecks}
+use Rattle.store_spec.specs.Layout.{entries}
+use Rattle.store_spec.specs.Store.{recordsOf}
+use Rattle.store_spec.specs.Entry.{blockAt}
+use Rattle.store_spec.specs.Check.{storedBefore}
+use Rattle.store_spec.proofs.Loops.{entry-room, record-part}
 use Rattle.store_order.proofs.Accepting.{head-refused, body-refused, includes-decide}
 use Rattle.store_order.proofs.entry_accepted.Statement.{statement}
 use Rattle.store_order.proofs.entry_accepted.Tie as tie

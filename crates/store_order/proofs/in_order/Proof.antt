@@ -6,9 +6,9 @@ use native.Mathlib.Omega.{arith}
 use lib.ListN.{length, take, length-take}
 use lib.Seq.{length-take-le}
 use Rattle.base.proofs.Le.{bytes-of}
-use Rattle.store_layout.specs.Store.{blockCount}
-use Rattle.store_layout.specs.Entry.{laidOut}
-use Rattle.store_layout.proofs.Check.{header-right, order-no-header, order-no-entries, order-no-chain, order-accepted}
+use Rattle.store_spec.specs.Store.{blockCount}
+use Rattle.store_spec.specs.Entry.{laidOut}
+use Rattle.store_spec.proofs.Check.{header-right, order-no-header, order-no-entries, order-no-chain, order-accepted}
 use Rattle.store_order.proofs.in_order.Statement.{statement}
 use Rattle.store_order.proofs.in_order.Tie as tie
 

@@ -6,12 +6,12 @@ use mathlib.Core.Bool.{Bool}
 use native.Mathlib.Omega.{arith}
 use lib.ListN.{drop, getD}
 use Rattle.base.specs.Lists.{allOf}
-use Rattle.blocks.specs.Record.{blockIn, noReference}
-use Rattle.blocks.specs.Reference.{BlockReference}
-use Rattle.store_layout.specs.Layout.{Record, entries, positionOf, lookup}
-use Rattle.store_layout.specs.Store.{recordsOf}
-use Rattle.store_layout.specs.Check.{storedBefore}
-use Rattle.store_layout.proofs.Lookups.{before-none, before-late, before-early, all-on, all-stop, all-end}
+use Rattle.record_spec.specs.Record.{blockIn, noReference}
+use Rattle.record_spec.specs.Reference.{BlockReference}
+use Rattle.store_spec.specs.Layout.{Record, entries, positionOf, lookup}
+use Rattle.store_spec.specs.Store.{recordsOf}
+use Rattle.store_spec.specs.Check.{storedBefore}
+use Rattle.store_spec.proofs.Lookups.{before-none, before-late, before-early, all-on, all-stop, all-end}
 use Rattle.store_order.proofs.includes_before.Statement.{statement}
 use Rattle.store_order.proofs.includes_before.Tie as tie
 

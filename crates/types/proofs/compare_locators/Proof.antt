@@ -1,5 +1,5 @@
 use mathlib.Core.Path.{sym, _∙_}
-use Rattle.blocks.specs.Reference.{locator}
+use Rattle.record_spec.specs.Reference.{locator}
 use Rattle.types.specs.Values.{asLocator}
 use Rattle.types.proofs.Words.{locator-equal, locator-less, locator-greater}
 use borrow.Author.Needs.{needs}

@@ -23,7 +23,7 @@ fn calendars() {
     assert_eq!(Calendar::new(&[window(5, 9), window(8, 12)]).next_open(0), Err(Refusal::BrokenCalendar));
 }
 
-/// README's example: Monday 10:00 to 10:30 and Friday 14:00 to 15:00; on Friday, 20 November 2026, at 14:20 UTC loading waits until 15:00.
+/// The example of docs/OPERATING.md: Monday 10:00 to 10:30 and Friday 14:00 to 15:00; on Friday, 20 November 2026, at 14:20 UTC loading waits until 15:00.
 #[test]
 fn readme_calendar() {
     let calendar = Calendar::new(&[Window { start: 36_000, end: 37_800 }, Window { start: 396_000, end: 399_600 }]);

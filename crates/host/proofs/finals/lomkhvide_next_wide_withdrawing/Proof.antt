@@ -1,3 +1,5 @@
+use Rattle.final_readings_spec.specs.Answers.{asReading}
+use Rattle.list_readings_spec.specs.Answers.{isOrdinary}
 use Rattle.host_finals.specs.NextFinal.{nextWideWithdrawingCall}
 use native.Mathlib.Omega.{arith}
 use lib.Seq.{length-take-le}
@@ -25,7 +27,7 @@ same-length : tie.Need-same-length
 same-length c = search needs
 
 returns : tie.Need-returns
-unfolding nextWideWithdrawingCall
+unfolding nextWideWithdrawingCall isOrdinary asReading
 returns c = (rw (← c .before .before .before .before .before .before .stakes-of .ensures .1) (c .before .before .next-final-of .ensures .0), rw (← c .before .before .before .before .before .before .stakes-of .ensures .1) (c .before .before .next-final-of .ensures .1))
 
 pub lomkhvide-next-wide-withdrawing-spec : {M : Type 1} → statement M

@@ -1,5 +1,5 @@
 use mathlib.Core.Path.{refl}
-use Rattle.blocks.specs.Reference.{newRange}
+use Rattle.record_spec.specs.Reference.{newRange}
 use Rattle.types.specs.Values.{asRange}
 use Rattle.types.proofs.TransactionLocatorRange.new.Statement.{statement}
 use Rattle.types.proofs.TransactionLocatorRange.new.Tie as tie

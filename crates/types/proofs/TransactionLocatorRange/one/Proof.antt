@@ -1,5 +1,5 @@
 use mathlib.Core.Path.{refl}
-use Rattle.blocks.specs.Reference.{locator, oneRange}
+use Rattle.record_spec.specs.Reference.{locator, oneRange}
 use Rattle.types.specs.Values.{asRange, asLocator}
 use borrow.Author.Needs.{needs}
 use Rattle.types.proofs.TransactionLocatorRange.one.Statement.{statement}

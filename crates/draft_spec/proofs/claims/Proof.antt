@@ -1,0 +1,10 @@
+use Rattle.draft_spec.proofs.Claimed.{claimed}
+use Rattle.draft_spec.proofs.Examples.{evaluated}
+use Rattle.draft_spec.proofs.claims.Statement.{statement}
+use Rattle.draft_spec.proofs.claims.Tie as tie
+
+returns : tie.Need-returns
+returns c = (claimed, evaluated)
+
+pub claims-spec : {M : Type 1} → statement M
+claims-spec = tie.close (tie.spec returns)

@@ -1,0 +1,17 @@
+use Rattle.record_reader.specs.Values.{asTime}
+use borrow.Author.Needs.{needs}
+use Rattle.draft_writer.proofs.write_timed_record.Statement.{statement}
+use Rattle.draft_writer.proofs.write_timed_record.Tie as tie
+
+write-in-requires : tie.Need-write-in-requires
+write-in-requires c κs = search needs
+
+same-length : tie.Need-same-length
+same-length c = search needs
+
+returns : tie.Need-returns
+unfolding asTime
+returns c = c .before .before .write-in .ensures
+
+pub write-timed-record-spec : {M : Type 1} → statement M
+write-timed-record-spec = tie.close (tie.spec write-in-requires same-length returns)

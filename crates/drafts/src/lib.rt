@@ -1,8 +1,0 @@
-// Blocks of our own: what is given, how its accepts are joined, and what writing it means, with the claims about these. Follows types.rs.
-ghost use Rattle.drafts.specs.Claims.{Claims};
-ghost use Rattle.drafts.specs.Examples.{Examples};
-
-// Reading a written record shows all that was given, and a record without neighbouring accepts is written anew byte for byte.
-pub fn claims()
-    ensures { λ _. ⌜ Claims × Examples ⌝ }
-{}

@@ -1,0 +1,10 @@
+pub mod Frames
+pub mod Feeding
+pub mod Outcomes
+pub mod Walk
+pub mod Work
+pub mod Calls
+pub mod Framed
+pub mod Appended
+pub mod AnyEvents
+pub mod Claimed

@@ -1,0 +1,3 @@
+pub mod Remembering
+pub mod Visiting
+pub mod Halves

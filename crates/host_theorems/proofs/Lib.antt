@@ -1,0 +1,5 @@
+mod Fitting
+mod Running
+mod Calls
+mod Lists
+mod Claimed

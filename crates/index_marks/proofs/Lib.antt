@@ -1,4 +1,0 @@
-mod Looking
-mod Starting
-mod Marking
-mod Tallying

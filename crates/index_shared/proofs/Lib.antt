@@ -1,0 +1,5 @@
+mod Words
+mod Chains
+mod Moving
+mod Named
+pub mod Passing

@@ -1,9 +1,0 @@
-use Rattle.index_statement.proofs.Stated.{stays-indexed}
-use Rattle.index_statement.proofs.stays_final_indexed.Statement.{statement}
-use Rattle.index_statement.proofs.stays_final_indexed.Tie as tie
-
-returns : tie.Need-returns
-returns c = stays-indexed
-
-pub stays-final-indexed-spec : {M : Type 1} → statement M
-stays-final-indexed-spec = tie.close (tie.spec returns)

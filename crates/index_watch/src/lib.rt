@@ -1,1 +1,0 @@
-// The stored blocks watched over the index.

@@ -1,0 +1,18 @@
+use mathlib.Core.Path.{_∙_}
+use Rattle.list_after.specs.Answers.{asMaybe}
+use Rattle.list_next.proofs.Asking.{old-next}
+use borrow.Author.Needs.{needs}
+use Rattle.final_readings_spec.specs.Answers.{asReading}
+use Rattle.list_readings_spec.specs.Answers.{isOrdinary}
+use Rattle.list_next.proofs.next_final.Statement.{statement}
+use Rattle.list_next.proofs.next_final.Tie as tie
+
+next-listed-requires : tie.Need-next-listed-requires
+next-listed-requires c κs = search needs
+
+returns : tie.Need-returns
+unfolding isOrdinary asReading
+returns c = let a = c .before .before .before .args in c .next-listed .ensures ∙ old-next (a .stakes .now) (a .store .now) (asMaybe (a .after))
+
+pub next-final-spec : {M : Type 1} → statement M
+next-final-spec = tie.close (tie.spec next-listed-requires returns)

@@ -1,0 +1,6 @@
+mod Positions
+pub mod Sharing
+mod Next
+pub mod Reach
+mod Rows
+pub mod Said

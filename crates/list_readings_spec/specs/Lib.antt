@@ -1,0 +1,4 @@
+pub mod Lists
+pub mod Claims
+pub mod Examples
+pub mod Answers

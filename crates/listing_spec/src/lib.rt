@@ -1,0 +1,1 @@
+// Definitions: what `listing` prints, from the bytes of its input and the file of stakes.

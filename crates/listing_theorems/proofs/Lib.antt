@@ -1,0 +1,6 @@
+mod Parts
+mod Reading
+mod Listing
+mod Feeding
+mod Counts
+mod Whole

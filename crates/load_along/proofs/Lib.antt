@@ -1,0 +1,4 @@
+pub mod Words
+pub mod Fitting
+pub mod Sweeping
+pub mod Going

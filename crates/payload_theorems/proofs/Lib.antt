@@ -1,0 +1,6 @@
+mod Blocks
+mod Checks
+mod Feeds
+mod Questions
+mod Written
+mod Claimed

@@ -1,0 +1,17 @@
+pub mod Computing
+pub mod Slips
+pub mod Paths
+pub mod Ancestry
+pub mod Reading
+pub mod Missing
+pub mod Accepted
+pub mod Given
+pub mod Supplying
+pub mod Distances
+pub mod Ordered
+pub mod Naming
+pub mod Fitting
+pub mod Written
+pub mod Coding
+pub mod Claimed
+pub mod Examples

@@ -1,9 +1,0 @@
--- The claims about stretches, put together. Assumes nothing.
-use Rattle.stretches.specs.Claims.{WideLawful, Claims}
-use Rattle.stretches.proofs.Ends.{stretch-end-meant}
-use Rattle.stretches.proofs.Spreading.{stretches-longest, stretches-spread}
-use Rattle.stretches.proofs.Wide.{wide-lawful, wide-gives, stretches-alike}
-
-pub claimed : Claims
-unfolding WideLawful
-claimed = record { ends = stretch-end-meant; longest = stretches-longest; spread = stretches-spread; wideLawful = wide-lawful; wideGives = wide-gives; alike = stretches-alike }

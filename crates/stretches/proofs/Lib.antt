@@ -1,6 +1,0 @@
-pub mod Nearest
-pub mod Ends
-pub mod Spreading
-pub mod Wide
-pub mod Starting
-pub mod Claimed

@@ -1,2 +1,0 @@
-pub mod Minimum
-pub mod Starts

@@ -1,3 +1,0 @@
-pub mod Table
-pub mod Marking
-pub mod Scanning

@@ -1,2 +1,0 @@
-pub mod Remembering
-pub mod Visiting
