@@ -14,7 +14,8 @@ use Rattle.committee.specs.Committee.{Committee}
 use Rattle.feed_spec.specs.Pending.{pendingChecks}
 use Rattle.feed_spec.specs.Feed.{Lent, lentChecks}
 use Rattle.feed_spec.proofs.Checks.{pending-numbered}
-use Rattle.feed_many.specs.Records.{recordsIn, feedAll, recordsChecks, refusedCall, fedCall, feedRecords}
+use Rattle.feed_frames.specs.Frames.{recordsIn}
+use Rattle.feed_many.specs.Records.{feedAll, recordsChecks, refusedCall, fedCall, feedRecords}
 use Rattle.feed_many.specs.Step.{FedEach}
 
 module _ (c : Committee) (m : Lent) (o : List ℕ) (rs : List Bytes) where

@@ -1,10 +1,6 @@
-pub mod Frames
 pub mod Feeding
+pub mod Telling
 pub mod Outcomes
 pub mod Walk
 pub mod Work
 pub mod Calls
-pub mod Framed
-pub mod Appended
-pub mod AnyEvents
-pub mod Claimed

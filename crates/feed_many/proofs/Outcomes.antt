@@ -10,7 +10,7 @@ use Rattle.feed_spec.specs.Feed.{Lent, feed}
 use Rattle.feed_many.specs.Records.{outcomeOf, wordsTold}
 use Rattle.feed_many.specs.Step.{FedNext}
 use Rattle.feed_many.specs.declared.Told.{Told}
-use Rattle.feed_many.proofs.Appended.{telling}
+use Rattle.feed_many.proofs.Telling.{telling}
 
 module _ (c : Committee) (m : Lent) (bytes : Bytes) (n : ℕ) where
   pub told-refused : refused n ≡ feed c m bytes .answer

@@ -10,11 +10,13 @@ use Rattle.base.specs.Le.{Bytes}
 use Rattle.committee.specs.Committee.{Committee}
 use Rattle.feed_spec.specs.Feed.{lentOf, feed}
 use Rattle.host_feed_bytes.proofs.Feeds.{work-free}
-use Rattle.feed_many.specs.Records.{recordsIn, FedAll, feedAll}
-use Rattle.feed_many.specs.Step.{NextRecord, FedNext, FedEach}
-use Rattle.feed_many.specs.declared.Frame.{Frame}
+use Rattle.feed_frames.specs.Frames.{recordsIn}
+use Rattle.feed_many.specs.Records.{FedAll, feedAll}
+use Rattle.feed_frames.specs.Next.{NextRecord}
+use Rattle.feed_many.specs.Step.{FedNext, FedEach}
+use Rattle.feed_frames.specs.declared.Frame.{Frame}
 use Rattle.feed_many.specs.declared.Told.{Told}
-use Rattle.feed_many.proofs.Frames.{records-end}
+use Rattle.feed_frames.proofs.Frames.{records-end}
 
 -- z is what all the feeds leave: what was fed up to `at`, with the feeds of the records from there on; w and o₀ are the work slice and the
 -- outcomes as they were lent

@@ -7,7 +7,8 @@ use Rattle.base.specs.Le.{Bytes}
 use Rattle.committee.specs.Committee.{Committee}
 use Rattle.feed_spec.specs.Feed.{lentOf, lentChecks, feed}
 use Rattle.host_feed_bytes.proofs.Feeds.{work-free}
-use Rattle.feed_many.specs.Records.{wordsTold, feedAll, recordsChecks, refusedCall, feedRecords, recordsIn}
+use Rattle.feed_frames.specs.Frames.{recordsIn}
+use Rattle.feed_many.specs.Records.{wordsTold, feedAll, recordsChecks, refusedCall, feedRecords}
 
 all-work : (c : Committee) (s : Bytes) (t w u v : List ℕ) (rs : List Bytes) → length w ≡ length u → feedAll c (lentOf s t w v) rs ≡ feedAll c (lentOf s t u v) rs
 unfolding feedAll

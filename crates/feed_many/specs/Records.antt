@@ -1,28 +1,14 @@
 -- Feeding many records with one call: `feed` of each after the other. Assumes nothing: these are definitions.
-use Prim.Native.Nat.{ℕ, zero, suc, _+_, _*_, _^_}
+use Prim.Native.Nat.{ℕ, _+_, _*_, _^_}
 use mathlib.Core.List.{List, [], _∷_, _++_}
-use lib.Dec.{eqb, ltb, leb}
+use lib.Dec.{ltb}
 use lib.ListN.{length, take, drop}
 use Rattle.base.specs.Lists.{pick}
-use Rattle.base.specs.Le.{Bytes, leAt}
+use Rattle.base.specs.Le.{Bytes}
 use Rattle.base.specs.Checks.{Check, _⇒_, refusal, passes, Answer, refused, answered}
 use Rattle.committee.specs.Committee.{Committee}
 use Rattle.feed_spec.specs.Feed.{Lent, lentOf, Fed, lentChecks, feed}
-
--- ---- the records
-
--- each record after its length in four bytes. A length past the end, or one to three stray bytes, is one last record of no bytes, which is
--- malformed (20). The first n records: s has never more of them than bytes
-unfoldable pub recordsUpTo : ℕ → Bytes → List Bytes
-recordsUpTo zero s = []
-recordsUpTo (suc n) s =
-    let size : ℕ = leAt 4 s 0 in
-    pick (eqb (length s) 0) []
-    (pick (leb (4 + size) (length s)) (take size (drop 4 s) ∷ recordsUpTo n (drop (4 + size) s))
-    ([] ∷ []))
-
-unfoldable pub recordsIn : Bytes → List Bytes
-recordsIn s = recordsUpTo (length s) s
+use Rattle.feed_frames.specs.Frames.{recordsIn}
 
 -- ---- feeding them
 

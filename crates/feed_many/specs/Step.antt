@@ -8,21 +8,15 @@ use Rattle.base.specs.Checks.{refusal}
 use Rattle.committee.specs.Committee.{Committee}
 use Rattle.feed_spec.specs.Pending.{pendingChecks}
 use Rattle.feed_spec.specs.Feed.{Fed}
-use Rattle.feed_many.specs.Records.{recordsIn, outcomeOf, wordsTold, FedAll}
-use Rattle.feed_many.specs.declared.Frame.{Frame}
+use Rattle.feed_frames.specs.Frames.{recordsIn}
+use Rattle.feed_many.specs.Records.{outcomeOf, wordsTold, FedAll}
+use Rattle.feed_frames.specs.declared.Frame.{Frame}
 use Rattle.feed_many.specs.declared.Told.{Told}
 
 -- none of 5, 10, 11, 12 applies
 pub record Ready (c : Committee) (s : Bytes) (t w : List ℕ) : Type 0 where
   pub lent : refusal (pendingChecks c s t) ≡ 0
   pub work : length t ≤ length w
-
--- where the next record stands, and that the others follow it
-pub record NextRecord (s : Bytes) (at : ℕ) (r : Frame) : Type 0 where
-  pub on : at < r .end
-  pub within : r .end ≤ length s
-  pub starts : r .start ≤ r .end
-  pub records : recordsIn (drop at s) ≡ take (r .end - r .start) (drop (r .start) s) ∷ recordsIn (drop (r .end) s)
 
 -- what is told of a feed, and the slices as it leaves them
 pub record FedNext (f : Fed) (r : Told) (s : Bytes) (t v : List ℕ) : Type 0 where

@@ -4,10 +4,10 @@ ghost use mathlib.Core.Path.{_≡_};
 ghost use Prim.Native.Nat.{_≤_, _<_};
 ghost use lib.ListN.{length};
 ghost use Rattle.feed_spec.specs.Feed.{feed, lentOf};
-ghost use Rattle.feed_many.specs.Records.{recordsIn, feedAll, feedRecords};
+ghost use Rattle.feed_frames.specs.Frames.{recordsIn};
+ghost use Rattle.feed_many.specs.Records.{feedAll, feedRecords};
 ghost use Rattle.feed_many.specs.Answers.{asRecordsAnswer};
-ghost use Rattle.feed_many.specs.Step.{Ready, NextRecord, FedNext, FedEach};
-ghost use Rattle.feed_many.specs.Claims.{Claims};
+ghost use Rattle.feed_many.specs.Step.{Ready, FedNext, FedEach};
 
 // How many records were answered, or a refusal of the whole call.
 pub enum RecordsAnswer {
@@ -18,55 +18,10 @@ pub enum RecordsAnswer {
 // The outcome of a refused record is this with the refusal's number.
 pub const REFUSED: u64 = 0x8000_0000_0000_0000;
 
-// Where a record starts and ends.
-pub struct Frame {
-    pub start: usize,
-    pub end: usize,
-}
-
 // What is told of a record: its outcome, and how many words its events take.
 pub struct Told {
     pub outcome: u64,
     pub words: usize,
-}
-
-// The record whose length stands at `at`. Where the framing is broken, it is one of no bytes, at the end.
-pub fn next_record(records: &[u8], at: usize) -> Frame
-    requires { ⌜ at < length (now records) ⌝ }
-    ensures { λ r. ⌜ NextRecord (now (records .entry)) at r ⌝ }
-{
-    if records.len() - at < 4 {
-        return Frame {
-            start: records.len(),
-            end: records.len(),
-        };
-    }
-    let size = base::read_u32(records, at) as usize;
-    let start = at + 4;
-    if records.len() - start < size {
-        return Frame {
-            start: records.len(),
-            end: records.len(),
-        };
-    }
-    Frame {
-        start,
-        end: start + size,
-    }
-}
-
-// How many records there are.
-pub fn record_count(records: &[u8]) -> usize
-    ensures { λ r. ⌜ r ≡ length (recordsIn (now (records .entry))) ⌝ }
-{
-    let mut at: usize = 0;
-    let mut n: usize = 0;
-    while at < records.len() {
-        let next = next_record(records, at);
-        at = next.end;
-        n += 1;
-    }
-    n
 }
 
 // Feeds a record to memory in order.
@@ -111,7 +66,7 @@ fn feed_each(
     let mut used: usize = 0;
     let mut k: usize = 0;
     while at < records.len() {
-        let next = next_record(records, at);
+        let next = feed_frames::next_record(records, at);
         let start = next.start;
         let end = next.end;
         let told = feed_next(
@@ -154,14 +109,9 @@ pub fn feed_records(
     if work.len() < table.len() {
         return RecordsAnswer::Refused(12);
     }
-    if outcomes.len() < record_count(records) {
+    if outcomes.len() < feed_frames::record_count(records) {
         return RecordsAnswer::Refused(64);
     }
     let n = feed_each(stakes, store, table, work, events, outcomes, records);
     RecordsAnswer::Records(n as u64)
 }
-
-// What the call means beside other calls.
-pub fn claims()
-    ensures { λ _. ⌜ Claims ⌝ }
-{}

@@ -1,1 +1,5 @@
+pub mod Framed
+mod Appended
+mod AnyEvents
+mod Claimed
 pub mod Fed

@@ -14,7 +14,8 @@ use Rattle.committee.specs.Committee.{Committee}
 use Rattle.words.specs.Words.{wordsIn, wordsOf}
 use Rattle.feed_spec.specs.Pending.{pendingChecks}
 use Rattle.feed_spec.specs.Feed.{Lent, lentOf, lentChecks}
-use Rattle.feed_many.specs.Records.{recordsIn, feedAll, recordsChecks, refusedCall, fedCall, feedRecords}
+use Rattle.feed_frames.specs.Frames.{recordsIn}
+use Rattle.feed_many.specs.Records.{feedAll, recordsChecks, refusedCall, fedCall, feedRecords}
 use Rattle.feed_many.proofs.Work.{call-work}
 use Rattle.host_calls.proofs.Numbers.{refusal-most}
 use Rattle.host_locators.specs.Locators.{refusalBefore}

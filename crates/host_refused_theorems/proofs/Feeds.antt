@@ -19,6 +19,7 @@ use Rattle.words.specs.Words.{wordsIn, wordsOf, bytesOf}
 use Rattle.words.proofs.Words.{bytesOf-wordsIn}
 use Rattle.feed_spec.specs.Feed.{Lent, lentOf, refusedFeed, acceptedFeed}
 use Rattle.index_feed_spec.specs.IndexedFeed.{indexedChecks, refusedIndexed, acceptedIndexed, feedIndexedRecord, feedIndexed}
+use Rattle.feed_frames.specs.Frames.{recordsIn}
 use Rattle.feed_many.specs.Records as one
 use Rattle.index_feed_many.specs.Records as both
 use Rattle.host_calls.specs.Calls.{committeeOf}
@@ -100,11 +101,11 @@ refused-records stakes s t v o recs n a = by (ℕ-discrete (length t) 49160)
     by (yes h) = rw (eq-eqb (length t) 49160 h) (go (passes ks))
       where
         ks : List Check
-        ks = one.recordsChecks c (lentOf s (wordsOf t) (wordsOf t) v) o (one.recordsIn recs)
+        ks = one.recordsChecks c (lentOf s (wordsOf t) (wordsOf t) v) o (recordsIn recs)
 
         told : Bool → one.RecordsCall
         told x =
-            pick x (one.fedCall o (one.feedAll c (lentOf s (wordsOf t) (wordsOf t) v) (one.recordsIn recs)))
+            pick x (one.fedCall o (one.feedAll c (lentOf s (wordsOf t) (wordsOf t) v) (recordsIn recs)))
             (one.refusedCall (lentOf s (wordsOf t) (wordsOf t) v) o (refusal ks))
 
         go : (x : Bool) → plain.toldHost (told x) .answer ≡ refused n → plain.toldHost (told x) ≡ plain.refusedHost s t v o n
@@ -124,11 +125,11 @@ refused-records-indexed stakes s t ix v o recs n a = by (ℕ-discrete (length t)
     by (yes h) = rw (eq-eqb (length t) 49160 h) (go (passes ks))
       where
         ks : List Check
-        ks = both.indexedRecordsChecks c (lentOf s (wordsOf t) (wordsOf t) v) ix o (one.recordsIn recs)
+        ks = both.indexedRecordsChecks c (lentOf s (wordsOf t) (wordsOf t) v) ix o (recordsIn recs)
 
         told : Bool → both.IndexedRecordsCall
         told x =
-            pick x (both.fedIndexedCall o (both.feedAllIndexed c (lentOf s (wordsOf t) (wordsOf t) v) ix (one.recordsIn recs)))
+            pick x (both.fedIndexedCall o (both.feedAllIndexed c (lentOf s (wordsOf t) (wordsOf t) v) ix (recordsIn recs)))
             (both.refusedIndexedCall (lentOf s (wordsOf t) (wordsOf t) v) ix o (refusal ks))
 
         go : (x : Bool) → indexed.toldHost (told x) .answer ≡ refused n → indexed.toldHost (told x) ≡ indexed.refusedHost s t ix v o n

@@ -14,7 +14,7 @@ use Rattle.committee.specs.Committee.{Committee}
 use Rattle.feed_spec.specs.Pending.{pendingChecks}
 use Rattle.feed_spec.specs.Feed.{Lent}
 use Rattle.feed_spec.proofs.Checks.{pending-numbered}
-use Rattle.feed_many.specs.Records.{recordsIn}
+use Rattle.feed_frames.specs.Frames.{recordsIn}
 use Rattle.index_feed_spec.specs.IndexedFeed.{indexedLentChecks}
 use Rattle.index_feed_many.specs.Records.{feedAllIndexed, indexedRecordsChecks, refusedIndexedCall, fedIndexedCall, feedRecordsIndexed}
 use Rattle.index_feed_many.specs.Step.{FedEachIndexed}

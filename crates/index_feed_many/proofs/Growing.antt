@@ -44,7 +44,7 @@ use Rattle.index_feed_spec.proofs.Claimed.{as-without, refused-leaves, stays-ag
 use Rattle.index_feed_refusals.specs.Step.{Agreed}
 use Rattle.feed_many.specs.Records.{outcomeOf, wordsTold}
 use Rattle.feed_many.specs.declared.Told.{Told}
-use Rattle.feed_many.proofs.Appended.{telling}
+use Rattle.feed_many.proofs.Telling.{telling}
 use Rattle.index_feed_many.specs.Step.{ReadyIndexed, FedNextIndexed}
 
 -- 23: a record that passes is of a block that is not stored

@@ -10,11 +10,11 @@ use Rattle.base.specs.Le.{Bytes}
 use Rattle.committee.specs.Committee.{Committee}
 use Rattle.feed_spec.specs.Feed.{lentOf}
 use Rattle.index_feed_spec.specs.IndexedFeed.{feedIndexed}
-use Rattle.feed_many.specs.Records.{recordsIn}
-use Rattle.feed_many.specs.Step.{NextRecord}
-use Rattle.feed_many.specs.declared.Frame.{Frame}
+use Rattle.feed_frames.specs.Frames.{recordsIn}
+use Rattle.feed_frames.specs.Next.{NextRecord}
+use Rattle.feed_frames.specs.declared.Frame.{Frame}
 use Rattle.feed_many.specs.declared.Told.{Told}
-use Rattle.feed_many.proofs.Frames.{records-end}
+use Rattle.feed_frames.proofs.Frames.{records-end}
 use Rattle.index_feed_many.specs.Records.{FedAllIndexed, feedAllIndexed}
 use Rattle.index_feed_many.specs.Step.{FedNextIndexed, FedEachIndexed}
 use Rattle.index_feed_many.proofs.Numbers.{work-free}

@@ -6,7 +6,8 @@ use lib.ListN.{length, drop}
 use Rattle.base.specs.Le.{Bytes}
 use Rattle.committee.specs.Committee.{Committee}
 use Rattle.feed_spec.specs.Feed.{lentOf}
-use Rattle.feed_many.specs.Records.{wordsTold, recordsIn}
+use Rattle.feed_frames.specs.Frames.{recordsIn}
+use Rattle.feed_many.specs.Records.{wordsTold}
 use Rattle.index_feed_spec.specs.IndexedFeed.{feedIndexed}
 use Rattle.index_feed_many.specs.Records.{feedAllIndexed, indexedRecordsChecks, refusedIndexedCall, feedRecordsIndexed}
 use Rattle.index_feed_many.proofs.Numbers.{work-free}

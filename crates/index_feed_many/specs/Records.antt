@@ -8,7 +8,8 @@ use Rattle.base.specs.Le.{Bytes}
 use Rattle.base.specs.Checks.{Check, _⇒_, refusal, passes, Answer, refused, answered}
 use Rattle.committee.specs.Committee.{Committee}
 use Rattle.feed_spec.specs.Feed.{Lent, lentOf}
-use Rattle.feed_many.specs.Records.{recordsIn, outcomeOf, wordsTold}
+use Rattle.feed_frames.specs.Frames.{recordsIn}
+use Rattle.feed_many.specs.Records.{outcomeOf, wordsTold}
 use Rattle.index_feed_spec.specs.IndexedFeed.{IndexedFed, indexedLentChecks, feedIndexed}
 
 -- what feeding records leaves

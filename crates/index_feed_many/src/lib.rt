@@ -6,7 +6,7 @@ ghost use mathlib.Core.Path.{_≡_};
 ghost use Prim.Native.Nat.{_≤_};
 ghost use lib.ListN.{length};
 ghost use Rattle.feed_spec.specs.Feed.{lentOf};
-ghost use Rattle.feed_many.specs.Records.{recordsIn};
+ghost use Rattle.feed_frames.specs.Frames.{recordsIn};
 ghost use Rattle.feed_many.specs.Answers.{asRecordsAnswer};
 ghost use Rattle.index_feed_spec.specs.IndexedFeed.{feedIndexed};
 ghost use Rattle.index_feed_many.specs.Records.{feedAllIndexed, feedRecordsIndexed};
@@ -79,7 +79,7 @@ fn feed_each(
     let mut used: usize = 0;
     let mut k: usize = 0;
     while at < records.len() {
-        let next = feed_many::next_record(records, at);
+        let next = feed_frames::next_record(records, at);
         let start = next.start;
         let end = next.end;
         let told = feed_next(
@@ -136,7 +136,7 @@ pub fn feed_records_indexed(
     if work.len() < table.len() {
         return RecordsAnswer::Refused(12);
     }
-    if outcomes.len() < feed_many::record_count(records) {
+    if outcomes.len() < feed_frames::record_count(records) {
         return RecordsAnswer::Refused(64);
     }
     let n = feed_each(

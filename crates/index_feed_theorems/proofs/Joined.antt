@@ -19,9 +19,9 @@ use Rattle.feed_spec.specs.Feed.{Lent}
 use Rattle.feed_spec.proofs.Checks.{pending-numbered}
 use Rattle.pending_question.proofs.Lending.{lying, refuses-none}
 use Rattle.index_feed_spec.specs.IndexedFeed.{indexedLentChecks}
-use Rattle.feed_many.specs.Records.{recordsIn}
-use Rattle.feed_many.specs.Claims.{framed, sized}
-use Rattle.feed_many.proofs.Framed.{records-framed}
+use Rattle.feed_frames.specs.Frames.{recordsIn}
+use Rattle.feed_many_theorems.specs.Claims.{framed, sized}
+use Rattle.feed_many_theorems.proofs.Framed.{records-framed}
 use Rattle.index_feed_many.specs.Records.{feedAllIndexed, indexedRecordsChecks, refusedIndexedCall, fedIndexedCall, feedRecordsIndexed}
 use Rattle.index_feed_theorems.specs.Joined.{callOnIndexed, JoinedIndexed}
 use Rattle.index_feed_many.proofs.Calls.{refuses-nothing, call-feeds}

@@ -18,8 +18,8 @@ use Rattle.index_feed_spec.specs.IndexedFeed.{feedIndexed}
 use Rattle.index_feed_spec.specs.Claims.{AsWithout, RefusedLeaves, StaysAgreed}
 use Rattle.index_feed_spec.proofs.Claimed.{as-without, refused-leaves, stays-agreed}
 use Rattle.feed_many.specs.Records.{outcomeOf, wordsTold}
-use Rattle.feed_many.specs.Claims.{wordsOfAll}
-use Rattle.feed_many.proofs.Appended.{Telling, telling-refused, telling}
+use Rattle.feed_many_theorems.specs.Claims.{wordsOfAll}
+use Rattle.feed_many.proofs.Telling.{Telling, telling-refused, telling}
 use Rattle.index_feed_many.specs.Records.{feedAllIndexed}
 
 -- none of 5, 10, 11, 54 applies

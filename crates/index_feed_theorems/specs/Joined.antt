@@ -8,7 +8,7 @@ use Rattle.base.specs.Le.{Bytes}
 use Rattle.base.specs.Checks.{answered}
 use Rattle.committee.specs.Committee.{Committee}
 use Rattle.feed_spec.specs.Feed.{Lent, lentOf}
-use Rattle.feed_many.specs.Claims.{framed, sized, wordsOfAll}
+use Rattle.feed_many_theorems.specs.Claims.{framed, sized, wordsOfAll}
 use Rattle.index_feed_many.specs.Records.{IndexedRecordsCall, feedRecordsIndexed}
 
 -- a second call after one that answered n records: the store, the table and the index as that left them, and the rest of its events and outcomes

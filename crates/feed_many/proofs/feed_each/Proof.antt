@@ -1,5 +1,6 @@
 use Rattle.feed_spec.specs.Feed.{lentOf}
-use Rattle.feed_many.specs.Records.{recordsIn, feedAll}
+use Rattle.feed_frames.specs.Frames.{recordsIn}
+use Rattle.feed_many.specs.Records.{feedAll}
 use Rattle.feed_many.specs.Step.{Ready}
 use Rattle.feed_many.proofs.Feeding.{ready-next}
 use Rattle.feed_many.proofs.Walk.{Walked, walked-none, walked-on, rest-back, rest-whole, rest-length, word-left, walked-all}

@@ -1,5 +1,5 @@
 use Rattle.feed_spec.specs.Feed.{Lent, lentOf}
-use Rattle.feed_many.specs.Records.{recordsIn}
+use Rattle.feed_frames.specs.Frames.{recordsIn}
 use Rattle.feed_many.specs.Answers.{asRecordsAnswer}
 use Rattle.feed_many.proofs.Calls.{refuses-lent, refuses-work, refuses-outcomes, refuses-nothing, calls-refusal, calls-feeds}
 use mathlib.Core.Path.{_≡_, sym, _∙_}

@@ -4,7 +4,7 @@ use native.Mathlib.Omega.{arith}
 use lib.ListN.{length, length-drop, length-set}
 use borrow.Author.Needs.{needs}
 use Rattle.feed_spec.specs.Feed.{lentOf}
-use Rattle.feed_many.specs.Records.{recordsIn}
+use Rattle.feed_frames.specs.Frames.{recordsIn}
 use Rattle.feed_many.proofs.Walk.{rest-back, rest-whole, rest-length}
 use Rattle.index_feed_many.specs.Records.{feedAllIndexed}
 use Rattle.index_feed_many.specs.Step.{ReadyIndexed}

@@ -4,7 +4,7 @@ use native.Mathlib.Omega.{arith}
 use lib.ListN.{length-replicate}
 use borrow.Author.Needs.{needs}
 use Rattle.feed_spec.specs.Feed.{Lent, lentOf}
-use Rattle.feed_many.specs.Records.{recordsIn}
+use Rattle.feed_frames.specs.Frames.{recordsIn}
 use Rattle.feed_many.specs.Answers.{asRecordsAnswer}
 use Rattle.index_feed_many.proofs.Growing.{agreed-counted}
 use Rattle.index_feed_many.proofs.Calls.{refuses-lent, refuses-work, refuses-outcomes, refuses-nothing, calls-refusal, calls-feeds}
