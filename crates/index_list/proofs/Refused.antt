@@ -1,22 +1,22 @@
--- A list with the index that is refused before it begins, and one that is not: the list without it. Assumes nothing.
+-- A list with the index that is refused before it begins, and one that is not. Assumes nothing.
 use mathlib.Core.Path.{_≡_, sym, subst, _∙_}
 use mathlib.Core.Logic.{_⊎_, inl, inr}
 use mathlib.Core.Bool.{true, false}
 use mathlib.Core.List.{List}
 use mathlib.Core.Option.{Option}
 use Prim.Native.Nat.{ℕ}
-use native.Mathlib.Omega.{arith}
 use Rattle.base.specs.Le.{Bytes}
-use Rattle.base.specs.Checks.{refusal, refused}
+use Rattle.base.specs.Checks.{refusal, Answer, refused, answered}
 use Rattle.base.proofs.Tests.{holds-or-not}
 use Rattle.committee.specs.Committee.{Committee, broken}
 use Rattle.record_spec.specs.Reference.{TransactionLocator}
 use Rattle.store_spec.specs.Store.{storeInOrder}
 use Rattle.final_spec.specs.Finality.{blocksOf}
-use Rattle.list_stretches_spec.specs.Stretches.{Listing}
-use Rattle.list_stretches_spec.specs.Bulk.{listStretches}
+use Rattle.list_stretches_spec.specs.Stretches.{Listing, stretches}
+use Rattle.list_stretches_spec.specs.Bulk.{Given, givenAfter, stretchRoom, bytesAfter}
 use Rattle.index_spec.specs.Index.{indexAgrees}
 use Rattle.index_list_spec.specs.Indexed.{indexedChecks, listStretchesIndexed}
+use Rattle.list_bulk.proofs.Asking.{bulk-asked}
 use Rattle.index_list_spec.proofs.Asking.{refusal-broken, refusal-disordered, refusal-disagrees, refusal-none, indexed-broken, indexed-disordered, indexed-disagrees, same-list}
 
 module _ (c : Committee) (s : Bytes) (ix : List ℕ) (k : Listing) (out : Bytes) (after : Option TransactionLocator) (n : ℕ) (e : n ≡ refusal (indexedChecks c s ix)) where
@@ -34,16 +34,10 @@ module _ (c : Committee) (s : Bytes) (ix : List ℕ) (k : Listing) (out : Bytes)
       go (inr b) (inl o) (inr a) = numbered 54 (refusal-disagrees c s ix b o a) (indexed-disagrees c s ix k out after b o a)
       go (inr b) (inl o) (inl a) = absurd (f (e ∙ sym (refusal-none c s ix b o a)))
 
-  -- where nothing is refused the index agrees
-  pub indexed-same : n ≡ 0 → listStretches c s k out after ≡ listStretchesIndexed c s ix k out after
-  indexed-same z = go (holds-or-not (broken c)) (holds-or-not (storeInOrder c s)) (holds-or-not (indexAgrees (blocksOf s) ix))
-    where
-      none : (m : ℕ) → m ≡ refusal (indexedChecks c s ix) → m ≡ 0
-      none m d = d ∙ sym e ∙ z
-
-      go : (broken c ≡ true) ⊎ (broken c ≡ false) → (storeInOrder c s ≡ true) ⊎ (storeInOrder c s ≡ false) → (indexAgrees (blocksOf s) ix ≡ true) ⊎ (indexAgrees (blocksOf s) ix ≡ false)
-          → listStretches c s k out after ≡ listStretchesIndexed c s ix k out after
-      go b o (inl a) = sym (same-list c s ix k out after a)
-      go (inl b) o (inr a) = absurd (omega (arith, none 5 (refusal-broken c s ix b)))
-      go (inr b) (inr o) (inr a) = absurd (omega (arith, none 10 (refusal-disordered c s ix b o)))
-      go (inr b) (inl o) (inr a) = absurd (omega (arith, none 54 (refusal-disagrees c s ix b o a)))
+-- where nothing is refused the answer is the list over the stored blocks
+pub indexed-asked : (c : Committee) (s : Bytes) (ix : List ℕ) (k : Listing) (out : Bytes) (after : Option TransactionLocator)
+    → broken c ≡ false → storeInOrder c s ≡ true → indexAgrees (blocksOf s) ix ≡ true → (a : Answer Given) (bytes : Bytes)
+    → a ≡ answered (givenAfter k after (stretches c (blocksOf s) k (stretchRoom out) after))
+    → bytes ≡ bytesAfter (stretches c (blocksOf s) k (stretchRoom out) after) out
+    → record { answer = a; out = bytes } ≡ listStretchesIndexed c s ix k out after
+indexed-asked c s ix k out after b o g a bytes x y = bulk-asked c s k out after b o a bytes x y ∙ sym (same-list c s ix k out after g)

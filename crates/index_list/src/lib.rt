@@ -1,5 +1,5 @@
-// The lists of final locators in bulk, with the index: it is held against the store (54), and the list is then that of the store. One sweep over the
-// store takes less than a walk over the parts of an index, which the check has read already.
+// The lists of final locators in bulk, with the index: it is held against the store (54), and the list is then that of the store, which is opened once.
+// One sweep over the store takes less than a walk over the parts of an index, which the check has read already.
 use final_readings_spec::Reading;
 use list_after::MaybeLocator;
 use list_readings_spec::FinalList;
@@ -28,11 +28,24 @@ pub fn list_stretches_indexed(
     ensures { λ r. ⌜ asStretches r ≡ listStretchesIndexed (now (stakes .entry)) (now (store .entry)) (now (index .entry)) (listing (isOrdinary list) old (now (stakes .entry)) (blocksOf (now (store .entry)))) (now (out .entry)) (asMaybe after) .answer ⌝ }
     ensures { λ r. ⌜ now (out .exit) ≡ listStretchesIndexed (now (stakes .entry)) (now (store .entry)) (now (index .entry)) (listing (isOrdinary list) old (now (stakes .entry)) (blocksOf (now (store .entry)))) (now (out .entry)) (asMaybe after) .out ⌝ }
 {
-    let refusal = index_lent::indexed_refusal(stakes, store, index);
-    if refusal != 0 {
-        return StretchesAnswer::Refused(refusal);
+    let mut order = [0u64; types::MAX_BLOCKS];
+    let mut starts = [0u64; types::MAX_BLOCKS];
+    let question = index_lent::question_refusal(stakes, store, index, &mut order, &mut starts);
+    if question.refusal != 0 {
+        return StretchesAnswer::Refused(question.refusal);
     }
-    list_bulk::list_stretches(stakes, store, list, Reading::Old, out, after)
+    let total = question.total;
+    let count = question.count;
+    list_bulk::fill_stretches(
+        stakes,
+        total,
+        store,
+        &order[..count],
+        list,
+        Reading::Old,
+        out,
+        after,
+    )
 }
 
 // The ordinary list, of the final stored shares, with the index: from the start or after a given locator on, as many stretches as the slice

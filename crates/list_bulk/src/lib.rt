@@ -24,7 +24,7 @@ ghost use Rattle.list_stretch_bytes.specs.Answers.{asStretches};
 // ---- the question in bulk
 
 // A list in a reading over a store in order, by one sweep over the edges of its blocks' ranges.
-fn fill_stretches(
+pub fn fill_stretches(
     stakes: &[u64],
     total: Stake,
     store: &[u8],
