@@ -5,7 +5,7 @@ use final_readings_spec::Reading;
 use list_after::MaybeLocator;
 use list_readings_spec::FinalList;
 use list_stretch_bytes::StretchesAnswer;
-use list_window::Wanted;
+use list_lanes::Wanted;
 ghost use mathlib.Core.Path.{_≡_};
 ghost use mathlib.Core.Bool.{true, false};
 ghost use Rattle.base.specs.Checks.{answered};

@@ -4,7 +4,7 @@ use committee::Stake;
 use final_readings_spec::Reading;
 use list_after::MaybeLocator;
 use list_readings_spec::FinalList;
-use list_window::Wanted;
+use list_lanes::Wanted;
 use types::TransactionLocator;
 ghost use mathlib.Core.Path.{_≡_};
 ghost use mathlib.Core.Bool.{true, false};

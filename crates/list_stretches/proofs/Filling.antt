@@ -31,7 +31,7 @@ use Rattle.list_readings_spec.specs.Lists.{listing}
 use Rattle.list_readings_spec.proofs.Least.{lists-lawful}
 use Rattle.final_certifying.specs.declared.Certifiers.{Certifiers}
 use Rattle.list_walk.specs.Walk.{Certify}
-use Rattle.list_window.specs.declared.Wanted.{Wanted}
+use Rattle.list_lanes.specs.declared.Wanted.{Wanted}
 use Rattle.list_stretch_bytes.specs.Step.{finalStretch, Filled}
 use Rattle.list_stretch_bytes.proofs.Filling.{stretches-none, stretches-full, stretch-parts, fill-start, fill-more, fill-bytes, given-last, given-more}
 use Rattle.list_marked.specs.Marked.{listFor}

@@ -36,9 +36,9 @@ use Rattle.final_block_votes.proofs.Sorting.{some-committee}
 use Rattle.list_include_sets.specs.Sets.{Included}
 use Rattle.list_walk.specs.Walk.{Ready}
 use Rattle.list_after.proofs.Starts.{fewer-kept}
-use Rattle.list_own_ranges.specs.Own.{From}
-use Rattle.list_window.specs.Window.{Lanes, laneRanges}
-use Rattle.list_window.specs.declared.Wanted.{Wanted}
+use Rattle.list_reach.specs.Reach.{From}
+use Rattle.list_lanes.specs.Lanes.{Lanes, laneRanges}
+use Rattle.list_lanes.specs.declared.Wanted.{Wanted}
 use Rattle.list_sweep.specs.Sweep.{MarksAt, Stands}
 use Rattle.list_sweep.specs.Step.{MovedTo}
 use Rattle.list_sweep.specs.declared.Sweep as sweep

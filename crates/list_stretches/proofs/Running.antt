@@ -28,9 +28,9 @@ use Rattle.list_readings_spec.proofs.Least.{lists-lawful}
 use Rattle.final_block_votes.specs.Walk.{SortedStore, blockAtPlace}
 use Rattle.final_block_votes.proofs.Sorting.{place-stored}
 use Rattle.list_walk.specs.Walk.{Flags, SameWords}
-use Rattle.list_own_ranges.specs.Own.{From}
-use Rattle.list_window.specs.Window.{Lanes, laneRanges}
-use Rattle.list_window.specs.declared.Wanted.{Wanted}
+use Rattle.list_reach.specs.Reach.{From}
+use Rattle.list_lanes.specs.Lanes.{Lanes, laneRanges}
+use Rattle.list_lanes.specs.declared.Wanted.{Wanted}
 use Rattle.list_sweep.specs.Sweep.{MarksAt}
 use Rattle.list_marked.specs.Marked.{listFor, ShownAll}
 use Rattle.list_marked.specs.declared.MarkedFinal.the-variants.{Shown}

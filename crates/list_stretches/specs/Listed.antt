@@ -18,9 +18,9 @@ use Rattle.list_stretches_spec.specs.Bulk.{givenAfter, stretchRoom, bytesAfter}
 use Rattle.list_stretch_bytes.specs.Answers.{asStretches}
 use Rattle.list_stretch_bytes.specs.declared.StretchesAnswer as answer
 use Rattle.list_walk.specs.Walk.{Flags, CertifyFlagged}
-use Rattle.list_own_ranges.specs.Own.{From}
-use Rattle.list_window.specs.Window.{laneRanges}
-use Rattle.list_window.specs.declared.Wanted.{Wanted}
+use Rattle.list_reach.specs.Reach.{From}
+use Rattle.list_lanes.specs.Lanes.{laneRanges}
+use Rattle.list_lanes.specs.declared.Wanted.{Wanted}
 use Rattle.list_sweep.specs.Sweep.{MarksAt, Stands, Room}
 use Rattle.list_sweep.specs.declared.Sweep as sweep
 use Rattle.list_marked.specs.Marked.{listFor, Walkable}

@@ -7,7 +7,7 @@ use list_marked::MarkedFinal;
 use list_stretch_bytes::StretchesAnswer;
 use list_sweep::Onward;
 use list_sweep::Sweep;
-use list_window::Wanted;
+use list_lanes::Wanted;
 ghost use mathlib.Core.Path.{_≡_};
 ghost use mathlib.Core.List.{List};
 ghost use Prim.Native.Nat.{ℕ};
@@ -21,7 +21,7 @@ ghost use Rattle.list_stretches_spec.specs.Bulk.{givenAfter, stretchRoom, bytes
 ghost use Rattle.list_stretch_bytes.specs.Answers.{asStretches};
 ghost use Rattle.list_include_sets.specs.Sets.{Included};
 ghost use Rattle.list_walk.specs.Walk.{Ready};
-ghost use Rattle.list_window.specs.Window.{laneRanges};
+ghost use Rattle.list_lanes.specs.Lanes.{laneRanges};
 ghost use Rattle.list_sweep.specs.Sweep.{Stands};
 ghost use Rattle.list_marked.specs.Marked.{listFor};
 ghost use Rattle.list_stretches.specs.Listed.{Lent, NextFound, AllAlike, RunOn, FilledFrom};
@@ -202,7 +202,7 @@ pub fn fill(
     ensures { λ r. ⌜ now (out .exit) ≡ bytesAfter (stretches (now (stakes .entry)) (blocksOf (now (store .entry))) (listFor wanted (now (stakes .entry)) (blocksOf (now (store .entry)))) (stretchRoom (now (out .entry))) (asMaybe after)) (now (out .entry)) ⌝ }
 {
     let mut edges = [0u64; list_window::TABLE_WORDS];
-    let mut marks = [0u64; list_window::LANES];
+    let mut marks = [0u64; list_lanes::LANES];
     let begun = list_sweep_start::begin(store, order, wanted, after, &mut edges, &mut marks);
     let Onward::At(sweep) = begun else {
         return StretchesAnswer::Last(0);
@@ -238,7 +238,7 @@ pub fn next_from(
     ensures { λ r. ⌜ asMaybe r ≡ listFor wanted (now (stakes .entry)) (blocksOf (now (store .entry))) .next (asMaybe after) ⌝ }
 {
     let mut edges = [0u64; list_window::TABLE_WORDS];
-    let mut marks = [0u64; list_window::LANES];
+    let mut marks = [0u64; list_lanes::LANES];
     let begun = list_sweep_start::begin(store, order, wanted, after, &mut edges, &mut marks);
     let Onward::At(sweep) = begun else {
         return MaybeLocator::Nothing;

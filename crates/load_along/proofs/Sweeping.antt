@@ -23,8 +23,8 @@ use Rattle.list_readings_spec.specs.Answers.{isOrdinary}
 use Rattle.list_readings_spec.specs.Lists.{listing}
 use Rattle.list_readings_spec.proofs.Least.{lists-lawful}
 use Rattle.list_after.specs.Answers.{asMaybe}
-use Rattle.list_window.specs.Window.{laneRanges}
-use Rattle.list_window.specs.declared.Wanted.{Wanted}
+use Rattle.list_lanes.specs.Lanes.{laneRanges}
+use Rattle.list_lanes.specs.declared.Wanted.{Wanted}
 use Rattle.list_sweep.specs.Sweep.{Stands}
 use Rattle.list_sweep.specs.declared.Sweep as sweep
 use Rattle.list_sweep.specs.declared.Onward as onward

@@ -6,7 +6,7 @@ use list_readings_spec::FinalList;
 use list_stretches::Course;
 use list_stretches::NextShown;
 use list_sweep::Onward;
-use list_window::Wanted;
+use list_lanes::Wanted;
 use types::TransactionLocator;
 use types::TransactionLocatorRange;
 ghost use mathlib.Core.Path.{_≡_};

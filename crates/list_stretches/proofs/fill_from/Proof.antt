@@ -5,7 +5,7 @@ use native.Mathlib.Omega.{arith}
 use lib.ListN.{length}
 use Rattle.types.specs.Values.{asLocator}
 use Rattle.list_stretch_bytes.specs.Answers.{asStretches}
-use Rattle.list_window.specs.Window.{laneRanges}
+use Rattle.list_lanes.specs.Lanes.{laneRanges}
 use Rattle.list_sweep.specs.Sweep.{Stands}
 use Rattle.list_stretches.specs.Listed.{AllAlike, NextFound, FilledFrom}
 use Rattle.list_stretches.proofs.Reaching.{lent-kept, lent-for, here-marks}

@@ -8,7 +8,7 @@ use Rattle.base.specs.Lists.{keep}
 use Rattle.types.specs.Values.{asLocator}
 use Rattle.final_spec.specs.NextFinal.{isAfter}
 use Rattle.list_walk.specs.Walk.{SameWords}
-use Rattle.list_window.specs.Window.{laneRanges}
+use Rattle.list_lanes.specs.Lanes.{laneRanges}
 use Rattle.list_sweep.specs.Sweep.{Stands, edgeLocators}
 use Rattle.list_sweep.specs.Step.{Moved}
 use Rattle.list_marked.specs.Marked.{ShownAll}
