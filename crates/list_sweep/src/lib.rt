@@ -1,8 +1,8 @@
 // Marks of the stored blocks, one for each lane of ranges, carried from edge to edge in ascending order and from window to window: at each locator they
 // say which blocks vote for it, which reject it, and whose share it is.
 use list_after::MaybeLocator;
-use list_lanes::Wanted;
 use list_cuts::Window;
+use list_lanes::Wanted;
 use types::TransactionLocator;
 ghost use mathlib.Core.Path.{_≡_};
 ghost use mathlib.Core.Option.{some};

@@ -1,9 +1,9 @@
 // Where a sweep over the edges begins: just after a given locator, with marks read from the store once, or at the first edge.
 use list_after::MaybeLocator;
+use list_cuts::Window;
+use list_lanes::Wanted;
 use list_sweep::Onward;
 use list_sweep::Sweep;
-use list_lanes::Wanted;
-use list_cuts::Window;
 use types::TransactionLocator;
 ghost use mathlib.Core.Path.{_≡_};
 ghost use Prim.Native.Nat.{ℕ, _≤_};

@@ -30,8 +30,8 @@ use Rattle.list_sweep.specs.declared.Sweep as sweep
 use Rattle.list_sweep.specs.declared.Onward as onward
 use Rattle.list_sweep_start.specs.Begin.{Begun}
 use Rattle.list_marked.specs.Marked.{listFor}
-use Rattle.list_stretches.specs.Listed.{Lent, Reaching}
-use Rattle.list_stretches.proofs.Reaching.{begun-reaching, begun-none, shown-offset, after-stretch}
+use Rattle.list_shown.specs.Shown.{Lent, Reaching}
+use Rattle.list_shown.proofs.Reaching.{begun-reaching, begun-none, shown-offset, after-stretch}
 use Rattle.load_along.specs.Along.{Tables, HeldAt, Held, shareList, ahead, Found}
 use Rattle.load_along.specs.declared.Along.{Along}
 use Rattle.load_along.specs.declared.Ahead.the-variants.{Stretch, Ended}

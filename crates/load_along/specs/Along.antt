@@ -23,7 +23,7 @@ use Rattle.list_lanes.specs.declared.Wanted.{Wanted}
 use Rattle.list_sweep.specs.Sweep.{Stands}
 use Rattle.list_sweep.specs.declared.Onward as onward
 use Rattle.list_marked.specs.Marked.{listFor}
-use Rattle.list_stretches.specs.Listed.{Lent, Reaching}
+use Rattle.list_shown.specs.Shown.{Lent, Reaching}
 use Rattle.load_along.specs.declared.Along.{Along}
 use Rattle.load_along.specs.declared.Ahead.{Ahead}
 use Rattle.load_along.specs.declared.Ahead.the-variants.{Stretch, Ended}

@@ -8,11 +8,11 @@ use Rattle.final_block_votes.proofs.Sorting.{some-committee}
 use Rattle.list_after.specs.Answers.{asMaybe}
 use Rattle.list_lanes.specs.Lanes.{laneRanges}
 use Rattle.list_sweep_start.specs.Begin.{Begun}
-use Rattle.list_stretches.specs.Listed.{NextFound}
-use Rattle.list_stretches.proofs.Reaching.{lent-new, begun-reaching, begun-none, shown-offset}
+use Rattle.list_shown.specs.Shown.{NextFound}
+use Rattle.list_shown.proofs.Reaching.{lent-new, begun-reaching, begun-none, shown-offset}
 use borrow.Author.Needs.{needs}
-use Rattle.list_stretches.proofs.next_from.Statement.{statement}
-use Rattle.list_stretches.proofs.next_from.Tie as tie
+use Rattle.list_shown.proofs.next_from.Statement.{statement}
+use Rattle.list_shown.proofs.next_from.Tie as tie
 
 slice-aggregate-begin : tie.Need-slice-aggregate-begin
 slice-aggregate-begin c = search needs

@@ -36,7 +36,7 @@ use Rattle.list_marked.specs.Marked.{listFor, ShownAll}
 use Rattle.list_marked.specs.declared.MarkedFinal.the-variants.{Shown}
 use Rattle.final_certifying.specs.declared.Certifiers.{Certifiers}
 use Rattle.list_marked.proofs.Lanes.{stored-at}
-use Rattle.list_stretches.specs.Listed.{AllAlike}
+use Rattle.list_shown.specs.Shown.{AllAlike}
 
 -- ---- the words say whether the certifying blocks are the same
 

@@ -12,11 +12,11 @@ use Rattle.list_lanes.specs.Lanes.{laneRanges}
 use Rattle.list_sweep.specs.Sweep.{Stands, edgeLocators}
 use Rattle.list_sweep.specs.Step.{Moved}
 use Rattle.list_marked.specs.Marked.{ShownAll}
-use Rattle.list_stretches.specs.Listed.{AllAlike}
-use Rattle.list_stretches.proofs.Reaching.{lent-kept, fewer-follow, here-marks}
-use Rattle.list_stretches.proofs.Running.{Alike, Onto, onto-start, never-ends, ends-hidden, ends-other, goes-on, alike-start, alike-next, other-next}
-use Rattle.list_stretches.proofs.run_on.Statement.{statement}
-use Rattle.list_stretches.proofs.run_on.Tie as tie
+use Rattle.list_shown.specs.Shown.{AllAlike}
+use Rattle.list_shown.proofs.Reaching.{lent-kept, fewer-follow, here-marks}
+use Rattle.list_stretch_end.proofs.Running.{Alike, Onto, onto-start, never-ends, ends-hidden, ends-other, goes-on, alike-start, alike-next, other-next}
+use Rattle.list_stretch_end.proofs.run_on.Statement.{statement}
+use Rattle.list_stretch_end.proofs.run_on.Tie as tie
 
 abbrev Inv-loop : tie.InvT-loop
 Inv-loop stakes store order sets edges₀ marks₀ certified total wanted other₀ at₀ edges marks other at = (length edges ≡ length edges₀) × (((length marks ≡ length marks₀) × (length other ≡ 1024)) × (Stands (laneRanges wanted store order) store edges marks at × (Alike wanted stakes store order (asLocator (at₀ .here)) marks × Onto wanted stakes store order (asLocator (at₀ .here)) (asLocator (at .here)))))

@@ -49,7 +49,7 @@ use Rattle.list_sweep_start.specs.Begin.{Bare, BegunAt}
 use Rattle.list_marked.specs.Marked.{listFor, ShownAll}
 use Rattle.list_marked.specs.declared.MarkedFinal.the-variants.{Shown, Hidden}
 use Rattle.list_marked.proofs.Lanes.{stored-at, vote-mark}
-use Rattle.list_stretches.specs.Listed.{Lent, Reaching, AllAlike, FoundHere}
+use Rattle.list_shown.specs.Shown.{Lent, Reaching, AllAlike, FoundHere}
 
 -- the marks are right where the sweep stands
 pub here-marks : (lanes : Lanes) (s : Bytes) (t marks : List ℕ) (v : sweep.Sweep) → Stands lanes s t marks v → MarksAt lanes marks (asLocator (v .here))

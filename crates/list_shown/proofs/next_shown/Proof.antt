@@ -9,10 +9,10 @@ use Rattle.list_lanes.specs.Lanes.{laneRanges}
 use Rattle.list_sweep.specs.Sweep.{Stands, edgeLocators}
 use Rattle.list_sweep.specs.Step.{Moved}
 use Rattle.list_marked.specs.Marked.{ShownAll}
-use Rattle.list_stretches.specs.Listed.{NextFound}
-use Rattle.list_stretches.proofs.Reaching.{Reached, lent-kept, fewer-follow, shown-here, hidden-on, hidden-end}
-use Rattle.list_stretches.proofs.next_shown.Statement.{statement}
-use Rattle.list_stretches.proofs.next_shown.Tie as tie
+use Rattle.list_shown.specs.Shown.{NextFound}
+use Rattle.list_shown.proofs.Reaching.{Reached, lent-kept, fewer-follow, shown-here, hidden-on, hidden-end}
+use Rattle.list_shown.proofs.next_shown.Statement.{statement}
+use Rattle.list_shown.proofs.next_shown.Tie as tie
 
 abbrev Inv-loop : tie.InvT-loop
 Inv-loop stakes store order sets edges₀ marks₀ certified₀ total wanted at₀ edges marks certified at = (length edges ≡ length edges₀) × (((length marks ≡ length marks₀) × (length certified ≡ length certified₀)) × (Stands (laneRanges wanted store order) store edges marks at × Reached wanted stakes store order (asLocator (at₀ .here)) (asLocator (at .here))))
