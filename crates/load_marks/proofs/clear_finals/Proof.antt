@@ -14,7 +14,8 @@ use Rattle.list_shown.proofs.Reaching.{lent-new}
 use Rattle.load_along.specs.Along.{tables, Found}
 use Rattle.load_along.specs.declared.Ahead.{Ahead}
 use Rattle.load_along.proofs.Going.{leftAfter, passing-start, passing-next, passing-less}
-use Rattle.load_marks.proofs.Clearing.{stretch-stored, cleared-none, cleared-more, Clearing, clearing-end}
+use Rattle.load_mark_words.proofs.Left.{cleared-none, cleared-more}
+use Rattle.load_marks.proofs.Clearing.{stretch-stored, Clearing, clearing-end}
 use Rattle.load_marks.proofs.clear_finals.Statement.{statement}
 use Rattle.load_marks.proofs.clear_finals.Tie as tie
 

@@ -3,10 +3,10 @@ use mathlib.Core.Path.{_≡_}
 use native.Mathlib.Omega.{arith}
 use lib.ListN.{getD}
 use borrow.Author.Needs.{needs}
-use Rattle.load_marks.specs.Marks.{NoneLeft}
-use Rattle.load_marks.proofs.Clearing.{none-more}
-use Rattle.load_marks.proofs.none_left.Statement.{statement}
-use Rattle.load_marks.proofs.none_left.Tie as tie
+use Rattle.load_mark_words.specs.Marks.{NoneLeft}
+use Rattle.load_mark_words.proofs.Left.{none-more}
+use Rattle.load_mark_words.proofs.none_left.Statement.{statement}
+use Rattle.load_mark_words.proofs.none_left.Tie as tie
 
 abbrev Inv-loop : tie.InvT-loop
 Inv-loop marks n k₀ k = (k ≤ n) × ((j : ℕ) → j < k → getD marks j 0 ≡ 0)

@@ -1,10 +1,10 @@
 use native.Mathlib.Omega.{arith}
 use Rattle.record_spec.specs.Reference.{newRange}
 use Rattle.types.specs.Values.{asRange}
-use Rattle.load_marks.proofs.Clearing.{stretch-past, stretch-taken}
+use Rattle.load_mark_words.proofs.Left.{stretch-past, stretch-taken}
 use borrow.Author.Needs.{needs}
-use Rattle.load_marks.proofs.clear_mark.Statement.{statement}
-use Rattle.load_marks.proofs.clear_mark.Tie as tie
+use Rattle.load_mark_words.proofs.clear_mark.Statement.{statement}
+use Rattle.load_mark_words.proofs.clear_mark.Tie as tie
 
 place-of-requires : tie.Need-place-of-requires
 place-of-requires c κs = search needs
