@@ -1,4 +1,4 @@
--- References of a record that stands in the store.
+-- References of a record that stands in the store. Assumes nothing.
 use mathlib.Core.Path.{_≡_, sym, ap, _∙_}
 use mathlib.Core.List.{List}
 use Prim.Native.Nat.{ℕ, _+_, _≤_}

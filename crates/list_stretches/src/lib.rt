@@ -76,7 +76,16 @@ fn fill_from(
             wanted,
             sweep: at,
         };
-        sweep = list_stretch_end::run_on(stakes, store, order, sets, shown, edges, marks, &certified);
+        sweep = list_stretch_end::run_on(
+            stakes,
+            store,
+            order,
+            sets,
+            shown,
+            edges,
+            marks,
+            &certified,
+        );
         let end = sweep.here.offset;
         list_stretch_bytes::write_stretch(out, n, locator, end, found.blocks as u64, stake);
         n += 1;
@@ -120,4 +129,3 @@ pub fn fill(
         out,
     )
 }
-

@@ -1,4 +1,4 @@
-// The mark of a share of each stored block, in a word: its offset and one more. It is taken away where a stretch covers the share.
+// A word for each stored block that marks a share of it by the offset and one more, and is taken away where a stretch covers the share.
 use types::TransactionLocatorRange;
 ghost use mathlib.Core.Path.{_≡_};
 ghost use mathlib.Core.Bool.{true};

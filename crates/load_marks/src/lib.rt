@@ -46,4 +46,3 @@ pub fn clear_finals(
         along = step.along;
     }
 }
-
