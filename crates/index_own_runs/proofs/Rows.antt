@@ -26,7 +26,7 @@ use Rattle.list_block_spans.specs.Joined.{VoteFits, VotesFit}
 use Rattle.list_row_sort.specs.Rows.{Row, rowsOf, keyOf}
 use Rattle.list_range_rows.specs.Ranges.{rowRange, rowCovers, anyCovers, endsBefore, Apart, Proper}
 use Rattle.list_own_ranges.specs.Own.{Recorded, OwnRanges}
-use Rattle.list_own_ranges.specs.declared.RangeKind.the-variants.{Votes}
+use Rattle.list_kind_ranges.specs.declared.RangeKind.the-variants.{Votes}
 use Rattle.list_own_ranges.proofs.Said.{own-votes}
 use Rattle.index_spec.specs.Runs.{Run, run, runCovers, votesAt, votersIn}
 use Rattle.index_spec.specs.Walk.{Past, byBlock, byOffset, Place, anywhere, beyond, At, runsFrom}

@@ -2,7 +2,7 @@
 use committee_set::AuthoritySet;
 use index_runs::Run;
 use list_after::MaybeLocator;
-use list_own_ranges::RangeKind;
+use list_kind_ranges::RangeKind;
 ghost use mathlib.Core.Path.{_≡_};
 ghost use mathlib.Core.List.{map};
 ghost use Prim.Native.Nat.{_*_, _≤_};

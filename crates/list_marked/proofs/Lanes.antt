@@ -29,13 +29,12 @@ use Rattle.list_block_spans.specs.Ranges.{rangesAt, rangesOf}
 use Rattle.list_block_spans.proofs.Joining.{joined-votes}
 use Rattle.list_block_spans.proofs.Rejecting.{rejected-covers}
 use Rattle.list_ancestry.specs.Heard.{Owned, AnyMarked}
-use Rattle.list_own_ranges.specs.Kinds.{kindRangesAt, kindRanges}
-use Rattle.list_own_ranges.specs.Own.{anySpan}
-use Rattle.list_own_ranges.specs.declared.RangeKind.{RangeKind}
-use Rattle.list_own_ranges.specs.declared.RangeKind.the-variants.{Votes, Rejects, Shares}
-use Rattle.list_own_ranges.proofs.Sharing.{shares-cover}
-use Rattle.list_window.specs.Window.{wantsRejects, laneKind, wantsLane, laneRanges}
-use Rattle.list_window.specs.declared.Wanted.{Wanted}
+use Rattle.list_kind_ranges.specs.Kinds.{kindRangesAt, kindRanges, anySpan}
+use Rattle.list_kind_ranges.specs.declared.RangeKind.{RangeKind}
+use Rattle.list_kind_ranges.specs.declared.RangeKind.the-variants.{Votes, Rejects, Shares}
+use Rattle.list_kind_ranges.proofs.Sharing.{shares-cover}
+use Rattle.list_lanes.specs.Lanes.{wantsRejects, laneKind, wantsLane, laneRanges}
+use Rattle.list_lanes.specs.declared.Wanted.{Wanted}
 use Rattle.list_sweep.specs.Sweep.{MarksAt}
 
 -- the block of a stored one's place

@@ -43,8 +43,8 @@ use Rattle.final_certifying.specs.declared.Certifiers.{Certifiers}
 use Rattle.list_walk.specs.Walk.{anyNoted, counted, CountedRight, Certify, CertifyMarked}
 use Rattle.list_walk.proofs.Counting.{counted-old, counted-new, counted-same, counted-none, none-rejects, last-unvoted}
 use Rattle.list_walk.proofs.Beginning.{nobody-counts}
-use Rattle.list_window.specs.Window.{wantsRejects, laneRanges}
-use Rattle.list_window.specs.declared.Wanted.{Wanted}
+use Rattle.list_lanes.specs.Lanes.{wantsRejects, laneRanges}
+use Rattle.list_lanes.specs.declared.Wanted.{Wanted}
 use Rattle.list_sweep.specs.Sweep.{MarksAt}
 use Rattle.list_marked.specs.Marked.{listFor, MarkedIn, CertifiedAll, MayShow}
 use Rattle.list_marked.proofs.Lanes.{stored-at, vote-mark, owned-votes, owned-rejects, shares-marked}

@@ -21,8 +21,8 @@ use Rattle.final_certifying.specs.declared.Certifiers.{Certifiers}
 use Rattle.list_include_sets.specs.Sets.{Included}
 use Rattle.list_ancestry.specs.Heard.{AnyMarked}
 use Rattle.list_walk.specs.Walk.{CertifyFlagged}
-use Rattle.list_window.specs.Window.{laneRanges}
-use Rattle.list_window.specs.declared.Wanted.{Wanted}
+use Rattle.list_lanes.specs.Lanes.{laneRanges}
+use Rattle.list_lanes.specs.declared.Wanted.{Wanted}
 use Rattle.list_sweep.specs.Sweep.{MarksAt}
 use Rattle.list_marked.specs.declared.MarkedFinal as final
 

@@ -3,7 +3,7 @@
 use committee::Stake;
 use committee_set::AuthoritySet;
 use final_certifying::Certifiers;
-use list_window::Wanted;
+use list_lanes::Wanted;
 ghost use mathlib.Core.Path.{_≡_};
 ghost use Prim.Native.Nat.{_≤_};
 ghost use lib.ListN.{length};
@@ -56,7 +56,7 @@ fn certify(
     let own = &marks[0..1024];
     let nobody = &marks[0..0];
     let reading = wanted.reading;
-    if !list_window::wants_rejects(reading) {
+    if !list_lanes::wants_rejects(reading) {
         return list_walk::walk(stakes, total, store, order, sets, own, nobody, certified);
     }
     let rejects = &marks[1024..2048];
@@ -85,7 +85,7 @@ fn may_show(order: &[u64], wanted: Wanted, marks: &[u64]) -> bool
     ensures { λ r. ⌜ MayShow wanted (now (marks .entry)) (length (now (order .entry))) r ⌝ }
 {
     let list = wanted.list;
-    if !list_window::wants_shares(list) {
+    if !list_lanes::wants_shares(list) {
         return true;
     }
     list_ancestry::any_marked(&marks[2048..3072], order.len())

@@ -3,8 +3,8 @@ use committee::NewCommittee;
 use committee::Stake;
 use final_readings_spec::Reading;
 use list_after::MaybeLocator;
+use list_lanes::Wanted;
 use list_readings_spec::FinalList;
-use list_window::Wanted;
 use types::TransactionLocator;
 ghost use mathlib.Core.Path.{_≡_};
 ghost use mathlib.Core.Bool.{true, false};
@@ -42,7 +42,7 @@ fn next_after(
     let mut sets = [0u64; list_include_sets::WORDS];
     list_include_sets::note_includes(store, order, &mut sets);
     let wanted = Wanted { reading, list };
-    list_stretches::next_from(stakes, total, store, order, &sets, wanted, after)
+    list_shown::next_from(stakes, total, store, order, &sets, wanted, after)
 }
 
 // The least locator after a given one, or from the start, that a list shows in a reading.

@@ -1,6 +1,3 @@
-mod Positions
-pub mod Sharing
-mod Next
-pub mod Reach
+mod Stored
 mod Rows
 pub mod Said

@@ -19,12 +19,14 @@ use Rattle.list_row_sort.proofs.Tables.{rows-put, every-row}
 use Rattle.list_range_rows.specs.Ranges.{newRow, rowRange, rowCovers, anyCovers, Proper, Joinable, RowsJoined}
 use Rattle.list_range_rows.proofs.Ranges.{covers-append, covers-permuted}
 use Rattle.list_range_rows.proofs.Tables.{put-kept}
-use Rattle.list_own_ranges.specs.Kinds.{kindRangesAt, kindRanges}
-use Rattle.list_own_ranges.specs.Own.{anySpan, Roomy, Within, inReach, OwnRanges}
-use Rattle.list_own_ranges.specs.declared.RangeKind.{RangeKind}
-use Rattle.list_own_ranges.proofs.Sharing.{kind-end}
-use Rattle.list_own_ranges.proofs.Reach.{reach-filled, far-covers}
-use Rattle.list_own_ranges.specs.Step.{StandsAt, AllStand, rowsAs, RangePut, Written}
+use Rattle.list_kind_ranges.specs.Kinds.{kindRangesAt, kindRanges, anySpan}
+use Rattle.list_reach.specs.Reach.{Within, inReach}
+use Rattle.list_own_ranges.specs.Own.{Roomy, OwnRanges}
+use Rattle.list_kind_ranges.specs.declared.RangeKind.{RangeKind}
+use Rattle.list_kind_ranges.proofs.Sharing.{kind-end}
+use Rattle.list_reach.proofs.Reach.{reach-filled, far-covers}
+use Rattle.list_kind_ranges.specs.Next.{StandsAt, AllStand}
+use Rattle.list_own_ranges.specs.Step.{rowsAs, RangePut, Written}
 
 -- ---- one range
 

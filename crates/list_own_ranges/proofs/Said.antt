@@ -22,10 +22,10 @@ use Rattle.list_row_sort.specs.Rows.{Row, rowsOf, Sorted, Permuted}
 use Rattle.list_range_rows.specs.Ranges.{anyCovers}
 use Rattle.list_edge_rows.specs.Edges.{edgesOf, openAt}
 use Rattle.list_edge_rows.proofs.Said.{edges-say}
-use Rattle.list_own_ranges.specs.Kinds.{kindRangesAt, kindRanges}
+use Rattle.list_kind_ranges.specs.Kinds.{kindRangesAt, kindRanges}
 use Rattle.list_own_ranges.specs.Own.{Recorded, OwnRanges}
-use Rattle.list_own_ranges.specs.declared.RangeKind.the-variants.{Votes, Rejects}
-use Rattle.list_own_ranges.proofs.Reach.{within-all}
+use Rattle.list_kind_ranges.specs.declared.RangeKind.the-variants.{Votes, Rejects}
+use Rattle.list_reach.proofs.Reach.{within-all}
 
 -- the bytes from a position on, n of them or as many as there are
 pub recorded-part : (s : Bytes) (start n : ℕ) → wellFormed (take n (drop start s)) ≡ true → VotesFit (blockIn (take n (drop start s))) → Recorded s start (take n (drop start s))

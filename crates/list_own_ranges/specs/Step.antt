@@ -9,32 +9,13 @@ use lib.ListN.{length, drop}
 use Rattle.base.specs.Lists.{keep}
 use Rattle.base.specs.Le.{Bytes}
 use Rattle.base.proofs.Lists.{Every}
-use Rattle.record_spec.specs.Reference.{BlockReference, TransactionLocator, TransactionLocatorRange}
+use Rattle.record_spec.specs.Reference.{TransactionLocator, TransactionLocatorRange}
 use Rattle.record_spec.specs.Block.{Block}
-use Rattle.record_spec.specs.Record.{blockIn}
-use Rattle.record_reference_bytes.specs.Step.{referenceAt}
-use Rattle.list_block_spans.specs.Answers.{votedBy, OnwardIn}
 use Rattle.list_row_sort.specs.Rows.{Row, rowsOf}
 use Rattle.list_range_rows.specs.Ranges.{newRow, anyCovers, Proper}
-use Rattle.list_own_ranges.specs.Kinds.{kindRangesAt, kindRanges}
-use Rattle.list_own_ranges.specs.Own.{anySpan, Within, inReach}
-use Rattle.list_own_ranges.specs.declared.RangeKind.{RangeKind}
-use Rattle.list_own_ranges.specs.declared.NextRange as next
-
--- a reference stands at a position
-unfoldable pub StandsAt : Bytes → ℕ → BlockReference → Type 0
-StandsAt s at r = (at + 48 ≤ length s) × (referenceAt s at ≡ r)
-
--- those of some ranges do
-unfoldable pub AllStand : Bytes → ℕ → List TransactionLocatorRange → Type 0
-AllStand s at qs = Every (λ q. StandsAt s at (q .block)) qs
-
--- the range of a kind that the statements from index i on give first, or none; where its reference stands in the record; and the place after them
-pub record NextIn (kind : RangeKind) (r : Bytes) (i : ℕ) (n : next.NextRange) : Type 0 where
-  pub are : kindRangesAt kind (blockIn r) i ≡ votedBy (n .vote) ++ kindRangesAt kind (blockIn r) (n .next .index)
-  pub onward : OnwardIn (blockIn r) r i (n .next)
-  pub inside : n .at ≤ length r
-  pub stands : AllStand r (n .at) (votedBy (n .vote))
+use Rattle.list_kind_ranges.specs.Kinds.{kindRangesAt, kindRanges, anySpan}
+use Rattle.list_reach.specs.Reach.{Within, inReach}
+use Rattle.list_kind_ranges.specs.declared.RangeKind.{RangeKind}
 
 -- ranges whose references stand at a position as rows, without those that are out of reach
 unfoldable pub rowsAs : Option TransactionLocator → Option TransactionLocator → ℕ → List TransactionLocatorRange → List Row

@@ -31,12 +31,12 @@ use Rattle.list_readings_spec.specs.Lists.{listing}
 use Rattle.list_readings_spec.proofs.Least.{lists-lawful}
 use Rattle.final_certifying.specs.declared.Certifiers.{Certifiers}
 use Rattle.list_walk.specs.Walk.{Certify}
-use Rattle.list_window.specs.declared.Wanted.{Wanted}
+use Rattle.list_lanes.specs.declared.Wanted.{Wanted}
 use Rattle.list_stretch_bytes.specs.Step.{finalStretch, Filled}
 use Rattle.list_stretch_bytes.proofs.Filling.{stretches-none, stretches-full, stretch-parts, fill-start, fill-more, fill-bytes, given-last, given-more}
 use Rattle.list_marked.specs.Marked.{listFor}
-use Rattle.list_stretches.specs.Listed.{Reaching}
-use Rattle.list_stretches.proofs.Reaching.{after-stretch}
+use Rattle.list_shown.specs.Shown.{Reaching}
+use Rattle.list_shown.proofs.Reaching.{after-stretch}
 
 -- as many certifying positions as certifying blocks
 certifying-many : (reading : Reading) (c : Committee) (s : Bytes) (l : TransactionLocator) → length (certifyingPositionsIn reading c s l) ≡ length (certifiersIn reading c (blocksOf s) l)

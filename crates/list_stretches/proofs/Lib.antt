@@ -1,3 +1,1 @@
-pub mod Reaching
-mod Running
 mod Filling

@@ -1,13 +1,11 @@
-// A list of final locators by one sweep over the edges: the next locator that it shows, where the stretch of a locator ends, and a slice filled with
-// stretches.
+// A slice filled with the stretches of a list of final locators, by one sweep over the edges.
 use committee::Stake;
-use final_certifying::Certifiers;
 use list_after::MaybeLocator;
-use list_marked::MarkedFinal;
+use list_lanes::Wanted;
+use list_shown::Course;
+use list_shown::NextShown;
 use list_stretch_bytes::StretchesAnswer;
 use list_sweep::Onward;
-use list_sweep::Sweep;
-use list_window::Wanted;
 ghost use mathlib.Core.Path.{_≡_};
 ghost use mathlib.Core.List.{List};
 ghost use Prim.Native.Nat.{ℕ};
@@ -21,112 +19,11 @@ ghost use Rattle.list_stretches_spec.specs.Bulk.{givenAfter, stretchRoom, bytes
 ghost use Rattle.list_stretch_bytes.specs.Answers.{asStretches};
 ghost use Rattle.list_include_sets.specs.Sets.{Included};
 ghost use Rattle.list_walk.specs.Walk.{Ready};
-ghost use Rattle.list_window.specs.Window.{laneRanges};
+ghost use Rattle.list_lanes.specs.Lanes.{laneRanges};
 ghost use Rattle.list_sweep.specs.Sweep.{Stands};
 ghost use Rattle.list_marked.specs.Marked.{listFor};
-ghost use Rattle.list_stretches.specs.Listed.{Lent, NextFound, AllAlike, RunOn, FilledFrom};
-
-// The list that is asked for, under a total stake, and where the sweep stands.
-pub struct Course {
-    pub total: Stake,
-    pub wanted: Wanted,
-    pub sweep: Sweep,
-}
-
-// A place where the list shows a locator, and its certifying blocks.
-pub struct FoundStretch {
-    pub sweep: Sweep,
-    pub found: Certifiers,
-}
-
-pub enum NextShown {
-    At(FoundStretch),
-    Nothing,
-}
-
-// Goes on from stop to stop to the first locator that the list shows, from where the sweep stands on. Where there is one, a word for each block says
-// whether it certifies it.
-pub fn next_shown(
-    stakes: &[u64],
-    store: &[u8],
-    order: &[u64],
-    sets: &[u64],
-    course: Course,
-    edges: &mut [u64],
-    marks: &mut [u64],
-    certified: &mut [u64],
-) -> NextShown
-    requires { ⌜ Lent (now stakes) (course .total) (now store) (now order) (now sets) (now edges) (now marks) (now certified) × Stands (laneRanges (course .wanted) (now store) (now order)) (now store) (now edges) (now marks) (course .sweep) ⌝ }
-    ensures { λ r. ⌜ NextFound (course .wanted) (now (stakes .entry)) (now (store .entry)) (now (order .entry)) (asLocator (course .sweep .here)) (now (edges .exit)) (now (marks .exit)) (now (certified .exit)) r ⌝ }
-{
-    let total = course.total;
-    let wanted = course.wanted;
-    let mut at = course.sweep;
-    loop {
-        let shown = list_marked::shown_marks(
-            stakes,
-            total,
-            store,
-            order,
-            sets,
-            wanted,
-            marks,
-            certified,
-        );
-        if let MarkedFinal::Shown(found) = shown {
-            return NextShown::At(FoundStretch { sweep: at, found });
-        }
-        let next = list_sweep::advance(store, order, wanted, at, edges, marks);
-        let Onward::At(stop) = next else {
-            return NextShown::Nothing;
-        };
-        at = stop;
-    }
-}
-
-// From a locator that the list shows, with its certifying blocks in words, to the end of its stretch: from stop to stop while the list shows the locator
-// there and the same blocks certify it.
-pub fn run_on(
-    stakes: &[u64],
-    store: &[u8],
-    order: &[u64],
-    sets: &[u64],
-    course: Course,
-    edges: &mut [u64],
-    marks: &mut [u64],
-    certified: &[u64],
-) -> Sweep
-    requires { ⌜ Lent (now stakes) (course .total) (now store) (now order) (now sets) (now edges) (now marks) (now certified) × (Stands (laneRanges (course .wanted) (now store) (now order)) (now store) (now edges) (now marks) (course .sweep) × AllAlike (course .wanted) (now stakes) (now store) (now order) (now marks) (now certified)) ⌝ }
-    ensures { λ r. ⌜ RunOn (course .wanted) (now (stakes .entry)) (now (store .entry)) (now (order .entry)) (asLocator (course .sweep .here)) (now (edges .exit)) (now (marks .exit)) r ⌝ }
-{
-    let total = course.total;
-    let wanted = course.wanted;
-    let mut other = [0u64; types::MAX_BLOCKS];
-    let mut at = course.sweep;
-    loop {
-        let next = list_sweep::advance(store, order, wanted, at, edges, marks);
-        let Onward::At(stop) = next else {
-            return at; // never: what is shown ends somewhere
-        };
-        let shown = list_marked::shown_marks(
-            stakes,
-            total,
-            store,
-            order,
-            sets,
-            wanted,
-            marks,
-            &mut other,
-        );
-        let MarkedFinal::Shown(_) = shown else {
-            return stop;
-        };
-        if !list_walk::same_words(certified, &other, order.len()) {
-            return stop;
-        }
-        at = stop;
-    }
-}
+ghost use Rattle.list_shown.specs.Shown.{Lent};
+ghost use Rattle.list_stretches.specs.Listed.{FilledFrom};
 
 // Writes stretches from where the sweep stands on until the slice is full or no locator of the list follows.
 fn fill_from(
@@ -154,7 +51,7 @@ fn fill_from(
             wanted,
             sweep,
         };
-        let next = next_shown(
+        let next = list_shown::next_shown(
             stakes,
             store,
             order,
@@ -179,7 +76,16 @@ fn fill_from(
             wanted,
             sweep: at,
         };
-        sweep = run_on(stakes, store, order, sets, shown, edges, marks, &certified);
+        sweep = list_stretch_end::run_on(
+            stakes,
+            store,
+            order,
+            sets,
+            shown,
+            edges,
+            marks,
+            &certified,
+        );
         let end = sweep.here.offset;
         list_stretch_bytes::write_stretch(out, n, locator, end, found.blocks as u64, stake);
         n += 1;
@@ -202,7 +108,7 @@ pub fn fill(
     ensures { λ r. ⌜ now (out .exit) ≡ bytesAfter (stretches (now (stakes .entry)) (blocksOf (now (store .entry))) (listFor wanted (now (stakes .entry)) (blocksOf (now (store .entry)))) (stretchRoom (now (out .entry))) (asMaybe after)) (now (out .entry)) ⌝ }
 {
     let mut edges = [0u64; list_window::TABLE_WORDS];
-    let mut marks = [0u64; list_window::LANES];
+    let mut marks = [0u64; list_lanes::LANES];
     let begun = list_sweep_start::begin(store, order, wanted, after, &mut edges, &mut marks);
     let Onward::At(sweep) = begun else {
         return StretchesAnswer::Last(0);
@@ -222,47 +128,4 @@ pub fn fill(
         &mut marks,
         out,
     )
-}
-
-// The least locator of the list after a given one, or from the start.
-pub fn next_from(
-    stakes: &[u64],
-    total: Stake,
-    store: &[u8],
-    order: &[u64],
-    sets: &[u64],
-    wanted: Wanted,
-    after: MaybeLocator,
-) -> MaybeLocator
-    requires { ⌜ Ready (now stakes) (total .0) (now store) (now order) × Included (now store) (now order) (now sets) (length (now order)) ⌝ }
-    ensures { λ r. ⌜ asMaybe r ≡ listFor wanted (now (stakes .entry)) (blocksOf (now (store .entry))) .next (asMaybe after) ⌝ }
-{
-    let mut edges = [0u64; list_window::TABLE_WORDS];
-    let mut marks = [0u64; list_window::LANES];
-    let begun = list_sweep_start::begin(store, order, wanted, after, &mut edges, &mut marks);
-    let Onward::At(sweep) = begun else {
-        return MaybeLocator::Nothing;
-    };
-    let course = Course {
-        total,
-        wanted,
-        sweep,
-    };
-    let mut certified = [0u64; types::MAX_BLOCKS];
-    let next = next_shown(
-        stakes,
-        store,
-        order,
-        sets,
-        course,
-        &mut edges,
-        &mut marks,
-        &mut certified,
-    );
-    let NextShown::At(f) = next else {
-        return MaybeLocator::Nothing;
-    };
-    let at = f.sweep;
-    let here = at.here;
-    MaybeLocator::Locator(here)
 }

@@ -26,9 +26,10 @@ use Rattle.list_row_sort.proofs.Order.{row-irrefl}
 use Rattle.list_row_sort.proofs.Tables.{rows-split, rows-back, rows-every, rows-more, row-dropped, row-in, sorted-at}
 use Rattle.list_edge_rows.specs.Edges.{begins, placeOf, ofPlace, reached, lastBegins}
 use Rattle.list_edge_rows.proofs.Together.{keep-keep, keep-all, keep-none, swept-more}
-use Rattle.list_own_ranges.specs.Own.{From}
-use Rattle.list_window.specs.Window.{Lanes, saidAt, Gathered}
-use Rattle.list_window.specs.declared.Window.{Window}
+use Rattle.list_reach.specs.Reach.{From}
+use Rattle.list_lanes.specs.Lanes.{Lanes}
+use Rattle.list_window.specs.Window.{saidAt, Gathered}
+use Rattle.list_cuts.specs.declared.Window.{Window}
 use Rattle.list_window.proofs.Sweeping.{window-says}
 use Rattle.list_window.proofs.Ahead.{OfRange, Ahead, row-ahead, bound-ahead, row-lane}
 use Rattle.list_sweep.specs.Sweep.{MarksAt, Clear, Swept, Standing, edgeLocators}

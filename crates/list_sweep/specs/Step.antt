@@ -13,9 +13,9 @@ use Rattle.final_spec.specs.NextFinal.{isAfter}
 use Rattle.list_after.specs.Answers.{asMaybe}
 use Rattle.list_row_sort.specs.Rows.{rowAt, keyOf, rowBefore, Inside}
 use Rattle.list_edge_rows.specs.Edges.{placeOf}
-use Rattle.list_own_ranges.specs.Own.{From}
-use Rattle.list_window.specs.Window.{Lanes}
-use Rattle.list_window.specs.declared.Window.{Window}
+use Rattle.list_reach.specs.Reach.{From}
+use Rattle.list_lanes.specs.Lanes.{Lanes}
+use Rattle.list_cuts.specs.declared.Window.{Window}
 use Rattle.list_sweep.specs.Sweep.{MarksAt, Swept, Standing, Stands, edgeLocators}
 use Rattle.list_sweep.specs.declared.Sweep as sweep
 use Rattle.list_sweep.specs.declared.Onward as onward

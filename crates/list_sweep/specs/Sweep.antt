@@ -15,8 +15,10 @@ use Rattle.list_after.specs.Answers.{asMaybe}
 use Rattle.list_order.specs.Row.{isAfterBest}
 use Rattle.list_row_sort.specs.Rows.{rowAt, rowsOf, keyOf}
 use Rattle.list_edge_rows.specs.Edges.{ofPlace, lastBegins}
-use Rattle.list_own_ranges.specs.Own.{anySpan, From}
-use Rattle.list_window.specs.Window.{Lanes, saidAt, Gathered}
+use Rattle.list_reach.specs.Reach.{From}
+use Rattle.list_kind_ranges.specs.Kinds.{anySpan}
+use Rattle.list_lanes.specs.Lanes.{Lanes}
+use Rattle.list_window.specs.Window.{saidAt, Gathered}
 use Rattle.list_sweep.specs.declared.Sweep as sweep
 
 -- a lane is marked exactly where one of its ranges covers the locator

@@ -1,8 +1,8 @@
 // Marks of the stored blocks, one for each lane of ranges, carried from edge to edge in ascending order and from window to window: at each locator they
 // say which blocks vote for it, which reject it, and whose share it is.
 use list_after::MaybeLocator;
-use list_window::Wanted;
-use list_window::Window;
+use list_cuts::Window;
+use list_lanes::Wanted;
 use types::TransactionLocator;
 ghost use mathlib.Core.Path.{_≡_};
 ghost use mathlib.Core.Option.{some};
@@ -12,7 +12,7 @@ ghost use Rattle.types.specs.Values.{asLocator};
 ghost use Rattle.final_block_votes.specs.Walk.{SortedStore};
 ghost use Rattle.list_after.specs.Answers.{asMaybe};
 ghost use Rattle.list_row_sort.specs.Rows.{rowAt, keyOf};
-ghost use Rattle.list_window.specs.Window.{laneRanges};
+ghost use Rattle.list_lanes.specs.Lanes.{laneRanges};
 ghost use Rattle.list_sweep.specs.Sweep.{Room, Stands, MarksAt};
 ghost use Rattle.list_sweep.specs.Step.{Passable, Passed, Ready, StopPassed, Goes, Gone, Moved};
 
@@ -63,7 +63,7 @@ fn pass_stop(store: &[u8], edges: &[u64], window: Window, at: usize, marks: &mut
     requires { ⌜ Ready (now store) (now edges) (now marks) window at ⌝ }
     ensures { λ r. ⌜ StopPassed (now (store .entry)) (now (edges .entry)) (now (marks .entry)) (now (marks .exit)) window at r ⌝ }
 {
-    let here = list_window::row_locator(store, edges, at);
+    let here = list_cuts::row_locator(store, edges, at);
     let n = window.n;
     let bound = window.bound;
     let next = pass_edges(store, edges, n, at, marks);

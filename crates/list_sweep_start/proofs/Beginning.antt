@@ -22,9 +22,10 @@ use Rattle.list_order.specs.Row.{isAfterBest}
 use Rattle.list_row_sort.specs.Rows.{rowAt, rowsFrom, rowsOf, keyOf, rowBefore}
 use Rattle.list_row_sort.proofs.Tables.{row-in, sorted-at}
 use Rattle.list_edge_rows.specs.Edges.{lastBegins}
-use Rattle.list_own_ranges.specs.Own.{From}
-use Rattle.list_window.specs.Window.{Lanes, saidAt, Gathered}
-use Rattle.list_window.specs.declared.Window.{Window}
+use Rattle.list_reach.specs.Reach.{From}
+use Rattle.list_lanes.specs.Lanes.{Lanes}
+use Rattle.list_window.specs.Window.{saidAt, Gathered}
+use Rattle.list_cuts.specs.declared.Window.{Window}
 use Rattle.list_window.proofs.Ahead.{row-ahead, bound-ahead}
 use Rattle.list_sweep.specs.Sweep.{MarksAt, Clear, Swept, Standing}
 use Rattle.list_sweep.specs.Step.{Moved}

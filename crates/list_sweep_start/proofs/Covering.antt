@@ -21,8 +21,8 @@ use Rattle.list_range_rows.specs.Ranges.{rowCovers, anyCovers, Proper}
 use Rattle.list_range_rows.proofs.Ranges.{covers-append}
 use Rattle.list_edge_rows.specs.Edges.{startEdge, endEdge}
 use Rattle.list_edge_rows.proofs.Order.{covers-start, covers-end, covers-between}
-use Rattle.list_own_ranges.specs.Own.{anySpan}
-use Rattle.list_window.specs.Window.{Lanes}
+use Rattle.list_kind_ranges.specs.Kinds.{anySpan}
+use Rattle.list_lanes.specs.Lanes.{Lanes}
 
 -- ---- the rows of a block
 

@@ -13,9 +13,10 @@ use Rattle.types.specs.declared.TransactionLocator as types
 use Rattle.final_spec.specs.NextFinal.{isAfter}
 use Rattle.list_row_sort.specs.Rows.{rowAt, rowsOf, keyOf}
 use Rattle.list_range_rows.specs.Ranges.{Proper}
-use Rattle.list_own_ranges.specs.Own.{anySpan, From}
-use Rattle.list_window.specs.Window.{Lanes}
-use Rattle.list_window.specs.declared.Window.{Window}
+use Rattle.list_reach.specs.Reach.{From}
+use Rattle.list_kind_ranges.specs.Kinds.{anySpan}
+use Rattle.list_lanes.specs.Lanes.{Lanes}
+use Rattle.list_cuts.specs.declared.Window.{Window}
 use Rattle.list_sweep.specs.Sweep.{Stands}
 use Rattle.list_sweep.specs.Step.{Passable, Passed}
 use Rattle.list_sweep.specs.declared.Sweep as sweep

@@ -1,9 +1,9 @@
 // Where a sweep over the edges begins: just after a given locator, with marks read from the store once, or at the first edge.
 use list_after::MaybeLocator;
+use list_cuts::Window;
+use list_lanes::Wanted;
 use list_sweep::Onward;
 use list_sweep::Sweep;
-use list_window::Wanted;
-use list_window::Window;
 use types::TransactionLocator;
 ghost use mathlib.Core.Path.{_≡_};
 ghost use Prim.Native.Nat.{ℕ, _≤_};
@@ -14,8 +14,8 @@ ghost use Rattle.final_block_votes.specs.Walk.{SortedStore};
 ghost use Rattle.list_after.specs.Answers.{asMaybe};
 ghost use Rattle.list_row_sort.specs.Rows.{rowsOf};
 ghost use Rattle.list_range_rows.specs.Ranges.{anyCovers};
-ghost use Rattle.list_own_ranges.specs.Own.{anySpan};
-ghost use Rattle.list_window.specs.Window.{laneRanges};
+ghost use Rattle.list_kind_ranges.specs.Kinds.{anySpan};
+ghost use Rattle.list_lanes.specs.Lanes.{laneRanges};
 ghost use Rattle.list_sweep.specs.Sweep.{MarksAt, Room};
 ghost use Rattle.list_sweep_start.specs.Begin.{ProperRows, StandsAfter, StoodAfter, Begun};
 
@@ -60,7 +60,7 @@ fn lane_says(
     requires { ⌜ SortedStore (now store) (now order) × ((3072 ≤ length (now rows)) × (3072 ≤ length (now spare))) ⌝ }
     ensures { λ r. ⌜ r ≡ anySpan (laneRanges wanted (now (store .entry)) (now (order .entry)) lane) (asLocator locator) ⌝ }
 {
-    if !list_window::wants_lane(wanted, lane) {
+    if !list_lanes::wants_lane(wanted, lane) {
         return false;
     }
     let place = lane % 1024;
@@ -68,7 +68,7 @@ fn lane_says(
         return false;
     }
     let at = order[place] as usize;
-    let kind = list_window::lane_kind(lane);
+    let kind = list_lanes::lane_kind(lane);
     let start = at + 8;
     let end = store_entries::record_end(store, at);
     let here = MaybeLocator::Locator(locator);
@@ -109,7 +109,7 @@ fn mark_lanes(
     let mut rows = [0u64; BLOCK_ROWS];
     let mut spare = [0u64; BLOCK_ROWS];
     let mut k: usize = 0;
-    while k < list_window::LANES {
+    while k < list_lanes::LANES {
         let yes = lane_says(store, order, wanted, k, locator, &mut rows, &mut spare);
         marks[k] = flag(yes);
         k += 1;
@@ -144,7 +144,7 @@ fn stand_after(
             here,
         };
     }
-    let first = list_window::row_locator(store, edges, 0);
+    let first = list_cuts::row_locator(store, edges, 0);
     if types::locator_before(here, first) {
         return Sweep {
             n,

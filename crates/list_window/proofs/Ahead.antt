@@ -27,9 +27,12 @@ use Rattle.list_range_rows.specs.Ranges.{newRow, rowRange, rowCovers, anyCovers
 use Rattle.list_edge_rows.specs.Edges.{startEdge, endEdge, edgesOf, edgesFrom, placeOf}
 use Rattle.list_edge_rows.proofs.Edges.{Edge, start-of, end-of, edge-in, start-place, end-place}
 use Rattle.list_edge_rows.proofs.Order.{in-pairs}
-use Rattle.list_own_ranges.specs.Own.{anySpan, Within}
-use Rattle.list_own_ranges.proofs.Reach.{within-after, within-less}
-use Rattle.list_window.specs.Window.{inWindow, Lanes, Gathered}
+use Rattle.list_reach.specs.Reach.{Within}
+use Rattle.list_kind_ranges.specs.Kinds.{anySpan}
+use Rattle.list_reach.proofs.Reach.{within-after, within-less}
+use Rattle.list_lanes.specs.Lanes.{Lanes}
+use Rattle.list_cuts.specs.Cuts.{inWindow}
+use Rattle.list_window.specs.Window.{Gathered}
 
 -- the locator is where one of some ranges begins, or where it ends
 pub record OfRange (qs : List TransactionLocatorRange) (l : TransactionLocator) : Type 0 where

@@ -1,34 +1,33 @@
 -- The block of an entry of the store, and the room that was made for its edges. Assumes nothing.
 use mathlib.Core.Path.{_≡_, refl, sym, ap, subst, _∙_}
-use mathlib.Core.Bool.{Bool, true, false, _&&_}
+use mathlib.Core.Bool.{true}
 use mathlib.Core.List.{List, [], append-nil}
 use mathlib.Core.Option.{Option}
-use Prim.Native.Nat.{ℕ, _+_, _-_, _*_, _%_, _≤_, _<_}
+use Prim.Native.Nat.{ℕ, _+_, _-_, _*_}
 use native.Mathlib.Omega.{arith}
-use lib.ListN.{length, getD, take, drop, length-drop}
-use borrow.Author.Tests.{lt-ltb, le-ltb}
+use lib.ListN.{length, take, drop, length-drop}
 use lib.Seq.{length-take-le}
 use Rattle.base.specs.Le.{Bytes, leAt}
-use Rattle.record_spec.specs.Reference.{TransactionLocator, TransactionLocatorRange}
+use Rattle.record_spec.specs.Reference.{TransactionLocator}
 use Rattle.record_spec.specs.Block.{Block}
 use Rattle.store_spec.specs.Entry.{blockAt, isEntry}
 use Rattle.store_spec.proofs.Loops.{entry-room, record-part}
-use Rattle.final_block_votes.specs.Walk.{blockAtPlace}
 use Rattle.list_block_spans.specs.Joined.{VotesFit}
 use Rattle.list_after.specs.Answers.{asMaybe}
-use Rattle.base.specs.Lists.{pick, anyOf}
+use Rattle.base.specs.Lists.{anyOf}
 use Rattle.base.proofs.Lists.{none-of, no-pairs}
 use Rattle.list_row_sort.specs.Rows.{Row}
 use Rattle.list_range_rows.specs.Ranges.{anyCovers}
 use Rattle.list_edge_rows.specs.Edges.{edgesOf}
-use Rattle.list_own_ranges.specs.Kinds.{kindRanges}
+use Rattle.list_kind_ranges.specs.Kinds.{kindRanges}
 use Rattle.list_own_ranges.specs.Own.{Recorded}
-use Rattle.list_own_ranges.specs.declared.RangeKind.{RangeKind}
-use Rattle.list_window.specs.Window.{laneKind, wantsLane, laneRanges, Held}
-use Rattle.list_window.specs.Step.{Shorter, RoomMade, BlockTaken, NextTaken}
-use Rattle.list_window.specs.declared.Window.{Window}
-use Rattle.list_window.specs.declared.Wanted.{Wanted}
-use Rattle.list_window.proofs.Growing.{held-more}
+use Rattle.list_kind_ranges.specs.declared.RangeKind.{RangeKind}
+use Rattle.list_cuts.specs.Cuts.{Held}
+use Rattle.list_cuts.specs.Room.{Shorter, RoomMade}
+use Rattle.list_block_edges.specs.Taken.{BlockTaken}
+use Rattle.list_window.specs.Step.{NextTaken}
+use Rattle.list_cuts.specs.declared.Window.{Window}
+use Rattle.list_block_edges.proofs.Growing.{held-more}
 
 pub recorded : (s : Bytes) (p end : ℕ) → isEntry s p ≡ true → VotesFit (blockAt s p) → end ≡ p + 8 + leAt 4 s (p + 4) → Recorded s (p + 8) (take (end - (p + 8)) (drop (p + 8) s))
 unfolding blockAt
@@ -54,9 +53,7 @@ next-more kind s b last u v x w r place more k room size t =
       };
     }
 
--- ---- a lane
-
--- one without ranges
+-- a lane without ranges
 pub lane-none : (s : Bytes) (last : Option TransactionLocator) (u : List ℕ) (w : Window) (lane : ℕ) → NextTaken s [] last u u w w lane
 unfolding anyCovers anyOf edgesOf Shorter
 lane-none s last u w lane =
@@ -69,20 +66,3 @@ lane-none s last u w lane =
         held = subst (λ (xs : List Row). Held s last (asMaybe (w .bound)) u (w .n) xs) (sym (append-nil es)) h;
       };
     }
-
-module _ (w : Wanted) (s : Bytes) (order : List ℕ) (k : ℕ) where
-  pub unwanted-lane : wantsLane w k ≡ false → laneRanges w s order k ≡ []
-  unfolding laneRanges
-  unwanted-lane h = rw h
-
-  pub lane-past : length order ≤ k % 1024 → laneRanges w s order k ≡ []
-  unfolding laneRanges
-  lane-past h = rw (le-ltb (k % 1024) (length order) h) (go (wantsLane w k))
-    where
-      go : (t : Bool) → pick (t && false) (kindRanges (laneKind k) (blockAtPlace s order (k % 1024))) [] ≡ []
-      go true = refl
-      go false = refl
-
-  pub lane-of : wantsLane w k ≡ true → k % 1024 < length order → laneRanges w s order k ≡ kindRanges (laneKind k) (blockAt s (getD order (k % 1024) 0))
-  unfolding laneRanges blockAtPlace
-  lane-of h l = rw (h, lt-ltb (k % 1024) (length order) l)

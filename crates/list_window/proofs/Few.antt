@@ -16,7 +16,7 @@ use Rattle.list_range_rows.specs.Ranges.{newRow, endsBefore, Apart, Proper}
 use Rattle.list_edge_rows.specs.Edges.{startEdge, endEdge, edgesOf, edgesFrom}
 use Rattle.list_edge_rows.proofs.Order.{start-before}
 use Rattle.list_edge_rows.proofs.Together.{keep-none}
-use Rattle.list_window.specs.Step.{rowsAt}
+use Rattle.list_cuts.specs.Room.{rowsAt}
 
 -- rows of which each is before every later one
 abbrev pub Strict : Bytes → List Row → Type 0

@@ -25,9 +25,13 @@ use Rattle.list_row_sort.proofs.Tables.{inside-permuted}
 use Rattle.list_range_rows.specs.Ranges.{Apart, Proper}
 use Rattle.list_edge_rows.specs.Edges.{edgesOf, edgesFrom}
 use Rattle.list_edge_rows.proofs.Together.{from-more, keep-keep}
-use Rattle.list_window.specs.Window.{inWindow, Lanes, OwnRows, Held, Gathering, Gathered}
-use Rattle.list_window.specs.Step.{rowsAt, FewAt, Shorter, Enterable, NextTaken}
-use Rattle.list_window.specs.declared.Window.{Window}
+use Rattle.list_lanes.specs.Lanes.{Lanes}
+use Rattle.list_cuts.specs.Cuts.{inWindow, Held}
+use Rattle.list_block_edges.specs.Taken.{OwnRows}
+use Rattle.list_window.specs.Window.{Gathering, Gathered}
+use Rattle.list_cuts.specs.Room.{rowsAt, FewAt, Shorter}
+use Rattle.list_window.specs.Step.{Enterable, NextTaken}
+use Rattle.list_cuts.specs.declared.Window.{Window}
 use Rattle.list_window.proofs.Few.{few-at}
 
 -- rows that are right up to a bound are so up to one that is not after it

@@ -24,10 +24,12 @@ use Rattle.list_edge_rows.specs.Edges.{edgesOf, edgesFrom, begins, ofPlace, rea
 use Rattle.list_edge_rows.proofs.Order.{in-pairs, LastOf, last-of}
 use Rattle.list_edge_rows.proofs.Said.{edges-say}
 use Rattle.list_edge_rows.proofs.Together.{from-place, keep-keep, keep-none}
-use Rattle.list_own_ranges.specs.Own.{anySpan}
-use Rattle.list_own_ranges.proofs.Reach.{within-after, within-last}
-use Rattle.list_window.specs.Window.{inWindow, Lanes, saidAt, Gathered}
-use Rattle.list_window.proofs.Narrowing.{narrowed}
+use Rattle.list_kind_ranges.specs.Kinds.{anySpan}
+use Rattle.list_reach.proofs.Reach.{within-after, within-last}
+use Rattle.list_lanes.specs.Lanes.{Lanes}
+use Rattle.list_cuts.specs.Cuts.{inWindow}
+use Rattle.list_window.specs.Window.{saidAt, Gathered}
+use Rattle.list_cuts.proofs.Narrowing.{narrowed}
 use Rattle.list_window.proofs.Few.{Strict, edges-strict}
 
 last-append : (t : Bool) (xs ys : List Row) → lastBegins t (xs ++ ys) ≡ lastBegins (lastBegins t xs) ys

@@ -2,11 +2,11 @@
 use committee::Stake;
 use final_readings_spec::Reading;
 use list_after::MaybeLocator;
+use list_lanes::Wanted;
 use list_readings_spec::FinalList;
-use list_stretches::Course;
-use list_stretches::NextShown;
+use list_shown::Course;
+use list_shown::NextShown;
 use list_sweep::Onward;
-use list_window::Wanted;
 use types::TransactionLocator;
 use types::TransactionLocatorRange;
 ghost use mathlib.Core.Path.{_≡_};
@@ -92,7 +92,7 @@ pub fn next_stretch(
         wanted,
         sweep,
     };
-    let next = list_stretches::next_shown(
+    let next = list_shown::next_shown(
         stakes,
         store,
         order,
@@ -119,7 +119,7 @@ pub fn next_stretch(
         wanted,
         sweep: found,
     };
-    let end = list_stretches::run_on(stakes, store, order, sets, shown, edges, marks, &certified);
+    let end = list_stretch_end::run_on(stakes, store, order, sets, shown, edges, marks, &certified);
     let first = found.here;
     let block = first.block;
     let stop = end.here.offset;

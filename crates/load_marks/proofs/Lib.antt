@@ -1,1 +1,1 @@
-pub mod Clearing
+mod Clearing

@@ -131,7 +131,7 @@ pub fn list_all(
     let mut sets = [0u64; list_include_sets::WORDS];
     list_include_sets::note_includes(store, order, &mut sets);
     let mut edges = [0u64; list_window::TABLE_WORDS];
-    let mut lanes = [0u64; list_window::LANES];
+    let mut lanes = [0u64; list_lanes::LANES];
     let mut along = load_along::at_start(total, store, order, reading, &mut edges, &mut lanes);
     let mut read = ReadUp {
         at: 0,

@@ -18,8 +18,8 @@ use Rattle.list_readings_spec.proofs.Whole.{all-in}
 use Rattle.final_block_votes.specs.Walk.{blockAtPlace}
 use Rattle.load_spec.specs.Loadable.{isLoadableIn}
 use Rattle.load_chain.specs.Chain.{shareIn, AllFinal, Chain}
-use Rattle.load_marks.specs.Marks.{markLeft, Cleared, NoneLeft}
-use Rattle.load_marks.proofs.Clearing.{left-some, left-zero}
+use Rattle.load_mark_words.specs.Marks.{markLeft, Cleared, NoneLeft}
+use Rattle.load_mark_words.proofs.Left.{left-some, left-zero}
 
 module _ (reading : Reading) (c : Committee) (s : Bytes) (x : storeInOrder c s ≡ true) (order : List ℕ) (l : TransactionLocator) (marks after : List ℕ) (chain : Chain s order l marks)
     (cleared : Cleared s order (allListed true reading c (blocksOf s)) marks after) where

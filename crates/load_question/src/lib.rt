@@ -64,7 +64,7 @@ fn by_chain(
         return false;
     }
     load_marks::clear_finals(stakes, total, store, order, reading, &mut marks);
-    load_marks::none_left(&marks, order.len())
+    load_mark_words::none_left(&marks, order.len())
 }
 
 // Whether a share is loadable. One that needs nothing is so where it is final, which takes less than the list.

@@ -8,7 +8,7 @@ use Rattle.list_block_spans.specs.Answers.{OnwardIn}
 use Rattle.list_after.specs.Answers.{asMaybe}
 use Rattle.list_own_ranges.specs.Own.{Roomy}
 use Rattle.list_own_ranges.specs.Step.{Written}
-use Rattle.list_own_ranges.proofs.Positions.{record-inside, all-later}
+use Rattle.list_own_ranges.proofs.Stored.{record-inside, all-later}
 use Rattle.list_own_ranges.proofs.Rows.{written-start, written-more}
 use Rattle.list_own_ranges.proofs.write_ranges.Statement.{statement}
 use Rattle.list_own_ranges.proofs.write_ranges.Tie as tie

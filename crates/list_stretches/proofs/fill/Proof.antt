@@ -7,10 +7,10 @@ use Rattle.base.proofs.Lists.{zeros-at}
 use Rattle.final_block_votes.proofs.Sorting.{some-committee}
 use Rattle.list_after.specs.Answers.{asMaybe}
 use Rattle.list_stretch_bytes.specs.Answers.{asStretches}
-use Rattle.list_window.specs.Window.{laneRanges}
+use Rattle.list_lanes.specs.Lanes.{laneRanges}
 use Rattle.list_sweep_start.specs.Begin.{Begun}
 use Rattle.list_stretches.specs.Listed.{FilledFrom}
-use Rattle.list_stretches.proofs.Reaching.{lent-new, begun-reaching, begun-none, shown-offset}
+use Rattle.list_shown.proofs.Reaching.{lent-new, begun-reaching, begun-none, shown-offset}
 use Rattle.list_stretches.proofs.Filling.{begun-last}
 use borrow.Author.Needs.{needs}
 use Rattle.list_stretches.proofs.fill.Statement.{statement}

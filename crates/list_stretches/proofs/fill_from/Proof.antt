@@ -5,10 +5,11 @@ use native.Mathlib.Omega.{arith}
 use lib.ListN.{length}
 use Rattle.types.specs.Values.{asLocator}
 use Rattle.list_stretch_bytes.specs.Answers.{asStretches}
-use Rattle.list_window.specs.Window.{laneRanges}
+use Rattle.list_lanes.specs.Lanes.{laneRanges}
 use Rattle.list_sweep.specs.Sweep.{Stands}
-use Rattle.list_stretches.specs.Listed.{AllAlike, NextFound, FilledFrom}
-use Rattle.list_stretches.proofs.Reaching.{lent-kept, lent-for, here-marks}
+use Rattle.list_shown.specs.Shown.{AllAlike, NextFound}
+use Rattle.list_stretches.specs.Listed.{FilledFrom}
+use Rattle.list_shown.proofs.Reaching.{lent-kept, lent-for, here-marks}
 use Rattle.list_stretches.proofs.Filling.{offset-of, Doing, doing-start, done-last, done-more, doing-more}
 use Rattle.list_stretches.proofs.fill_from.Statement.{statement}
 use Rattle.list_stretches.proofs.fill_from.Tie as tie

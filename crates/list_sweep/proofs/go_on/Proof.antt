@@ -2,7 +2,7 @@ use mathlib.Core.Path.{ap}
 use native.Mathlib.Omega.{arith}
 use Rattle.types.specs.Values.{asLocator}
 use Rattle.list_after.specs.Answers.{asMaybe}
-use Rattle.list_window.specs.Window.{laneRanges}
+use Rattle.list_lanes.specs.Lanes.{laneRanges}
 use Rattle.list_sweep.specs.Step.{Gone, Moved}
 use Rattle.list_sweep.proofs.Sweeping.{stop-ready, stop-moved, all-passed, renewed, none-whole}
 use borrow.Author.Needs.{needs}

@@ -2,7 +2,7 @@ use mathlib.Core.Path.{_∙_}
 use mathlib.Core.Option.{none}
 use native.Mathlib.Omega.{arith}
 use Rattle.list_after.specs.Answers.{asMaybe}
-use Rattle.list_window.specs.Window.{laneRanges}
+use Rattle.list_lanes.specs.Lanes.{laneRanges}
 use Rattle.list_sweep.specs.Step.{Gone}
 use Rattle.list_sweep.proofs.Sweeping.{stop-ready}
 use Rattle.list_sweep_start.specs.Begin.{Begun}

@@ -13,8 +13,9 @@ use Rattle.final_block_votes.proofs.Sorting.{place-entry, place-stored}
 use Rattle.list_block_spans.proofs.Fits.{votes-fit}
 use Rattle.list_after.specs.Answers.{asMaybe}
 use Rattle.list_own_ranges.specs.Own.{Roomy}
-use Rattle.list_own_ranges.proofs.Reach.{within-own}
-use Rattle.list_window.proofs.Entering.{recorded, unwanted-lane, lane-past, lane-of}
+use Rattle.list_reach.proofs.Reach.{within-own}
+use Rattle.list_lanes.proofs.Lanes.{unwanted-lane, lane-past, lane-of}
+use Rattle.list_window.proofs.Entering.{recorded}
 use borrow.Author.Needs.{needs}
 use Rattle.list_sweep_start.proofs.lane_says.Statement.{statement}
 use Rattle.list_sweep_start.proofs.lane_says.Tie as tie

@@ -4,7 +4,7 @@ use mathlib.Core.Path.{_≡_, refl, sym, _∙_}
 use native.Mathlib.Omega.{arith}
 use lib.ListN.{length, length-set}
 use Rattle.types.specs.Values.{asLocator}
-use Rattle.list_window.specs.Window.{laneRanges}
+use Rattle.list_lanes.specs.Lanes.{laneRanges}
 use Rattle.list_sweep.specs.Sweep.{MarksAt}
 use Rattle.list_sweep_start.proofs.Covering.{MarkedBelow, marked-more}
 use Rattle.list_sweep_start.proofs.mark_lanes.Statement.{statement}

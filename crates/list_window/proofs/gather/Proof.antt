@@ -5,9 +5,11 @@ use lib.ListN.{length}
 use borrow.Author.Needs.{needs}
 use Rattle.base.proofs.Le.{bytes-of}
 use Rattle.list_after.specs.Answers.{asMaybe}
-use Rattle.list_window.specs.Window.{laneRanges, Gathering}
+use Rattle.list_lanes.specs.Lanes.{laneRanges}
+use Rattle.list_window.specs.Window.{Gathering}
 use Rattle.list_window.specs.Step.{NextTaken}
-use Rattle.list_window.proofs.Entering.{lane-none, lane-past}
+use Rattle.list_lanes.proofs.Lanes.{lane-past}
+use Rattle.list_window.proofs.Entering.{lane-none}
 use Rattle.list_window.proofs.Gathering.{gathering-start, gathering-more, enterable, gathered}
 use Rattle.list_window.proofs.gather.Statement.{statement}
 use Rattle.list_window.proofs.gather.Tie as tie

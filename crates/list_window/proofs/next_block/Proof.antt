@@ -4,7 +4,7 @@ use native.Mathlib.Omega.{arith}
 use Rattle.store_spec.specs.Entry.{blockAt}
 use Rattle.store_spec.proofs.Loops.{entry-room, record-part}
 use Rattle.list_after.specs.Answers.{asMaybe}
-use Rattle.list_window.specs.Window.{laneKind}
+use Rattle.list_lanes.specs.Lanes.{laneKind}
 use Rattle.list_window.proofs.Entering.{recorded, next-more}
 use borrow.Author.Needs.{needs}
 use Rattle.list_window.proofs.next_block.Statement.{statement}

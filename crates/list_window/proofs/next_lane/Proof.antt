@@ -1,7 +1,8 @@
 use mathlib.Core.Path.{sym, _∙_}
 use borrow.Author.Tests.{not-true, not-false}
 use Rattle.list_after.specs.Answers.{asMaybe}
-use Rattle.list_window.proofs.Entering.{lane-none, unwanted-lane, lane-of}
+use Rattle.list_lanes.proofs.Lanes.{unwanted-lane, lane-of}
+use Rattle.list_window.proofs.Entering.{lane-none}
 use borrow.Author.Needs.{needs}
 use Rattle.list_window.proofs.next_lane.Statement.{statement}
 use Rattle.list_window.proofs.next_lane.Tie as tie

@@ -3,7 +3,7 @@ use native.Mathlib.Omega.{arith}
 use Rattle.base.proofs.Le.{bytes-of}
 use Rattle.list_readings_spec.specs.Answers.{isOrdinary}
 use Rattle.list_after.specs.Answers.{asMaybe}
-use Rattle.list_stretches.proofs.Reaching.{lent-for}
+use Rattle.list_shown.proofs.Reaching.{lent-for}
 use Rattle.load_along.specs.Along.{tables}
 use Rattle.load_along.proofs.Sweeping.{begun-held}
 use borrow.Author.Needs.{needs}

@@ -3,9 +3,9 @@ use native.Mathlib.Omega.{arith}
 use Rattle.types.specs.Values.{asLocator, asRange}
 use Rattle.record_spec.specs.Reference.{locator, newRange}
 use Rattle.list_after.specs.Answers.{asMaybe}
-use Rattle.list_window.specs.Window.{laneRanges}
-use Rattle.list_stretches.specs.Listed.{AllAlike, NextFound}
-use Rattle.list_stretches.proofs.Reaching.{here-marks, lent-for}
+use Rattle.list_lanes.specs.Lanes.{laneRanges}
+use Rattle.list_shown.specs.Shown.{AllAlike, NextFound}
+use Rattle.list_shown.proofs.Reaching.{here-marks, lent-for}
 use Rattle.load_along.specs.Along.{tables, HeldAt}
 use Rattle.load_along.proofs.Sweeping.{held-at, held-end, found-ended, ends-later, reaching-on, found-stretch}
 use borrow.Author.Needs.{needs}

@@ -10,11 +10,12 @@ use Rattle.types.specs.Values.{asRange}
 use Rattle.final_readings_spec.specs.Answers.{asReading}
 use Rattle.list_after.specs.Answers.{asMaybe}
 use Rattle.final_block_votes.proofs.Sorting.{some-committee}
-use Rattle.list_stretches.proofs.Reaching.{lent-new}
+use Rattle.list_shown.proofs.Reaching.{lent-new}
 use Rattle.load_along.specs.Along.{tables, Found}
 use Rattle.load_along.specs.declared.Ahead.{Ahead}
 use Rattle.load_along.proofs.Going.{leftAfter, passing-start, passing-next, passing-less}
-use Rattle.load_marks.proofs.Clearing.{stretch-stored, cleared-none, cleared-more, Clearing, clearing-end}
+use Rattle.load_mark_words.proofs.Left.{cleared-none, cleared-more}
+use Rattle.load_marks.proofs.Clearing.{stretch-stored, Clearing, clearing-end}
 use Rattle.load_marks.proofs.clear_finals.Statement.{statement}
 use Rattle.load_marks.proofs.clear_finals.Tie as tie
 

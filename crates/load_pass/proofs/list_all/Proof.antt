@@ -8,7 +8,7 @@ use Rattle.base.proofs.Lists.{zeros-at}
 use Rattle.final_readings_spec.specs.Answers.{asReading}
 use Rattle.list_after.specs.Answers.{asMaybe}
 use Rattle.final_block_votes.proofs.Sorting.{some-committee}
-use Rattle.list_stretches.proofs.Reaching.{lent-new}
+use Rattle.list_shown.proofs.Reaching.{lent-new}
 use Rattle.load_along.specs.Along.{tables, Found}
 use Rattle.load_along.specs.declared.Ahead.{Ahead}
 use Rattle.load_along.proofs.Going.{leftAfter, passing-less}

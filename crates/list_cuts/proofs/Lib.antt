@@ -1,0 +1,3 @@
+mod Cutting
+pub mod Narrowing
+mod Room

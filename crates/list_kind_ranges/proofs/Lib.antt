@@ -1,0 +1,3 @@
+mod Positions
+pub mod Sharing
+mod Next
