@@ -12,8 +12,8 @@ use Rattle.record_spec.specs.Reference.{TransactionLocator}
 use Rattle.index_spec.specs.Runs.{Run, votersIn}
 use Rattle.index_spec.specs.Walk.{Past, Place, anywhere, beyond, At, runsFrom}
 use Rattle.index_spec.proofs.Chain.{Anything, Chain}
-use Rattle.index_merge.specs.Sources.{cursorAt, cursorLeft, source, namedBy, Ready, Moved}
-use Rattle.index_merge.proofs.Cursors.{at-same, left-same, at-other, left-other, source-same, source-other}
+use Rattle.index_pieces.specs.Sources.{cursorAt, cursorLeft, source, namedBy, Ready, Moved}
+use Rattle.index_pieces.proofs.Cursors.{at-same, left-same, at-other, left-other, source-same, source-other}
 use Rattle.index_meeting.specs.Step.{Meets, MetBy}
 use Rattle.index_meeting.proofs.One.{meets-none, meets-both}
 

@@ -19,7 +19,7 @@ use Rattle.types.proofs.Words.{compared-equal}
 use Rattle.index_spec.specs.Runs.{Run, votersIn, touches}
 use Rattle.index_spec.specs.Walk.{Past, byBlock, byOffset, Place, anywhere, beyond, At, NextRun, digestOf, runFrom, runsFrom}
 use Rattle.index_spec.proofs.Chain.{past-trans, touching, touched, Covered, Anything, Chain, end, link, past-head, chain-from, nobody-before, at-head, passed-out}
-use Rattle.index_merge.proofs.Cursors.{next}
+use Rattle.index_pieces.proofs.Cursors.{next}
 use Rattle.index_meeting.specs.Step.{SameOffsets, afterVotes, Meets, MetBy, NextIf}
 
 -- ---- words

@@ -9,7 +9,7 @@ use Rattle.record_spec.specs.Reference.{TransactionLocator, locator}
 use Rattle.index_spec.specs.Runs.{Run, votersIn, touches}
 use Rattle.index_spec.specs.Walk.{Past, Place, anywhere, beyond, At, NextRun, runsFrom}
 use Rattle.index_spec.proofs.Chain.{Anything, Chain}
-use Rattle.index_merge.specs.Sources.{namedBy, Moved, together}
+use Rattle.index_pieces.specs.Sources.{namedBy, Moved, together}
 use Rattle.index_meeting.specs.declared.Meeting.{Meeting}
 use Rattle.index_meeting.specs.declared.Meeting.the-variants.{Met, Across}
 use Rattle.index_meeting.specs.declared.Voters.{Voters}

@@ -10,7 +10,7 @@ ghost use lib.ListN.{length, drop};
 ghost use Rattle.index_spec.specs.Runs.{sameVoters};
 ghost use Rattle.index_spec.specs.Walk.{runFrom, runsFrom};
 ghost use Rattle.index_runs.specs.Values.{asRun, asPlace};
-ghost use Rattle.index_merge.specs.Sources.{Ready};
+ghost use Rattle.index_pieces.specs.Sources.{Ready};
 ghost use Rattle.index_meeting.specs.Step.{SameOffsets, afterVotes, SourceMet, MetAll, NextIf, Passed};
 
 // A source's cursor past a run, whom it names at the offsets of the run, and whom at its end.

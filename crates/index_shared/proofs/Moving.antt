@@ -6,7 +6,7 @@ use native.Mathlib.Omega.{arith}
 use native.Mathlib.Decide.{decLt}
 use lib.ListN.{length, getD, set, length-set}
 use lib.Seq.{getD-set-same, getD-set-other}
-use Rattle.index_merge.specs.Sources.{cursorAt, cursorLeft}
+use Rattle.index_pieces.specs.Sources.{cursorAt, cursorLeft}
 use Rattle.index_shared.specs.Shared.{movedAt, Movable, MovedBy}
 
 -- the first j cursors were moved on

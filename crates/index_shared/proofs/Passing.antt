@@ -15,8 +15,8 @@ use Rattle.index_spec.specs.Runs.{Run, votersIn}
 use Rattle.index_spec.specs.Walk.{Past, Place, anywhere, beyond, At, runFrom, runsFrom}
 use Rattle.index_spec.proofs.Chain.{past-trans, touched, Chain, end, link, Anything, Differs, no-next, other, nobody-before}
 use Rattle.index_runs.specs.Values.{asPlace}
-use Rattle.index_merge.specs.Sources.{cursorAt, cursorLeft, source, namedBy, Ready, Moved, together}
-use Rattle.index_merge.proofs.Cursors.{next}
+use Rattle.index_pieces.specs.Sources.{cursorAt, cursorLeft, source, namedBy, Ready, Moved, together}
+use Rattle.index_pieces.proofs.Cursors.{next}
 use Rattle.index_shared.specs.Shared.{HasRun, ended, there, HasRuns, over, alike, AllHave, Shared, GoesOn, Apart, OwnPast, spent, later, Leads, movedAt, MovedBy, Nexts, here, after, RunsPassed, SpotAfter}
 use Rattle.index_shared.specs.declared.Spot.{Spot}
 use Rattle.index_shared.proofs.Chains.{chain-rest, cut-names, names-after, nexts}

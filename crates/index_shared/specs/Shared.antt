@@ -9,7 +9,7 @@ use Rattle.record_spec.specs.Reference.{TransactionLocator}
 use Rattle.index_spec.specs.Runs.{Run}
 use Rattle.index_spec.specs.Walk.{Past, Place, beyond, NextRun, runFrom, runsFrom}
 use Rattle.index_runs.specs.Values.{asPlace}
-use Rattle.index_merge.specs.Sources.{cursorAt, cursorLeft, Moved, together}
+use Rattle.index_pieces.specs.Sources.{cursorAt, cursorLeft, Moved, together}
 use Rattle.index_shared.specs.declared.Spot.{Spot}
 use Rattle.index_shared.specs.declared.Common.{Common}
 

@@ -7,7 +7,7 @@ ghost use Prim.Native.Nat.{_+_, _-_, _*_, _≤_, _<_};
 ghost use lib.ListN.{length, drop};
 ghost use Rattle.index_spec.specs.Walk.{runFrom};
 ghost use Rattle.index_runs.specs.Values.{asRun, asPlace};
-ghost use Rattle.index_merge.specs.Sources.{Ready};
+ghost use Rattle.index_pieces.specs.Sources.{Ready};
 ghost use Rattle.index_shared.specs.Shared.{HasRun, AllHave, Shared, GoesOn, Apart, OwnPast, Leads, movedAt, Movable, MovedBy, RunsPassed, SpotAfter, CommonPassed};
 
 // How many runs are passed at a time: what is compared in vain, and what is halved, stays short.

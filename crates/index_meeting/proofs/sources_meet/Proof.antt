@@ -3,7 +3,7 @@ use Prim.Native.Nat.{ℕ, _+_, _-_, _*_, _≤_, _<_}
 use lib.ListN.{length, getD, drop, set, length-set}
 use Rattle.committee_set.specs.AuthoritySet.{AuthoritySet, nobody, united}
 use Rattle.index_spec.specs.Walk.{runFrom}
-use Rattle.index_merge.specs.Sources.{cursorAt, cursorLeft, source}
+use Rattle.index_pieces.specs.Sources.{cursorAt, cursorLeft, source}
 use Rattle.index_meeting.specs.Step.{SourceMet, MetAll}
 use Rattle.index_meeting.specs.declared.Meeting.{Meeting}
 use Rattle.index_meeting.proofs.Moving.{Going, going-start, going-on, going-end}

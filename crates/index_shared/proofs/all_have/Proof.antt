@@ -2,7 +2,7 @@ use mathlib.Core.Path.{refl}
 use Prim.Native.Nat.{_-_}
 use borrow.Author.Tests.{not-false}
 use Rattle.base.proofs.Tests.{not-both}
-use Rattle.index_merge.specs.Sources.{cursorAt, cursorLeft}
+use Rattle.index_pieces.specs.Sources.{cursorAt, cursorLeft}
 use Rattle.index_shared.specs.Shared.{AllHave}
 use Rattle.index_shared.proofs.Passing.{have-start, have-on, have-end}
 use borrow.Author.Needs.{needs}

@@ -1,5 +1,5 @@
 use Prim.Native.Nat.{_-_, _<_}
-use Rattle.index_merge.specs.Sources.{cursorLeft}
+use Rattle.index_pieces.specs.Sources.{cursorLeft}
 use Rattle.index_shared.specs.Shared.{Leads}
 use borrow.Author.Needs.{needs}
 use native.Mathlib.Omega.{arith}

@@ -1,5 +1,5 @@
 use native.Mathlib.Omega.{arith}
-use Rattle.index_merge.specs.Sources.{cursorAt, cursorLeft}
+use Rattle.index_pieces.specs.Sources.{cursorAt, cursorLeft}
 use borrow.Author.Needs.{needs}
 use Rattle.index_shared.proofs.own_limit.Statement.{statement}
 use Rattle.index_shared.proofs.own_limit.Tie as tie

@@ -1,5 +1,5 @@
 use Rattle.index_runs.specs.Values.{asRun}
-use Rattle.index_merge.specs.Sources.{cursorAt, cursorLeft}
+use Rattle.index_pieces.specs.Sources.{cursorAt, cursorLeft}
 use Rattle.index_shared.specs.Shared.{spent, later}
 use Rattle.index_shared.proofs.Passing.{past-read}
 use native.Mathlib.Omega.{arith}

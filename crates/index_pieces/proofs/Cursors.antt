@@ -14,9 +14,9 @@ use Rattle.record_spec.specs.Reference.{TransactionLocator}
 use Rattle.index_spec.specs.Runs.{Run, votersIn}
 use Rattle.index_spec.specs.Walk.{Place, anywhere, At, runFrom, runsFrom}
 use Rattle.index_spec.proofs.Chain.{Anything, Chain}
 use Rattle.index_pieces.specs.Pieces.{PieceOr, fromPlace, both, orElse, firstPiece, keptIf, skipped}
 use Rattle.index_pieces.proofs.Pieces.{pieces-same, both-pieces, first-piece, skipped-chain, skipped-names}
-use Rattle.index_merge.specs.Sources.{cursorAt, cursorLeft, source, namedBy, Ready, Moved}
+use Rattle.index_pieces.specs.Sources.{cursorAt, cursorLeft, source, namedBy, Ready, Moved}
 
 -- ---- one source
 

@@ -1,10 +1,10 @@
 use mathlib.Core.Path.{refl, sym}
 use Rattle.index_spec.specs.Runs.{run}
 use Rattle.index_runs.specs.Values.{asRun, asMaybe, asPlace}
-use Rattle.index_parts.proofs.Striding.{strode-one, strode-more}
+use Rattle.index_strides.proofs.Striding.{strode-one, strode-more}
 use borrow.Author.Needs.{needs}
-use Rattle.index_parts.proofs.next_stride.Statement.{statement}
-use Rattle.index_parts.proofs.next_stride.Tie as tie
+use Rattle.index_strides.proofs.next_stride.Statement.{statement}
+use Rattle.index_strides.proofs.next_stride.Tie as tie
 
 whole-run-requires : tie.Need-whole-run-requires
 whole-run-requires c κs = search needs

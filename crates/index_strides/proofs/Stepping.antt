@@ -1,28 +1,22 @@
 -- The runs of a part found one after the other: what is known after k of them. Assumes nothing.
 use mathlib.Core.Path.{_≡_, refl, sym, ap, subst, _∙_}
-use mathlib.Core.Bool.{true, false}
 use mathlib.Core.List.{List, [], _∷_, _++_}
 use mathlib.Core.Option.{Option, none, some}
 use Prim.Native.Nat.{ℕ, _+_, _≤_, _<_}
 use native.Mathlib.Omega.{arith}
 use lib.ListN.{length, drop, length-drop}
 use lib.Seq.{drop-drop}
-use Rattle.base.proofs.Tests.{not-both}
 use Rattle.committee_set.specs.AuthoritySet.{AuthoritySet, united}
 use Rattle.record_spec.specs.Reference.{TransactionLocator, locator}
 use Rattle.index_spec.specs.Runs.{Run}
 use Rattle.index_spec.specs.Part.{RunsOf}
-use Rattle.index_spec.specs.Index.{runWords}
 use Rattle.index_spec.specs.Walk.{Place, anywhere, beyond, At, NextRun, Unfolded, done, more}
 use Rattle.index_spec.proofs.Relation.{runs-chain, runs-told, chain-runs}
 use Rattle.index_pieces.specs.Pieces.{NobodyFrom, Piece, PieceOr}
 use Rattle.index_pieces.proofs.Pieces.{at-later, at-beyond, pieces-same}
-use Rattle.index_runs.specs.Values.{startsWith}
-use Rattle.index_merge.specs.Sources.{namedBy, Ready, Moved, together, Merging, GrownFrom}
-use Rattle.index_meeting.specs.Step.{Passed}
+use Rattle.index_pieces.specs.Sources.{namedBy, Ready, Moved, together}
 use Rattle.index_shared.specs.Shared.{Nexts, here, onward}
-use Rattle.index_parts.specs.Parts.{RunPassed}
-use Rattle.index_parts.proofs.Unfolded.{runs-unfolded, none-left, one-next, First, next-first}
+use Rattle.index_strides.proofs.Unfolded.{runs-unfolded, none-left, First, next-first}
 
 pub record Left (f : TransactionLocator → AuthoritySet) (p : Place) (k : ℕ) (xs : List Run) : Type 0 where
   pub few : k ≤ length xs
@@ -122,37 +116,11 @@ module _ {f : TransactionLocator → AuthoritySet} where
         are = next-left p k x xs n l .are ∙ ap (λ (zs : List Run). x ∷ zs) (t .are ∙ ap (λ (m : ℕ). ys ++ drop m xs) e);
       }
 
--- ---- one run passed
+-- ---- cursors moved
 
 module _ (own ms ix : List ℕ) (n : ℕ) (cs : List ℕ) (p : Place) where
   abbrev g : TransactionLocator → AuthoritySet
   g = together own ms ix cs n
-
-  -- without a merge
-  pub met-passed : (ms′ cs′ : List ℕ) (x : Run) → Passed own ms ms′ ix n cs cs′ p x → RunPassed own ms ms′ ix n cs cs′ p x
-  unfolding together
-  met-passed ms′ cs′ x w =
-      record {
-        next = w .next;
-        long = w .parts .long;
-        ownLong = w .mine .long;
-        ready = w .parts .ready;
-        ownReady = w .mine .ready;
-        told = λ l a. ap (λ (v : AuthoritySet). united v (namedBy ix cs′ n l)) (w .mine .names l a) ∙ ap (united (namedBy own ms 1 l)) (w .parts .names l a);
-      }
-
-  -- from its first piece on
-  pub grown-passed : (ms′ cs′ : List ℕ) (first x : Run) (next : Option Run) → Piece g p first → GrownFrom own ms ms′ ix n cs cs′ first x next → RunPassed
-      own ms ms′ ix n cs cs′ p x
-  grown-passed ms′ cs′ first x next c w =
-      record {
-        next = w .run g p (record { told = λ l a. refl }) c;
-        long = w .long;
-        ownLong = w .ownLong;
-        ready = w .ready;
-        ownReady = w .ownReady;
-        told = λ l a. w .merging g (record { told = λ m b. refl }) .told l a;
-      }
 
   module _ (ms₁ cs₁ : List ℕ) (m : Moved ix n p cs cs₁) (w : Moved own 1 p ms ms₁) where
     pub moved-names : (l : TransactionLocator) → At p (l .block) (l .offset) → together own ms₁ ix cs₁ n l ≡ g l
@@ -161,30 +129,6 @@ module _ (own ms ix : List ℕ) (n : ℕ) (cs : List ℕ) (p : Place) where
 
     pub moved-piece : (o : Option Run) → PieceOr g p o → PieceOr (together own ms₁ ix cs₁ n) p o
     moved-piece o d = pieces-same g (together own ms₁ ix cs₁ n) p o (λ l a. sym (moved-names l a)) d
-
-    -- after the cursors were moved
-    pub moved-passed : (ms₂ cs₂ : List ℕ) (x : Run) → RunPassed own ms₁ ms₂ ix n cs₁ cs₂ p x → RunPassed own ms ms₂ ix n cs cs₂ p x
-    moved-passed ms₂ cs₂ x r =
-        record {
-          next = next-same (together own ms₁ ix cs₁ n) g p x moved-names (r .next);
-          long = r .long ∙ m .long;
-          ownLong = r .ownLong ∙ w .long;
-          ready = r .ready;
-          ownReady = r .ownReady;
-          told = λ l a. r .told l a ∙ moved-names l
-              (at-beyond p (x .reference) (x .start) (x .end) (r .next .there) (omega (arith, r .next .stretch .full)) (l .block) (l .offset) a);
-        }
-
-  -- nobody is named any more: there is no next run
-  pub none-next : (o : Option Run) → PieceOr g p o → o ≡ none → (y : Run) → NextRun g p y → ⊥
-  unfolding PieceOr NobodyFrom locator
-  none-next o d e y k =
-      let h : NobodyFrom g p = subst (PieceOr g p) e d in
-      k .stretch .voted (sym (k .stretch .told (y .start) (omega arith) (k .stretch .full)) ∙ h (locator (y .reference) (y .start)) (k .there))
-
-  -- another run stands there
-  pub other-next : (x y : Run) (ws : List ℕ) → NextRun g p x → startsWith (runWords x) ws ≡ false → NextRun g p y → startsWith (runWords y) ws ≡ true → ⊥
-  other-next x y ws k e m d = not-both d (ap (λ (z : Run). startsWith (runWords z) ws) (sym (one-next p x y k m)) ∙ e)
 
 -- ---- all of them
 

@@ -13,13 +13,13 @@ use Rattle.index_spec.specs.Walk.{anywhere, runsFrom}
 use Rattle.index_spec.proofs.Reading.{part-length}
 use Rattle.index_pieces.specs.Pieces.{PieceOr}
 use Rattle.index_runs.specs.Values.{asRun, asMaybe}
-use Rattle.index_merge.specs.Sources.{Moved, together}
-use Rattle.index_parts.specs.Parts.{strideRuns, Strode}
-use Rattle.index_parts.specs.declared.Stride.{Stride}
-use Rattle.index_parts.proofs.Words.{runsWords, runs-take}
-use Rattle.index_parts.proofs.Writing.{take-sets, Written, written-start, written-over, part-written}
-use Rattle.index_parts.proofs.Stepping.{Stepping, stepping-first, runs-moved, standing-none}
-use Rattle.index_parts.proofs.Striding.{stride-length, stride-left, stride-are, stepping-over}
+use Rattle.index_pieces.specs.Sources.{Moved, together}
+use Rattle.index_strides.specs.Strides.{strideRuns, Strode}
+use Rattle.index_strides.specs.declared.Stride.{Stride}
+use Rattle.index_strides.proofs.Words.{runsWords, runs-take}
+use Rattle.index_strides.proofs.Writing.{take-sets, Written, written-start, written-over, part-written}
+use Rattle.index_strides.proofs.Stepping.{Stepping, stepping-first, runs-moved, standing-none}
+use Rattle.index_strides.proofs.Striding.{stride-length, stride-left, stride-are, stepping-over}
 
 -- the first k runs stand behind the used words and the run count, of so many in all
 pub record Appending (own ms₀ ms l₀ l : List ℕ) (used count n : ℕ) (cs₀ cs : List ℕ) (next : Option Run) (k : ℕ) : Type 0 where

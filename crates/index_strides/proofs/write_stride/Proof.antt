@@ -5,11 +5,11 @@ use native.Mathlib.Omega.{arith}
 use lib.ListN.{take, drop}
 use lib.Seq.{sets}
 use Rattle.index_runs.specs.Values.{asRun}
-use Rattle.index_parts.specs.Parts.{strideRuns}
-use Rattle.index_parts.proofs.Writing.{copied}
+use Rattle.index_strides.specs.Strides.{strideRuns}
+use Rattle.index_strides.proofs.Writing.{copied}
 use borrow.Author.Needs.{needs}
-use Rattle.index_parts.proofs.write_stride.Statement.{statement}
-use Rattle.index_parts.proofs.write_stride.Tie as tie
+use Rattle.index_strides.proofs.write_stride.Statement.{statement}
+use Rattle.index_strides.proofs.write_stride.Tie as tie
 
 write-run-requires : tie.Need-write-run-requires
 write-run-requires c κs = search needs

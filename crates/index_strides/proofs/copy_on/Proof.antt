@@ -6,8 +6,8 @@ use lib.ListN.{length, getD, take, drop, set, length-drop}
 use lib.Seq.{sets, length-sets, getD-drop}
 use borrow.Author.Needs.{needs}
 use Rattle.base.proofs.Le.{sets-next, getD-sets-below}
-use Rattle.index_parts.proofs.copy_on.Statement.{statement}
-use Rattle.index_parts.proofs.copy_on.Tie as tie
+use Rattle.index_strides.proofs.copy_on.Statement.{statement}
+use Rattle.index_strides.proofs.copy_on.Tie as tie
 
 abbrev Inv-loop : tie.InvT-loop
 Inv-loop index₀ from to count i₀ index i = (i ≤ count) × (index ≡ sets index₀ to (take i (drop from index₀)))

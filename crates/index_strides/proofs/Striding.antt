@@ -14,12 +14,12 @@ use Rattle.index_spec.proofs.Reading.{length-runs}
 use Rattle.index_pieces.specs.Pieces.{PieceOr}
 use Rattle.index_pieces.proofs.Pieces.{pieces-same}
 use Rattle.index_runs.specs.Values.{asRun, asMaybe, asPlace}
-use Rattle.index_merge.specs.Sources.{namedBy, Moved, together, Merging, GrownFrom}
+use Rattle.index_pieces.specs.Sources.{namedBy, Moved, together, Merging, GrownFrom}
 use Rattle.index_shared.specs.Shared.{Nexts, onward, after, CommonPassed}
 use Rattle.index_shared.specs.declared.Common.{Common}
-use Rattle.index_parts.specs.Parts.{strideRuns, Strode}
-use Rattle.index_parts.specs.declared.Stride.{Stride}
-use Rattle.index_parts.proofs.Stepping.{Left, Stepping, nexts-at, nexts-same, Begun, begun, moved-names, moved-piece}
+use Rattle.index_strides.specs.Strides.{strideRuns, Strode}
+use Rattle.index_strides.specs.declared.Stride.{Stride}
+use Rattle.index_strides.proofs.Stepping.{Left, Stepping, nexts-at, nexts-same, Begun, begun, moved-names, moved-piece}
 
 -- ---- made
 

@@ -11,7 +11,7 @@ use Rattle.index_spec.specs.Runs.{Run}
 use Rattle.index_spec.specs.Index.{runWords, partWords}
 use Rattle.index_spec.specs.Walk.{runsFrom}
 use Rattle.index_spec.proofs.Reading.{length-run, runs-length}
-use Rattle.index_parts.proofs.Words.{runsWords, words-append, take-over, runs-words}
+use Rattle.index_strides.proofs.Words.{runsWords, words-append, take-over, runs-words}
 
 -- words written past the first n leave these
 pub take-sets : (n : ℕ) (l vs : List ℕ) (i : ℕ) → n ≤ i → take n (sets l i vs) ≡ take n l

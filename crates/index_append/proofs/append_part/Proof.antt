@@ -5,11 +5,11 @@ use native.Mathlib.Omega.{arith}
 use lib.ListN.{set, length-set}
 use lib.Seq.{take-set-le, length-take-le}
 use Rattle.index_runs.specs.Values.{asRun, asMaybe, asPlace}
-use Rattle.index_merge.specs.Sources.{Ready}
-use Rattle.index_parts.proofs.Appending.{Appending, appending-start, runs-same, appending-none, appending-few, appending-on, appending-end}
+use Rattle.index_pieces.specs.Sources.{Ready}
+use Rattle.index_append.proofs.Appending.{Appending, appending-start, runs-same, appending-none, appending-few, appending-on, appending-end}
 use borrow.Author.Needs.{needs}
-use Rattle.index_parts.proofs.append_part.Statement.{statement}
-use Rattle.index_parts.proofs.append_part.Tie as tie
+use Rattle.index_append.proofs.append_part.Statement.{statement}
+use Rattle.index_append.proofs.append_part.Tie as tie
 
 abbrev Inv-loop : tie.InvT-loop
 Inv-loop index₀ used cursors₀ n own mine₀ count next₀ k₀ index cursors mine next k = Appending own mine₀ mine index₀ index used count n cursors₀ cursors
