@@ -1,2 +1,2 @@
-mod One
+mod Together
 mod Moving

@@ -14,8 +14,8 @@ use Rattle.index_spec.specs.Walk.{Past, Place, anywhere, beyond, At, runsFrom}
 use Rattle.index_spec.proofs.Chain.{Anything, Chain}
 use Rattle.index_pieces.specs.Sources.{cursorAt, cursorLeft, source, namedBy, Ready, Moved}
 use Rattle.index_pieces.proofs.Cursors.{at-same, left-same, at-other, left-other, source-same, source-other}
-use Rattle.index_meeting.specs.Step.{Meets, MetBy}
-use Rattle.index_meeting.proofs.One.{meets-none, meets-both}
+use Rattle.index_source_meeting.specs.Source.{Meets, MetBy}
+use Rattle.index_meeting.proofs.Together.{meets-none, meets-both}
 
 -- the first k sources meet a run, and these are their cursors past it
 pub record Going (x : Run) (ws cs₀ cs : List ℕ) (k : ℕ) (votes after : AuthoritySet) : Type 0 where

@@ -17,10 +17,14 @@ use Rattle.index_spec.proofs.Chain.{past-trans, touched, Chain, end, link, Anyt
 use Rattle.index_runs.specs.Values.{asPlace}
 use Rattle.index_pieces.specs.Sources.{cursorAt, cursorLeft, source, namedBy, Ready, Moved, together}
 use Rattle.index_pieces.proofs.Cursors.{next}
-use Rattle.index_shared.specs.Shared.{HasRun, ended, there, HasRuns, over, alike, AllHave, Shared, GoesOn, Apart, OwnPast, spent, later, Leads, movedAt, MovedBy, Nexts, here, after, RunsPassed, SpotAfter}
+use Rattle.index_alike.specs.Alike.{HasRuns, over, alike, Shared}
+use Rattle.index_run_order.specs.Apart.{GoesOn, Apart}
+use Rattle.index_own_past.specs.Own.{OwnPast, spent, later}
+use Rattle.index_cursors.specs.Cursors.{Leads, movedAt, MovedBy}
+use Rattle.index_shared.specs.Shared.{Nexts, here, after, RunsPassed, SpotAfter}
 use Rattle.index_shared.specs.declared.Spot.{Spot}
 use Rattle.index_shared.proofs.Chains.{chain-rest, cut-names, names-after, nexts}
-use Rattle.index_shared.proofs.Words.{runs-split, runs-last, runs-fewer}
+use Rattle.index_alike.proofs.Alike.{runs-split, runs-last, runs-fewer, shared-fewer}
 use Rattle.index_shared.proofs.Named.{Says, one-named}
 
 -- ---- chains of runs in words
@@ -64,54 +68,6 @@ chain-apart (suc (suc m)) ix pos q (link a g d h) =
         other (λ t v.
         first (touched (runFrom (drop pos ix)) (runFrom (drop 10 (drop pos ix))) t .1 ∙ ap (λ (ws : List ℕ). runFrom ws .start) (drop-drop 10 pos ix))
         (v ∙ ap (λ (ws : List ℕ). runFrom ws .votes) (drop-drop 10 pos ix)))
-
--- ---- runs shared one after the other
-
-pub shared-start : (ix cs : List ℕ) (n pos : ℕ) → Shared ix cs n pos 0
-unfolding Shared runsFrom
-shared-start ix cs n pos j h = alike (omega arith) refl
-
-module _ (ix : List ℕ) (pos at left : ℕ) where
-  runs-on : (k : ℕ) → HasRuns ix pos k at left → HasRun ix (pos + 10 * k) k at left → HasRuns ix pos (k + 1) at left
-  runs-on k h (ended e) = over e
-  runs-on k (over e) (there m f) = over e
-  runs-on k (alike l e) (there m f) =
-      alike (omega arith)
-      (runs-last k ix pos
-      ∙ ap (λ (xs : List Run). xs ++ runFrom (drop (pos + 10 * k) ix) ∷ []) e
-      ∙ ap (λ (x : Run). runsFrom k (drop at ix) ++ x ∷ []) f
-      ∙ sym (runs-last k ix at))
-
-  fewer-runs : (k m : ℕ) → k ≤ m → HasRuns ix pos m at left → HasRuns ix pos k at left
-  fewer-runs k m h (over e) = over e
-  fewer-runs k m h (alike l e) = alike (omega arith) (runs-fewer k m (drop pos ix) (drop at ix) h e)
-
--- one source more has a run
-module _ (ix cs : List ℕ) (pos k : ℕ) where
-  pub have-start : AllHave ix cs 0 pos k
-  unfolding AllHave
-  have-start j h = absurd (omega arith)
-
-  pub have-on : (n : ℕ) → AllHave ix cs n pos k → HasRun ix pos k (cursorAt cs n) (cursorLeft cs n) → AllHave ix cs (n + 1) pos k
-  unfolding AllHave
-  have-on n s h j i = go (decLt j n)
-    where
-      go : Dec (j < n) → HasRun ix pos k (cursorAt cs j) (cursorLeft cs j)
-      go (yes m) = s j m
-      go (no m) = let e : n ≡ j = omega arith in subst (λ (z : ℕ). HasRun ix pos k (cursorAt cs z) (cursorLeft cs z)) e h
-
-  pub have-end : (n m : ℕ) → n ≤ m → AllHave ix cs m pos k → AllHave ix cs n pos k
-  unfolding AllHave
-  have-end n m l s j i = s j (omega arith)
-
-pub shared-on : (ix cs : List ℕ) (n pos k : ℕ) → Shared ix cs n pos k → AllHave ix cs n (pos + 10 * k) k → Shared ix cs n pos (k + 1)
-unfolding Shared AllHave
-shared-on ix cs n pos k s h j i = runs-on ix pos (cursorAt cs j) (cursorLeft cs j) k (s j i) (h j i)
-
--- fewer runs are shared too
-pub shared-fewer : (ix cs : List ℕ) (n pos k m : ℕ) → k ≤ m → Shared ix cs n pos m → Shared ix cs n pos k
-unfolding Shared
-shared-fewer ix cs n pos k m h s j i = fewer-runs ix pos (cursorAt cs j) (cursorLeft cs j) k m h (s j i)
 
 -- ---- a source of which none is left, and one that begins past a run
 
@@ -341,14 +297,7 @@ pub passed-none : (own ms ix : List ℕ) (n : ℕ) (cs : List ℕ) (p : Place) (
 unfolding runsFrom after
 passed-none own ms ix n cs p pos r = record { nexts = here; moved = record { long = refl; ready = r; names = λ l a. refl } }
 
--- ---- runs as the code reads them
-
--- two runs that were read, one past the other
-pub past-read : (x x′ y y′ : Run) → x ≡ x′ → y ≡ y′ → Past (x .reference) (x .end) (y .reference) (y .start) → Past (x′ .reference) (x′ .end)
-    (y′ .reference) (y′ .start)
-past-read x x′ y y′ e f h =
-    subst (λ (z : Run). Past (z .reference) (z .end) (y′ .reference) (y′ .start)) e
-    (subst (λ (z : Run). Past (x .reference) (x .end) (z .reference) (z .start)) f h)
+-- ---- spots
 
 pub spot-none : (ix : List ℕ) (s : Spot) (k : ℕ) → k ≡ 0 → SpotAfter ix s k s
 unfolding runsFrom after

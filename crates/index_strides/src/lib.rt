@@ -57,7 +57,7 @@ pub fn next_stride(
 }
 
 // Copies so many words to a position past them.
-pub fn copy_on(index: &mut [u64], from: usize, to: usize, count: usize)
+fn copy_on(index: &mut [u64], from: usize, to: usize, count: usize)
     requires { ⌜ (from + count ≤ to) × (to + count ≤ length (now index)) ⌝ }
     ensures { λ _. ⌜ now (index .exit) ≡ sets (now (index .entry)) to (take count (drop from (now (index .entry)))) ⌝ }
 {

@@ -9,7 +9,7 @@ use Rattle.index_spec.specs.Walk.{beyond, runFrom}
 use Rattle.index_runs.specs.Values.{asRun, asPlace}
 use Rattle.index_pieces.specs.Sources.{namedBy, together}
 use Rattle.index_meeting.specs.Step.{MetAll, NextIf}
-use Rattle.index_meeting.proofs.One.{meets-both, next-met}
+use Rattle.index_meeting.proofs.Together.{meets-both, next-met}
 use Rattle.index_meeting.proofs.Moving.{moved-copied}
 use borrow.Author.Needs.{needs}
 use native.Mathlib.Omega.{arith}
