@@ -1,2 +1,1 @@
-mod Together
-mod Moving
+mod Next

@@ -5,14 +5,7 @@ use mathlib.Core.List.{List}
 use Rattle.committee_set.specs.AuthoritySet.{AuthoritySet, nobody}
 use Rattle.index_spec.specs.Runs.{Run}
 use Rattle.index_spec.specs.Walk.{Place, beyond, At, NextRun}
-use Rattle.index_pieces.specs.Sources.{namedBy, Moved, together}
-use Rattle.index_source_meeting.specs.Source.{Meets}
-use Rattle.index_meeting.specs.declared.Voters.{Voters}
-use Rattle.index_meeting.specs.declared.Voters.the-variants.{Named, Unknown}
-
-unfoldable pub MetAll : Run → List ℕ → ℕ → List ℕ → List ℕ → Voters → Type 0
-MetAll x ws n cs₀ cs (Named votes after) = x .start < x .end → Meets x (namedBy ws cs₀ n) votes after × Moved ws n (beyond (x .reference) (x .end)) cs₀ cs
-MetAll x ws n cs₀ cs Unknown = Unit {0}
+use Rattle.index_pieces.specs.Sources.{Moved, together}
 
 -- a run from a place on is not empty, has these voters, at least one, and others at its end
 pub record NextIf (x : Run) (p : Place) (votes after : AuthoritySet) : Type 0 where

@@ -2,7 +2,7 @@
 use committee_set::AuthoritySet;
 use index_runs::Place;
 use index_runs::Run;
-use index_source_meeting::Meeting;
+use index_source_meeting::Voters;
 ghost use mathlib.Core.Path.{_≡_};
 ghost use mathlib.Core.Bool.{true, false};
 ghost use Prim.Native.Nat.{_+_, _≤_};
@@ -11,48 +11,7 @@ ghost use Rattle.index_spec.specs.Runs.{sameVoters};
 ghost use Rattle.index_spec.specs.Walk.{runFrom};
 ghost use Rattle.index_runs.specs.Values.{asRun, asPlace};
 ghost use Rattle.index_pieces.specs.Sources.{Ready};
-ghost use Rattle.index_meeting.specs.Step.{MetAll, NextIf, Passed};
-
-// Whom the sources name together at the offsets of a run, and whom at its end; or one of them does neither.
-pub enum Voters {
-    Named(AuthoritySet, AuthoritySet),
-    Unknown,
-}
-
-// How n sources stand to the run at a position; `ahead` are their cursors past it.
-fn sources_meet(
-    index: &[u64],
-    pos: usize,
-    words: &[u64],
-    cursors: &[u64],
-    n: usize,
-    ahead: &mut [u64],
-) -> Voters
-    requires { ⌜ Ready (now words) (now cursors) n × ((pos + 10 ≤ length (now index)) × (length (now ahead) ≡ length (now cursors))) ⌝ }
-    ensures { λ r. ⌜ MetAll (runFrom (drop pos (now (index .entry)))) (now (words .entry)) n (now (cursors .entry)) (now (ahead .exit)) r ⌝ }
-{
-    let mut votes = AuthoritySet::new();
-    let mut after = AuthoritySet::new();
-    let mut k: usize = 0;
-    while k < n {
-        let met = index_source_meeting::source_meets(
-            index,
-            pos,
-            words,
-            cursors[2 * k] as usize,
-            cursors[2 * k + 1] as usize,
-        );
-        let Meeting::Met(m) = met else {
-            return Voters::Unknown;
-        };
-        ahead[2 * k] = m.at as u64;
-        ahead[2 * k + 1] = m.left as u64;
-        votes = committee_set::union(votes, m.votes);
-        after = committee_set::union(after, m.after);
-        k = k + 1;
-    }
-    Voters::Named(votes, after)
-}
+ghost use Rattle.index_meeting.specs.Step.{NextIf, Passed};
 
 // Whether two sets have the same voters.
 fn same_voters(v: AuthoritySet, w: AuthoritySet) -> bool
@@ -101,11 +60,11 @@ pub fn run_meets(
     ensures { λ r. ⌜ (r ≡ false → (now (cursors .exit) ≡ now (cursors .entry)) × (now (mine .exit) ≡ now (mine .entry))) ⌝ }
 {
     let mut next = [0u64; 2];
-    let own_voters = sources_meet(index, pos, own, mine, 1, &mut next);
+    let own_voters = index_source_meeting::sources_meet(index, pos, own, mine, 1, &mut next);
     let Voters::Named(v, v_after) = own_voters else {
         return false;
     };
-    let voters = sources_meet(index, pos, index, cursors, n, ahead);
+    let voters = index_source_meeting::sources_meet(index, pos, index, cursors, n, ahead);
     let Voters::Named(w, w_after) = voters else {
         return false;
     };

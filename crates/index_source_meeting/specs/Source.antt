@@ -2,27 +2,15 @@
 -- definitions.
 use Prim.Native.Nat.{ℕ, _+_, _*_, _≤_, _<_}
 use mathlib.Core.Path.{_≡_}
-use mathlib.Core.List.{List, [], _∷_}
+use mathlib.Core.List.{List}
 use lib.ListN.{length, drop}
-use Rattle.base.specs.Lists.{pick}
 use Rattle.committee_set.specs.AuthoritySet.{AuthoritySet, nobody}
 use Rattle.record_spec.specs.Reference.{TransactionLocator, locator}
-use Rattle.index_spec.specs.Runs.{Run, votersIn, touches}
+use Rattle.index_spec.specs.Runs.{Run, votersIn}
 use Rattle.index_spec.specs.Walk.{Past, anywhere, runsFrom}
 use Rattle.index_spec.proofs.Chain.{Anything, Chain}
 use Rattle.index_source_meeting.specs.declared.Meeting.{Meeting}
 use Rattle.index_source_meeting.specs.declared.Meeting.the-variants.{Met, Across}
-
--- two runs are of the same offsets of one block
-pub record SameOffsets (x y : Run) : Type 0 where
-  pub of : x .reference ≡ y .reference
-  pub start : x .start ≡ y .start
-  pub end : x .end ≡ y .end
-
--- whom runs that begin past a run name at its end
-unfoldable pub afterVotes : Run → List Run → AuthoritySet
-afterVotes x [] = nobody
-afterVotes x (y ∷ ys) = pick (touches x y) (y .votes) nobody
 
 -- f names these at every offset of a run, those at its end, and nobody before it
 pub record Meets (x : Run) (f : TransactionLocator → AuthoritySet) (votes after : AuthoritySet) : Type 0 where

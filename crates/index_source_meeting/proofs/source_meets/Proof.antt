@@ -7,7 +7,8 @@ use Rattle.committee_set.specs.AuthoritySet.{AuthoritySet, nobody}
 use Rattle.index_spec.specs.Runs.{Run}
 use Rattle.index_spec.specs.Walk.{Past, runFrom, runsFrom}
 use Rattle.index_runs.specs.Values.{asRun}
-use Rattle.index_source_meeting.specs.Source.{MetBy, SourceMet, afterVotes}
+use Rattle.index_two_runs.specs.Two.{afterVotes}
+use Rattle.index_source_meeting.specs.Source.{MetBy, SourceMet}
 use Rattle.index_source_meeting.proofs.One.{votes-read, cursor-none, cursor-same, cursor-past}
 use borrow.Author.Needs.{needs}
 use native.Mathlib.Omega.{arith}

@@ -2,11 +2,11 @@ use mathlib.Core.Path.{_≡_, refl}
 use Prim.Native.Nat.{ℕ, _+_, _-_, _≤_, _<_}
 use lib.ListN.{getD}
 use Rattle.base.proofs.Tests.{not-both}
-use Rattle.index_source_meeting.proofs.One.{same-more, words-same}
+use Rattle.index_two_runs.proofs.Two.{same-more, words-same}
 use borrow.Author.Needs.{needs}
 use native.Mathlib.Omega.{arith}
-use Rattle.index_source_meeting.proofs.same_offsets.Statement.{statement}
-use Rattle.index_source_meeting.proofs.same_offsets.Tie as tie
+use Rattle.index_two_runs.proofs.same_offsets.Statement.{statement}
+use Rattle.index_two_runs.proofs.same_offsets.Tie as tie
 
 abbrev Inv-loop : tie.InvT-loop
 Inv-loop index pos words at i₀ i = (i ≤ 8) × ((j : ℕ) → j < i → getD index (pos + j) 0 ≡ getD words (at + j) 0)

@@ -1,12 +1,11 @@
 -- Cursors past a run, one source after the other. Assumes nothing.
 use mathlib.Core.Path.{_≡_, refl, sym, ap, subst, _∙_}
-use mathlib.Core.List.{List, _++_}
+use mathlib.Core.List.{List}
 use Prim.Native.Nat.{ℕ, zero, suc, _+_, _*_, _≤_, _<_}
 use native.Mathlib.Omega.{arith}
 use native.Mathlib.Decide.{decLt}
 use native.Mathlib.Numerals.{add-one}
-use lib.ListN.{length, getD, take, drop, set, length-set, length-append, length-drop}
-use lib.Seq.{getD-take, take-at, length-take-le}
+use lib.ListN.{length, drop, set, length-set}
 use Rattle.committee_set.specs.AuthoritySet.{AuthoritySet, nobody, united}
 use Rattle.record_spec.specs.Reference.{TransactionLocator}
 use Rattle.index_spec.specs.Runs.{Run, votersIn}
@@ -14,8 +13,8 @@ use Rattle.index_spec.specs.Walk.{Past, Place, anywhere, beyond, At, runsFrom}
 use Rattle.index_spec.proofs.Chain.{Anything, Chain}
 use Rattle.index_pieces.specs.Sources.{cursorAt, cursorLeft, source, namedBy, Ready, Moved}
 use Rattle.index_pieces.proofs.Cursors.{at-same, left-same, at-other, left-other, source-same, source-other}
 use Rattle.index_source_meeting.specs.Source.{Meets, MetBy}
-use Rattle.index_meeting.proofs.Together.{meets-none, meets-both}
+use Rattle.index_source_meeting.proofs.Together.{meets-none, meets-both}
 
 -- the first k sources meet a run, and these are their cursors past it
 pub record Going (x : Run) (ws cs₀ cs : List ℕ) (k : ℕ) (votes after : AuthoritySet) : Type 0 where
@@ -84,50 +83,3 @@ module _ (x : Run) (ws cs₀ : List ℕ) where
       all : (l : TransactionLocator) → Past (x .reference) (x .end) (l .block) (l .offset) → (k : ℕ) → k ≤ n → namedBy ws cs k l ≡ namedBy ws cs₀ k l
       all l q zero m = refl
       all l q (suc k) m = rw (all l q k (omega arith), g .names k (omega arith) l q)
-
--- ---- cursors copied
-
--- cursors of which the first n are those that were moved
-module _ (ws : List ℕ) (n : ℕ) (p : Place) (cs₀ ahead : List ℕ) (m : Moved ws n p cs₀ ahead) (cs : List ℕ)
-    (e : cs ≡ take (2 * n) ahead ++ drop (2 * n) cs₀) where
-  front : 2 * n ≤ length ahead
-  front = omega (arith, m .ready .room)
-
-  word : (j : ℕ) → j < 2 * n → getD cs j 0 ≡ getD ahead j 0
-  word j h =
-      sym (getD-take (2 * n) cs j 0 h)
-      ∙ ap (λ (l : List ℕ). getD l j 0) (ap (take (2 * n)) e ∙ take-at (take (2 * n) ahead) (drop (2 * n) cs₀) (2 * n) (length-take-le (2 * n) ahead front))
-      ∙ getD-take (2 * n) ahead j 0 h
-
-  same-at : (j : ℕ) → j < n → cursorAt cs j ≡ cursorAt ahead j
-  unfolding cursorAt
-  same-at j h = word (2 * j) (omega arith)
-
-  same-left : (j : ℕ) → j < n → cursorLeft cs j ≡ cursorLeft ahead j
-  unfolding cursorLeft
-  same-left j h = word (2 * j + 1) (omega arith)
-
-  same-source : (j : ℕ) → j < n → source ws cs j ≡ source ws ahead j
-  unfolding source
-  same-source j h = rw (same-at j h, same-left j h)
-
-  long : length cs ≡ length cs₀
-  long = ap length e ∙ length-append (take (2 * n) ahead) (drop (2 * n) cs₀) ∙ omega
-      (arith, length-take-le (2 * n) ahead front, length-drop (2 * n) cs₀, m .long, front)
-
-  pub moved-copied : Moved ws n p cs₀ cs
-  unfolding namedBy
-  moved-copied =
-      record {
-        long = long;
-        ready = record {
-          room = omega (arith, long, m .long, front);
-          inside = λ j h. rw (same-at j h, same-left j h) (m .ready .inside j h);
-          chains = λ j h. rw (same-source j h) (m .ready .chains j h);
-        };
-        names = λ l a. all l n (omega arith) ∙ m .names l a;
-      }
-    where
-      all : (l : TransactionLocator) → (k : ℕ) → k ≤ n → namedBy ws cs k l ≡ namedBy ws ahead k l
-      all l zero h = refl
-      all l (suc k) h = rw (all l k (omega arith), same-source k (omega arith))

@@ -1,12 +1,10 @@
 -- A run against several sources, each of which has its offsets or begins past it. Assumes nothing.
-use mathlib.Core.Path.{refl, sym, ap, _∙_}
+use mathlib.Core.Path.{refl, ap, _∙_}
 use Rattle.committee_set.specs.AuthoritySet.{AuthoritySet, nobody, united}
 use Rattle.committee_set.proofs.Words.{united-nobody}
 use Rattle.record_spec.specs.Reference.{TransactionLocator, locator}
 use Rattle.index_spec.specs.Runs.{Run}
-use Rattle.index_spec.specs.Walk.{Place, NextRun}
 use Rattle.index_source_meeting.specs.Source.{Meets}
-use Rattle.index_meeting.specs.Step.{NextIf}
 
 module _ (x : Run) where
   pub meets-none : Meets x (λ l. nobody) nobody nobody
@@ -19,13 +17,4 @@ module _ (x : Run) where
         told = λ o i j. ap (united (f (locator (x .reference) o))) (k .told o i j) ∙ ap (λ (u : AuthoritySet). united u w) (h .told o i j);
         end = ap (united (f (locator (x .reference) (x .end)))) (k .end) ∙ ap (λ (u : AuthoritySet). united u b) (h .end);
         first = λ l q. ap (united (f l)) (k .first l q) ∙ ap (λ (u : AuthoritySet). united u nobody) (h .first l q) ∙ united-nobody nobody;
-      }
-
-  pub next-met : (f : TransactionLocator → AuthoritySet) (p : Place) (v w : AuthoritySet) → NextIf x p v w → Meets x f v w → NextRun f p x
-  next-met f p v w n m =
-      record {
-        there = n .there;
-        stretch = record { full = n .full; voted = λ e. n .voted (sym (n .same) ∙ e); told = λ o i j. m .told o i j ∙ sym (n .same) };
-        onward = λ e. n .other (sym (m .end) ∙ e ∙ n .same);
-        first = λ l a q. m .first l q;
       }

@@ -4,14 +4,14 @@ use lib.ListN.{length, getD, drop, set, length-set}
 use Rattle.committee_set.specs.AuthoritySet.{AuthoritySet, nobody, united}
 use Rattle.index_spec.specs.Walk.{runFrom}
 use Rattle.index_pieces.specs.Sources.{cursorAt, cursorLeft, source}
 use Rattle.index_source_meeting.specs.Source.{SourceMet}
-use Rattle.index_meeting.specs.Step.{MetAll}
+use Rattle.index_source_meeting.specs.Met.{MetAll}
 use Rattle.index_source_meeting.specs.declared.Meeting.{Meeting}
-use Rattle.index_meeting.proofs.Moving.{Going, going-start, going-on, going-end}
+use Rattle.index_source_meeting.proofs.Moving.{Going, going-start, going-on, going-end}
 use borrow.Author.Needs.{needs}
 use native.Mathlib.Omega.{arith}
-use Rattle.index_meeting.proofs.sources_meet.Statement.{statement}
-use Rattle.index_meeting.proofs.sources_meet.Tie as tie
+use Rattle.index_source_meeting.proofs.sources_meet.Statement.{statement}
+use Rattle.index_source_meeting.proofs.sources_meet.Tie as tie
 
 abbrev Inv-loop : tie.InvT-loop
 Inv-loop index pos words cursors n ahead₀ votes₀ after₀ k₀ ahead votes after k = (k ≤ n) ×

@@ -8,11 +8,11 @@ use Rattle.types.proofs.Words.{compared-less, compared-greater}
 use Rattle.index_spec.specs.Runs.{Run, run}
 use Rattle.index_spec.specs.Walk.{runFrom}
 use Rattle.index_runs.specs.Values.{asRun}
-use Rattle.index_source_meeting.proofs.One.{after-none, after-next, touch-yes, touch-apart, touch-other}
+use Rattle.index_two_runs.proofs.Two.{after-none, after-next, touch-yes, touch-apart, touch-other}
 use borrow.Author.Needs.{needs}
 use native.Mathlib.Omega.{arith}
-use Rattle.index_source_meeting.proofs.after_votes.Statement.{statement}
-use Rattle.index_source_meeting.proofs.after_votes.Tie as tie
+use Rattle.index_two_runs.proofs.after_votes.Statement.{statement}
+use Rattle.index_two_runs.proofs.after_votes.Tie as tie
 
 new-requires : tie.Need-new-requires
 new-requires c κs = search needs
