@@ -1,8 +1,10 @@
-// The cursors of the sources of a part: the first that has runs left, and all of them moved on by some runs.
+// The cursors of a part and of its sources: which source has runs left, and where they stand after some runs.
+use index_runs::Place;
 ghost use mathlib.Core.Path.{_≡_};
 ghost use Prim.Native.Nat.{_+_, _-_, _*_, _≤_, _<_};
 ghost use lib.ListN.{length};
 ghost use Rattle.index_cursors.specs.Cursors.{Leads, movedAt, Movable, MovedBy};
+ghost use Rattle.index_cursors.specs.Spots.{SpotAfter};
 
 // The first of n sources that has runs left, if there is one; else n.
 pub fn leader(cursors: &[u64], n: usize) -> usize
@@ -52,5 +54,30 @@ pub fn move_on(cursors: &mut [u64], n: usize, k: usize)
         cursors[2 * j] = moved_at(at, left, k);
         cursors[2 * j + 1] = moved_left(left, k);
         j += 1;
+    }
+}
+
+// Where a part's words are held against its sources: from which place on its runs are asked for, where the next one stands, how many are left.
+pub struct Spot {
+    pub place: Place,
+    pub pos: usize,
+    pub left: usize,
+}
+
+// The spot after so many runs at a spot.
+pub fn spot_after(index: &[u64], spot: Spot, k: usize) -> Spot
+    requires { ⌜ (k ≤ spot .left) × (spot .pos + 10 * spot .left ≤ length (now index)) ⌝ }
+    ensures { λ r. ⌜ SpotAfter (now (index .entry)) spot k r ⌝ }
+{
+    if k == 0 {
+        return spot;
+    }
+    let pos = spot.pos;
+    let last = index_runs::read_run(index, pos + index_runs::RUN_WORDS * (k - 1));
+    let block = last.block;
+    Spot {
+        place: Place::Beyond(block, last.end),
+        pos: pos + index_runs::RUN_WORDS * k,
+        left: spot.left - k,
     }
 }

@@ -13,7 +13,7 @@ use Rattle.index_spec.specs.Walk.{Place, beyond, At, NextRun, runsFrom}
 use Rattle.index_runs.specs.Values.{asPlace, startsWith}
 use Rattle.index_pieces.specs.Sources.{Ready, together}
 use Rattle.index_shared.specs.Shared.{Nexts}
-use Rattle.index_shared.specs.declared.Spot.{Spot}
+use Rattle.index_cursors.specs.declared.Spot.{Spot}
 use Rattle.index_parts.specs.declared.Stands.{Stands}
 use Rattle.index_parts.specs.declared.Stands.the-variants.{On, Elsewhere}
 use Rattle.index_parts.specs.declared.PartEnd.{PartEnd}

@@ -1,7 +1,7 @@
 // The part that a block's own votes, in words of their own, and the parts of its includes make: held against words, and counted.
+use index_cursors::Spot;
 use index_runs::MaybeRun;
 use index_runs::Place;
-use index_shared::Spot;
 ghost use mathlib.Core.Path.{_≡_};
 ghost use Prim.Native.Nat.{_+_, _*_, _≤_, _<_};
 ghost use mathlib.Core.List.{List};
@@ -103,7 +103,7 @@ fn stand_on(
         left: spot.left - 1,
     };
     let more = index_shared::pass_shared(index, cursors, n, own, mine, next);
-    Stands::On(index_shared::spot_after(index, next, more))
+    Stands::On(index_cursors::spot_after(index, next, more))
 }
 
 // Holds the words from a position on against the part of a source in some words and n in the index; `ahead` is as long as their cursors.

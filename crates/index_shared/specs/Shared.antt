@@ -10,7 +10,7 @@ use Rattle.index_spec.specs.Runs.{Run}
 use Rattle.index_spec.specs.Walk.{Place, beyond, NextRun, runsFrom}
 use Rattle.index_runs.specs.Values.{asPlace}
 use Rattle.index_pieces.specs.Sources.{Moved, together}
-use Rattle.index_shared.specs.declared.Spot.{Spot}
+use Rattle.index_cursors.specs.Spots.{after}
 use Rattle.index_shared.specs.declared.Common.{Common}
 
 -- these are the next runs, one after the other from a place on, up to another place
@@ -18,21 +18,10 @@ pub data Nexts (f : TransactionLocator → AuthoritySet) : Place → List Run �
   here : {p : Place} → Nexts f p [] p
   onward : {p q : Place} {x : Run} {xs : List Run} → NextRun f p x → Nexts f (beyond (x .reference) (x .end)) xs q → Nexts f p (x ∷ xs) q
 
--- the place at the end of the last of some runs
-unfoldable pub after : Place → List Run → Place
-after p [] = p
-after p (x ∷ xs) = after (beyond (x .reference) (x .end)) xs
-
 -- k runs at a position are the next ones from a place on, and the cursors were moved past them
 pub record RunsPassed (own ms ix : List ℕ) (n : ℕ) (cs₀ cs : List ℕ) (p : Place) (pos k : ℕ) : Type 0 where
   pub nexts : Nexts (together own ms ix cs₀ n) p (runsFrom k (drop pos ix)) (after p (runsFrom k (drop pos ix)))
   pub moved : Moved ix n (after p (runsFrom k (drop pos ix))) cs₀ cs
-
--- a spot after k runs at another
-pub record SpotAfter (ix : List ℕ) (s : Spot) (k : ℕ) (r : Spot) : Type 0 where
-  pub place : asPlace (r .place) ≡ after (asPlace (s .place)) (runsFrom k (drop (s .pos) ix))
-  pub pos : r .pos ≡ s .pos + 10 * k
-  pub left : r .left + k ≡ s .left
 
 -- runs that the sources share were passed, as they stand in the index
 pub record CommonPassed (own ms ix : List ℕ) (n : ℕ) (cs₀ cs : List ℕ) (p : Place) (r : Common) : Type 0 where

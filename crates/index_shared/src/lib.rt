@@ -1,20 +1,14 @@
 // The runs of a part that each source with runs left has next, word for word: they are passed without a merge.
+use index_cursors::Spot;
 use index_runs::Place;
 ghost use Prim.Native.Nat.{_+_, _*_, _≤_};
 ghost use lib.ListN.{length};
 ghost use Rattle.index_runs.specs.Values.{asPlace};
 ghost use Rattle.index_pieces.specs.Sources.{Ready};
-ghost use Rattle.index_shared.specs.Shared.{RunsPassed, SpotAfter, CommonPassed};
+ghost use Rattle.index_shared.specs.Shared.{RunsPassed, CommonPassed};
 
 // How many runs are passed at a time: what is compared in vain, and what is halved, stays short.
 const WINDOW: usize = 128;
-
-// Where a part's words are held against its sources: from which place on its runs are asked for, where the next one stands, how many are left.
-pub struct Spot {
-    pub place: Place,
-    pub pos: usize,
-    pub left: usize,
-}
 
 // Runs that were passed: where they stand, how many there are, and the place after them.
 pub struct Common {
@@ -96,24 +90,6 @@ pub fn pass_shared(
     runs
 }
 
-// The spot after so many runs at a spot.
-pub fn spot_after(index: &[u64], spot: Spot, k: usize) -> Spot
-    requires { ⌜ (k ≤ spot .left) × (spot .pos + 10 * spot .left ≤ length (now index)) ⌝ }
-    ensures { λ r. ⌜ SpotAfter (now (index .entry)) spot k r ⌝ }
-{
-    if k == 0 {
-        return spot;
-    }
-    let pos = spot.pos;
-    let last = index_runs::read_run(index, pos + index_runs::RUN_WORDS * (k - 1));
-    let block = last.block;
-    Spot {
-        place: Place::Beyond(block, last.end),
-        pos: pos + index_runs::RUN_WORDS * k,
-        left: spot.left - k,
-    }
-}
-
 // Passes from a place on the runs that the sources in the index share, as they stand in the first of them that has runs left.
 pub fn pass_common(
     index: &[u64],
@@ -141,7 +117,7 @@ pub fn pass_common(
         left: cursors[2 * lead + 1] as usize,
     };
     let runs = pass_shared(index, cursors, n, own, mine, spot);
-    let after = spot_after(index, spot, runs);
+    let after = index_cursors::spot_after(index, spot, runs);
     let beyond = after.place;
     Common {
         pos,

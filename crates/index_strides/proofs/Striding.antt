@@ -15,7 +15,8 @@ use Rattle.index_pieces.specs.Pieces.{PieceOr}
 use Rattle.index_pieces.proofs.Pieces.{pieces-same}
 use Rattle.index_runs.specs.Values.{asRun, asMaybe, asPlace}
 use Rattle.index_pieces.specs.Sources.{namedBy, Moved, together, Merging, GrownFrom}
-use Rattle.index_shared.specs.Shared.{Nexts, onward, after, CommonPassed}
+use Rattle.index_cursors.specs.Spots.{after}
+use Rattle.index_shared.specs.Shared.{Nexts, onward, CommonPassed}
 use Rattle.index_shared.specs.declared.Common.{Common}
 use Rattle.index_strides.specs.Strides.{strideRuns, Strode}
 use Rattle.index_strides.specs.declared.Stride.{Stride}

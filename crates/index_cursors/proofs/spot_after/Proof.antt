@@ -2,10 +2,10 @@ use native.Mathlib.Omega.{arith}
 use mathlib.Core.Path.{refl}
 use Rattle.index_spec.specs.Runs.{run}
 use Rattle.index_runs.specs.Values.{asRun, asPlace}
-use Rattle.index_shared.proofs.Passing.{spot-none, spot-some}
+use Rattle.index_cursors.proofs.Spots.{spot-none, spot-some}
 use borrow.Author.Needs.{needs}
-use Rattle.index_shared.proofs.spot_after.Statement.{statement}
-use Rattle.index_shared.proofs.spot_after.Tie as tie
+use Rattle.index_cursors.proofs.spot_after.Statement.{statement}
+use Rattle.index_cursors.proofs.spot_after.Tie as tie
 
 returns : tie.Need-returns
 returns c = spot-none (c .before .before .args .index .now) (c .before .before .args .spot) (c .before .before .args .k) (omega (arith, c .if1 .taken))
