@@ -37,7 +37,7 @@ use Rattle.index_spec.proofs.Grown.{used-grows, agrees-used}
 use Rattle.index_spec.proofs.Checking.{agrees-part, Checked, checked-start, checked-on, checked-end}
 use Rattle.index_spec.proofs.Reading.{part-back, part-length}
 use Rattle.index_spec.proofs.Fitting.{run-reference}
-use Rattle.index_parts.proofs.Words.{part-count}
+use Rattle.index_strides.proofs.Words.{part-count}
 use Rattle.index_check.specs.Known.{Stands, Known}
 use Rattle.index_check.proofs.Fits.{span-fits}
 use Rattle.index_check.proofs.Arriving.{olderAt, older-none, older-all, Arrival, arrival, older-stored, own-stands}

@@ -22,7 +22,7 @@ use Rattle.index_spec.proofs.Chain.{Anything, Chain, end, link, Differs}
 use Rattle.index_spec.proofs.Relation.{runs-chain}
 use Rattle.index_spec.proofs.Ascending.{stretched-runs}
 use Rattle.index_spec.proofs.Parts.{part-runs, from-names}
-use Rattle.index_merge.specs.Sources.{cursorAt, cursorLeft, source, namedBy, Ready, together}
+use Rattle.index_pieces.specs.Sources.{cursorAt, cursorLeft, source, namedBy, Ready, together}
 use Rattle.index_own_runs.specs.Own.{OwnRuns}
 use Rattle.final_spec.proofs.Spoken.{unions-more}
 use Rattle.index_check.specs.Known.{Stands, Known, Rooted, Opened}

@@ -15,7 +15,7 @@ use Rattle.final_block_votes.specs.Walk.{blockAtPlace}
 use Rattle.index_spec.specs.Runs.{Run, votersIn}
 use Rattle.index_spec.specs.Part.{partIn}
 use Rattle.index_spec.specs.Walk.{partAt}
-use Rattle.index_merge.specs.Sources.{Ready, namedBy}
+use Rattle.index_pieces.specs.Sources.{Ready, namedBy}
 
 -- these runs stand at a position
 pub record Stands (ix : List ℕ) (p : ℕ) (xs : List Run) : Type 0 where

@@ -14,7 +14,7 @@ use Rattle.index_spec.specs.Index.{indexed, usedWords, indexAgrees, indexShort}
 use Rattle.index_spec.proofs.Grown.{used-grows, agrees-used}
 use Rattle.index_spec.proofs.Reading.{part-length}
 use Rattle.index_own_runs.specs.Own.{OwnRuns}
-use Rattle.index_merge.specs.Sources.{Ready, together}
+use Rattle.index_pieces.specs.Sources.{Ready, together}
 use Rattle.index_parts.specs.Parts.{Counted}
 use Rattle.index_parts.specs.declared.RunCount.{RunCount}
 use Rattle.index_parts.specs.declared.RunCount.the-variants.{Runs, TooMany}

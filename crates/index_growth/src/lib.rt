@@ -37,6 +37,6 @@ pub fn grow(store: &[u8], order: &[u64], starts: &[u64], index: &mut [u64], rec:
     let RunCount::Runs(count) = counted else {
         return Growth::Full;
     };
-    index_parts::append_part(index, used, &mut cursors, n, &own, &mut mine, count);
+    index_append::append_part(index, used, &mut cursors, n, &own, &mut mine, count);
     Growth::Grown
 }

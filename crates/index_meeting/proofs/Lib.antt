@@ -1,2 +1,1 @@
-mod One
-mod Moving
+mod Next

@@ -2,150 +2,16 @@
 use committee_set::AuthoritySet;
 use index_runs::Place;
 use index_runs::Run;
-use types::Ordering;
+use index_source_meeting::Voters;
 ghost use mathlib.Core.Path.{_≡_};
 ghost use mathlib.Core.Bool.{true, false};
-ghost use Prim.Native.Nat.{_+_, _*_, _≤_};
+ghost use Prim.Native.Nat.{_+_, _≤_};
 ghost use lib.ListN.{length, drop};
 ghost use Rattle.index_spec.specs.Runs.{sameVoters};
-ghost use Rattle.index_spec.specs.Walk.{runFrom, runsFrom};
+ghost use Rattle.index_spec.specs.Walk.{runFrom};
 ghost use Rattle.index_runs.specs.Values.{asRun, asPlace};
-ghost use Rattle.index_merge.specs.Sources.{Ready};
-ghost use Rattle.index_meeting.specs.Step.{SameOffsets, afterVotes, SourceMet, MetAll, NextIf, Passed};
-
-// A source's cursor past a run, whom it names at the offsets of the run, and whom at its end.
-pub struct Onward {
-    pub at: usize,
-    pub left: usize,
-    pub votes: AuthoritySet,
-    pub after: AuthoritySet,
-}
-
-// The source has a run of the same offsets next, or begins past the run; or it does neither.
-pub enum Meeting {
-    Met(Onward),
-    Across,
-}
-
-// Whom the sources name together at the offsets of a run, and whom at its end; or one of them does neither.
-pub enum Voters {
-    Named(AuthoritySet, AuthoritySet),
-    Unknown,
-}
-
-// Whether the runs at two positions are of the same offsets of one block: the first eight words.
-fn same_offsets(index: &[u64], pos: usize, words: &[u64], at: usize) -> bool
-    requires { ⌜ (pos + 10 ≤ length (now index)) × (at + 10 ≤ length (now words)) ⌝ }
-    ensures { λ r. ⌜ (r ≡ true → SameOffsets (runFrom (drop pos (now (index .entry)))) (runFrom (drop at (now (words .entry))))) ⌝ }
-{
-    let mut i: usize = 0;
-    while i < 8 {
-        if index[pos + i] != words[at + i] {
-            return false;
-        }
-        i += 1;
-    }
-    true
-}
-
-// Whom the next run of a source names at the end of the run at a position, past which it begins.
-fn after_votes(index: &[u64], pos: usize, words: &[u64], at: usize, left: usize) -> AuthoritySet
-    requires { ⌜ (pos + 10 ≤ length (now index)) × (at + 10 * left ≤ length (now words)) ⌝ }
-    ensures { λ r. ⌜ r ≡ afterVotes (runFrom (drop pos (now (index .entry)))) (runsFrom left (drop at (now (words .entry)))) ⌝ }
-{
-    if left == 0 {
-        return AuthoritySet::new();
-    }
-    if index[pos + 7] != words[at + 6] {
-        return AuthoritySet::new();
-    }
-    let x = index_runs::read_run(index, pos);
-    let y = index_runs::read_run(words, at);
-    let order = types::compare(x.block, y.block);
-    match order {
-        Ordering::Equal => y.votes,
-        Ordering::Less => AuthoritySet::new(),
-        Ordering::Greater => AuthoritySet::new(),
-    }
-}
-
-// How a source stands to the run at a position.
-fn source_meets(index: &[u64], pos: usize, words: &[u64], at: usize, left: usize) -> Meeting
-    requires { ⌜ (pos + 10 ≤ length (now index)) × (at + 10 * left ≤ length (now words)) ⌝ }
-    ensures { λ r. ⌜ SourceMet (runFrom (drop pos (now (index .entry)))) (now (words .entry)) at left r ⌝ }
-{
-    if left == 0 {
-        return Meeting::Met(Onward {
-            at,
-            left,
-            votes: AuthoritySet::new(),
-            after: AuthoritySet::new(),
-        });
-    }
-    if same_offsets(index, pos, words, at) {
-        let next = at + index_runs::RUN_WORDS;
-        let rest = left - 1;
-        let after = after_votes(index, pos, words, next, rest);
-        let votes = AuthoritySet {
-            low: words[at + 8],
-            high: words[at + 9],
-        };
-        return Meeting::Met(Onward {
-            at: next,
-            left: rest,
-            votes,
-            after,
-        });
-    }
-    if !index_run_order::begins_past(
-        index_runs::read_run(index, pos),
-        index_runs::read_run(words, at),
-    ) {
-        return Meeting::Across;
-    }
-    let after = after_votes(index, pos, words, at, left);
-    Meeting::Met(Onward {
-        at,
-        left,
-        votes: AuthoritySet::new(),
-        after,
-    })
-}
-
-// How n sources stand to the run at a position; `ahead` are their cursors past it.
-fn sources_meet(
-    index: &[u64],
-    pos: usize,
-    words: &[u64],
-    cursors: &[u64],
-    n: usize,
-    ahead: &mut [u64],
-) -> Voters
-    requires { ⌜ Ready (now words) (now cursors) n × ((pos + 10 ≤ length (now index)) × (length (now ahead) ≡ length (now cursors))) ⌝ }
-    ensures { λ r. ⌜ MetAll (runFrom (drop pos (now (index .entry)))) (now (words .entry)) n (now (cursors .entry)) (now (ahead .exit)) r ⌝ }
-{
-    let mut votes = AuthoritySet::new();
-    let mut after = AuthoritySet::new();
-    let mut k: usize = 0;
-    while k < n {
-        let met = source_meets(
-            index,
-            pos,
-            words,
-            cursors[2 * k] as usize,
-            cursors[2 * k + 1] as usize,
-        );
-        let Meeting::Met(m) = met else {
-            return Voters::Unknown;
-        };
-        ahead[2 * k] = m.at as u64;
-        ahead[2 * k + 1] = m.left as u64;
-        votes = committee_set::union(votes, m.votes);
-        after = committee_set::union(after, m.after);
-        k = k + 1;
-    }
-    Voters::Named(votes, after)
-}
+ghost use Rattle.index_pieces.specs.Sources.{Ready};
+ghost use Rattle.index_meeting.specs.Step.{NextIf, Passed};
 
 // Whether two sets have the same voters.
 fn same_voters(v: AuthoritySet, w: AuthoritySet) -> bool
@@ -194,11 +60,11 @@ pub fn run_meets(
     ensures { λ r. ⌜ (r ≡ false → (now (cursors .exit) ≡ now (cursors .entry)) × (now (mine .exit) ≡ now (mine .entry))) ⌝ }
 {
     let mut next = [0u64; 2];
-    let own_voters = sources_meet(index, pos, own, mine, 1, &mut next);
+    let own_voters = index_source_meeting::sources_meet(index, pos, own, mine, 1, &mut next);
     let Voters::Named(v, v_after) = own_voters else {
         return false;
     };
-    let voters = sources_meet(index, pos, index, cursors, n, ahead);
+    let voters = index_source_meeting::sources_meet(index, pos, index, cursors, n, ahead);
     let Voters::Named(w, w_after) = voters else {
         return false;
     };

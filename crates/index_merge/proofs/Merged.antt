@@ -18,7 +18,7 @@ use Rattle.index_spec.proofs.Chain.{past-itself, past-trans, touching, touched}
 use Rattle.index_spec.proofs.Unique.{PlaceOrder, earlier, later, alike, place-order}
 use Rattle.index_pieces.specs.Pieces.{Piece, NobodyFrom, PieceOr}
 use Rattle.index_pieces.proofs.Pieces.{past-not, pieces-same}
-use Rattle.index_merge.specs.Sources.{namedBy, Ready, Moved, together, Merging, ended, GrownFrom}
+use Rattle.index_pieces.specs.Sources.{namedBy, Ready, Moved, together, Merging, ended, GrownFrom}
 
 module _ {f : TransactionLocator → AuthoritySet} where
   -- a piece that touches and has the same voters

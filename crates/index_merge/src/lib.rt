@@ -10,7 +10,7 @@ ghost use Rattle.record_spec.specs.Reference.{TransactionLocator as Locator};
 ghost use Rattle.index_spec.specs.Walk.{runsFrom};
 ghost use Rattle.index_runs.specs.Values.{asRun, asMaybe, asPlace};
 ghost use Rattle.index_pieces.specs.Pieces.{PieceOr, firstPiece, skipped};
-ghost use Rattle.index_merge.specs.Sources.{namedBy, Ready, Moved, together, ended, GrownFrom};
+ghost use Rattle.index_pieces.specs.Sources.{namedBy, Ready, Moved, together, ended, GrownFrom};
 
 // ---- sources: parts of the index, each with a cursor of two words, where its next run stands and how many are left
 

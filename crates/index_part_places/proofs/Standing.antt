@@ -26,7 +26,7 @@ use Rattle.index_spec.specs.Walk.{partAt}
 use Rattle.index_spec.proofs.Grown.{used-length, index-grows, part-at}
 use Rattle.index_spec.proofs.Reading.{part-length, part-back}
 use Rattle.index_spec.proofs.Fitting.{run-reference}
-use Rattle.index_parts.proofs.Words.{part-count, runs-more}
+use Rattle.index_strides.proofs.Words.{part-count, runs-more}
 use Rattle.index_check.specs.Known.{Stands}
 use Rattle.index_check.proofs.Fits.{span-fits}
 

@@ -16,13 +16,14 @@ use Rattle.index_spec.proofs.Reading.{part-length, length-runs}
 use Rattle.index_runs.specs.Values.{asPlace, startsWith}
 use Rattle.index_pieces.specs.Pieces.{PieceOr}
 use Rattle.index_pieces.proofs.Pieces.{at-beyond}
-use Rattle.index_merge.specs.Sources.{namedBy, Ready, Moved, together}
-use Rattle.index_shared.specs.Shared.{Nexts, onward, RunsPassed, SpotAfter}
-use Rattle.index_shared.specs.declared.Spot.{Spot}
+use Rattle.index_pieces.specs.Sources.{namedBy, Ready, Moved, together}
+use Rattle.index_cursors.specs.Spots.{SpotAfter}
+use Rattle.index_shared.specs.Shared.{Nexts, onward, RunsPassed}
+use Rattle.index_cursors.specs.declared.Spot.{Spot}
 use Rattle.index_parts.specs.Parts.{RunPassed, StoodOver, Compared}
 use Rattle.index_parts.specs.declared.PartEnd.the-variants.{Ends, Differs}
-use Rattle.index_parts.proofs.Words.{runsWords, part-count, part-body, run-stands, Stood, stood-start, stood-on, stood-part, row-stands}
-use Rattle.index_parts.proofs.Stepping.{Left, Standing, next-same, Begun, begun, nexts-at, nexts-same, standing-start, standing-none, standing-more, standing-first}
+use Rattle.index_strides.proofs.Words.{runsWords, part-count, part-body, run-stands, Stood, stood-start, stood-on, stood-part, row-stands}
+use Rattle.index_strides.proofs.Stepping.{Left, Standing, next-same, Begun, begun, nexts-at, nexts-same, standing-start, standing-none, standing-more, standing-first}
 
 -- ---- a run and those that the sources share after it
 

@@ -1,7 +1,2 @@
-pub mod Unfolded
-pub mod Stepping
-pub mod Striding
-pub mod Words
-pub mod Writing
-mod Appending
+mod Passed
 mod Held

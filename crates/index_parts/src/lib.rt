@@ -1,18 +1,16 @@
-// The part that a block's own votes, in words of their own, and the parts of its includes make: held against words, counted, written.
+// The part that a block's own votes, in words of their own, and the parts of its includes make: held against words, and counted.
+use index_cursors::Spot;
 use index_runs::MaybeRun;
 use index_runs::Place;
-use index_shared::Spot;
 ghost use mathlib.Core.Path.{_≡_};
 ghost use Prim.Native.Nat.{_+_, _*_, _≤_, _<_};
-ghost use mathlib.Core.List.{List, map, flatten};
-ghost use lib.ListN.{length, take, drop, set};
-ghost use lib.Seq.{sets};
+ghost use mathlib.Core.List.{List};
+ghost use lib.ListN.{length};
 ghost use Rattle.index_spec.specs.Runs.{Run};
 ghost use Rattle.index_spec.specs.Part.{RunsOf};
-ghost use Rattle.index_spec.specs.Index.{runWords, partWords};
-ghost use Rattle.index_merge.specs.Sources.{Ready, together};
-ghost use Rattle.index_runs.specs.Values.{asRun, asMaybe, asPlace};
-ghost use Rattle.index_parts.specs.Parts.{StandsNext, StandsOn, Compared, Strode, strideRuns, Counted};
+ghost use Rattle.index_pieces.specs.Sources.{Ready, together};
+ghost use Rattle.index_runs.specs.Values.{asMaybe, asPlace};
+ghost use Rattle.index_parts.specs.Parts.{StandsNext, StandsOn, Compared, Counted};
 
 // Where a part ends; or the words are not those of the part.
 pub enum PartEnd {
@@ -105,7 +103,7 @@ fn stand_on(
         left: spot.left - 1,
     };
     let more = index_shared::pass_shared(index, cursors, n, own, mine, next);
-    Stands::On(index_shared::spot_after(index, next, more))
+    Stands::On(index_cursors::spot_after(index, next, more))
 }
 
 // Holds the words from a position on against the part of a source in some words and n in the index; `ahead` is as long as their cursors.
@@ -149,50 +147,6 @@ pub fn part_end(
     PartEnd::Differs
 }
 
-// Runs in a row: one, those after it that stand at a position, and the piece with which the next one begins.
-struct Stride {
-    run: index_runs::Run,
-    pos: usize,
-    more: usize,
-    next: MaybeRun,
-}
-
-// The run that begins with a piece and those after it that the sources share; the cursors then stand past them.
-fn next_stride(
-    index: &[u64],
-    cursors: &mut [u64],
-    n: usize,
-    own: &[u64],
-    mine: &mut [u64],
-    first: index_runs::Run,
-) -> Stride
-    requires { ⌜ Ready (now index) (now cursors) n × Ready (now own) (now mine) 1 ⌝ }
-    ensures { λ r. ⌜ Strode (now (own .entry)) (now (mine .entry)) (now (mine .exit)) (now (index .entry)) n (now (cursors .entry)) (now (cursors .exit)) (asRun first) r ⌝ }
-{
-    let grown = index_merge::whole_run(index, cursors, n, own, mine, first);
-    let run = grown.run;
-    let block = run.block;
-    let place = Place::Beyond(block, run.end);
-    let common = index_shared::pass_common(index, cursors, n, own, mine, place);
-    if common.runs == 0 {
-        let next = grown.next;
-        return Stride {
-            run,
-            pos: common.pos,
-            more: 0,
-            next,
-        };
-    }
-    let after = common.place;
-    let next = index_merge::next_piece(index, cursors, n, own, mine, after);
-    Stride {
-        run,
-        pos: common.pos,
-        more: common.runs,
-        next,
-    }
-}
-
 // The number of runs of that part, if it is not above a limit.
 pub fn run_count(
     index: &[u64],
@@ -211,72 +165,11 @@ pub fn run_count(
         let MaybeRun::Here(x) = next else {
             return RunCount::Runs(k);
         };
-        let runs = next_stride(index, cursors, n, own, mine, x);
+        let runs = index_strides::next_stride(index, cursors, n, own, mine, x);
         if most - k <= runs.more {
             return RunCount::TooMany;
         }
         next = runs.next;
         k = k + 1 + runs.more;
     }
-}
-
-// Copies so many words to a position past them.
-fn copy_on(index: &mut [u64], from: usize, to: usize, count: usize)
-    requires { ⌜ (from + count ≤ to) × (to + count ≤ length (now index)) ⌝ }
-    ensures { λ _. ⌜ now (index .exit) ≡ sets (now (index .entry)) to (take count (drop from (now (index .entry)))) ⌝ }
-{
-    let mut i: usize = 0;
-    while i < count {
-        index[to + i] = index[from + i];
-        i += 1;
-    }
-}
-
-// Writes runs in a row to a position past those that stand in the index.
-fn write_stride(index: &mut [u64], at: usize, runs: Stride)
-    requires { ⌜ (runs .pos + 10 * runs .more ≤ at) × (at + 10 * (runs .more + 1) ≤ length (now index)) ⌝ }
-    ensures { λ _. ⌜ now (index .exit) ≡ sets (now (index .entry)) at (flatten (map runWords (strideRuns (now (index .entry)) runs))) ⌝ }
-{
-    let run = runs.run;
-    index_runs::write_run(index, at, run);
-    copy_on(
-        index,
-        runs.pos,
-        at + index_runs::RUN_WORDS,
-        index_runs::RUN_WORDS * runs.more,
-    );
-}
-
-// Appends that part, of so many runs, after the used words, and counts them as used. The sources in the index lie in the used words.
-pub fn append_part(
-    index: &mut [u64],
-    used: usize,
-    cursors: &mut [u64],
-    n: usize,
-    own: &[u64],
-    mine: &mut [u64],
-    count: usize,
-)
-    requires sources { ⌜ Ready (take used (now index)) (now cursors) n × Ready (now own) (now mine) 1 ⌝ }
-    requires room { ⌜ (0 < used) × (used + 1 + 10 * count ≤ length (now index)) ⌝ }
-    ensures { λ _. ⌜ ((xs : List Run) → RunsOf (together (now (own .entry)) (now (mine .entry)) (take used (now (index .entry))) (now (cursors .entry)) n) xs → length xs ≡ count → now (index .exit) ≡ set (sets (now (index .entry)) used (partWords xs)) 0 (used + length (partWords xs))) ⌝ }
-{
-    index[used] = count as u64;
-    let mut next = index_merge::next_piece(&index[..used], cursors, n, own, mine, Place::Anywhere);
-    let mut k: usize = 0;
-    while k < count {
-        let MaybeRun::Here(x) = next else {
-            // Never so: there are so many runs.
-            return;
-        };
-        let runs = next_stride(&index[..used], cursors, n, own, mine, x);
-        if count - k <= runs.more {
-            // Never so: there are no more runs.
-            return;
-        }
-        write_stride(index, used + 1 + index_runs::RUN_WORDS * k, runs);
-        next = runs.next;
-        k = k + 1 + runs.more;
-    }
-    index[0] = (used + 1 + index_runs::RUN_WORDS * count) as u64;
 }

@@ -10,7 +10,8 @@ use Rattle.index_spec.specs.Walk.{Past, byBlock, byOffset, Place, anywhere, bey
 use Rattle.index_spec.proofs.Chain.{past-trans, Good, Chain, link, Differs, past-head, chain-from, nobody-before, at-head, passed-out}
 use Rattle.index_spec.proofs.Unique.{at-end}
 use Rattle.index_pieces.proofs.Pieces.{at-later, at-beyond}
-use Rattle.index_shared.specs.Shared.{Nexts, here, onward, after}
+use Rattle.index_cursors.specs.Spots.{after}
+use Rattle.index_shared.specs.Shared.{Nexts, here, onward}
 
 -- ---- places
 

@@ -1,5 +1,3 @@
-mod Words
 mod Chains
-mod Moving
 mod Named
 pub mod Passing

@@ -10,7 +10,7 @@ use Rattle.committee_set.proofs.Words.{nobody-united, united-nobody}
 use Rattle.record_spec.specs.Reference.{TransactionLocator}
 use Rattle.index_spec.specs.Runs.{votersIn}
 use Rattle.index_spec.proofs.Sets.{united-self}
-use Rattle.index_merge.specs.Sources.{source, namedBy}
+use Rattle.index_pieces.specs.Sources.{source, namedBy}
 
 -- these voters or nobody
 abbrev pub Says : AuthoritySet → AuthoritySet → Type 0

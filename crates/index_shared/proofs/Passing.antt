@@ -5,7 +5,6 @@ use mathlib.Core.List.{List, [], _∷_, _++_, append-assoc}
 use Prim.Native.Nat.{ℕ, zero, suc, _+_, _-_, _*_, _≤_, _<_}
 use native.Mathlib.Omega.{arith}
 use native.Mathlib.Decide.{decLt}
-use native.Mathlib.Numerals.{add-one}
 use lib.ListN.{length, drop}
 use lib.Seq.{drop-drop}
 use Rattle.committee_set.specs.AuthoritySet.{AuthoritySet, nobody, united}
@@ -14,13 +13,17 @@ use Rattle.record_spec.specs.Reference.{TransactionLocator, locator}
 use Rattle.index_spec.specs.Runs.{Run, votersIn}
 use Rattle.index_spec.specs.Walk.{Past, Place, anywhere, beyond, At, runFrom, runsFrom}
 use Rattle.index_spec.proofs.Chain.{past-trans, touched, Chain, end, link, Anything, Differs, no-next, other, nobody-before}
-use Rattle.index_runs.specs.Values.{asPlace}
-use Rattle.index_merge.specs.Sources.{cursorAt, cursorLeft, source, namedBy, Ready, Moved, together}
-use Rattle.index_merge.proofs.Cursors.{next}
-use Rattle.index_shared.specs.Shared.{HasRun, ended, there, HasRuns, over, alike, AllHave, Shared, GoesOn, Apart, OwnPast, spent, later, Leads, movedAt, MovedBy, Nexts, here, after, RunsPassed, SpotAfter}
-use Rattle.index_shared.specs.declared.Spot.{Spot}
+use Rattle.index_pieces.specs.Sources.{cursorAt, cursorLeft, source, namedBy, Ready, Moved, together}
+use Rattle.index_pieces.proofs.Cursors.{next}
+use Rattle.index_alike.specs.Alike.{HasRuns, over, alike, Shared}
+use Rattle.index_run_order.specs.Apart.{GoesOn, Apart}
+use Rattle.index_own_past.specs.Own.{OwnPast, spent, later}
+use Rattle.index_cursors.specs.Cursors.{Leads, movedAt, MovedBy}
+use Rattle.index_cursors.specs.Spots.{after}
+use Rattle.index_shared.specs.Shared.{Nexts, here, RunsPassed}
+use Rattle.index_cursors.proofs.Spots.{after-last}
 use Rattle.index_shared.proofs.Chains.{chain-rest, cut-names, names-after, nexts}
-use Rattle.index_shared.proofs.Words.{runs-split, runs-last, runs-fewer}
+use Rattle.index_alike.proofs.Alike.{runs-split, runs-last, runs-fewer, shared-fewer}
 use Rattle.index_shared.proofs.Named.{Says, one-named}
 
 -- ---- chains of runs in words
@@ -65,54 +68,6 @@ chain-apart (suc (suc m)) ix pos q (link a g d h) =
         first (touched (runFrom (drop pos ix)) (runFrom (drop 10 (drop pos ix))) t .1 ∙ ap (λ (ws : List ℕ). runFrom ws .start) (drop-drop 10 pos ix))
         (v ∙ ap (λ (ws : List ℕ). runFrom ws .votes) (drop-drop 10 pos ix)))
 
--- ---- runs shared one after the other
-
-pub shared-start : (ix cs : List ℕ) (n pos : ℕ) → Shared ix cs n pos 0
-unfolding Shared runsFrom
-shared-start ix cs n pos j h = alike (omega arith) refl
-
-module _ (ix : List ℕ) (pos at left : ℕ) where
-  runs-on : (k : ℕ) → HasRuns ix pos k at left → HasRun ix (pos + 10 * k) k at left → HasRuns ix pos (k + 1) at left
-  runs-on k h (ended e) = over e
-  runs-on k (over e) (there m f) = over e
-  runs-on k (alike l e) (there m f) =
-      alike (omega arith)
-      (runs-last k ix pos
-      ∙ ap (λ (xs : List Run). xs ++ runFrom (drop (pos + 10 * k) ix) ∷ []) e
-      ∙ ap (λ (x : Run). runsFrom k (drop at ix) ++ x ∷ []) f
-      ∙ sym (runs-last k ix at))
-
-  fewer-runs : (k m : ℕ) → k ≤ m → HasRuns ix pos m at left → HasRuns ix pos k at left
-  fewer-runs k m h (over e) = over e
-  fewer-runs k m h (alike l e) = alike (omega arith) (runs-fewer k m (drop pos ix) (drop at ix) h e)
-
--- one source more has a run
-module _ (ix cs : List ℕ) (pos k : ℕ) where
-  pub have-start : AllHave ix cs 0 pos k
-  unfolding AllHave
-  have-start j h = absurd (omega arith)
-
-  pub have-on : (n : ℕ) → AllHave ix cs n pos k → HasRun ix pos k (cursorAt cs n) (cursorLeft cs n) → AllHave ix cs (n + 1) pos k
-  unfolding AllHave
-  have-on n s h j i = go (decLt j n)
-    where
-      go : Dec (j < n) → HasRun ix pos k (cursorAt cs j) (cursorLeft cs j)
-      go (yes m) = s j m
-      go (no m) = let e : n ≡ j = omega arith in subst (λ (z : ℕ). HasRun ix pos k (cursorAt cs z) (cursorLeft cs z)) e h
-
-  pub have-end : (n m : ℕ) → n ≤ m → AllHave ix cs m pos k → AllHave ix cs n pos k
-  unfolding AllHave
-  have-end n m l s j i = s j (omega arith)
-
-pub shared-on : (ix cs : List ℕ) (n pos k : ℕ) → Shared ix cs n pos k → AllHave ix cs n (pos + 10 * k) k → Shared ix cs n pos (k + 1)
-unfolding Shared AllHave
-shared-on ix cs n pos k s h j i = runs-on ix pos (cursorAt cs j) (cursorLeft cs j) k (s j i) (h j i)
-
--- fewer runs are shared too
-pub shared-fewer : (ix cs : List ℕ) (n pos k m : ℕ) → k ≤ m → Shared ix cs n pos m → Shared ix cs n pos k
-unfolding Shared
-shared-fewer ix cs n pos k m h s j i = fewer-runs ix pos (cursorAt cs j) (cursorLeft cs j) k m h (s j i)
-
 -- ---- a source of which none is left, and one that begins past a run
 
 over-nobody : (ix cs : List ℕ) (j : ℕ) (l : TransactionLocator) → cursorLeft cs j ≡ 0 → votersIn (source ix cs j) l ≡ nobody
@@ -140,22 +95,6 @@ module _ (own ms : List ℕ) (x : Run) (r : Ready own ms 1) where
       go : votersIn (source own ms 0) l ≡ nobody
       go = ap (λ (xs : List Run). votersIn xs l) are ∙ nobody-before (l .block) (l .offset) (first ∷ rest)
           (begun (subst (Chain Anything anywhere) are (r .chains 0 (omega arith))))
-
--- the place after k + 1 runs
-after-runs : (k : ℕ) (ix : List ℕ) (pos : ℕ) (p : Place) → after p (runsFrom (suc k) (drop pos ix)) ≡ beyond (runFrom (drop (pos + 10 * k) ix) .reference)
-    (runFrom (drop (pos + 10 * k) ix) .end)
-unfolding runsFrom after
-after-runs zero ix pos p = let e : pos ≡ pos + 10 * 0 = omega arith in ap (λ (i : ℕ). beyond (runFrom (drop i ix) .reference) (runFrom (drop i ix) .end)) e
-after-runs (suc k) ix pos p =
-    let e : pos + 10 + 10 * k ≡ pos + 10 * suc k = omega arith in
-    ap (λ (ws : List ℕ). after (beyond (runFrom (drop pos ix) .reference) (runFrom (drop pos ix) .end)) (runsFrom (suc k) ws)) (drop-drop 10 pos ix)
-    ∙ after-runs k ix (pos + 10) (beyond (runFrom (drop pos ix) .reference) (runFrom (drop pos ix) .end))
-    ∙ ap (λ (i : ℕ). beyond (runFrom (drop i ix) .reference) (runFrom (drop i ix) .end)) e
-
--- the last of k + 1 runs
-pub after-last : (k : ℕ) (ix : List ℕ) (pos : ℕ) (p : Place) → after p (runsFrom (k + 1) (drop pos ix)) ≡ beyond
-    (runFrom (drop (pos + 10 * k) ix) .reference) (runFrom (drop (pos + 10 * k) ix) .end)
-after-last k ix pos p = ap (λ (i : ℕ). after p (runsFrom i (drop pos ix))) (add-one k) ∙ after-runs k ix pos p
 
 -- ---- q + 1 runs are passed, and one more is shared
 
@@ -340,34 +279,6 @@ module _ (ix cs : List ℕ) (n pos q : ℕ) (ready : Ready ix cs n) (shared : Sh
 pub passed-none : (own ms ix : List ℕ) (n : ℕ) (cs : List ℕ) (p : Place) (pos : ℕ) → Ready ix cs n → RunsPassed own ms ix n cs cs p pos 0
 unfolding runsFrom after
 passed-none own ms ix n cs p pos r = record { nexts = here; moved = record { long = refl; ready = r; names = λ l a. refl } }
-
--- ---- runs as the code reads them
-
--- two runs that were read, one past the other
-pub past-read : (x x′ y y′ : Run) → x ≡ x′ → y ≡ y′ → Past (x .reference) (x .end) (y .reference) (y .start) → Past (x′ .reference) (x′ .end)
-    (y′ .reference) (y′ .start)
-past-read x x′ y y′ e f h =
-    subst (λ (z : Run). Past (z .reference) (z .end) (y′ .reference) (y′ .start)) e
-    (subst (λ (z : Run). Past (x .reference) (x .end) (z .reference) (z .start)) f h)
-
-pub spot-none : (ix : List ℕ) (s : Spot) (k : ℕ) → k ≡ 0 → SpotAfter ix s k s
-unfolding runsFrom after
-spot-none ix s k e = record { place = rw e; pos = omega arith; left = omega arith }
-
--- the last of the runs was read
-pub spot-some : (ix : List ℕ) (s r : Spot) (k : ℕ) (x : Run) → 0 < k → asPlace (r .place) ≡ beyond (x .reference) (x .end) → x ≡ runFrom
-    (drop (s .pos + 10 * (k - 1)) ix)
-    → r .pos ≡ s .pos + 10 * k → r .left + k ≡ s .left → SpotAfter ix s k r
-spot-some ix s r k x h p e pos left =
-    let d : k - 1 + 1 ≡ k = omega arith in
-    record {
-      place = p
-          ∙ ap (λ (y : Run). beyond (y .reference) (y .end)) e
-          ∙ sym (after-last (k - 1) ix (s .pos) (asPlace (s .place)))
-          ∙ ap (λ (i : ℕ). after (asPlace (s .place)) (runsFrom i (drop (s .pos) ix))) d;
-      pos = pos;
-      left = left;
-    }
 
 -- ---- as the code counts: one less than the runs that are shared and apart
 

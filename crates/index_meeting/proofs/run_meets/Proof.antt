@@ -7,10 +7,11 @@ use Rattle.committee_set.specs.AuthoritySet.{united}
 use Rattle.index_spec.specs.Runs.{Run}
 use Rattle.index_spec.specs.Walk.{beyond, runFrom}
 use Rattle.index_runs.specs.Values.{asRun, asPlace}
-use Rattle.index_merge.specs.Sources.{namedBy, together}
-use Rattle.index_meeting.specs.Step.{MetAll, NextIf}
-use Rattle.index_meeting.proofs.One.{meets-both, next-met}
-use Rattle.index_meeting.proofs.Moving.{moved-copied}
+use Rattle.index_pieces.specs.Sources.{namedBy, together}
+use Rattle.index_source_meeting.specs.Met.{MetAll}
+use Rattle.index_meeting.specs.Step.{NextIf}
+use Rattle.index_source_meeting.proofs.Together.{meets-both}
+use Rattle.index_meeting.proofs.Next.{next-met, moved-copied}
 use borrow.Author.Needs.{needs}
 use native.Mathlib.Omega.{arith}
 use Rattle.index_meeting.proofs.run_meets.Statement.{statement}

@@ -1,7 +1,7 @@
 use mathlib.Core.Path.{refl}
 use Rattle.index_spec.specs.Runs.{run}
 use Rattle.index_runs.specs.Values.{asRun}
-use Rattle.index_merge.specs.Sources.{ended}
+use Rattle.index_pieces.specs.Sources.{ended}
 use Rattle.index_merge.proofs.ended.Statement.{statement}
 use Rattle.index_merge.proofs.ended.Tie as tie
 

@@ -4,7 +4,7 @@ use lib.ListN.{drop}
 use Rattle.index_spec.specs.Walk.{runsFrom}
 use Rattle.index_runs.specs.Values.{asRun, asMaybe, asPlace}
 use Rattle.index_pieces.specs.Pieces.{fromPlace, firstPiece, skipped}
-use Rattle.index_merge.proofs.Cursors.{skip-stop, skip-on, skip-end, piece-stop, piece-on, piece-end}
+use Rattle.index_pieces.proofs.Cursors.{skip-stop, skip-on, skip-end, piece-stop, piece-on, piece-end}
 use borrow.Author.Needs.{needs}
 use native.Mathlib.Omega.{arith}
 use Rattle.index_merge.proofs.source_piece.Statement.{statement}

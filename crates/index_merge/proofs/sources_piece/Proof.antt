@@ -3,8 +3,8 @@ use Prim.Native.Nat.{ℕ, _-_, _≤_}
 use lib.ListN.{length-set}
 use Rattle.index_runs.specs.Values.{asMaybe, asPlace}
 use Rattle.index_pieces.specs.Pieces.{firstPiece, skipped}
-use Rattle.index_merge.specs.Sources.{cursorAt, cursorLeft, source}
-use Rattle.index_merge.proofs.Cursors.{Passing, SoFar, passing-start, passing-source, passing-inside, passing-step, passing-end, so-far-start, so-far-on}
+use Rattle.index_pieces.specs.Sources.{cursorAt, cursorLeft, source}
+use Rattle.index_pieces.proofs.Cursors.{Passing, SoFar, passing-start, passing-source, passing-inside, passing-step, passing-end, so-far-start, so-far-on}
 use borrow.Author.Needs.{needs}
 use native.Mathlib.Omega.{arith}
 use Rattle.index_merge.proofs.sources_piece.Statement.{statement}

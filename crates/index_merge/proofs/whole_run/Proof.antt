@@ -5,7 +5,7 @@ use mathlib.Core.Option.{Option}
 use borrow.Author.Tests.{not-true, not-false}
 use Rattle.index_spec.specs.Runs.{Run, run, touches, sameVoters}
 use Rattle.index_runs.specs.Values.{asRun, asMaybe, asPlace}
-use Rattle.index_merge.specs.Sources.{ended, GrownFrom}
+use Rattle.index_pieces.specs.Sources.{ended, GrownFrom}
 use Rattle.index_merge.proofs.Merged.{Growing, growing-start, grown-none, grown-other, grown-past, grown-on}
 use borrow.Author.Needs.{needs}
 use native.Mathlib.Omega.{arith}

@@ -3,9 +3,10 @@ use lib.ListN.{drop}
 use borrow.Author.Tests.{not-true, not-false}
 use Rattle.index_runs.specs.Values.{asRun, asMaybe, asPlace}
 use Rattle.index_pieces.specs.Pieces.{PieceOr}
-use Rattle.index_merge.specs.Sources.{together}
+use Rattle.index_pieces.specs.Sources.{together}
 use Rattle.index_parts.specs.Parts.{RunPassed, StandsNext}
-use Rattle.index_parts.proofs.Stepping.{grown-passed, moved-piece, moved-passed, none-next, other-next}
+use Rattle.index_strides.proofs.Stepping.{moved-piece}
+use Rattle.index_parts.proofs.Passed.{grown-passed, moved-passed, none-next, other-next}
 use borrow.Author.Needs.{needs}
 use Rattle.index_parts.proofs.merged_stands.Statement.{statement}
 use Rattle.index_parts.proofs.merged_stands.Tie as tie

@@ -7,10 +7,10 @@ use Rattle.index_spec.specs.Runs.{Run}
 use Rattle.index_spec.specs.Index.{runWords}
 use Rattle.index_spec.specs.Walk.{runFrom}
 use Rattle.index_runs.specs.Values.{asMaybe, asPlace, startsWith}
-use Rattle.index_merge.specs.Sources.{Ready}
+use Rattle.index_pieces.specs.Sources.{Ready}
 use Rattle.index_parts.specs.Parts.{RunPassed, StandsNext}
-use Rattle.index_parts.proofs.Stepping.{met-passed}
-use Rattle.index_parts.proofs.Words.{run-here}
+use Rattle.index_parts.proofs.Passed.{met-passed}
+use Rattle.index_strides.proofs.Words.{run-here}
 use borrow.Author.Needs.{needs}
 use native.Mathlib.Omega.{arith}
 use Rattle.index_parts.proofs.next_stands.Statement.{statement}

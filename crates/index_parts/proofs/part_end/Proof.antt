@@ -6,7 +6,7 @@ use Rattle.index_spec.specs.Index.{partWords}
 use Rattle.index_spec.proofs.Reading.{part-length}
 use Rattle.index_runs.specs.Values.{asRun, asMaybe, asPlace}
 use Rattle.index_parts.specs.Parts.{StandsOn, Compared}
-use Rattle.index_parts.proofs.Words.{part-inside, part-count}
+use Rattle.index_strides.proofs.Words.{part-inside, part-count}
 use Rattle.index_parts.proofs.Held.{Holding, holding-start, holding-on, holding-differs, holding-end, holding-more}
 use borrow.Author.Needs.{needs}
 use Rattle.index_parts.proofs.part_end.Statement.{statement}

@@ -3,8 +3,8 @@ use Prim.Native.Nat.{_-_, _≤_}
 use native.Mathlib.Omega.{arith}
 use Rattle.index_runs.specs.Values.{asRun, asMaybe, asPlace}
 use Rattle.index_parts.specs.Parts.{Counted}
-use Rattle.index_parts.proofs.Stepping.{Stepping, stepping-first, runs-moved, standing-none}
-use Rattle.index_parts.proofs.Striding.{stride-left, stepping-over}
+use Rattle.index_strides.proofs.Stepping.{Stepping, stepping-first, runs-moved, standing-none}
+use Rattle.index_strides.proofs.Striding.{stride-left, stepping-over}
 use borrow.Author.Needs.{needs}
 use Rattle.index_parts.proofs.run_count.Statement.{statement}
 use Rattle.index_parts.proofs.run_count.Tie as tie

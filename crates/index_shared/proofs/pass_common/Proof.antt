@@ -2,8 +2,8 @@ use mathlib.Core.Path.{refl}
 use native.Mathlib.Omega.{arith}
 use Rattle.index_spec.specs.Walk.{runsFrom}
 use Rattle.index_runs.specs.Values.{asPlace}
-use Rattle.index_merge.specs.Sources.{cursorAt, cursorLeft}
-use Rattle.index_shared.specs.Shared.{after}
+use Rattle.index_pieces.specs.Sources.{cursorAt, cursorLeft}
+use Rattle.index_cursors.specs.Spots.{after}
 use Rattle.index_shared.proofs.Passing.{passed-none}
 use borrow.Author.Needs.{needs}
 use Rattle.index_shared.proofs.pass_common.Statement.{statement}

@@ -1,0 +1,2 @@
+mod Moving
+pub mod Spots

@@ -1,0 +1,3 @@
+mod One
+pub mod Together
+mod Moving
