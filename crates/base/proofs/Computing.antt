@@ -6,5 +6,6 @@ use Rattle.base.specs.Le.{leNumber, leBytes, leAt}
 use Rattle.base.specs.Read.{give, fail, onward, _>>=_, items, number, given, repeated, complete, andOthers, upTo, toEnd}
 
 unfoldable pub computing : Unit {0}
-unfolding isEmpty anyOf allOf pairwise firstIs adjacent keep find holds Option·toList isNone flatten sumOf countFrom same before refusal passes checked leNumber leBytes leAt give fail onward _>>=_ items number given repeated complete andOthers upTo toEnd
+unfolding isEmpty anyOf allOf pairwise firstIs adjacent keep find holds Option·toList isNone flatten sumOf countFrom same before refusal passes checked
+    leNumber leBytes leAt give fail onward _>>=_ items number given repeated complete andOthers upTo toEnd
 computing = tt

@@ -74,7 +74,8 @@ module _ {A : Type 0} where
           e : suc n * k ≡ k + n * k
           e = rw (suc-mul n k) (omega arith)
 
-          go : Dec (k ≤ length s) → (length (drop k s) < n * k → repeated n m (drop k s) ≡ none) → onward (m s) (λ a. repeated n m >>= (λ rest. give (a ∷ rest))) ≡ none
+          go : Dec (k ≤ length s) → (length (drop k s) < n * k → repeated n m (drop k s) ≡ none) → onward (m s)
+              (λ a. repeated n m >>= (λ rest. give (a ∷ rest))) ≡ none
           go (yes i) ih = rw (F .reads s i, ih (omega (arith, length-drop k s, e)))
           go (no i) ih = rw (F .short s (omega arith))
 
@@ -166,4 +167,5 @@ repeated-length {A} m zero s p h = sym (ap (λ (q : Part (List A)). length (q .v
 repeated-length {A} m (suc n) s p h =
     let q = bind-some m (λ a. repeated n m >>= (λ rest. give (a ∷ rest))) s p h in
     let r = bind-some (repeated n m) (λ rest. give (q .0 .value ∷ rest)) (q .0 .rest) p (q .2) in
-    sym (ap (λ (z : Part (List A)). length (z .value)) (Option·some-injective (part (q .0 .value ∷ r .0 .value) (r .0 .rest)) p (r .2))) ∙ ap suc (repeated-length m n (q .0 .rest) (r .0) (r .1))
+    sym (ap (λ (z : Part (List A)). length (z .value)) (Option·some-injective (part (q .0 .value ∷ r .0 .value) (r .0 .rest)) p (r .2))) ∙ ap suc
+    (repeated-length m n (q .0 .rest) (r .0) (r .1))

@@ -67,7 +67,8 @@ module _ {A : Type 0} where
   pub pairwise-pairs : (p : A → A → Bool) (xs : List A) → pairwise p xs ≡ true → Pairs (λ x y. p x y ≡ true) xs
   unfolding pairwise
   pairwise-pairs p [] h = no-pairs
-  pairwise-pairs p (x ∷ xs) h = with-later (all-every (p x) xs (and-left (allOf (p x) xs) (pairwise p xs) h)) (pairwise-pairs p xs (and-right (allOf (p x) xs) (pairwise p xs) h))
+  pairwise-pairs p (x ∷ xs) h = with-later (all-every (p x) xs (and-left (allOf (p x) xs) (pairwise p xs) h))
+      (pairwise-pairs p xs (and-right (allOf (p x) xs) (pairwise p xs) h))
 
   pub pairs-pairwise : (p : A → A → Bool) (xs : List A) → Pairs (λ x y. p x y ≡ true) xs → pairwise p xs ≡ true
   unfolding pairwise
@@ -173,7 +174,8 @@ module _ {P : ℕ → Type 0} where
   pub every-countFrom : (i n : ℕ) → ((o : ℕ) → i ≤ o → o < i + n → P o) → Every P (countFrom i n)
   unfolding countFrom
   every-countFrom i zero f = none-of
-  every-countFrom i (suc n) f = and (f i (omega arith) (omega arith)) (every-countFrom (i + 1) n (λ o (l : i + 1 ≤ o) (k : o < i + 1 + n). f o (omega arith) (omega arith)))
+  every-countFrom i (suc n) f = and (f i (omega arith) (omega arith))
+      (every-countFrom (i + 1) n (λ o (l : i + 1 ≤ o) (k : o < i + 1 + n). f o (omega arith) (omega arith)))
 
 module _ {A : Type 0} where
   -- what is found passes the test, and is one of the elements

@@ -147,6 +147,7 @@ unfolding countFrom
 countFrom-in start zero m = absurd (in-empty m)
 countFrom-in start (suc n) {o} m = from (in-cases m) (λ k. countFrom-in (start + 1) n k)
   where
-    from : (o ≡ start) ⊎ (o ∈ countFrom (start + 1) n) → (o ∈ countFrom (start + 1) n → (start + 1 ≤ o) × (o < start + 1 + n)) → (start ≤ o) × (o < start + suc n)
+    from : (o ≡ start) ⊎ (o ∈ countFrom (start + 1) n) → (o ∈ countFrom (start + 1) n → (start + 1 ≤ o) × (o < start + 1 + n)) → (start ≤ o) ×
+        (o < start + suc n)
     from (inl e) r = (omega arith, omega arith)
     from (inr k) r = let q = r k in (omega (arith, q .0), omega (arith, q .1))

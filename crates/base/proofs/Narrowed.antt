@@ -29,7 +29,8 @@ module _ (n : ℕ) (Low High : ℕ → Type 0) where
           at (no e) = absurd (e (omega arith))
 
   -- the middle is High, and with it all above
-  pub narrowed-down : (low high m : ℕ) → ((i : ℕ) → m < i → i < n → High i) → High m → low ≤ m → m < high → Narrowed n Low High low high → Narrowed n Low High low m
+  pub narrowed-down : (low high m : ℕ) → ((i : ℕ) → m < i → i < n → High i) → High m → low ≤ m → m < high → Narrowed n Low High low high → Narrowed n Low High
+      low m
   narrowed-down low high m up h l k r = record { order = l; inside = omega (arith, r .inside); below = r .below; above = λ j a b. go j a b (decLt m j) }
     where
       go : (j : ℕ) → m ≤ j → j < n → Dec (m < j) → High j

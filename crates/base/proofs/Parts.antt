@@ -26,7 +26,8 @@ part-left l v t n p =
     record {
       before = p .before;
       after = p .after ++ t;
-      are = ap (λ (k : List ℕ). k ++ t) (p .are) ∙ append-assoc (p .before) (v ++ p .after) t ∙ ap (λ (k : List ℕ). p .before ++ k) (append-assoc v (p .after) t);
+      are = ap (λ (k : List ℕ). k ++ t) (p .are) ∙ append-assoc (p .before) (v ++ p .after) t ∙ ap (λ (k : List ℕ). p .before ++ k)
+          (append-assoc v (p .after) t);
       many = p .many;
     }
 

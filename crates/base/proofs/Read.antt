@@ -134,7 +134,12 @@ items-back n s p b h = go (leb n (length s)) refl h
     go false e k = absurd (Option·none-ne-some p k)
     go true e k =
         let q : part (take n s) (drop n s) ≡ p = Option·some-injective _ _ k in
-        rw (← q) (record { front = take n s; splits = sym (take-append-drop n s); says = record { are = refl; many = length-take-le n s (leb-true n (length s) e); bytes = bytes-left (take n s) (drop n s) (rw (take-append-drop n s) b) } })
+        rw (← q) (record {
+          front = take n s;
+          splits = sym (take-append-drop n s);
+          says = record
+              { are = refl; many = length-take-le n s (leb-true n (length s) e); bytes = bytes-left (take n s) (drop n s) (rw (take-append-drop n s) b) };
+        })
 
 -- a number is the little-endian number of the n bytes that were consumed
 pub record Number (n : ℕ) (x : List ℕ) (v : ℕ) : Type 0 where
@@ -146,7 +151,11 @@ unfolding number
 number-back n = map-back (items n) leNumber (Items n) (Number n) (items-back n) says
   where
     says : (v x : List ℕ) → Items n x v → Number n x (leNumber v)
-    says v x r = record { are = r .are ∙ sym (leBytes-leNumber v (r .bytes)) ∙ ap (λ (k : ℕ). leBytes k (leNumber v)) (r .many); fits = rw (r .many) at (leNumber-lt v (r .bytes)) }
+    says v x r = record {
+      are = r .are ∙ sym (leBytes-leNumber v (r .bytes)) ∙ ap (λ (k : ℕ). leBytes k (leNumber v)) (r .many);
+      fits = rw (r .many) at
+          (leNumber-lt v (r .bytes));
+    }
 
 module _ {A : Type 0} (w : A → List ℕ) (P : A → Type 0) where
   -- one thing was written by w, and P holds of it

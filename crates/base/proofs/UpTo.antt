@@ -102,8 +102,11 @@ module _ {A : Type 0} (m : Read A) (w : A → List ℕ) (P : A → Type 0) (full
   pub falls : (s : List ℕ) (p : Part A) → AllBytes s → m s ≡ some p → (length (p .rest) < length s) × AllBytes (p .rest)
   falls s p b h =
       let c : Consumed (One w P) s p = back s p b h in
-      let all : s ≡ w (p .value) ++ p .rest = c .splits ∙ rw (c .says .are) in
-      (omega (arith, ap length all, length-append (w (p .value)) (p .rest), not-empty (w (p .value)) (full (p .value) [])), bytes-right (c .front) (p .rest) (rw (c .splits) at b))
+      let all : s ≡ w (p .value) ++ p .rest = c .splits ∙ rw (c .says .are) in (
+        omega (arith, ap length all, length-append (w (p .value)) (p .rest), not-empty (w (p .value)) (full (p .value) [])),
+        bytes-right (c .front) (p .rest)
+            (rw (c .splits) at b),
+      )
 
   -- more turns than bytes change nothing
   up-to-enough : (n k : ℕ) (s : List ℕ) → AllBytes s → length s ≤ n → length s ≤ k → upTo n m s ≡ upTo k m s

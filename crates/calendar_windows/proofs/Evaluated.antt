@@ -11,7 +11,8 @@ use borrow.Author.Tests.{lt-ltb, le-ltb, le-leb, lt-leb}
 use Rattle.base.specs.Lists.{pick}
 use Rattle.base.specs.Checks.{answered}
 use Rattle.base.proofs.Computing.{computing as computing-base}
-use Rattle.calendar_windows.specs.Calendar.{Window, week, lastSecond, windows, inRange, inOrder, goodCalendar, calendarChecks, weekSecond, within, blasting, isOpen, FirstOpen, firstOpen, askOpen, askNextOpen}
+use Rattle.calendar_windows.specs.Calendar.{Window, week, lastSecond, windows, inRange, inOrder, goodCalendar, calendarChecks, weekSecond, within}
+use Rattle.calendar_windows.specs.Calendar.{blasting, isOpen, FirstOpen, firstOpen, askOpen, askNextOpen}
 use Rattle.calendar_windows.specs.Cards.{Cards}
 use Rattle.calendar_windows.proofs.Freed.{freeFrom, freed}
 use Rattle.calendar_windows.proofs.Steps.{good-in-order}
@@ -39,14 +40,16 @@ module _ (ws : List Window) (g : inOrder ws ≡ true) (t : ℕ) where
       go (yes k) = rw (lt-ltb (freeFrom ws (weekSecond t)) week k) (this-week ws t (freeFrom ws (weekSecond t)) (freed ws g (weekSecond t)) k)
       go (no k) =
           let l : week ≤ freeFrom ws (weekSecond t) = omega arith in
-          rw (le-ltb (freeFrom ws (weekSecond t)) week l) (next-week ws t (freeFrom ws (weekSecond t)) (freeFrom ws 0) (freed ws g (weekSecond t)) l (freed ws g 0) h)
+          rw (le-ltb (freeFrom ws (weekSecond t)) week l) (next-week ws t (freeFrom ws (weekSecond t)) (freeFrom ws 0) (freed ws g (weekSecond t)) l
+          (freed ws g 0) h)
 
   works : firstOpen ws t ≡ worked ws t
   unfolding worked
   works = go (decLe week (freeFrom ws 0)) (decLe (t + waitFrom ws (weekSecond t)) lastSecond)
     where
       go : Dec (week ≤ freeFrom ws 0) → Dec (t + waitFrom ws (weekSecond t) ≤ lastSecond)
-          → firstOpen ws t ≡ pick (leb week (freeFrom ws 0)) none (pick (leb (t + waitFrom ws (weekSecond t)) lastSecond) (some (t + waitFrom ws (weekSecond t))) none)
+          → firstOpen ws t ≡ pick (leb week (freeFrom ws 0)) none (pick (leb (t + waitFrom ws (weekSecond t)) lastSecond)
+          (some (t + waitFrom ws (weekSecond t))) none)
       go (yes h) k = rw (le-leb week (freeFrom ws 0) h) (full-week ws (freeFrom ws 0) t (freed ws g 0) h)
       go (no h) (yes k) =
           let l : freeFrom ws 0 < week = omega arith in
@@ -54,7 +57,8 @@ module _ (ws : List Window) (g : inOrder ws ≡ true) (t : ℕ) where
       go (no h) (no k) =
           let l : freeFrom ws 0 < week = omega arith in
           let m : lastSecond < t + waitFrom ws (weekSecond t) = omega arith in
-          rw (lt-leb week (freeFrom ws 0) l, lt-leb (t + waitFrom ws (weekSecond t)) lastSecond m) (past-count ws t (t + waitFrom ws (weekSecond t)) (waited l) m)
+          rw (lt-leb week (freeFrom ws 0) l, lt-leb (t + waitFrom ws (weekSecond t)) lastSecond m)
+          (past-count ws t (t + waitFrom ws (weekSecond t)) (waited l) m)
 
 -- the call, worked out
 next : (ns : List ℕ) (t : ℕ) → goodCalendar ns ≡ true → askNextOpen ns t ≡ answered (worked (windows ns) t)

@@ -36,7 +36,8 @@ from-order e (w ∷ ws) = rw (from-order (w .end) ws) (shuffle (leb e (w .start)
     later h k i =
         let l : e ≤ w .start = leb-true e (w .start) h in
         let m : w .start < w .end = unfold inRange in ltb-true (w .start) (w .end) (and-left (ltb (w .start) (w .end)) _ k) in
-        every-all (λ v. leb e (v .start)) ws (every (λ v j. le-leb e (v .start) (omega (arith, leb-true (w .end) (v .start) j))) ws (all-every (endsBefore w) ws i))
+        every-all (λ v. leb e (v .start)) ws (every (λ v j. le-leb e (v .start) (omega (arith, leb-true (w .end) (v .start) j))) ws
+        (all-every (endsBefore w) ws i))
 
 from-zero : (ws : List Window) → allOf (λ w. leb 0 (w .start)) ws ≡ true
 unfolding allOf

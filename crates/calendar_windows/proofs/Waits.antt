@@ -34,14 +34,16 @@ module _ (ws : List Window) where
       record {
         opens = open-at ws (t + (r - weekSecond t)) r (week-same t (t + (r - weekSecond t)) (r - weekSecond t) refl (omega arith) ∙ omega arith) (f .quiet);
         after = omega arith;
-        earliest = λ u i (k : u < t + (r - weekSecond t)). closed-at ws u (weekSecond t + (u - t)) (week-same t u (u - t) (omega arith) (omega arith)) (f .blasts (weekSecond t + (u - t)) (omega arith) (omega arith));
+        earliest = λ u i (k : u < t + (r - weekSecond t)). closed-at ws u (weekSecond t + (u - t)) (week-same t u (u - t) (omega arith) (omega arith))
+            (f .blasts (weekSecond t + (u - t)) (omega arith) (omega arith));
       }
 
   -- it lasts until the week's end, and then as long as at the week's beginning
   pub next-week : (t r z : ℕ) → Free ws (weekSecond t) r → week ≤ r → Free ws 0 z → z < week → FirstOpen ws t (t + (week - weekSecond t + z))
   next-week t r z f h g k =
       let b : weekSecond t < week = week-below t in
-      let next : weekSecond (t + (week - weekSecond t + z)) + week ≡ weekSecond t + (week - weekSecond t + z) = week-next t (t + (week - weekSecond t + z)) (week - weekSecond t + z) refl (omega arith) (omega arith) in
+      let next : weekSecond (t + (week - weekSecond t + z)) + week ≡ weekSecond t + (week - weekSecond t + z) = week-next t (t + (week - weekSecond t + z))
+      (week - weekSecond t + z) refl (omega arith) (omega arith) in
       record {
         opens = open-at ws (t + (week - weekSecond t + z)) z (omega arith) (g .quiet);
         after = omega arith;
@@ -49,7 +51,8 @@ module _ (ws : List Window) where
       }
     where
       by : weekSecond t < week → (u : ℕ) → t ≤ u → u < t + (week - weekSecond t + z) → Dec (weekSecond t + (u - t) < week) → isOpen ws u ≡ false
-      by b u i l (yes m) = closed-at ws u (weekSecond t + (u - t)) (week-same t u (u - t) (omega arith) m) (f .blasts (weekSecond t + (u - t)) (omega arith) (omega arith))
+      by b u i l (yes m) = closed-at ws u (weekSecond t + (u - t)) (week-same t u (u - t) (omega arith) m)
+          (f .blasts (weekSecond t + (u - t)) (omega arith) (omega arith))
       by b u i l (no m) =
           let e : weekSecond u + week ≡ weekSecond t + (u - t) = week-next t u (u - t) (omega arith) (omega arith) (omega arith) in
           closed-at ws u (weekSecond u) refl (g .blasts (weekSecond u) (omega arith) (omega arith))

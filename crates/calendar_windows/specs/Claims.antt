@@ -6,7 +6,8 @@ use mathlib.Core.Bool.{true, false}
 use mathlib.Core.List.{List}
 use mathlib.Core.Option.{none, some}
 use Rattle.base.specs.Checks.{refused}
-use Rattle.calendar_windows.specs.Calendar.{Window, week, lastSecond, goodCalendar, weekSecond, blasting, isOpen, FirstOpen, firstOpen, askOpen, askNextOpen}
+use Rattle.calendar_windows.specs.Calendar.{Window, week, lastSecond, goodCalendar, weekSecond, blasting, isOpen, FirstOpen, firstOpen, askOpen}
+use Rattle.calendar_windows.specs.Calendar.{askNextOpen}
 
 -- 02: "Second 0 of the week is second 0 of the count since 1970 plus 345,600 .., weeks repeating both ways": after it, and in the week before
 unfoldable pub WeekMeant : Type 0

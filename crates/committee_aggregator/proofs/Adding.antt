@@ -21,7 +21,8 @@ use Rattle.committee.proofs.Bounds.{few-members, known-below, total-most, membe
 use Rattle.committee_set.proofs.Sums.{stake-most}
 
 -- what the code answers where it refuses
-pub refused-sound : (d : code-added.Added) (g : code-aggregator.StakeAggregator) (n : ℕ) → (d .answer ≡ Refused n) × (d .aggregator ≡ g) → asAdded d ≡ record { answer = refused n; aggregator = asAggregator g }
+pub refused-sound : (d : code-added.Added) (g : code-aggregator.StakeAggregator) (n : ℕ) → (d .answer ≡ Refused n) × (d .aggregator ≡ g) → asAdded d ≡ record
+    { answer = refused n; aggregator = asAggregator g }
 unfolding asAdded asAddAnswer
 refused-sound d g n e = rw (e .0, e .1)
 

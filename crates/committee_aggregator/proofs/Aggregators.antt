@@ -23,7 +23,8 @@ stake-inserted c v a h =
     ∙ rw (stake-of c v) (weigh-with (member v) a c h)
 
 -- the aggregator's stake stays the sum of its voters' stakes, and its voters stay known
-pub counted-in-order : (c : Committee) (g : StakeAggregator) (a : AuthorityIndex) → known c a ≡ true → aggregatorInOrder c g ≡ true → aggregatorInOrder c (counted c g a) ≡ true
+pub counted-in-order : (c : Committee) (g : StakeAggregator) (a : AuthorityIndex) → known c a ≡ true → aggregatorInOrder c g ≡ true → aggregatorInOrder c
+    (counted c g a) ≡ true
 unfolding counted aggregatorInOrder members
 counted-in-order c g a k h = split (member (g .votes) a) refl
   where
@@ -39,9 +40,11 @@ counted-in-order c g a k h = split (member (g .votes) a) refl
         let r = keep-in (member (inserted (g .votes) a)) (countFrom 0 128) m in
         was b (r .0) (or-cases (member (g .votes) b) (eqb b a) (sym (member-inserted (g .votes) a b) ∙ r .1)))
 
-    split : (t : Bool) → member (g .votes) a ≡ t → aggregatorInOrder c (pick t g (record { votes = inserted (g .votes) a; stake = g .stake + getStake c a })) ≡ true
+    split : (t : Bool) → member (g .votes) a ≡ t → aggregatorInOrder c (pick t g (record { votes = inserted (g .votes) a; stake = g .stake + getStake c a }))
+        ≡ true
     split true e = h
-    split false e = and-both _ _ all-known (eq-eqb (g .stake + getStake c a) (stakeOf c (inserted (g .votes) a)) (omega (arith, held, stake-inserted c (g .votes) a e)))
+    split false e = and-both _ _ all-known (eq-eqb (g .stake + getStake c a) (stakeOf c (inserted (g .votes) a))
+        (omega (arith, held, stake-inserted c (g .votes) a e)))
 
 -- the voter is in it afterwards, and so is who was before
 pub counted-member : (c : Committee) (a : AuthorityIndex) (g : StakeAggregator) → member (counted c g a .votes) a ≡ true
@@ -52,7 +55,8 @@ counted-member c a g = split (member (g .votes) a) refl
     split true e = e
     split false e = rw (member-inserted (g .votes) a a, eq-eqb a a refl) (or-true (member (g .votes) a))
 
-pub counted-keeps : (c : Committee) (a : AuthorityIndex) (g : StakeAggregator) (b : AuthorityIndex) → member (g .votes) b ≡ true → member (counted c g a .votes) b ≡ true
+pub counted-keeps : (c : Committee) (a : AuthorityIndex) (g : StakeAggregator) (b : AuthorityIndex) → member (g .votes) b ≡ true → member
+    (counted c g a .votes) b ≡ true
 unfolding counted
 counted-keeps c a g b h = split (member (g .votes) a)
   where

@@ -62,7 +62,8 @@ told-now true q true = refl
 told-now false q false = refl
 told-now false q true = refl
 
-pub crossed-meant : (c : Committee) (g : StakeAggregator) (a : AuthorityIndex) → saysCrossed (add c g a .answer) ≡ not (hasQuorum c g) && hasQuorum c (add c g a .aggregator)
+pub crossed-meant : (c : Committee) (g : StakeAggregator) (a : AuthorityIndex) → saysCrossed (add c g a .answer) ≡ not (hasQuorum c g) && hasQuorum c
+    (add c g a .aggregator)
 unfolding add checked told
 crossed-meant c g a = go (passes (addChecks c g a))
   where
@@ -70,11 +71,13 @@ crossed-meant c g a = go (passes (addChecks c g a))
     never true = refl
     never false = refl
 
-    go : (t : Bool) → saysCrossed (pick t (answered (told c g a)) (refused (refusal (addChecks c g a)))) ≡ not (hasQuorum c g) && hasQuorum c (pick t (counted c g a) g)
+    go : (t : Bool) → saysCrossed (pick t (answered (told c g a)) (refused (refusal (addChecks c g a)))) ≡ not (hasQuorum c g) && hasQuorum c
+        (pick t (counted c g a) g)
     go true = told-crossed (member (g .votes) a) (hasQuorum c g) (hasQuorum c (counted c g a)) (λ h. ap (hasQuorum c) (repeated-same c g a h))
     go false = unfold saysCrossed in never (hasQuorum c g)
 
-pub quorum-now : (c : Committee) (g : StakeAggregator) (a : AuthorityIndex) (t : Told) → add c g a .answer ≡ answered t → holdsNow t ≡ hasQuorum c (add c g a .aggregator)
+pub quorum-now : (c : Committee) (g : StakeAggregator) (a : AuthorityIndex) (t : Told) → add c g a .answer ≡ answered t → holdsNow t ≡ hasQuorum c
+    (add c g a .aggregator)
 unfolding add checked told
 quorum-now c g a t e = go (passes (addChecks c g a)) e
   where
@@ -90,17 +93,20 @@ added-stays c [] g h = h
 added-stays c (a ∷ later) g h = added-stays c later (add c g a .aggregator) (quorum-stays c g a h)
 
 -- from any aggregator: none where quorum held before, else one where it holds at the end
-crossings-from : (c : Committee) (voters : List AuthorityIndex) (g : StakeAggregator) → crossings (answers c g voters) ≡ pick (hasQuorum c g) 0 (pick (hasQuorum c (addedAll c g voters)) 1 0)
+crossings-from : (c : Committee) (voters : List AuthorityIndex) (g : StakeAggregator) → crossings (answers c g voters) ≡ pick (hasQuorum c g) 0
+    (pick (hasQuorum c (addedAll c g voters)) 1 0)
 unfolding crossings answers addedAll
 crossings-from c [] g = none-yet (hasQuorum c g)
   where
     none-yet : (t : Bool) → _≡_ {A = ℕ} 0 (pick t 0 (pick t 1 0))
     none-yet true = refl
     none-yet false = refl
-crossings-from c (a ∷ later) g = rw (crossed-meant c g a, crossings-from c later (add c g a .aggregator)) (go (hasQuorum c g) (hasQuorum c (add c g a .aggregator)) (quorum-stays c g a) (added-stays c later (add c g a .aggregator)))
+crossings-from c (a ∷ later) g = rw (crossed-meant c g a, crossings-from c later (add c g a .aggregator))
+    (go (hasQuorum c g) (hasQuorum c (add c g a .aggregator)) (quorum-stays c g a) (added-stays c later (add c g a .aggregator)))
   where
     go : (q n : Bool) → (q ≡ true → n ≡ true) → (n ≡ true → hasQuorum c (addedAll c (add c g a .aggregator) later) ≡ true)
-        → pick (not q && n) 1 0 + pick n 0 (pick (hasQuorum c (addedAll c (add c g a .aggregator) later)) 1 0) ≡ pick q 0 (pick (hasQuorum c (addedAll c (add c g a .aggregator) later)) 1 0)
+        → pick (not q && n) 1 0 + pick n 0 (pick (hasQuorum c (addedAll c (add c g a .aggregator) later)) 1 0) ≡ pick q 0
+        (pick (hasQuorum c (addedAll c (add c g a .aggregator) later)) 1 0)
     go true n h k = rw (h refl)
     go false true h k = rw (k refl)
     go false false h k = omega arith
@@ -116,11 +122,13 @@ added-append c [] ys g = refl
 added-append c (x ∷ xs) ys g = added-append c xs ys (add c g x .aggregator)
 
 -- after the votes so far quorum does not hold, and after the rest it does: one of the rest crosses
-crosses-in : (c : Committee) (seen rest : List AuthorityIndex) → hasQuorum c (addedAll c noVotes seen) ≡ false → hasQuorum c (addedAll c noVotes (seen ++ rest)) ≡ true → CrossesAt c (seen ++ rest)
+crosses-in : (c : Committee) (seen rest : List AuthorityIndex) → hasQuorum c (addedAll c noVotes seen) ≡ false → hasQuorum c
+    (addedAll c noVotes (seen ++ rest)) ≡ true → CrossesAt c (seen ++ rest)
 crosses-in c seen [] h k = absurd (not-both (rw (append-nil seen) at k) h)
 crosses-in c seen (a ∷ rest) h k =
     let g = addedAll c noVotes seen in
-    go (hasQuorum c (add c g a .aggregator)) refl (λ (n : hasQuorum c (add c g a .aggregator) ≡ false). crosses-in c (seen ++ a ∷ []) rest (after n) (rw regroup k))
+    go (hasQuorum c (add c g a .aggregator)) refl (λ (n : hasQuorum c (add c g a .aggregator) ≡ false). crosses-in c (seen ++ a ∷ []) rest (after n)
+    (rw regroup k))
   where
     regroup : (seen ++ a ∷ []) ++ rest ≡ seen ++ a ∷ rest
     regroup = append-assoc seen (a ∷ []) rest

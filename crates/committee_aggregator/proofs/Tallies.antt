@@ -30,7 +30,8 @@ member-counted c g a b = split (member (g .votes) a) refl
     same h false e (no d) = sym (ne-eqb b a d)
     same h false e (yes d) = sym e ∙ rw (d, h, eq-eqb a a refl)
 
-    split : (t : Bool) → member (g .votes) a ≡ t → member (pick t g (record { votes = inserted (g .votes) a; stake = g .stake + getStake c a }) .votes) b ≡ member (g .votes) b || eqb b a
+    split : (t : Bool) → member (g .votes) a ≡ t → member (pick t g (record { votes = inserted (g .votes) a; stake = g .stake + getStake c a }) .votes) b ≡
+        member (g .votes) b || eqb b a
     split true e = same e (member (g .votes) b) refl (ℕ-discrete b a)
     split false e = member-inserted (g .votes) a b
 
@@ -48,12 +49,14 @@ unfolding aggregatorInOrder
 stake-right c g h = eqb-true (g .stake) (stakeOf c (g .votes)) (and-right (allOf (known c) (members (g .votes))) _ h)
 
 -- one more vote
-pub counts-more : (c : Committee) (voters : List AuthorityIndex) (g : StakeAggregator) (a : AuthorityIndex) → known c a ≡ true → Counting c voters g → Counting c (voters ++ a ∷ []) (counted c g a)
+pub counts-more : (c : Committee) (voters : List AuthorityIndex) (g : StakeAggregator) (a : AuthorityIndex) → known c a ≡ true → Counting c voters g →
+    Counting c (voters ++ a ∷ []) (counted c g a)
 counts-more c voters g a k n =
     record {
       inOrder = counted-in-order c g a k (n .inOrder);
       allKnown = λ b m. either b (in-append voters m) (λ q. n .allKnown b q) (λ e. rw e k);
-      voted = λ b m. rw (member-counted c g a b) (either b (in-append voters m) (λ q. or-left (member (g .votes) b) (eqb b a) (n .voted b q)) (λ e. or-right (member (g .votes) b) (eqb b a) (eq-eqb b a e)));
+      voted = λ b m. rw (member-counted c g a b) (either b (in-append voters m) (λ q. or-left (member (g .votes) b) (eqb b a) (n .voted b q))
+          (λ e. or-right (member (g .votes) b) (eqb b a) (eq-eqb b a e)));
       only = λ b h. which b (or-cases (member (g .votes) b) (eqb b a) (sym (member-counted c g a b) ∙ h));
     }
   where
@@ -73,13 +76,21 @@ counts-more c voters g a k n =
 pub counts-first : (c : Committee) (a : AuthorityIndex) → known c a ≡ true → Counting c (a ∷ []) (counted c noVotes a)
 counts-first c a k =
     counts-more c [] noVotes a k
-    (record { inOrder = noVotes-order c; allKnown = λ b m. absurd (in-empty m); voted = λ b m. absurd (in-empty m); only = λ b h. absurd (not-both h (member-nobody b)) })
+    (record {
+      inOrder = noVotes-order c;
+      allKnown = λ b m. absurd (in-empty m);
+      voted = λ b m. absurd (in-empty m);
+      only = λ b h. absurd
+          (not-both h (member-nobody b));
+    })
 
 -- they hold quorum stake exactly where the aggregator does
-pub counts-quorum : (c : Committee) (voters : List AuthorityIndex) (g : StakeAggregator) → Counting c voters g → hasQuorum c g ≡ true → HoldQuorum c (λ a. a ∈ voters)
+pub counts-quorum : (c : Committee) (voters : List AuthorityIndex) (g : StakeAggregator) → Counting c voters g → hasQuorum c g ≡ true → HoldQuorum c
+    (λ a. a ∈ voters)
 unfolding hasQuorum
 counts-quorum c voters g n h = counted-quorum c (g .votes) (λ a. a ∈ voters) (λ a k e. n .only a e) (rw (stake-right c g (n .inOrder)) at h)
 
-pub quorum-counts : (c : Committee) (voters : List AuthorityIndex) (g : StakeAggregator) → Counting c voters g → HoldQuorum c (λ a. a ∈ voters) → hasQuorum c g ≡ true
+pub quorum-counts : (c : Committee) (voters : List AuthorityIndex) (g : StakeAggregator) → Counting c voters g → HoldQuorum c (λ a. a ∈ voters) → hasQuorum c
+    g ≡ true
 unfolding hasQuorum
 quorum-counts c voters g n q = rw (stake-right c g (n .inOrder)) (quorum-counted c (g .votes) (λ a. a ∈ voters) (λ a k m. n .voted a m) q)

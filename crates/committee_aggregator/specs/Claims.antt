@@ -52,15 +52,18 @@ has low high s = record { votes = record { low = low; high = high }; stake = s }
 
 pub record Claims : Type 0 where
   -- whichever of the four it is, it says whether quorum holds now
-  pub quorumNow : (c : Committee) (g : StakeAggregator) (a : AuthorityIndex) (t : Told) → add c g a .answer ≡ answered t → holdsNow t ≡ hasQuorum c (add c g a .aggregator)
+  pub quorumNow : (c : Committee) (g : StakeAggregator) (a : AuthorityIndex) (t : Told) → add c g a .answer ≡ answered t → holdsNow t ≡ hasQuorum c
+      (add c g a .aggregator)
   -- crossed: quorum holds now and did not before this vote
-  pub crossed : (c : Committee) (g : StakeAggregator) (a : AuthorityIndex) → saysCrossed (add c g a .answer) ≡ not (hasQuorum c g) && hasQuorum c (add c g a .aggregator)
+  pub crossed : (c : Committee) (g : StakeAggregator) (a : AuthorityIndex) → saysCrossed (add c g a .answer) ≡ not (hasQuorum c g) && hasQuorum c
+      (add c g a .aggregator)
   -- on the way from no votes one vote crosses, whatever the order, and none where quorum is not reached; refused ones in between change nothing
   pub once : (c : Committee) (voters : List AuthorityIndex) → crossings (answers c noVotes voters) ≡ pick (hasQuorum c (addedAll c noVotes voters)) 1 0
   pub whichVote : (c : Committee) (voters : List AuthorityIndex) → (hasQuorum c (addedAll c noVotes voters) ≡ true) ↔ CrossesAt c voters
   -- 5, 3, again, 3, unknown, 1 (12: quorum), 1, again
   pub eightVotes : answers courseCommittee noVotes (0 ∷ 1 ∷ 1 ∷ 2 ∷ 7 ∷ 5 ∷ 6 ∷ 6 ∷ [])
-      ≡ answered newBelow ∷ answered newBelow ∷ answered repeatedBelow ∷ answered newBelow ∷ refused 21 ∷ answered (newWith true) ∷ answered (newWith false) ∷ answered repeatedWith ∷ []
+      ≡ answered newBelow ∷ answered newBelow ∷ answered repeatedBelow ∷ answered newBelow ∷ refused 21 ∷ answered (newWith true) ∷ answered (newWith false) ∷
+      answered repeatedWith ∷ []
   pub new : add courseCommittee (has 3 0 8) 2 ≡ record { answer = answered newBelow; aggregator = has 7 0 11 }
   pub crossing : add courseCommittee (has 7 0 11) 5 ≡ record { answer = answered (newWith true); aggregator = has 39 0 12 }
   pub again : add courseCommittee (has 3 0 8) 1 ≡ record { answer = answered repeatedBelow; aggregator = has 3 0 8 }

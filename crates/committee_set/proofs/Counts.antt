@@ -30,7 +30,8 @@ ones-kept p zero k w h f = let e : w ≡ 0 = omega arith in rw e (sym ones-none)
 ones-kept p (suc n) k w h f =
     let z : k + 0 ≡ k = omega arith in
     let half : w / 2 < 2 ^ n = let q : 2 ^ suc n ≡ 2 ^ n * 2 = pow-suc 2 n in omega arith in
-    let rest : length (keep p (countFrom (k + 1) n)) ≡ ones (w / 2) = ones-kept p n (k + 1) (w / 2) half (λ i l. let e : k + 1 + i ≡ k + suc i = omega arith in rw e (f (suc i) (omega arith) ∙ bit-next w i)) in
+    let rest : length (keep p (countFrom (k + 1) n)) ≡ ones (w / 2) = ones-kept p n (k + 1) (w / 2) half
+    (λ i l. let e : k + 1 + i ≡ k + suc i = omega arith in rw e (f (suc i) (omega arith) ∙ bit-next w i)) in
     let first : p k ≡ eqb (w % 2) 1 = rw z at (f 0 (omega arith)) ∙ bit-first w in
     rw (ones-step w, first) (each (digit (w % 2) (mod-lt w two-pos)) rest)
   where
@@ -68,7 +69,8 @@ kept-before p a (suc n) k h = rw (ne-eqb k a (λ (e : k ≡ a). omega arith), or
     each true e = ap suc e
     each false e = e
 
-kept-more : (p : ℕ → Bool) (a n k : ℕ) → p a ≡ false → k ≤ a → a < k + n → length (keep (λ b. p b || eqb b a) (countFrom k n)) ≡ length (keep p (countFrom k n)) + 1
+kept-more : (p : ℕ → Bool) (a n k : ℕ) → p a ≡ false → k ≤ a → a < k + n → length (keep (λ b. p b || eqb b a) (countFrom k n)) ≡ length
+    (keep p (countFrom k n)) + 1
 unfolding keep countFrom
 kept-more p a zero k h l m = absurd (omega arith)
 kept-more p a (suc n) k h l m = at (ℕ-discrete k a) (λ (u : k + 1 ≤ a). kept-more p a n (k + 1) h u (omega arith))

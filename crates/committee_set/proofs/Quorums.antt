@@ -16,7 +16,8 @@ use Rattle.committee.specs.Quorum.{HoldQuorum}
 use Rattle.committee_set.proofs.Stakes.{weigh, weigh-mono, weigh-same, weigh-meet, stake-of, owners-weigh, chosen, chosen-sum, chosen-once, chosen-in}
 
 -- more known members have no less stake
-pub stake-mono : (c : Committee) (v w : AuthoritySet) → ((a : AuthorityIndex) → a < length c → member v a ≡ true → member w a ≡ true) → stakeOf c v ≤ stakeOf c w
+pub stake-mono : (c : Committee) (v w : AuthoritySet) → ((a : AuthorityIndex) → a < length c → member v a ≡ true → member w a ≡ true) → stakeOf c v ≤ stakeOf
+    c w
 stake-mono c v w h = rw (stake-of c v, stake-of c w) (weigh-mono (member v) (member w) c h)
 
 -- the stake depends on the known members alone
@@ -55,7 +56,8 @@ pub quorum-member : (c : Committee) (In : AuthorityIndex → Type 0) → HoldQuo
 unfolding sumOf
 quorum-member c In q = first (q .owners) (q .inSet) (q .quorum)
   where
-    first : (os : List AuthorityIndex) → ((a : AuthorityIndex) → a ∈ os → In a) → 2 * totalStake c < 3 * sumOf (map (getStake c) os) → (a : AuthorityIndex) × In a
+    first : (os : List AuthorityIndex) → ((a : AuthorityIndex) → a ∈ os → In a) → 2 * totalStake c < 3 * sumOf (map (getStake c) os) → (a : AuthorityIndex) ×
+        In a
     first [] f h = absurd (omega arith)
     first (o ∷ os) f h = (o, f o here)
 
@@ -64,8 +66,19 @@ pub quorums-meet : (c : Committee) (v w u : AuthoritySet) → ((a : AuthorityInd
     → isQuorum c (stakeOf c v) ≡ true → isQuorum c (stakeOf c w) ≡ true → isValid c (stakeOf c u) ≡ true
 unfolding isQuorum isValid totalStake
 quorums-meet c v w u h q r =
-    let common : weigh (λ a. member v a && member w a) c ≤ weigh (member u) c = weigh-mono _ (member u) c (λ a k e. h a k (and-left (member v a) (member w a) e) (and-right (member v a) (member w a) e)) in
-    lt-ltb (sumOf c) (3 * stakeOf c u) (omega (arith, common, weigh-meet (member v) (member w) c, stake-of c v, stake-of c w, stake-of c u, ltb-true (2 * sumOf c) (3 * stakeOf c v) q, ltb-true (2 * sumOf c) (3 * stakeOf c w) r))
+    let common : weigh (λ a. member v a && member w a) c ≤ weigh (member u) c = weigh-mono _ (member u) c
+    (λ a k e. h a k (and-left (member v a) (member w a) e) (and-right (member v a) (member w a) e)) in
+    lt-ltb (sumOf c) (3 * stakeOf c u) (omega (
+      arith,
+      common,
+      weigh-meet (member v) (member w) c,
+      stake-of c v,
+      stake-of c w,
+      stake-of c u,
+      ltb-true
+          (2 * sumOf c) (3 * stakeOf c v) q,
+      ltb-true (2 * sumOf c) (3 * stakeOf c w) r,
+    ))
 
 -- the same of two sets of owners that hold quorum: they have owners in common, each once, of valid stake
 pub record Common (c : Committee) (In On : AuthorityIndex → Type 0) : Type 0 where
@@ -80,7 +93,11 @@ quorums-common c In On q r =
     record {
       owners = chosen both c;
       once = chosen-once both c;
-      inBoth = λ a m. let k = chosen-in both c a m .1 in (q .inSet a (listed (q .owners) a (and-left (owns (q .owners) a) (owns (r .owners) a) k)), r .inSet a (listed (r .owners) a (and-right (owns (q .owners) a) (owns (r .owners) a) k)));
+      inBoth = λ a m. let k = chosen-in both c a m .1 in (
+        q .inSet a (listed (q .owners) a (and-left (owns (q .owners) a) (owns (r .owners) a) k)),
+        r .inSet a
+            (listed (r .owners) a (and-right (owns (q .owners) a) (owns (r .owners) a) k)),
+      );
       valid =
           omega (
             arith,

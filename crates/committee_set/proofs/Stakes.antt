@@ -27,7 +27,8 @@ unfolding weigh
 weigh-mono p q [] h = omega arith
 weigh-mono p q (s ∷ c) h = split (p 0) (q 0) (h 0 (omega arith)) (weigh-mono (λ a. p (suc a)) (λ a. q (suc a)) c (λ a k. h (suc a) (omega arith)))
   where
-    split : (t u : Bool) → (t ≡ true → u ≡ true) → weigh (λ a. p (suc a)) c ≤ weigh (λ a. q (suc a)) c → pick t s 0 + weigh (λ a. p (suc a)) c ≤ pick u s 0 + weigh (λ a. q (suc a)) c
+    split : (t u : Bool) → (t ≡ true → u ≡ true) → weigh (λ a. p (suc a)) c ≤ weigh (λ a. q (suc a)) c → pick t s 0 + weigh (λ a. p (suc a)) c ≤ pick u s 0 +
+        weigh (λ a. q (suc a)) c
     split true u f k = rw (f refl) (omega arith)
     split false true f k = omega arith
     split false false f k = omega arith
@@ -43,7 +44,8 @@ weigh-meet p q [] = omega arith
 weigh-meet p q (s ∷ c) = split (p 0) (q 0) (weigh-meet (λ a. p (suc a)) (λ a. q (suc a)) c)
   where
     split : (t u : Bool) → weigh (λ a. p (suc a)) c + weigh (λ a. q (suc a)) c ≤ sumOf c + weigh (λ a. p (suc a) && q (suc a)) c
-        → pick t s 0 + weigh (λ a. p (suc a)) c + (pick u s 0 + weigh (λ a. q (suc a)) c) ≤ s + sumOf c + (pick (t && u) s 0 + weigh (λ a. p (suc a) && q (suc a)) c)
+        → pick t s 0 + weigh (λ a. p (suc a)) c + (pick u s 0 + weigh (λ a. q (suc a)) c) ≤ s + sumOf c +
+        (pick (t && u) s 0 + weigh (λ a. p (suc a) && q (suc a)) c)
     split true true k = omega arith
     split true false k = omega arith
     split false true k = omega arith
@@ -81,7 +83,8 @@ weigh-without p (suc x) (s ∷ c) h = omega (arith, part (p 0) (not (eqb 0 (suc 
     rest = weigh-same _ _ c (λ a k. rw (eqb·suc-suc a x))
 
 -- authors each once, the known ones among them in a group, have no more stake than the group
-pub owners-weigh : (c : Committee) {os : List AuthorityIndex} → Once os → (p : AuthorityIndex → Bool) → ((a : AuthorityIndex) → a ∈ os → a < length c → p a ≡ true)
+pub owners-weigh : (c : Committee) {os : List AuthorityIndex} → Once os → (p : AuthorityIndex → Bool) →
+    ((a : AuthorityIndex) → a ∈ os → a < length c → p a ≡ true)
     → sumOf (map (getStake c) os) ≤ weigh p c
 unfolding sumOf getStake
 owners-weigh c empty p h = omega arith
@@ -90,7 +93,8 @@ owners-weigh c (also {x} {xs = os} f o) p h = split (decLt x (length c)) (λ q k
     left : (a : AuthorityIndex) → a ∈ os → a < length c → p a ≡ true → without x p a ≡ true
     left a m k e = unfold without in rw (e, ne-eqb a x (λ q. f (subst (λ (b : AuthorityIndex). b ∈ os) q m)))
 
-    split : Dec (x < length c) → ((q : AuthorityIndex → Bool) → ((a : AuthorityIndex) → a ∈ os → a < length c → q a ≡ true) → sumOf (map (getStake c) os) ≤ weigh q c) → getD c x 0 + sumOf (map (getStake c) os) ≤ weigh p c
+    split : Dec (x < length c) → ((q : AuthorityIndex → Bool) → ((a : AuthorityIndex) → a ∈ os → a < length c → q a ≡ true) → sumOf (map (getStake c) os) ≤
+        weigh q c) → getD c x 0 + sumOf (map (getStake c) os) ≤ weigh p c
     split (yes k) ih = omega (arith, ih (without x p) (λ a m l. left a m l (h a (there m) l)), weigh-without p x c (h x here k))
     split (no k) ih =
         let none-of : getD c x 0 ≡ 0 = List·getD-eq-default c 0 (omega arith) in
@@ -113,7 +117,8 @@ chosen-sum p [] = refl
 chosen-sum p (s ∷ c) = split (p 0) (shifted s c (chosen (λ a. p (suc a)) c) ∙ chosen-sum (λ a. p (suc a)) c)
   where
     split : (t : Bool) → sumOf (map (getStake (s ∷ c)) (map suc (chosen (λ a. p (suc a)) c))) ≡ weigh (λ a. p (suc a)) c
-        → sumOf (map (getStake (s ∷ c)) (pick t (0 ∷ map suc (chosen (λ a. p (suc a)) c)) (map suc (chosen (λ a. p (suc a)) c)))) ≡ pick t s 0 + weigh (λ a. p (suc a)) c
+        → sumOf (map (getStake (s ∷ c)) (pick t (0 ∷ map suc (chosen (λ a. p (suc a)) c)) (map suc (chosen (λ a. p (suc a)) c)))) ≡ pick t s 0 + weigh
+        (λ a. p (suc a)) c
     split true e = ap (λ (n : ℕ). s + n) e
     split false e = e ∙ omega arith
 
@@ -128,7 +133,8 @@ chosen-once p (s ∷ c) = split (p 0) (once-map suc (λ x y e. suc-inj e) (chose
         let e : suc (r .0) ≡ 0 = r .2 in
         omega arith
 
-    split : (t : Bool) → Once (map suc (chosen (λ a. p (suc a)) c)) → Once (pick t (0 ∷ map suc (chosen (λ a. p (suc a)) c)) (map suc (chosen (λ a. p (suc a)) c)))
+    split : (t : Bool) → Once (map suc (chosen (λ a. p (suc a)) c)) → Once
+        (pick t (0 ∷ map suc (chosen (λ a. p (suc a)) c)) (map suc (chosen (λ a. p (suc a)) c)))
     split true o = also fresh o
     split false o = o
 
@@ -137,7 +143,8 @@ unfolding chosen
 chosen-in p [] a m = absurd (in-empty m)
 chosen-in p (s ∷ c) a m = split (p 0) refl (λ b k. chosen-in (λ d. p (suc d)) c b k) m
   where
-    later : ((b : AuthorityIndex) → b ∈ chosen (λ d. p (suc d)) c → (b < length c) × (p (suc b) ≡ true)) → a ∈ map suc (chosen (λ d. p (suc d)) c) → (a < suc (length c)) × (p a ≡ true)
+    later : ((b : AuthorityIndex) → b ∈ chosen (λ d. p (suc d)) c → (b < length c) × (p (suc b) ≡ true)) → a ∈ map suc (chosen (λ d. p (suc d)) c) →
+        (a < suc (length c)) × (p a ≡ true)
     later ih k =
         let r = map-in suc (chosen (λ d. p (suc d)) c) k in
         let e = r .2 in
@@ -145,7 +152,8 @@ chosen-in p (s ∷ c) a m = split (p 0) refl (λ b k. chosen-in (λ d. p (suc d)
         let l = q .0 in
         (omega arith, ap p (sym e) ∙ q .1)
 
-    first : p 0 ≡ true → ((b : AuthorityIndex) → b ∈ chosen (λ d. p (suc d)) c → (b < length c) × (p (suc b) ≡ true)) → (a ≡ 0) ⊎ (a ∈ map suc (chosen (λ d. p (suc d)) c)) → (a < suc (length c)) × (p a ≡ true)
+    first : p 0 ≡ true → ((b : AuthorityIndex) → b ∈ chosen (λ d. p (suc d)) c → (b < length c) × (p (suc b) ≡ true)) → (a ≡ 0) ⊎
+        (a ∈ map suc (chosen (λ d. p (suc d)) c)) → (a < suc (length c)) × (p a ≡ true)
     first t ih (inl e) = (omega arith, ap p e ∙ t)
     first t ih (inr k) = later ih k
 
@@ -160,7 +168,8 @@ in-chosen p [] a h e = absurd (omega arith)
 in-chosen p (s ∷ c) zero h e = rw e here
 in-chosen p (s ∷ c) (suc a) h e = split (p 0) (in-map suc (in-chosen (λ d. p (suc d)) c a (omega arith) e))
   where
-    split : (t : Bool) → suc a ∈ map suc (chosen (λ d. p (suc d)) c) → suc a ∈ pick t (0 ∷ map suc (chosen (λ d. p (suc d)) c)) (map suc (chosen (λ d. p (suc d)) c))
+    split : (t : Bool) → suc a ∈ map suc (chosen (λ d. p (suc d)) c) → suc a ∈ pick t (0 ∷ map suc (chosen (λ d. p (suc d)) c))
+        (map suc (chosen (λ d. p (suc d)) c))
     split true m = there m
     split false m = m
 
@@ -169,7 +178,8 @@ pub weigh-with : (p : AuthorityIndex → Bool) (x : AuthorityIndex) (c : Committ
 unfolding weigh
 weigh-with p x [] h = omega arith
 weigh-with p zero (s ∷ c) h =
-    let rest : weigh (λ a. p (suc a) || eqb (suc a) 0) c ≡ weigh (λ a. p (suc a)) c = weigh-same _ _ c (λ a k. ap (λ (t : Bool). p (suc a) || t) (ne-eqb (suc a) 0 (λ (e : suc a ≡ 0). omega arith)) ∙ or-false (p (suc a))) in
+    let rest : weigh (λ a. p (suc a) || eqb (suc a) 0) c ≡ weigh (λ a. p (suc a)) c = weigh-same _ _ c
+    (λ a k. ap (λ (t : Bool). p (suc a) || t) (ne-eqb (suc a) 0 (λ (e : suc a ≡ 0). omega arith)) ∙ or-false (p (suc a))) in
     rw (h, rest) (omega arith)
 weigh-with p (suc x) (s ∷ c) h =
     let rest : weigh (λ a. p (suc a) || eqb (suc a) (suc x)) c ≡ weigh (λ a. p (suc a) || eqb a x) c = weigh-same _ _ c (λ a k. rw (eqb·suc-suc a x)) in

@@ -16,7 +16,8 @@ use Rattle.committee_set.specs.AuthoritySet.{AuthoritySet, member, membe
 use Rattle.committee_set.proofs.Stakes.{weigh, weigh-mono, stake-of}
 
 -- as a loop over the stakes adds it up
-pub stake-on : (c : Committee) (v : AuthoritySet) (i : ℕ) → i < length c → stakeFrom i (drop i c) v ≡ pick (member v i) (getD c i 0) 0 + stakeFrom (i + 1) (drop (i + 1) c) v
+pub stake-on : (c : Committee) (v : AuthoritySet) (i : ℕ) → i < length c → stakeFrom i (drop i c) v ≡ pick (member v i) (getD c i 0) 0 + stakeFrom (i + 1)
+    (drop (i + 1) c) v
 unfolding stakeFrom
 stake-on c v i h = rw (drop-next c i h)
 
@@ -35,7 +36,8 @@ unfolding totalStake
 stake-most c v = omega (arith, stake-of c v, everyone c, weigh-mono (member v) (λ a. true) c (λ a k e. refl))
 
 -- a set is known where no number past the committee is in it, and unknown where one is
-pub members-known : (c : Committee) (v : AuthoritySet) → ((a : AuthorityIndex) → length c ≤ a → a < 128 → member v a ≡ false) → allOf (known c) (members v) ≡ true
+pub members-known : (c : Committee) (v : AuthoritySet) → ((a : AuthorityIndex) → length c ≤ a → a < 128 → member v a ≡ false) → allOf (known c) (members v) ≡
+    true
 unfolding members known
 members-known c v h = in-all (known c) (members v) (λ a m. let k = keep-in (member v) (countFrom 0 128) m in within a (countFrom-in 0 128 (k .0) .1) (k .1))
   where
@@ -49,4 +51,5 @@ members-known c v h = in-all (known c) (members v) (λ a m. let k = keep-in (mem
 pub members-unknown : (c : Committee) (v : AuthoritySet) (a : AuthorityIndex) → length c ≤ a → a < 128 → member v a ≡ true → allOf (known c) (members v) ≡ false
 unfolding members known
 members-unknown c v a h l e =
-    fails (allOf (known c) (members v)) (λ k. not-both (all-in (known c) (members v) k (in-keep (member v) (countFrom 0 128) (in-countFrom 0 128 a (omega arith) (omega arith)) e)) (le-ltb a (length c) h))
+    fails (allOf (known c) (members v)) (λ k. not-both (all-in (known c) (members v) k
+    (in-keep (member v) (countFrom 0 128) (in-countFrom 0 128 a (omega arith) (omega arith)) e)) (le-ltb a (length c) h))

@@ -46,10 +46,17 @@ member-inserted v a b = split (decLt a 64) (decLt b 64)
     split (yes h) (yes k) = rw (lt-ltb a 64 h, lt-ltb b 64 k, bit-or (v .low) (2 ^ a) b, bit-pow a b)
     split (yes h) (no k) = rw (lt-ltb a 64 h, le-ltb b 64 (omega arith), ne-eqb b a (λ e. omega arith)) (sym (or-false _))
     split (no h) (yes k) = rw (le-ltb a 64 (omega arith), lt-ltb b 64 k, ne-eqb b a (λ e. omega arith)) (sym (or-false _))
-    split (no h) (no k) = rw (le-ltb a 64 (omega arith), le-ltb b 64 (omega arith), bit-or (v .high) (2 ^ (a - 64)) (b - 64), bit-pow (a - 64) (b - 64), shifted)
+    split (no h) (no k) = rw (
+      le-ltb a 64 (omega arith),
+      le-ltb b 64 (omega arith),
+      bit-or (v .high) (2 ^ (a - 64)) (b - 64),
+      bit-pow (a - 64) (b - 64),
+      shifted,
+    )
       where
         shifted : eqb (b - 64) (a - 64) ≡ eqb b a
-        shifted = same-test (eqb (b - 64) (a - 64)) (eqb b a) (λ e. eq-eqb b a (omega (arith, eqb-true (b - 64) (a - 64) e))) (λ e. eq-eqb (b - 64) (a - 64) (omega (arith, eqb-true b a e)))
+        shifted = same-test (eqb (b - 64) (a - 64)) (eqb b a) (λ e. eq-eqb b a (omega (arith, eqb-true (b - 64) (a - 64) e)))
+            (λ e. eq-eqb (b - 64) (a - 64) (omega (arith, eqb-true b a e)))
 
 -- in the set of a list is who stands in the list
 pub member-setOf : (as′ : List AuthorityIndex) (b : AuthorityIndex) → member (setOf as′) b ≡ anyOf (eqb b) as′

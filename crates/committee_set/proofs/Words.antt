@@ -30,7 +30,8 @@ word-ext zero x y h k f = omega arith
 word-ext (suc n) x y h k f =
     let p : 2 ^ suc n ≡ 2 ^ n * 2 = pow-suc 2 n in
     let halves : x / 2 ≡ y / 2 = word-ext n (x / 2) (y / 2) (omega arith) (omega arith) (λ i l. sym (bit-next x i) ∙ f (suc i) (omega arith) ∙ bit-next y i) in
-    let ends : x % 2 ≡ y % 2 = last (digit (x % 2) (mod-lt x two-pos)) (digit (y % 2) (mod-lt y two-pos)) (sym (bit-first x) ∙ f 0 (omega arith) ∙ bit-first y) in
+    let ends : x % 2 ≡ y % 2 = last (digit (x % 2) (mod-lt x two-pos)) (digit (y % 2) (mod-lt y two-pos))
+    (sym (bit-first x) ∙ f 0 (omega arith) ∙ bit-first y) in
     omega arith
   where
     last : {d e : ℕ} → (d ≡ 0) ⊎ (d ≡ 1) → (e ≡ 0) ⊎ (e ≡ 1) → eqb d 1 ≡ eqb e 1 → d ≡ e

@@ -1,7 +1,8 @@
 -- What a vote is told (committee.rs). Assumes nothing: these are definitions.
 use mathlib.Core.Bool.{Bool, true, false, not}
 
--- 02: "`add` shall answer one of four: repeated below quorum, repeated with quorum, new below quorum, new with quorum, the last also saying whether this vote crossed it"
+-- 02: "`add` shall answer one of four: repeated below quorum, repeated with quorum, new below quorum, new with quorum, the last also saying whether
+-- this vote crossed it"
 pub data Told : Type 0 where
   repeatedBelow : Told
   repeatedWith : Told

@@ -37,7 +37,8 @@ pub run-alone : (r : BlockReference) (first last : ℕ) → first ≡ last → r
 unfolding runStatement newRange
 run-alone r first last e = rw (eq-eqb (first + 1) (last + 1) (omega arith))
 
-pub run-longer : (r : BlockReference) (first last : ℕ) → (first ≡ last → ⊥) → runStatement (newRange r first (last + 1)) ≡ voteRange (newRange r first (last + 1))
+pub run-longer : (r : BlockReference) (first last : ℕ) → (first ≡ last → ⊥) → runStatement (newRange r first (last + 1)) ≡ voteRange
+    (newRange r first (last + 1))
 unfolding runStatement newRange
 run-longer r first last e = rw (ne-eqb (first + 1) (last + 1) (λ k. e (omega arith)))
 

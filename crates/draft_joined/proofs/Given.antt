@@ -53,7 +53,8 @@ module _ (s : List ℕ) (p : ℕ) (h : p < length s) (k : getD s p 0 ≡ 0) wher
   pub share-short : p + 5 ≤ length s → length s - (p + 5) < leAt 4 s (p + 1) → readGiven (drop p s) ≡ none
   share-short l m = given-share s p h k ∙ payload-short 4 s (p + 1) (omega arith) (omega arith)
 
-  pub share-reads : (n : ℕ) → n ≡ leAt 4 s (p + 1) → p + 5 + n ≤ length s → readGiven (drop p s) ≡ some (part (share (take n (drop (p + 5) s))) (drop (p + 5 + n) s))
+  pub share-reads : (n : ℕ) → n ≡ leAt 4 s (p + 1) → p + 5 + n ≤ length s → readGiven (drop p s) ≡ some
+      (part (share (take n (drop (p + 5) s))) (drop (p + 5 + n) s))
   share-reads n e l =
       let f : p + 1 + 4 ≡ p + 5 = omega arith in
       given-share s p h k ∙ rw f at (payload-reads 4 s (p + 1) n e (omega arith))
@@ -90,7 +91,13 @@ module _ (s : List ℕ) (p : ℕ) where
   module _ (bytes : AllBytes s) (v : Statement) (next : ℕ) (read : readGiven (drop p s) ≡ some (part v (drop next s))) where
     pub given-falls : next ≤ length s → p < next
     given-falls l =
-        omega (arith, falls readGiven givenBytes GivenFits some-bytes given-back (drop p s) (part v (drop next s)) (bytes-drop p s bytes) read .0, length-drop p s, length-drop next s)
+        omega (
+          arith,
+          falls readGiven givenBytes GivenFits some-bytes given-back (drop p s) (part v (drop next s)) (bytes-drop p s bytes) read .0,
+          length-drop
+              p s,
+          length-drop next s,
+        )
 
     pub one-given : statementsIn (drop p s) ≡ Option·map (λ ss. v ∷ ss) (statementsIn (drop next s))
     unfolding statementsIn

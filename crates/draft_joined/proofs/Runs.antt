@@ -62,7 +62,8 @@ module _ (r : TransactionLocatorRange) (l : TransactionLocator) where
           onto t u = touching-yes r (newRange (l .block) (l .offset) (q .end)) (record { block = t .block; meets = t .meets; low = u .low })
       go false k = rw e
 
-  fronted-off : (ps : List Piece) → allOf rightPiece ps ≡ true → touches r (oneRange l) ≡ false → fronted r (fronted (oneRange l) ps) ≡ run r ∷ fronted (oneRange l) ps
+  fronted-off : (ps : List Piece) → allOf rightPiece ps ≡ true → touches r (oneRange l) ≡ false → fronted r (fronted (oneRange l) ps) ≡ run r ∷ fronted
+      (oneRange l) ps
   unfolding fronted allOf oneRange newRange
   fronted-off [] h e = rw e
   fronted-off (apart s ∷ ps) h e = rw e
@@ -85,7 +86,8 @@ module _ (r : TransactionLocatorRange) (l : TransactionLocator) where
 abbrev after : TransactionLocatorRange → List Statement → List Statement
 after r ss = map pieceStatement (fronted r (pieces ss))
 
-other-first : (v : Statement) → isAccept v ≡ false → (o : Option (List Statement)) → Option·map joined (Option·map (λ ss. v ∷ ss) o) ≡ followed v (Option·map joined o)
+other-first : (v : Statement) → isAccept v ≡ false → (o : Option (List Statement)) → Option·map joined (Option·map (λ ss. v ∷ ss) o) ≡ followed v
+    (Option·map joined o)
 unfolding followed joined pieces attached pieceStatement isAccept
 other-first v h none = refl
 other-first (share x) h (some ss) = refl
@@ -102,7 +104,8 @@ other-ends r (accept l) h (some ss) = absurd (not-both refl h)
 other-ends r (reject l m) h (some ss) = refl
 other-ends r (voteRange q) h (some ss) = refl
 
-accept-first : (l : TransactionLocator) (o : Option (List Statement)) → Option·map joined (Option·map (λ ss. accept l ∷ ss) o) ≡ Option·map (after (oneRange l)) o
+accept-first : (l : TransactionLocator) (o : Option (List Statement)) → Option·map joined (Option·map (λ ss. accept l ∷ ss) o) ≡ Option·map
+    (after (oneRange l)) o
 unfolding joined pieces attached
 accept-first l none = refl
 accept-first l (some ss) = refl
@@ -139,7 +142,8 @@ module _ (s : List ℕ) (p : ℕ) where
     unfolding joinedAfter joinedFrom
     ends-other v h k r = rw (one-given s p bytes v next k) (other-ends r v h (statementsIn (drop next s)))
 
-    pub joined-other : (v : Statement) → isAccept v ≡ false → readGiven (drop p s) ≡ some (part v (drop next s)) → joinedFrom s p ≡ followed v (joinedFrom s next)
+    pub joined-other : (v : Statement) → isAccept v ≡ false → readGiven (drop p s) ≡ some (part v (drop next s)) → joinedFrom s p ≡ followed v
+        (joinedFrom s next)
     unfolding joinedFrom
     joined-other v h k = rw (one-given s p bytes v next k) (other-first v h (statementsIn (drop next s)))
 

@@ -24,7 +24,8 @@ pub old-written : (l : List ℕ) → set (set (set l 53 0) 54 0) 55 0 ≡ sets l
 unfolding partBytes editionBytes editionFor timeBytes
 old-written l = refl
 
-pub time-written : (l : List ℕ) (x : ℕ) → x < 18446744073709551616 → sets (sets (set (set (set l 53 2) 54 0) 55 0) 56 (leBytes 8 x)) 64 (leBytes 8 0) ≡ sets l 53 (partBytes (some x))
+pub time-written : (l : List ℕ) (x : ℕ) → x < 18446744073709551616 → sets (sets (set (set (set l 53 2) 54 0) 55 0) 56 (leBytes 8 x)) 64 (leBytes 8 0) ≡ sets l
+    53 (partBytes (some x))
 unfolding partBytes editionBytes editionFor timeBytes
 time-written l x h =
     let m : List ℕ = set (set (set l 53 2) 54 0) 55 0 in

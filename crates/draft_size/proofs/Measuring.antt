@@ -52,7 +52,8 @@ module _ (count bytes : ℕ) where
     measured-on n h e none = refl
     measured-on n h e (some ws) =
         let c : count + length (w ∷ ws) ≡ count + 1 + length ws = omega arith in
-        let b : bytes + length (statementBytes w ++ flatten (map statementBytes ws)) ≡ bytes + n + length (flatten (map statementBytes ws)) = omega (arith, length-append (statementBytes w) (flatten (map statementBytes ws))) in
+        let b : bytes + length (statementBytes w ++ flatten (map statementBytes ws)) ≡ bytes + n + length (flatten (map statementBytes ws)) = omega
+        (arith, length-append (statementBytes w) (flatten (map statementBytes ws))) in
         rw (h, c, b)
 
 -- ---- as bytes

@@ -48,7 +48,8 @@ parts-of : (q : Request) (d : Draft) → draftIn q ≡ some d → Parts q d
 unfolding draftIn withParts
 parts-of q d h = go (includesIn (q .includes)) (statementsIn (q .statements)) refl refl h
   where
-    go : (is : Option (List BlockReference)) (ss : Option (List Statement)) → includesIn (q .includes) ≡ is → statementsIn (q .statements) ≡ ss → withParts q is ss ≡ some d → Parts q d
+    go : (is : Option (List BlockReference)) (ss : Option (List Statement)) → includesIn (q .includes) ≡ is → statementsIn (q .statements) ≡ ss → withParts q
+        is ss ≡ some d → Parts q d
     go none ss e k g = absurd (Option·none-ne-some d g)
     go (some is) none e k g = absurd (Option·none-ne-some d g)
     go (some is) (some ss) e k g =
@@ -126,7 +127,8 @@ unfolding joinedFrom
 joined-from s ss h = rw h
 
 pub sized-statements : (q : Request) → measuredOn 0 0 (joinedFrom (q .statements) 0) ≡ Malformed → sizedUp (draftIn q) ≡ Malformed
-sized-statements q h = not-sized q (λ d p w. go d w (or-cases _ _ (measured-back (joined (d .statements)) (rw (joined-from (q .statements) (d .statements) (p .statements)) at h))))
+sized-statements q h = not-sized q (λ d p w. go d w (or-cases _ _
+    (measured-back (joined (d .statements)) (rw (joined-from (q .statements) (d .statements) (p .statements)) at h))))
   where
     go : (d : Draft) → Writable d → (anyOf isLong (joined (d .statements)) ≡ true) ⊎ (ltb 1024 (length (joined (d .statements))) ≡ true) → ⊥
     go d w (inl e) = not-both e (joined-long (d .statements) ∙ w .short)
@@ -177,7 +179,8 @@ module _ (q : Request) (d : Draft) (bytes : AllBytes (q .includes)) (p : Parts q
   record-parts : (o : Option ℕ) → d .mark ≤ 1
       → recordBytes o d
       ≡ frontBytes (q .author) (q .round) (q .digest)
-      ++ (countBytes (q .mark) (length (d .includes)) (length (joined (d .statements))) ++ (partBytes o ++ (q .includes ++ bytesIn (joinedFrom (q .statements) 0))))
+      ++ (countBytes (q .mark) (length (d .includes)) (length (joined (d .statements))) ++
+      (partBytes o ++ (q .includes ++ bytesIn (joinedFrom (q .statements) 0))))
   unfolding recordBytes timedBytes recordIn writtenBlock frontBytes countBytes partBytes referenceBytes flatten
   record-parts o m =
       let n = leBytes 2 (length (joined (d .statements))) in
@@ -235,7 +238,8 @@ module _ (q : Request) (all : AllBytes (q .includes)) where
       let ss = bytesIn (joinedFrom (q .statements) 0) in
       let front = frontBytes (q .author) (q .round) (q .digest) in
       let counts = countBytes (q .mark) (length (q .includes) / 48) (length (joined (d .statements))) in
-      let are : (o : Option ℕ) → recordBytes o d ≡ front ++ (counts ++ (partBytes o ++ (q .includes ++ ss))) = λ o. rw many (record-parts q d all p o (w .mark)) in
+      let are : (o : Option ℕ) → recordBytes o d ≡ front ++ (counts ++ (partBytes o ++ (q .includes ++ ss))) = λ o. rw many
+      (record-parts q d all p o (w .mark)) in
       let sized : length (q .digest) ≡ 32 = rw (p .digest) at (w .size) in
       let size : (o : Option ℕ) → length (recordBytes o d) ≡ 56 + length (timeBytes o) + length (q .includes) + length ss =
       λ o. ap length (are o)

@@ -14,11 +14,13 @@ use Rattle.base.specs.Read.{give, onward, _>>=_, repeated}
 use Rattle.base.proofs.Lists.{Every, every}
 use Rattle.base.proofs.Le.{AllBytes}
 use Rattle.base.proofs.UpTo.{ReadAll, to-end-reads, to-end-back}
-use Rattle.base.proofs.Read.{items-reads, number-reads, ReadsBack, repeated-reads, complete-reads, Back, bind-back, map-back, Items, items-back, Number, number-back, One, Many, repeated-back, complete-back}
+use Rattle.base.proofs.Read.{items-reads, number-reads, ReadsBack, repeated-reads, complete-reads, Back, bind-back, map-back, Items, items-back, Number}
+use Rattle.base.proofs.Read.{number-back, One, Many, repeated-back, complete-back}
 use Rattle.record_spec.specs.Reference.{BlockReference}
 use Rattle.record_spec.specs.Block.{Statement, share, accept, reject, voteRange}
 use Rattle.record_spec.specs.Record.{readReference, readKind, readStatement, referenceBytes, locatorBytes, otherBytes, statementBytes}
-use Rattle.record_spec.proofs.Records.{ReferenceFits, LocatorFits, RangeFits, OtherFits, StatementFits, one-byte, byte-reads, reference-reads, reference-back, statement-reads, kind-back, length-includes}
+use Rattle.record_spec.proofs.Records.{ReferenceFits, LocatorFits, RangeFits, OtherFits, StatementFits, one-byte, byte-reads, reference-reads, reference-back}
+use Rattle.record_spec.proofs.Records.{statement-reads, kind-back, length-includes}
 use Rattle.draft_spec.specs.Draft.{readLongShare, readGiven, includesIn, statementsIn, givenBytes}
 
 -- a statement as it is given: its payload has any length that 4 bytes say

@@ -13,7 +13,8 @@ use Rattle.base.proofs.Checks.{refusal-append}
 use Rattle.record_spec.specs.Reference.{TransactionLocator, TransactionLocatorRange, locator, newRange, oneRange, offsets, locators}
 use Rattle.record_spec.specs.Block.{Statement, share, accept, reject, voteRange}
 use Rattle.record_spec.specs.Verify.{statementChecks}
-use Rattle.draft_spec.specs.Joining.{Piece, apart, run, attached, pieces, runStatement, pieceStatement, joined, joinable, neighbours, noNeighbours, shown, spreadOut}
+use Rattle.draft_spec.specs.Joining.{Piece, apart, run, attached, pieces, runStatement, pieceStatement, joined, joinable, neighbours, noNeighbours, shown}
+use Rattle.draft_spec.specs.Joining.{spreadOut}
 use Rattle.draft_spec.specs.Claims.{Joins, end, stays, range, JoiningChecked}
 use Rattle.draft_spec.proofs.Joining.{locators-first, far, fronted-far, joins}
 
@@ -28,7 +29,8 @@ pub joins-spread : {ss ws : List Statement} → Joins ss ws → spreadOut ws ≡
 unfolding spreadOut flatten shown
 joins-spread end = refl
 joins-spread (stays {s = s} j) = ap {B = List Statement} (λ xs. shown s ++ xs) (joins-spread j)
-joins-spread (range {r = r} {ss = ss} more low e j) = rw (e) (ap {B = List Statement} (λ xs. map accept (locators r) ++ xs) (joins-spread j) ∙ sym (accepts-shown (locators r) ss))
+joins-spread (range {r = r} {ss = ss} more low e j) = rw (e)
+    (ap {B = List Statement} (λ xs. map accept (locators r) ++ xs) (joins-spread j) ∙ sym (accepts-shown (locators r) ss))
 
 -- ---- what is checked
 
@@ -71,7 +73,8 @@ every-later : {A : Type 0} {P : A → Type 0} (xs ys : List A) → Every P (xs +
 every-later [] ys h = h
 every-later (x ∷ xs) ys (and h hs) = every-later xs ys hs
 
-first-locator : (r : TransactionLocatorRange) → r .start < r .end → locators r ≡ locator (r .block) (r .start) ∷ locators (newRange (r .block) (r .start + 1) (r .end))
+first-locator : (r : TransactionLocatorRange) → r .start < r .end → locators r ≡ locator (r .block) (r .start) ∷ locators
+    (newRange (r .block) (r .start + 1) (r .end))
 unfolding newRange
 first-locator r k = locators-first (r .block) (r .start) (r .end) k
 
@@ -101,7 +104,8 @@ asPiece (accept l) = run (oneRange l)
 asPiece (reject l o) = apart (reject l o)
 asPiece (voteRange r) = apart (voteRange r)
 
-far-first : (l : TransactionLocator) (ss : List Statement) → firstIs (λ t. not (neighbours (accept l) t)) ss ≡ true → firstIs (far (run (oneRange l))) (map asPiece ss) ≡ true
+far-first : (l : TransactionLocator) (ss : List Statement) → firstIs (λ t. not (neighbours (accept l) t)) ss ≡ true → firstIs (far (run (oneRange l)))
+    (map asPiece ss) ≡ true
 unfolding firstIs neighbours joinable asPiece
 far-first l [] h = refl
 far-first l (share v ∷ ss) h = refl

@@ -10,10 +10,12 @@ use lib.Dec.{ltb, eqb}
 use borrow.Author.Tests.{lt-ltb, ltb-true, eq-eqb, eqb-true, eqb-false, not-true}
 use Rattle.base.specs.Lists.{pick, allOf, countFrom, firstIs, adjacent}
 use Rattle.base.proofs.Tests.{not-both, and-left, and-right, or-cases, or-left, or-right}
-use Rattle.record_spec.specs.Reference.{BlockReference, TransactionLocator, TransactionLocatorRange, locator, newRange, oneRange, sameReference, offsets, locators}
+use Rattle.record_spec.specs.Reference.{BlockReference, TransactionLocator, TransactionLocatorRange, locator, newRange, oneRange, sameReference, offsets}
+use Rattle.record_spec.specs.Reference.{locators}
 use Rattle.record_spec.specs.Block.{Statement, share, accept, reject, voteRange}
 use Rattle.record_spec.proofs.References.{reference-same, same-reference}
-use Rattle.draft_spec.specs.Joining.{Piece, apart, run, touches, fronted, attached, pieces, runStatement, pieceStatement, joined, isAccept, pieceGiven, rightPiece, joinable}
+use Rattle.draft_spec.specs.Joining.{Piece, apart, run, touches, fronted, attached, pieces, runStatement, pieceStatement, joined, isAccept, pieceGiven}
+use Rattle.draft_spec.specs.Joining.{rightPiece, joinable}
 use Rattle.draft_spec.specs.Claims.{JoiningMeant, Joins, end, stays, range, JoinedInOrder}
 
 -- ---- the tests, as facts
@@ -88,7 +90,8 @@ module _ (l : TransactionLocator) where
   unfolding oneRange newRange
   longer-right r h t = record { filled = omega (arith, t .meets, h .filled); low = λ k. t .low }
 
-  pub fronted-given : (ps : List Piece) → allOf rightPiece ps ≡ true → flatten (map pieceGiven (fronted (oneRange l) ps)) ≡ accept l ∷ flatten (map pieceGiven ps)
+  pub fronted-given : (ps : List Piece) → allOf rightPiece ps ≡ true → flatten (map pieceGiven (fronted (oneRange l) ps)) ≡ accept l ∷ flatten
+      (map pieceGiven ps)
   unfolding fronted pieceGiven flatten allOf oneRange newRange
   fronted-given [] h = rw (locators-one l)
   fronted-given (apart s ∷ ps) h = rw (locators-one l)
@@ -106,7 +109,8 @@ module _ (l : TransactionLocator) where
   fronted-right (apart s ∷ ps) h = rw (run-right (oneRange l) (one-right l)) h
   fronted-right (run r ∷ ps) h = go (touches (oneRange l) r) refl
     where
-      go : (t : Bool) → touches (oneRange l) r ≡ t → allOf rightPiece (pick t (run (newRange (l .block) (l .offset) (r .end)) ∷ ps) (run (oneRange l) ∷ run r ∷ ps)) ≡ true
+      go : (t : Bool) → touches (oneRange l) r ≡ t → allOf rightPiece
+          (pick t (run (newRange (l .block) (l .offset) (r .end)) ∷ ps) (run (oneRange l) ∷ run r ∷ ps)) ≡ true
       go true e =
           rw (run-right (newRange (l .block) (l .offset) (r .end)) (longer-right r (right-run r (and-left _ _ h)) (touching (oneRange l) r e)))
           (and-right (rightPiece (run r)) _ h)
@@ -118,7 +122,8 @@ abbrev pub far : Piece → Piece → Bool
 far p q = not (joinable p q)
 
 -- what a run could be joined with depends on its block and its end alone
-far-same : (r q : TransactionLocatorRange) (ps : List Piece) → r .block ≡ q .block → r .end ≡ q .end → firstIs (far (run r)) ps ≡ true → firstIs (far (run q)) ps ≡ true
+far-same : (r q : TransactionLocatorRange) (ps : List Piece) → r .block ≡ q .block → r .end ≡ q .end → firstIs (far (run r)) ps ≡ true → firstIs (far (run q))
+    ps ≡ true
 unfolding firstIs joinable touches
 far-same r q [] e k h = refl
 far-same r q (apart s ∷ ps) e k h = refl
@@ -131,7 +136,8 @@ module _ (l : TransactionLocator) where
   fronted-longest (apart s ∷ ps) h = h
   fronted-longest (run r ∷ ps) h = go (touches (oneRange l) r) refl
     where
-      go : (t : Bool) → touches (oneRange l) r ≡ t → adjacent far (pick t (run (newRange (l .block) (l .offset) (r .end)) ∷ ps) (run (oneRange l) ∷ run r ∷ ps)) ≡ true
+      go : (t : Bool) → touches (oneRange l) r ≡ t → adjacent far (pick t (run (newRange (l .block) (l .offset) (r .end)) ∷ ps)
+          (run (oneRange l) ∷ run r ∷ ps)) ≡ true
       go true e =
           rw (far-same r (newRange (l .block) (l .offset) (r .end)) ps (sym (touching (oneRange l) r e .block)) refl (and-left _ _ h))
           (and-right (firstIs (far (run r)) ps) _ h)
@@ -189,8 +195,14 @@ unfolding pieces attached fronted oneRange newRange locator
 pieces-run zero r s e k low ss h = let k′ : e ≡ s + 1 = omega arith in rw k′ (one-run (locator r s) ss (rw k′ at h))
 pieces-run (suc n) r s e k low ss h =
     let small : e < 1048576 = low (omega arith) in
-    let others : pieces (map accept (locators (newRange r (s + 1) e)) ++ ss) ≡ run (newRange r (s + 1) e) ∷ pieces ss = pieces-run n r (s + 1) e (omega arith) (λ _. small) ss h′ in
-    rw (locators-first r s e (omega arith), others, touching-yes (oneRange (locator r s)) (newRange r (s + 1) e) (record { block = refl; meets = refl; low = small }))
+    let others : pieces (map accept (locators (newRange r (s + 1) e)) ++ ss) ≡ run (newRange r (s + 1) e) ∷ pieces ss = pieces-run n r (s + 1) e (omega arith)
+    (λ _. small) ss h′ in
+    rw (
+      locators-first r s e (omega arith),
+      others,
+      touching-yes (oneRange (locator r s)) (newRange r (s + 1) e)
+          (record { block = refl; meets = refl; low = small }),
+    )
   where
     h′ : firstIs (far (run (newRange r (s + 1) e))) (pieces ss) ≡ true
     h′ = far-same (newRange r s e) (newRange r (s + 1) e) (pieces ss) refl refl h
@@ -200,16 +212,19 @@ unfolding allOf adjacent flatten pieceGiven rightPiece pieces attached isAccept 
 pieces-only [] h k = refl
 pieces-only (apart s ∷ ps) h k = other s (and-left _ _ h) (pieces-only ps (and-right (not (isAccept s)) _ h) (and-right (firstIs (far (apart s)) ps) _ k))
   where
-    other : (s : Statement) → not (isAccept s) ≡ true → pieces (flatten (map pieceGiven ps)) ≡ ps → attached s (pieces (flatten (map pieceGiven ps))) ≡ apart s ∷ ps
+    other : (s : Statement) → not (isAccept s) ≡ true → pieces (flatten (map pieceGiven ps)) ≡ ps → attached s (pieces (flatten (map pieceGiven ps))) ≡ apart
+        s ∷ ps
     other (share v) n ih = rw ih
     other (accept l) n ih = absurd (not-both n refl)
     other (reject l o) n ih = rw ih
     other (voteRange r) n ih = rw ih
-pieces-only (run r ∷ ps) h k = go (right-run r (and-left _ _ h)) (pieces-only ps (and-right (rightPiece (run r)) _ h) (and-right (firstIs (far (run r)) ps) _ k))
+pieces-only (run r ∷ ps) h k = go (right-run r (and-left _ _ h))
+    (pieces-only ps (and-right (rightPiece (run r)) _ h) (and-right (firstIs (far (run r)) ps) _ k))
   where
     go : RightRun r → pieces (flatten (map pieceGiven ps)) ≡ ps → pieces (map accept (locators r) ++ flatten (map pieceGiven ps)) ≡ run r ∷ ps
     go g ih =
-        pieces-run (r .end - r .start - 1) (r .block) (r .start) (r .end) (omega (arith, g .filled)) (g .low) (flatten (map pieceGiven ps)) (rw ih (and-left _ _ k))
+        pieces-run (r .end - r .start - 1) (r .block) (r .start) (r .end) (omega (arith, g .filled)) (g .low) (flatten (map pieceGiven ps))
+        (rw ih (and-left _ _ k))
         ∙ rw ih
 
 pub joining-meant : JoiningMeant

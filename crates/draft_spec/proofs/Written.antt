@@ -66,7 +66,8 @@ drafted : (q : Request) (d : Draft) → RequestFits q → draftIn q ≡ some d �
 unfolding draftIn withParts
 drafted q d f h = go (includesIn (q .includes)) (statementsIn (q .statements)) refl refl h
   where
-    go : (is : Option (List BlockReference)) (ss : Option (List Statement)) → includesIn (q .includes) ≡ is → statementsIn (q .statements) ≡ ss → withParts q is ss ≡ some d → Drafted q d
+    go : (is : Option (List BlockReference)) (ss : Option (List Statement)) → includesIn (q .includes) ≡ is → statementsIn (q .statements) ≡ ss → withParts q
+        is ss ≡ some d → Drafted q d
     go none ss e k g = absurd (Option·none-ne-some d g)
     go (some is) none e k g = absurd (Option·none-ne-some d g)
     go (some is) (some ss) e k g =
@@ -122,7 +123,8 @@ unfolding anyOf
 short-fits [] h none-of = none-of
 short-fits (s ∷ ss) h (and f fs) = and (short-one s (neither-left _ _ h) f) (short-fits ss (neither-right (isLong s) _ h) fs)
 
-range-fits : (r : TransactionLocatorRange) → r .start < r .end → r .end < 1048576 → StatementFits (accept (locator (r .block) (r .start))) → StatementFits (voteRange r)
+range-fits : (r : TransactionLocatorRange) → r .start < r .end → r .end < 1048576 → StatementFits (accept (locator (r .block) (r .start))) → StatementFits
+    (voteRange r)
 unfolding locator
 range-fits r k l h = record { block = h .block; start = h .offset; end = omega arith }
 
@@ -175,14 +177,16 @@ module _ (o : Option ℕ) where
         size = omega (arith, length-append r (drop (length r) out), length-drop (length r) out);
       }
 
-  drafted-well : isTime o ≡ true → (q : Request) (d : Draft) (out : Bytes) (n : ℕ) → RequestFits q → draftIn q ≡ some d → writeDraft o (some d) out .answer ≡ answered n
+  drafted-well : isTime o ≡ true → (q : Request) (d : Draft) (out : Bytes) (n : ℕ) → RequestFits q → draftIn q ≡ some d → writeDraft o (some d) out .answer ≡
+      answered n
       → WrittenWell o q out n (writeDraft o (some d) out .out)
   unfolding writeDraft writeChecks
   drafted-well t q d out n f e h =
       let c = checked-answered (writeChecks o d out) (length (recordBytes o d)) n h in
       let fits : ltb (length out) (length (recordBytes o d)) ≡ false = passes-first _ _ (passes-right (formChecks d) _ (c .0)) in
       rw (c .0)
-      (front-well q out (recordBytes o d) n (c .1) (ltb-false (length out) (length (recordBytes o d)) fits) (shows-given t q d f e (passes-left (formChecks d) _ (c .0))))
+      (front-well q out (recordBytes o d) n (c .1) (ltb-false (length out) (length (recordBytes o d)) fits)
+      (shows-given t q d f e (passes-left (formChecks d) _ (c .0))))
 
 pub written-shows : WrittenShows
 unfolding WrittenShows writeTimed writeDraft

@@ -42,7 +42,8 @@ module _ (l : List ℕ) (p : ℕ) where
       sym (rw (← byte-first l p 0 (leBytes 2 (length v) ++ v), h, sets-append (leBytes 2 n) v (set l p 0) (p + 1), length-leBytes 2 n, e))
 
   pub range-written : (r : TransactionLocatorRange)
-      → sets (sets (sets (set l p 3) (p + 1) (referenceBytes (asReference (r .block)))) (p + 49) (leBytes 8 (r .«offset_start_inclusive»))) (p + 57) (leBytes 8 (r .«offset_end_exclusive»))
+      → sets (sets (sets (set l p 3) (p + 1) (referenceBytes (asReference (r .block)))) (p + 49) (leBytes 8 (r .«offset_start_inclusive»))) (p + 57)
+      (leBytes 8 (r .«offset_end_exclusive»))
       ≡ sets l p (statementBytes (voteRange (asRange r)))
   unfolding statementBytes asRange newRange
   range-written r =
@@ -62,17 +63,20 @@ module _ (l : List ℕ) (p : ℕ) where
       ))
 
   -- a kind byte and a locator, and what follows them
-  marked-then : (x : ℕ) (t : TransactionLocator) (vs : List ℕ) → sets (sets l p (x ∷ locatorBytes (asLocator t))) (p + 57) vs ≡ sets l p (x ∷ locatorBytes (asLocator t) ++ vs)
+  marked-then : (x : ℕ) (t : TransactionLocator) (vs : List ℕ) → sets (sets l p (x ∷ locatorBytes (asLocator t))) (p + 57) vs ≡ sets l p
+      (x ∷ locatorBytes (asLocator t) ++ vs)
   marked-then x t vs =
       let e : length (x ∷ locatorBytes (asLocator t)) ≡ 57 = rw (length-locatorBytes t) in
       sym (sets-append (x ∷ locatorBytes (asLocator t)) vs l p ∙ rw e)
 
-  pub reject-written : (t : TransactionLocator) → set (sets l p (2 ∷ locatorBytes (asLocator t))) (p + 57) 0 ≡ sets l p (statementBytes (reject (asLocator t) none))
+  pub reject-written : (t : TransactionLocator) → set (sets l p (2 ∷ locatorBytes (asLocator t))) (p + 57) 0 ≡ sets l p
+      (statementBytes (reject (asLocator t) none))
   unfolding statementBytes otherBytes
   reject-written t = marked-then 2 t (0 ∷ [])
 
   pub reject-for-written : (t u : TransactionLocator)
-      → sets (sets l p (2 ∷ locatorBytes (asLocator t))) (p + 57) (1 ∷ locatorBytes (asLocator u)) ≡ sets l p (statementBytes (reject (asLocator t) (some (asLocator u))))
+      → sets (sets l p (2 ∷ locatorBytes (asLocator t))) (p + 57) (1 ∷ locatorBytes (asLocator u)) ≡ sets l p
+      (statementBytes (reject (asLocator t) (some (asLocator u))))
   unfolding statementBytes otherBytes
   reject-for-written t u = marked-then 2 t (1 ∷ locatorBytes (asLocator u))
 
@@ -106,11 +110,13 @@ unfolding isLong
 long-share s start len h = rw (share-length s start len h)
 
 module _ (s : List ℕ) where
-  pub size-bytes : (st : BaseStatement) (n : ℕ) → payloadInside (length s) st ≡ true → sizeOf st ≡ Bytes n → (isLong (asStatement s st) ≡ false) × ((n ≡ bytesOf st) × (n ≤ 65538))
+  pub size-bytes : (st : BaseStatement) (n : ℕ) → payloadInside (length s) st ≡ true → sizeOf st ≡ Bytes n → (isLong (asStatement s st) ≡ false) ×
+      ((n ≡ bytesOf st) × (n ≤ 65538))
   unfolding sizeOf asStatement bytesOf isLong
   size-bytes (Share start len) n h e = go (ltb 65535 len) refl e
     where
-      go : (t : Bool) → ltb 65535 len ≡ t → pick t Long (Bytes (3 + len)) ≡ Bytes n → (ltb 65535 (length (take len (drop start s))) ≡ false) × ((n ≡ 3 + len) × (n ≤ 65538))
+      go : (t : Bool) → ltb 65535 len ≡ t → pick t Long (Bytes (3 + len)) ≡ Bytes n → (ltb 65535 (length (take len (drop start s))) ≡ false) ×
+          ((n ≡ 3 + len) × (n ≤ 65538))
       go true f k = let z : _≡_ {A = ℕ} 0 1 = cc in absurd (omega arith)
       go false f k =
           let z : 3 + len ≡ n = cc in
@@ -134,11 +140,13 @@ module _ (s : List ℕ) where
 
 -- ---- room for a statement
 
-module _ (s : List ℕ) (st : BaseStatement) (at n : ℕ) (inside : payloadInside (length s) st ≡ true) (room : at + length (statementBytes (asStatement s st)) ≤ n) where
+module _ (s : List ℕ) (st : BaseStatement) (at n : ℕ) (inside : payloadInside (length s) st ≡ true)
+    (room : at + length (statementBytes (asStatement s st)) ≤ n) where
   pub room-for : (t : BaseStatement) → st ≡ t → at + bytesOf t ≤ n
   room-for t e = rw (← e) (rw (length-written s st inside) at room)
 
-  pub share-room : (start len : ℕ) → st ≡ Share start len → isLong (asStatement s st) ≡ false → (start + len ≤ length s) × ((len < 65536) × (at + (3 + len) ≤ n))
+  pub share-room : (start len : ℕ) → st ≡ Share start len → isLong (asStatement s st) ≡ false → (start + len ≤ length s) ×
+      ((len < 65536) × (at + (3 + len) ≤ n))
   unfolding asStatement bytesOf
   share-room start len e h =
       let fits : start + len ≤ length s = inside-share (length s) start len (rw e at inside) in

@@ -29,10 +29,18 @@ use Rattle.draft_size.proofs.Sizing.{Plan}
 
 -- what is written from the front on
 pub record-written : (l a b t c d : List ℕ) (k n : ℕ) → length a ≡ 48 → length b ≡ 5 → length t ≡ 3 + k → length c ≡ n → 56 + k + n + length d ≤ length l
-    → sets (sets (sets (sets (sets l 0 a) 48 b) 53 t) (56 + k) c) (56 + k + n) d ≡ (a ++ (b ++ (t ++ (c ++ d)))) ++ drop (length (a ++ (b ++ (t ++ (c ++ d))))) l
+    → sets (sets (sets (sets (sets l 0 a) 48 b) 53 t) (56 + k) c) (56 + k + n) d ≡ (a ++ (b ++ (t ++ (c ++ d)))) ++ drop
+    (length (a ++ (b ++ (t ++ (c ++ d))))) l
 record-written l a b t c d k n p q u r h =
     let all = a ++ (b ++ (t ++ (c ++ d))) in
-    let size : length all ≡ 56 + k + n + length d = omega (arith, length-append a (b ++ (t ++ (c ++ d))), length-append b (t ++ (c ++ d)), length-append t (c ++ d), length-append c d) in
+    let size : length all ≡ 56 + k + n + length d = omega (
+      arith,
+      length-append a (b ++ (t ++ (c ++ d))),
+      length-append b (t ++ (c ++ d)),
+      length-append t
+          (c ++ d),
+      length-append c d,
+    ) in
     let body : 53 + (3 + k) ≡ 56 + k = omega arith in
     sym (rw (
       sets-append a (b ++ (t ++ (c ++ d))) l 0,
@@ -77,7 +85,8 @@ malformed d k = test (passes (formChecks d)) k
     test true k = let z : _≡_ {A = ℕ} 0 1 = cc in absurd (omega arith)
     test false k = refl
 
-refuses-draft : (o : Option ℕ) (d : Draft) (out : List ℕ) → passes (formChecks d) ≡ false → writeDraft o (some d) out ≡ record { answer = refused 51; out = out }
+refuses-draft : (o : Option ℕ) (d : Draft) (out : List ℕ) → passes (formChecks d) ≡ false → writeDraft o (some d) out ≡ record
+    { answer = refused 51; out = out }
 unfolding formChecks writeDraft checked writeChecks
 refuses-draft o d out f =
     let short = (ltb (length out) (length (recordBytes o d)) ⇒ 50) ∷ [] in
@@ -109,7 +118,8 @@ module _ (o : Option ℕ) (q : Request) (out : List ℕ) where
         let then : refusal (formChecks d ++ short) ≡ 50 = rw (refusal-append (formChecks d) short, p .passed, applies) in
         rw (p .given, none-passes, then)
 
-    pub writes-record : bytes + length (timeBytes o) ≤ length out → writeTimed o q out ≡ record { answer = answered (bytes + length (timeBytes o)); out = recordBytes o (p .draft) ++ drop (length (recordBytes o (p .draft))) out }
+    pub writes-record : bytes + length (timeBytes o) ≤ length out → writeTimed o q out ≡ record
+        { answer = answered (bytes + length (timeBytes o)); out = recordBytes o (p .draft) ++ drop (length (recordBytes o (p .draft))) out }
     unfolding writeTimed writeDraft checked writeChecks
     writes-record h =
         let d = p .draft in

@@ -63,14 +63,16 @@ counts-feed c m bytes as′ h k = feed-cases c m bytes (λ o as″. Counts c (o 
         let z : processed c m r ≡ counting c (r ∷ map asRecord as′) = counts-more c m r as′ (h .records) k in
         record {
           items = itemsOf-tableOf (length (m .table)) (processed c m r .items) ∙ ap (λ (w : Processing). w .items) z;
-          events = ap {B = List (List Event)} (λ vs. processed c m r .events ∷ vs) (k .events) ∙ ap {B = List (List Event)} (λ (w : Processing). w .events ∷ eventsOfEach c (map asRecord as′)) z;
+          events = ap {B = List (List Event)} (λ vs. processed c m r .events ∷ vs) (k .events) ∙ ap {B = List (List Event)}
+              (λ (w : Processing). w .events ∷ eventsOfEach c (map asRecord as′)) z;
         }
 
 counts-run : (c : Committee) (g : Engine) (fs : List Feed) → StoreOf c (g .store) [] → Counts c (g .table) [] → Counts c (run c g fs .table) (accepted c g fs)
 unfolding run accepted outcome left
 counts-run c g [] h k = k
 counts-run c g (f ∷ fs) h k =
-    counts-feed c (record { store = run c g fs .store; table = run c g fs .table; work = f .work; events = f .events }) (f .bytes) (accepted c g fs) (run-holds c g fs h) (counts-run c g fs h k)
+    counts-feed c (record { store = run c g fs .store; table = run c g fs .table; work = f .work; events = f .events }) (f .bytes) (accepted c g fs)
+    (run-holds c g fs h) (counts-run c g fs h k)
 
 -- the events told from fresh are those of the accepted records
 events-counted : (c : Committee) (t : Start) → eventsTold (acceptedOf c t) ≡ eventsOfEach c (map asRecord (acceptedOf c t))
@@ -127,7 +129,8 @@ same-stored c t u h =
     ∙ h .blocks
     ∙ sym (accepted-all c (fresh (u .past) (u .words)) (u .feeds) (h .second))
 
-same-events : (c : Committee) (t u : Start) → storedBlocks (acceptedOf c t) ≡ storedBlocks (acceptedOf c u) → eventsTold (acceptedOf c t) ≡ eventsTold (acceptedOf c u)
+same-events : (c : Committee) (t u : Start) → storedBlocks (acceptedOf c t) ≡ storedBlocks (acceptedOf c u) → eventsTold (acceptedOf c t) ≡ eventsTold
+    (acceptedOf c u)
 same-events c t u h =
     events-counted c t
     ∙ events-ignore c (map asRecord (acceptedOf c t)) (map asRecord (acceptedOf c u)) (blocks-in (acceptedOf c t) ∙ h ∙ sym (blocks-in (acceptedOf c u)))
@@ -143,6 +146,8 @@ same-counts c t u apart =
       events = same-events c t u h;
       blocks = e;
       final = λ l. ap (λ (bs : List Block). isFinal c bs l) e;
-      list = λ b ls ms x y. asked-once (nextFinal c s) x (asked-on c s b (store-of c t .order)) ∙ ap (finalList c) e ∙ asked-once (nextFinal c r) (asked-on c r b (store-of c u .order)) y;
-      shares = λ b ls ms x y. asked-once (nextFinalShare c s) x (shares-asked c s b (store-of c t .order)) ∙ ap (finalShares c) e ∙ asked-once (nextFinalShare c r) (shares-asked c r b (store-of c u .order)) y;
+      list = λ b ls ms x y. asked-once (nextFinal c s) x (asked-on c s b (store-of c t .order)) ∙ ap (finalList c) e ∙ asked-once (nextFinal c r)
+          (asked-on c r b (store-of c u .order)) y;
+      shares = λ b ls ms x y. asked-once (nextFinalShare c s) x (shares-asked c s b (store-of c t .order)) ∙ ap (finalShares c) e ∙ asked-once
+          (nextFinalShare c r) (shares-asked c r b (store-of c u .order)) y;
     }

@@ -14,7 +14,8 @@ use Rattle.record_spec.specs.Reference.{BlockReference, TransactionLocatorRange
 use Rattle.record_spec.specs.Block.{Statement, Block, author, votedRange, sharedRanges}
 use Rattle.store_spec.specs.Layout.{blocks, Record, usedBy, Entry, blocksAt, referenceOf, entries, positionOf, lookup}
 use Rattle.store_spec.specs.Shares.{isStoredShare}
-use Rattle.pending_spec.specs.Items.{Item, itemHolds, itemAt, fallsInside, frontOf, backOf, cutItem, cutAt, bothCuts, itemWithin, votedItem, voteOver, stays, afterLeaving, firstVote, registered, register}
+use Rattle.pending_spec.specs.Items.{Item, itemHolds, itemAt, fallsInside, frontOf, backOf, cutItem, cutAt, bothCuts, itemWithin, votedItem, voteOver, stays}
+use Rattle.pending_spec.specs.Items.{afterLeaving, firstVote, registered, register}
 use Rattle.feed_spec.specs.ProcessBlock.{Event, missed, eventAt, eventOf, Processing, vote, votes, registering, processBlock}
 
 -- ---- what feeding counts, over records; records are listed THE LAST FIRST
@@ -61,7 +62,8 @@ module _ (R : ℕ → ℕ → Type 0) (alike : (p q m n : ℕ) → R p q → R m
     cut-item o {x} {y} t = rw (inside-same o t) (go (fallsInside q o y))
       where
         go : (b : Bool) → Twins R (pick b (frontOf x o ∷ backOf x o ∷ []) (x ∷ [])) (pick b (frontOf y o ∷ backOf y o ∷ []) (y ∷ []))
-        go true = twins (record { at = t .at; start = t .start; end = refl; votes = t .votes }) (twins (record { at = t .at; start = refl; end = t .end; votes = t .votes }) no-items)
+        go true = twins (record { at = t .at; start = t .start; end = refl; votes = t .votes })
+            (twins (record { at = t .at; start = refl; end = t .end; votes = t .votes }) no-items)
         go false = twins t no-items
 
     cut-at : (o : ℕ) {xs ys : List Item} → Twins R xs ys → Twins R (cutAt p o xs) (cutAt q o ys)
@@ -86,7 +88,8 @@ module _ (R : ℕ → ℕ → Type 0) (alike : (p q m n : ℕ) → R p q → R m
     unfolding votedItem
     voted-each c a s e no-items = no-items
     voted-each c a s e (twins {x = x} {y = y} t ts) =
-        let first : Twin R (pick (itemWithin p s e x) (votedItem c a x) x) (pick (itemWithin q s e y) (votedItem c a y) y) = rw (within-same s e t) (go (itemWithin q s e y)) in
+        let first : Twin R (pick (itemWithin p s e x) (votedItem c a x) x) (pick (itemWithin q s e y) (votedItem c a y) y) = rw (within-same s e t)
+        (go (itemWithin q s e y)) in
         twins first (voted-each c a s e ts)
       where
         go : (b : Bool) → Twin R (pick b (votedItem c a x) x) (pick b (votedItem c a y) y)
@@ -108,7 +111,8 @@ module _ (R : ℕ → ℕ → Type 0) (alike : (p q m n : ℕ) → R p q → R m
         rw (stays-same (totalStake c) s e t) (go (stays (totalStake c) q s e y) (leaving c s e ts))
       where
         go : (b : Bool) → Twins R (keep (stays (totalStake c) p s e) xs) (keep (stays (totalStake c) q s e) ys)
-            → Twins R (pick b (x ∷ keep (stays (totalStake c) p s e) xs) (keep (stays (totalStake c) p s e) xs)) (pick b (y ∷ keep (stays (totalStake c) q s e) ys) (keep (stays (totalStake c) q s e) ys))
+            → Twins R (pick b (x ∷ keep (stays (totalStake c) p s e) xs) (keep (stays (totalStake c) p s e) xs))
+            (pick b (y ∷ keep (stays (totalStake c) q s e) ys) (keep (stays (totalStake c) q s e) ys))
         go true k = twins t k
         go false k = k
 
@@ -127,7 +131,8 @@ module _ (R : ℕ → ℕ → Type 0) (alike : (p q m n : ℕ) → R p q → R m
         go true k = rw (t .votes)
         go false k = k
 
-    registered-twins : (c : Committee) (a : AuthorityIndex) (runs : List TransactionLocatorRange) {xs ys : List Item} → Twins R xs ys → Twins R (register c a p runs xs) (register c a q runs ys)
+    registered-twins : (c : Committee) (a : AuthorityIndex) (runs : List TransactionLocatorRange) {xs ys : List Item} → Twins R xs ys → Twins R
+        (register c a p runs xs) (register c a q runs ys)
     unfolding register registered firstVote
     registered-twins c a runs ts = twins-append ts (each runs)
       where
@@ -151,7 +156,8 @@ module _ (R : ℕ → ℕ → Type 0) (alike : (p q m n : ℕ) → R p q → R m
     events-each r i h ts [] = refl
     events-each r i h ts (o ∷ os) = rw (event-same h c es fs r i o (missing r o) ts, events-each r i h ts os)
 
-    vote-same : (a : AuthorityIndex) (i : ℕ) (r : Option TransactionLocatorRange) {z w : Processing} → Alongside z w → Alongside (vote c es a i r z) (vote c fs a i r w)
+    vote-same : (a : AuthorityIndex) (i : ℕ) (r : Option TransactionLocatorRange) {z w : Processing} → Alongside z w → Alongside (vote c es a i r z)
+        (vote c fs a i r w)
     unfolding vote
     vote-same a i none z = z
     vote-same a i (some r) g =
@@ -180,7 +186,8 @@ module _ (R : ℕ → ℕ → Type 0) (alike : (p q m n : ℕ) → R p q → R m
 -- positions may be forgotten into a wider relation
 twins-wider : {R S : ℕ → ℕ → Type 0} → ((p q : ℕ) → R p q → S p q) → {xs ys : List Item} → Twins R xs ys → Twins S xs ys
 twins-wider f no-items = no-items
-twins-wider f (twins {x = x} {y = y} t ts) = twins (record { at = f (x .position) (y .position) (t .at); start = t .start; end = t .end; votes = t .votes }) (twins-wider f ts)
+twins-wider f (twins {x = x} {y = y} t ts) = twins (record { at = f (x .position) (y .position) (t .at); start = t .start; end = t .end; votes = t .votes })
+    (twins-wider f ts)
 
 -- ---- records of the same blocks
 
@@ -237,10 +244,13 @@ found-at no-records r = nowhere
 found-at (record-more {r = x} {q = y} {rs = rs} {qs = qs} e s) r =
     rw (ap (λ (b : Block). sameReference (b .reference) r) e) (go (sameReference (y .block .reference) r) (found-at s r))
   where
-    go : (t : Bool) → At rs qs (positionOf (find (λ d. sameReference (referenceOf d) r) (entries rs))) (positionOf (find (λ d. sameReference (referenceOf d) r) (entries qs)))
+    go : (t : Bool) → At rs qs (positionOf (find (λ d. sameReference (referenceOf d) r) (entries rs)))
+        (positionOf (find (λ d. sameReference (referenceOf d) r) (entries qs)))
         → At (x ∷ rs) (y ∷ qs)
-        (positionOf (pick t (some (record { position = usedBy rs; bytes = x .bytes; block = x .block })) (find (λ d. sameReference (referenceOf d) r) (entries rs))))
-        (positionOf (pick t (some (record { position = usedBy qs; bytes = y .bytes; block = y .block })) (find (λ d. sameReference (referenceOf d) r) (entries qs))))
+        (positionOf (pick t (some (record { position = usedBy rs; bytes = x .bytes; block = x .block }))
+        (find (λ d. sameReference (referenceOf d) r) (entries rs))))
+        (positionOf (pick t (some (record { position = usedBy qs; bytes = y .bytes; block = y .block }))
+        (find (λ d. sameReference (referenceOf d) r) (entries qs))))
     go true k = newest
     go false k = older k
 
@@ -257,7 +267,8 @@ counting-same : (c : Committee) {rs qs : List Record} → Same rs qs → Alongsi
 unfolding counting
 counting-same c no-records = record { items = no-items; events = refl; most = refl }
 counting-same c (record-more {r = r} {q = q} {rs = rs} {qs = qs} e s) =
-    process-alike (At (r ∷ rs) (q ∷ qs)) (λ p q m n a b. at-same a b) c (entries (r ∷ rs)) (entries (q ∷ qs)) (found-at (record-more e s)) (missed-same (record-more e s))
+    process-alike (At (r ∷ rs) (q ∷ qs)) (λ p q m n a b. at-same a b) c (entries (r ∷ rs)) (entries (q ∷ qs)) (found-at (record-more e s))
+    (missed-same (record-more e s))
     (r .block) (q .block) e (twins-wider (λ m n a. older a) (counting-same c s .items))
 
 events-same : (c : Committee) {rs qs : List Record} → Same rs qs → eventsOfEach c rs ≡ eventsOfEach c qs

@@ -65,7 +65,8 @@ pub record SameCounts (c : Committee) (t u : Start) : Type 0 where
   pub final : (l : TransactionLocator) → isFinal c (blocksOf (engineOf c t .store)) l ≡ isFinal c (blocksOf (engineOf c u .store)) l
   -- the wide list, and the ordinary one
   pub list : broken c ≡ false → (ls ms : List TransactionLocator) → FinalList c (engineOf c t .store) ls → FinalList c (engineOf c u .store) ms → ls ≡ ms
-  pub shares : broken c ≡ false → (ls ms : List TransactionLocator) → FinalShareList c (engineOf c t .store) ls → FinalShareList c (engineOf c u .store) ms → ls ≡ ms
+  pub shares : broken c ≡ false → (ls ms : List TransactionLocator) → FinalShareList c (engineOf c t .store) ls → FinalShareList c (engineOf c u .store) ms →
+      ls ≡ ms
 
 pub record Claims : Type 0 where
   pub accepting : Accepting

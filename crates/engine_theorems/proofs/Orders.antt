@@ -33,10 +33,18 @@ module _ (ordinary : Bool) (reading : Reading) (c : Committee) (b : broken c ≡
   unfolding listNext nextFinalChecks checked passes allOf listing
   same-next after = rw (b, h, k, same .next after)
 
-  same-bulk : (out : Bytes) (after : Option TransactionLocator) → listedStretches ordinary reading c s out after ≡ listedStretches ordinary reading c r out after
+  same-bulk : (out : Bytes) (after : Option TransactionLocator) → listedStretches ordinary reading c s out after ≡ listedStretches ordinary reading c r out
+      after
   unfolding listStretches givenAfter moreFollow nextFinalChecks checked passes allOf
   same-bulk out after =
-      rw (b, h, k, same .bulk (stretchRoom out) after, same-found (reached after (stretches c (blocksOf r) (listing ordinary reading c (blocksOf r)) (stretchRoom out) after)))
+      rw (
+        b,
+        h,
+        k,
+        same .bulk (stretchRoom out) after,
+        same-found (reached after
+            (stretches c (blocksOf r) (listing ordinary reading c (blocksOf r)) (stretchRoom out) after)),
+      )
     where
       same-found : (a : Option TransactionLocator) → listing ordinary reading c (blocksOf s) .next a ≡ listing ordinary reading c (blocksOf r) .next a
       same-found a = unfold listing in same .next a
@@ -48,5 +56,6 @@ order-unseen ordinary reading c b t u f =
     let r : Bytes = engineOf c u .store in
     let h : storeInOrder c s ≡ true = store-of c t .order in
     let k : storeInOrder c r ≡ true = store-of c u .order in
-    let x : SameInAnyOrder ordinary reading c (blocksOf s) (blocksOf r) = claimed .order ordinary reading c (blocksOf s) (blocksOf r) (stored-of c b s h) (stored-of c b r k) (same-blocks c t u f) in
+    let x : SameInAnyOrder ordinary reading c (blocksOf s) (blocksOf r) = claimed .order ordinary reading c (blocksOf s) (blocksOf r) (stored-of c b s h)
+    (stored-of c b r k) (same-blocks c t u f) in
     record { next = same-next ordinary reading c b s r h k x; bulk = same-bulk ordinary reading c b s r h k x }

@@ -49,7 +49,11 @@ engine-state : (c : Committee) (t : Start) → 1 ≤ t .words → State c (engin
 unfolding engineOf fresh
 engine-state c t w =
     let start : Engine = fresh (t .past) (t .words) in
-    run-state c start (t .feeds) (record { store = fresh-holds c (t .past) (t .allowed) .order; table = fresh-table c (entries (recordsOf (start .store))) (t .words) w })
+    run-state c start (t .feeds) (record {
+      store = fresh-holds c (t .past) (t .allowed) .order;
+      table = fresh-table c (entries (recordsOf (start .store)))
+          (t .words) w;
+    })
 
 -- ---- an item stands for stored shares
 
@@ -63,11 +67,14 @@ module _ (c : Committee) (s : Bytes) (t : List ℕ) (ordered : State c s t) (l :
   held-share : (x : Item) → itemAt (itemsOf t) p (l .offset) ≡ some x → isStoredShare (blocksOf s) l ≡ true
   unfolding itemAt positionOf isStoredShare isShareOf blocksOf
   held-share x e =
-      let y : Pending c (entries rs) x = every-in (itemsOf t) x (in-order c (entries rs) t (ordered .table) .items) (find-in (itemHolds p (l .offset)) (itemsOf t) x e) in
+      let y : Pending c (entries rs) x = every-in (itemsOf t) x (in-order c (entries rs) t (ordered .table) .items)
+      (find-in (itemHolds p (l .offset)) (itemsOf t) x e) in
       let f = holds-facts p (l .offset) x (find-passes (itemHolds p (l .offset)) (itemsOf t) x e) in
       let d : Entry = y .entry in
-      let stands : d .position ≡ x .position = eqb-true (d .position) (x .position) (find-passes (λ z. eqb (z .position) (x .position)) (entries rs) d (y .found)) in
-      go d (find-in (λ z. eqb (z .position) (x .position)) (entries rs) d (y .found)) (stands ∙ f .0) (y .shares (l .offset) (f .1) (f .2)) (lookup (entries rs) (l .block)) refl
+      let stands : d .position ≡ x .position = eqb-true (d .position) (x .position)
+      (find-passes (λ z. eqb (z .position) (x .position)) (entries rs) d (y .found)) in
+      go d (find-in (λ z. eqb (z .position) (x .position)) (entries rs) d (y .found)) (stands ∙ f .0) (y .shares (l .offset) (f .1) (f .2))
+      (lookup (entries rs) (l .block)) refl
     where
       go : (d : Entry) → d ∈ entries rs → d .position ≡ p → isShareAt (d .block) (l .offset) ≡ true → (o : Option Entry) → lookup (entries rs) (l .block) ≡ o
           → isStoredShare (blocksOf s) l ≡ true

@@ -38,12 +38,14 @@ module _ (c : Committee) (es : List Entry) (a : AuthorityIndex) (i : ℕ) where
   vote-items none z y e = e
   vote-items (some r) z y e = rw e
 
-  vote-events : (r : Option TransactionLocatorRange) (z : Processing) → vote c es a i r z .events ≡ z .events ++ vote c es a i r (startingWith (z .items)) .events
+  vote-events : (r : Option TransactionLocatorRange) (z : Processing) → vote c es a i r z .events ≡ z .events ++ vote c es a i r (startingWith (z .items))
+      .events
   unfolding vote
   vote-events none z = sym (append-nil (z .events))
   vote-events (some r) z = refl
 
-  vote-few : (r : Option TransactionLocatorRange) (z : Processing) (m : ℕ) → z .most ≤ m → vote c es a i r (startingWith (z .items)) .most ≤ m → vote c es a i r z .most ≤ m
+  vote-few : (r : Option TransactionLocatorRange) (z : Processing) (m : ℕ) → z .most ≤ m → vote c es a i r (startingWith (z .items)) .most ≤ m → vote c es a i
+      r z .most ≤ m
   unfolding vote
   vote-few none z m h l = h
   vote-few (some r) z m h l = omega arith
@@ -162,13 +164,29 @@ module _ (c : Committee) (es : List Entry) (a : AuthorityIndex) (ss : List State
               z = next;
               ordered = rw same-items at (sound .ordered);
               pending = rw same-items at (sound .pending);
-              held = omega (arith, ap (λ (xs : List Item). length xs) same-items, sound .few, vote-few c es a i (votedRange s) (record { items = h .z .items; events = []; most = length (h .z .items) }) (room t) (h .held) few-own);
+              held = omega (
+                arith,
+                ap (λ (xs : List Item). length xs) same-items,
+                sound .few,
+                vote-few c es a i (votedRange s)
+                    (record { items = h .z .items; events = []; most = length (h .z .items) }) (room t) (h .held) few-own,
+              );
               few = vote-few c es a i (votedRange s) (h .z) (room t) (h .few) few-own;
               rest = onward;
               table = rw (own-is, counting-long, vote-items c es a i (votedRange s) (startingWith (h .z .items)) (h .z) refl) at (w .table f);
-              stated = rw (vote-events c es a i (votedRange s) (h .z), told-append telling (h .z .events) (own .events)) (stated-on 0 k (r .events) _ _ ev now after (h .stated) told-own);
+              stated = rw (vote-events c es a i (votedRange s) (h .z), told-append telling (h .z .events) (own .events))
+                  (stated-on 0 k (r .events) _ _ ev now after (h .stated) told-own);
               silent = λ q. w .silent q ∙ h .silent q;
-              enough = λ q. omega (arith, h .enough q, told-own .many, told-few telling (own .events), events-vote c es a i (votedRange s) (startingWith (h .z .items)), counted-on ss i l, ap (λ (x : Statement). countedOffsets (votedRange x)) e);
+              enough = λ q. omega (
+                arith,
+                h .enough q,
+                told-own .many,
+                told-few telling (own .events),
+                events-vote c es a i (votedRange s)
+                    (startingWith (h .z .items)),
+                counted-on ss i l,
+                ap (λ (x : Statement). countedOffsets (votedRange x)) e,
+              );
             }
           where
             few-own : own .most ≤ room t
@@ -191,7 +209,14 @@ module _ (c : Committee) (es : List Entry) (a : AuthorityIndex) (ss : List State
             over = leb-false _ _ (rw (← same-room) (rw own-is at (sym (w .fits) ∙ f)))
 
             too-many : room t < all .most
-            too-many = omega (arith, over, vote-many c es a i (votedRange s) (h .z), votes-grow c es a (i + 1) (drop (i + 1) ss) next, ap (λ (x : Processing). x .most) onward)
+            too-many = omega (
+              arith,
+              over,
+              vote-many c es a i (votedRange s) (h .z),
+              votes-grow c es a (i + 1) (drop (i + 1) ss) next,
+              ap
+                  (λ (x : Processing). x .most) onward,
+            )
 
       pub counting-end : length ss ≤ i → (r : Processed) → r .fits ≡ true → r .events ≡ k → VotesCounted all telling 0 t ev r u now
       unfolding votes

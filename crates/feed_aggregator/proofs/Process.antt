@@ -66,7 +66,8 @@ module _ (c : Committee) (s rec : Bytes) (t : List ℕ) (h : Feeding c s rec t) 
 
   sound : Sound c (withNew s rec) (registering c (withNew s rec) (blockIn rec) (itemsOf t))
   unfolding new
-  sound = rw with-new (sound-registered c (entries (recordsOf s)) new (entries-below (recordsOf s)) (known-author c (recordsOf s) (blockIn rec) (h .checks)) (itemsOf t) (lies .ordered) (lies .items))
+  sound = rw with-new (sound-registered c (entries (recordsOf s)) new (entries-below (recordsOf s)) (known-author c (recordsOf s) (blockIn rec) (h .checks))
+      (itemsOf t) (lies .ordered) (lies .items))
 
   registers : registering c (withNew s rec) (blockIn rec) (itemsOf t) ≡ record { items = added; events = []; most = length added }
   unfolding registering positionOf new
@@ -89,7 +90,8 @@ module _ (c : Committee) (s rec : Bytes) (t : List ℕ) (h : Feeding c s rec t) 
 
     many : length added ≤ done .most
     unfolding processBlock
-    many = rw registers (votes-grow c (withNew s rec) (author (blockIn rec)) 0 (blockIn rec .statements) (record { items = added; events = []; most = length added }))
+    many = rw registers (votes-grow c (withNew s rec) (author (blockIn rec)) 0 (blockIn rec .statements)
+        (record { items = added; events = []; most = length added }))
 
     pub process-stop : (u : List ℕ) → Registered added t false u → (q : Processed) → q .fits ≡ false → VotesCounted done telling 0 t ev q u ev
     process-stop u r q f =
@@ -136,7 +138,8 @@ module _ (c : Committee) (s rec : Bytes) (t : List ℕ) (h : Feeding c s rec t) 
       unfolding processBlock
       alike =
           rw (registers, items)
-          (alike-votes c (withNew s rec) (author (blockIn rec)) (length added) 0 (blockIn rec .statements) (record { items = added; events = []; most = length added }) (startingWith added)
+          (alike-votes c (withNew s rec) (author (blockIn rec)) (length added) 0 (blockIn rec .statements)
+          (record { items = added; events = []; most = length added }) (startingWith added)
           (record { items = refl; events = refl; most = omega arith }))
 
       same-fits : leb (counted .most) (room u) ≡ leb (done .most) (room t)

@@ -24,7 +24,8 @@ use Rattle.feed_aggregator.specs.Step.{Orderly, Registered}
 pairwise-left : {A : Type 0} (p : A → A → Bool) (xs ys : List A) → pairwise p (xs ++ ys) ≡ true → pairwise p xs ≡ true
 unfolding pairwise
 pairwise-left p [] ys h = refl
-pairwise-left p (x ∷ xs) ys h = and-both (allOf (p x) xs) (pairwise p xs) (all-left (p x) xs ys (and-left (allOf (p x) (xs ++ ys)) _ h)) (pairwise-left p xs ys (and-right (allOf (p x) (xs ++ ys)) _ h))
+pairwise-left p (x ∷ xs) ys h = and-both (allOf (p x) xs) (pairwise p xs) (all-left (p x) xs ys (and-left (allOf (p x) (xs ++ ys)) _ h))
+    (pairwise-left p xs ys (and-right (allOf (p x) (xs ++ ys)) _ h))
 
 module _ (c : Committee) (a : AuthorityIndex) (p : ℕ) (b : Block) (t : List ℕ) where
   abbrev pub all : List Item
@@ -46,7 +47,8 @@ module _ (c : Committee) (a : AuthorityIndex) (p : ℕ) (b : Block) (t : List �
       pub adding-written : Written u (length t) (h .ys)
       unfolding room itemFull
       adding-written =
-          written u (length t) (h .ys) (h .table) fits (pairwise-pairs itemBefore (h .ys) ordered) (every (λ x e. ltb-true (x .start) (x .end) e) (h .ys) (all-every itemFull (h .ys) full))
+          written u (length t) (h .ys) (h .table) fits (pairwise-pairs itemBefore (h .ys) ordered)
+          (every (λ x e. ltb-true (x .start) (x .end) e) (h .ys) (all-every itemFull (h .ys) full))
         where
           fits : 6 * length (h .ys) < length t
           fits = omega (arith, h .held, table-holding t (itemsOf t) (laid .laid) .fits)
@@ -66,7 +68,8 @@ module _ (c : Committee) (a : AuthorityIndex) (p : ℕ) (b : Block) (t : List �
         unfolding runsTold registered newRange
         later = rw e at (h .rest)
 
-        pub adding-on : length (itemsOf u) < room u → (v : List ℕ) → v ≡ tableOf (length u) (itemsOf u ++ firstVote c a p start end ∷ []) → Adding (next .index) v
+        pub adding-on : length (itemsOf u) < room u → (v : List ℕ) → v ≡ tableOf (length u) (itemsOf u ++ firstVote c a p start end ∷ []) → Adding
+            (next .index) v
         adding-on l v w =
             record {
               ys = h .ys ++ (firstVote c a p start end ∷ []);
@@ -78,7 +81,12 @@ module _ (c : Committee) (a : AuthorityIndex) (p : ℕ) (b : Block) (t : List �
         pub adding-stop : room u ≤ length (itemsOf u) → (v : List ℕ) → Registered all t false v
         adding-stop l v =
             record {
-              fits = sym (lt-leb (length all) (room t) (omega (arith, rw (adding-written .items, same-room) at l, ap (λ (xs : List Item). length xs) later, length-append (h .ys) (firstVote c a p start end ∷ map (registered c a p) (runsLeft b (next .index))))));
+              fits = sym (lt-leb (length all) (room t) (omega (
+                arith,
+                rw (adding-written .items, same-room) at l,
+                ap (λ (xs : List Item). length xs) later,
+                length-append (h .ys) (firstVote c a p start end ∷ map (registered c a p) (runsLeft b (next .index))),
+              )));
               table = λ q. absurd (not-both q refl);
             }
 

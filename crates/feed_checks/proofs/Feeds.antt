@@ -31,7 +31,8 @@ use Rattle.feed_spec.proofs.Checks.{read-none, read-some}
 -- ---- 21 to 30
 
 -- where a block stands says whether it is stored (23)
-stored-from : (rs : List Record) (i : BlockReference) (d : Option Entry) → lookup (entries rs) i ≡ d → (positionOf d ≡ 0 → isNone d ≡ true) × ((positionOf d ≡ 0 → ⊥) → isNone d ≡ false)
+stored-from : (rs : List Record) (i : BlockReference) (d : Option Entry) → lookup (entries rs) i ≡ d → (positionOf d ≡ 0 → isNone d ≡ true) ×
+    ((positionOf d ≡ 0 → ⊥) → isNone d ≡ false)
 unfolding positionOf isNone
 stored-from rs i none e = (λ _. refl, λ f. absurd (f refl))
 stored-from rs i (some x) e =

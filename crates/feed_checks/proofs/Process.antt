@@ -11,7 +11,8 @@ use Rattle.store_spec.specs.Layout.{Record}
 use Rattle.store_spec.specs.Accept.{blockChecks}
 
 -- the statements of an accepted block pass their checks
-pub statements-pass : (c : Committee) (rs : List Record) (b : Block) → passes (blockChecks c rs b) ≡ true → passes (flatten (map statementChecks (b .statements))) ≡ true
+pub statements-pass : (c : Committee) (rs : List Record) (b : Block) → passes (blockChecks c rs b) ≡ true → passes
+    (flatten (map statementChecks (b .statements))) ≡ true
 unfolding blockChecks bodyChecks
 statements-pass c rs b h =
     let body = passes-left (bodyChecks c b) _ (passes-others _ _ (passes-right (headChecks c b) _ h)) in

@@ -45,11 +45,13 @@ told-all : (c : Committee) (es : List Entry) (r : TransactionLocatorRange) (i : 
 unfolding offsets eventsBetween flatten
 told-all c es r i xs p = go (countFrom (r .start) (r .end - r .start))
   where
-    go : (os : List ℕ) → flatten (map (λ o. eventOf c es (r .block) i o (itemAt xs p o)) os) ≡ flatten (map (λ o. toldAt (totalStake c) es (r .block) i o (itemAt xs p o)) os)
+    go : (os : List ℕ) → flatten (map (λ o. eventOf c es (r .block) i o (itemAt xs p o)) os) ≡ flatten
+        (map (λ o. toldAt (totalStake c) es (r .block) i o (itemAt xs p o)) os)
     go [] = refl
     go (o ∷ os) = rw (told-event c es (r .block) i o (itemAt xs p o), go os)
 
-module _ (c : Committee) (s rec : Bytes) (t : List ℕ) (total : Stake) (h : Voting c s rec t total) (r : TransactionLocatorRange) (i : ℕ) (telling : Bool) (n : ℕ) (ev : List ℕ)
+module _ (c : Committee) (s rec : Bytes) (t : List ℕ) (total : Stake) (h : Voting c s rec t total) (r : TransactionLocatorRange) (i : ℕ) (telling : Bool)
+    (n : ℕ) (ev : List ℕ)
     (p : ℕ) (at : p ≡ positionOf (lookup (withNew s rec) (r .block))) where
   abbrev pub es : List Entry
   es = withNew s rec

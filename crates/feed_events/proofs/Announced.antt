@@ -20,15 +20,24 @@ use Rattle.feed_missed.proofs.Telling.{words-on, length-eventsBy}
 use Rattle.feed_events.specs.Step.{toldAt, eventsBetween, SameItem, StatedAt, told}
 use Rattle.feed_missed.specs.Kinds.{eventsBy}
 
-flat-one : {A : Type 0} (g : ℕ → List A) (h : ℕ → A) (start n : ℕ) → ((o : ℕ) → start ≤ o → o < start + n → g o ≡ h o ∷ []) → flatten (map g (countFrom start n)) ≡ map h (countFrom start n)
+flat-one : {A : Type 0} (g : ℕ → List A) (h : ℕ → A) (start n : ℕ) → ((o : ℕ) → start ≤ o → o < start + n → g o ≡ h o ∷ []) → flatten
+    (map g (countFrom start n)) ≡ map h (countFrom start n)
 unfolding flatten countFrom
 flat-one g h start zero e = refl
-flat-one g h start (suc n) e = rw (e start (omega arith) (omega arith), flat-one g h (start + 1) n (λ o (l : start + 1 ≤ o) (u : o < start + 1 + n). e o (omega arith) (omega arith)))
+flat-one g h start (suc n) e = rw (
+  e start (omega arith) (omega arith),
+  flat-one g h (start + 1) n
+      (λ o (l : start + 1 ≤ o) (u : o < start + 1 + n). e o (omega arith) (omega arith)),
+)
 
 flat-empty : {A : Type 0} (g : ℕ → List A) (start n : ℕ) → ((o : ℕ) → start ≤ o → o < start + n → g o ≡ []) → flatten (map g (countFrom start n)) ≡ []
 unfolding flatten countFrom
 flat-empty g start zero e = refl
-flat-empty g start (suc n) e = rw (e start (omega arith) (omega arith), flat-empty g (start + 1) n (λ o (l : start + 1 ≤ o) (u : o < start + 1 + n). e o (omega arith) (omega arith)))
+flat-empty g start (suc n) e = rw (
+  e start (omega arith) (omega arith),
+  flat-empty g (start + 1) n
+      (λ o (l : start + 1 ≤ o) (u : o < start + 1 + n). e o (omega arith) (omega arith)),
+)
 
 module _ (total : Stake) (es : List Entry) (r : BlockReference) (i : ℕ) (xs : List Item) (p : ℕ) where
   pub between-append : (start middle end : ℕ) → start ≤ middle → middle ≤ end
@@ -50,11 +59,13 @@ module _ (total : Stake) (es : List Entry) (r : BlockReference) (i : ℕ) (xs : 
     unfolding eventsBetween eventsBy eventAt toldAt
     between-missed e = flat-one _ _ start (end - start) (λ o l (u : o < start + (end - start)). rw (same o l (omega arith), e))
 
-    pub between-processed : (x : Item) → itemAt xs p start ≡ some x → quorumOf total (x .aggregator .stake) ≡ true → eventsBetween total es r i xs p start end ≡ eventsBy (λ _. 1) i start end
+    pub between-processed : (x : Item) → itemAt xs p start ≡ some x → quorumOf total (x .aggregator .stake) ≡ true → eventsBetween total es r i xs p start end
+        ≡ eventsBy (λ _. 1) i start end
     unfolding eventsBetween eventsBy eventAt toldAt
     between-processed x e q = flat-one _ _ start (end - start) (λ o l (u : o < start + (end - start)). rw (same o l (omega arith), e, q))
 
-    pub between-silent : (x : Item) → itemAt xs p start ≡ some x → quorumOf total (x .aggregator .stake) ≡ false → eventsBetween total es r i xs p start end ≡ []
+    pub between-silent : (x : Item) → itemAt xs p start ≡ some x → quorumOf total (x .aggregator .stake) ≡ false → eventsBetween total es r i xs p start end ≡
+        []
     unfolding eventsBetween eventAt toldAt
     between-silent x e q = flat-empty _ start (end - start) (λ o l (u : o < start + (end - start)). rw (same o l (omega arith), e, q))
 
@@ -63,14 +74,16 @@ told-none true = refl
 told-none false = refl
 
 -- events of a stretch as written
-pub stated : (n k : ℕ) (vs ws : List Event) (before after : List ℕ) → ws ≡ vs → k ≡ n + length vs → after ≡ sets before (3 * n) (wordsOf vs) → StatedAt n ws before k after
+pub stated : (n k : ℕ) (vs ws : List Event) (before after : List ℕ) → ws ≡ vs → k ≡ n + length vs → after ≡ sets before (3 * n) (wordsOf vs) → StatedAt n ws
+    before k after
 stated n k vs ws before after e m w = record { many = rw e m; words = rw e w }
 
 pub stated-none : (n : ℕ) (ws : List Event) (before : List ℕ) → ws ≡ [] → StatedAt n ws before n before
 unfolding wordsOf flatten
 stated-none n ws before e = record { many = rw e (omega arith); words = rw e }
 
-pub stated-on : (n k m : ℕ) (vs ws : List Event) (before now after : List ℕ) → StatedAt n vs before k now → StatedAt k ws now m after → StatedAt n (vs ++ ws) before m after
+pub stated-on : (n k m : ℕ) (vs ws : List Event) (before now after : List ℕ) → StatedAt n vs before k now → StatedAt k ws now m after → StatedAt n (vs ++ ws)
+    before m after
 stated-on n k m vs ws before now after s t =
     record {
       many = rw (length-append vs ws) (omega (arith, s .many, t .many));
@@ -96,7 +109,8 @@ one-told total es r i o (some x) = go (quorumOf total (x .aggregator .stake))
     go false = omega arith
 
 -- the events of the offsets from `start` up to o are written, after n others
-pub record Announcing (total : Stake) (es : List Entry) (r : BlockReference) (i : ℕ) (xs : List Item) (p start end n : ℕ) (before : List ℕ) (o k : ℕ) (now : List ℕ) : Type 0 where
+pub record Announcing (total : Stake) (es : List Entry) (r : BlockReference) (i : ℕ) (xs : List Item) (p start end n : ℕ) (before : List ℕ) (o k : ℕ)
+    (now : List ℕ) : Type 0 where
   pub stated : StatedAt n (eventsBetween total es r i xs p start o) before k now
   pub from : start ≤ o
   pub most : o ≤ max start end
@@ -115,10 +129,18 @@ module _ (total : Stake) (es : List Entry) (r : BlockReference) (i : ℕ) (xs : 
         stated = rw (between-append total es r i xs p start o e (a .from) (omega arith)) (stated-on n k m _ _ ev now after (a .stated) s);
         from = omega (arith, a .from);
         most = omega arith;
-        enough = omega (arith, a .enough, s .many, length-flatten (λ q. toldAt total es r i q (itemAt xs p q)) (λ q. one-told total es r i q (itemAt xs p q)) (countFrom o (e - o)), length-countFrom o (e - o));
+        enough = omega (
+          arith,
+          a .enough,
+          s .many,
+          length-flatten (λ q. toldAt total es r i q (itemAt xs p q)) (λ q. one-told total es r i q (itemAt xs p q))
+              (countFrom o (e - o)),
+          length-countFrom o (e - o),
+        );
       }
 
-  pub announcing-end : (o k : ℕ) (now : List ℕ) → Announcing total es r i xs p start end n ev o k now → end ≤ o → StatedAt n (eventsBetween total es r i xs p start end) ev k now
+  pub announcing-end : (o k : ℕ) (now : List ℕ) → Announcing total es r i xs p start end n ev o k now → end ≤ o → StatedAt n
+      (eventsBetween total es r i xs p start end) ev k now
   announcing-end o k now a l = go (decLt start end)
     where
       go : Dec (start < end) → StatedAt n (eventsBetween total es r i xs p start end) ev k now

@@ -35,10 +35,15 @@ records-on s h = go (length s) refl
 
     go : (n : ℕ) → length s ≡ n
         → recordsUpTo n s
-        ≡ pick (leb (4 + leAt 4 s 0) (length s)) (take (leAt 4 s 0) (drop 4 s) ∷ recordsUpTo (length (drop (4 + leAt 4 s 0) s)) (drop (4 + leAt 4 s 0) s)) ([] ∷ [])
+        ≡ pick (leb (4 + leAt 4 s 0) (length s)) (take (leAt 4 s 0) (drop 4 s) ∷ recordsUpTo (length (drop (4 + leAt 4 s 0) s)) (drop (4 + leAt 4 s 0) s))
+        ([] ∷ [])
     go zero e = absurd (omega arith)
     go (suc n) e =
-        rw (ne-eqb (length s) 0 (λ (z : length s ≡ 0). omega arith), up-to-same n (length (drop (4 + leAt 4 s 0) s)) (drop (4 + leAt 4 s 0) s) (omega (arith, l)) (omega arith))
+        rw (
+          ne-eqb (length s) 0 (λ (z : length s ≡ 0). omega arith),
+          up-to-same n (length (drop (4 + leAt 4 s 0) s)) (drop (4 + leAt 4 s 0) s)
+              (omega (arith, l)) (omega arith),
+        )
 
 pub records-end : (s : Bytes) (at : ℕ) → length s ≤ at → recordsIn (drop at s) ≡ []
 unfolding recordsIn recordsUpTo
@@ -73,5 +78,12 @@ module _ (s : Bytes) (at : ℕ) (h : at < length s) where
         on = h;
         within = omega arith;
         starts = omega arith;
-        records = records-on (drop at s) (omega (arith, left)) ∙ rw (size-at s at, past, records-end s (length s) (omega arith), drop-length s, take-nil (length s - length s));
+        records = records-on (drop at s) (omega (arith, left)) ∙ rw (
+          size-at s at,
+          past,
+          records-end s (length s) (omega arith),
+          drop-length s,
+          take-nil
+              (length s - length s),
+        );
       }

@@ -73,8 +73,10 @@ module _ (c : Committee) (w w′ : List ℕ) (z : FedAll) (o₀ : List ℕ) (rec
       rw q (record {
         store = a .store ∙ ap (λ (x : FedAll). x .store) told ∙ rw dropped;
         table = a .table ∙ ap (λ (x : FedAll). x .table) told ∙ rw dropped;
-        events = a .events ∙ ap (λ (x : FedAll). take used v ++ x .events) told ∙ rw (taken, dropped) (sym (append-assoc (take used v) (take (r .words) v′) (rest .events)));
-        outcomes = a .outcomes ∙ ap (λ (x : FedAll). take k o ++ x .outcomes) told ∙ rw (dropped, add-one k, take-suc-set o k (r .outcome) h) (sym (append-assoc (take k o) (r .outcome ∷ []) (rest .outcomes)));
+        events = a .events ∙ ap (λ (x : FedAll). take used v ++ x .events) told ∙ rw (taken, dropped)
+            (sym (append-assoc (take used v) (take (r .words) v′) (rest .events)));
+        outcomes = a .outcomes ∙ ap (λ (x : FedAll). take k o ++ x .outcomes) told ∙ rw (dropped, add-one k, take-suc-set o k (r .outcome) h)
+            (sym (append-assoc (take k o) (r .outcome ∷ []) (rest .outcomes)));
         past = drop-set-lt (k + 1) o k (r .outcome) (omega arith) ∙ sym (drop-drop 1 k o) ∙ ap (drop 1) (a .past) ∙ drop-drop 1 k o₀;
         many = omega (arith, a .many, ap length (n .records));
         within = n .within;

@@ -18,7 +18,8 @@ use Rattle.record_spec.specs.Block.{eventRoom}
 use Rattle.store_spec.specs.Layout.{Record, readRecord}
 use Rattle.store_spec.specs.Store.{storeFull}
 use Rattle.pending_spec.specs.Table.{room}
-use Rattle.feed_spec.specs.Feed.{Lent, lentOf, Fed, processed, lentChecks, ruleChecks, acceptChecks, recordChecks, feedChecks, refusedFeed, acceptedFeed, feedRecord, feed}
+use Rattle.feed_spec.specs.Feed.{Lent, lentOf, Fed, processed, lentChecks, ruleChecks, acceptChecks, recordChecks, feedChecks, refusedFeed, acceptedFeed}
+use Rattle.feed_spec.specs.Feed.{feedRecord, feed}
 use Rattle.feed_many.specs.Records.{outcomeOf, wordsTold, FedAll, feedAll}
 use Rattle.feed_many_theorems.specs.Claims.{ranOut, SameFeeds}
 
@@ -91,7 +92,8 @@ first-not c m r rs h e =
     not-both (or-left (eqb (outcomeOf (feed c m r .answer)) (2 ^ 63 + 15)) _ (eq-eqb (outcomeOf (feed c m r .answer)) (2 ^ 63 + 15) (ap outcomeOf e))) h
 
 others-not : (c : Committee) (m : Lent) (r : Bytes) (rs : List Bytes) → ranOut (feedAll c m (r ∷ rs) .outcomes) ≡ false
-    → ranOut (feedAll c (lentOf (feed c m r .store) (feed c m r .table) (m .work) (drop (wordsTold (feed c m r .answer)) (feed c m r .events))) rs .outcomes) ≡ false
+    → ranOut (feedAll c (lentOf (feed c m r .store) (feed c m r .table) (m .work) (drop (wordsTold (feed c m r .answer)) (feed c m r .events))) rs .outcomes)
+    ≡ false
 unfolding ranOut anyOf feedAll
 others-not c m r rs h = fails _ (λ k. not-both (or-right (eqb (outcomeOf (feed c m r .answer)) (2 ^ 63 + 15)) _ k) h)
 
@@ -105,7 +107,8 @@ all-any c s t w v u (r ∷ rs) h k =
     let l : Lent = lentOf s t w u in
     let e : SameFed (feed c m r) (feed c l r) = feed-any c s t w v u r (first-not c m r rs h) (first-not c l r rs k) in
     let rest : List ℕ = drop (wordsTold (feed c m r .answer)) (feed c m r .events) in
-    let moved : feedAll c (lentOf (feed c m r .store) (feed c m r .table) w rest) rs ≡ feedAll c (lentOf (feed c l r .store) (feed c l r .table) w rest) rs = rw (e .store, e .table) in
+    let moved : feedAll c (lentOf (feed c m r .store) (feed c m r .table) w rest) rs ≡ feedAll c (lentOf (feed c l r .store) (feed c l r .table) w rest) rs =
+    rw (e .store, e .table) in
     let ih =
     all-any c (feed c l r .store) (feed c l r .table) w rest (drop (wordsTold (feed c l r .answer)) (feed c l r .events)) rs
     (rw (e .store, e .table) at (others-not c m r rs h)) (others-not c l r rs k)

@@ -45,7 +45,8 @@ module _ (c : Committee) (m : Lent) (r : Bytes) (rs : List Bytes) (l : length (m
   rest-on =
       rw words-on
       (unfold feedAll in
-      rw front at (drop-append-add (take (wordsTold (feed c m r .answer)) (feed c m r .events)) (feedAll c (onward c m r) rs .events) (wordsOfAll (feedAll c (onward c m r) rs .outcomes))))
+      rw front at (drop-append-add (take (wordsTold (feed c m r .answer)) (feed c m r .events)) (feedAll c (onward c m r) rs .events)
+      (wordsOfAll (feedAll c (onward c m r) rs .outcomes))))
 
   front-on : take (wordsOfAll (feedAll c m (r ∷ rs) .outcomes)) (feedAll c m (r ∷ rs) .events)
       ≡ take (wordsTold (feed c m r .answer)) (feed c m r .events)
@@ -53,7 +54,8 @@ module _ (c : Committee) (m : Lent) (r : Bytes) (rs : List Bytes) (l : length (m
   front-on =
       rw words-on
       (unfold feedAll in
-      rw front at (take-append-add (take (wordsTold (feed c m r .answer)) (feed c m r .events)) (feedAll c (onward c m r) rs .events) (wordsOfAll (feedAll c (onward c m r) rs .outcomes))))
+      rw front at (take-append-add (take (wordsTold (feed c m r .answer)) (feed c m r .events)) (feedAll c (onward c m r) rs .events)
+      (wordsOfAll (feedAll c (onward c m r) rs .outcomes))))
 
   -- what the records after these are lent
   after-on : after c m (r ∷ rs) ≡ after c (onward c m r) rs

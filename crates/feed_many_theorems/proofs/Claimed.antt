@@ -58,7 +58,14 @@ call-framed c m o rs h z l =
 
 pub one : (c : Committee) (m : Lent) (o : List ℕ) (r : Bytes) → length r < 2 ^ 32 → passes (lentChecks c m) ≡ true → 1 ≤ length o
     → feedRecords c m o (framed (r ∷ []))
-    ≡ record { answer = answered 1; store = feed c m r .store; table = feed c m r .table; events = feed c m r .events; outcomes = outcomeOf (feed c m r .answer) ∷ drop 1 o }
+    ≡ record {
+      answer = answered 1;
+      store = feed c m r .store;
+      table = feed c m r .table;
+      events = feed c m r .events;
+      outcomes = outcomeOf
+          (feed c m r .answer) ∷ drop 1 o;
+    }
 unfolding feedAll fedCall sized allOf
 one c m o r l h k =
     call-framed c m o (r ∷ []) (ready-checked c m h) (rw (lt-ltb (length r) (2 ^ 32) l)) (omega arith)
@@ -71,7 +78,8 @@ answered-passes : (c : Committee) (m : Lent) (o : List ℕ) (bytes : Bytes) (n :
 unfolding feedRecords refusedCall
 answered-passes c m o bytes n e = go (passes (recordsChecks c m o (recordsIn bytes))) e
   where
-    go : (t : Bool) → pick t (fedCall o (feedAll c m (recordsIn bytes))) (refusedCall m o (refusal (recordsChecks c m o (recordsIn bytes)))) .answer ≡ answered n → t ≡ true
+    go : (t : Bool) → pick t (fedCall o (feedAll c m (recordsIn bytes))) (refusedCall m o (refusal (recordsChecks c m o (recordsIn bytes)))) .answer ≡
+        answered n → t ≡ true
     go true e = refl
     go false e = let z : _≡_ {A = ℕ} 0 1 = cc in absurd (omega arith)
 

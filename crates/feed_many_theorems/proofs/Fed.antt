@@ -41,5 +41,6 @@ pub same-records : (c : Committee) (t : Start) (w v : List ℕ) (rs : List Bytes
 unfolding fedOn
 same-records c t w v rs = fed-bytes c _ rs (t .feeds) ∙ reverseAux-eq rs (map (λ f. f .bytes) (t .feeds))
 
-pub it-holds : (c : Committee) → broken c ≡ false → (t : Start) (w v : List ℕ) (rs : List Bytes) → Holds c (engineFed c t w v rs) (acceptedOf c (fedOn c t w v rs))
+pub it-holds : (c : Committee) → broken c ≡ false → (t : Start) (w v : List ℕ) (rs : List Bytes) → Holds c (engineFed c t w v rs)
+    (acceptedOf c (fedOn c t w v rs))
 it-holds c h t w v rs = rw (same-engine c t w v rs) (third-statement .every c h (fedOn c t w v rs))

@@ -62,7 +62,14 @@ pub record Claims : Type 0 where
   -- one record is fed as `feed` feeds it
   pub one : (c : Committee) (m : Lent) (o : List ℕ) (r : Bytes) → length r < 2 ^ 32 → passes (lentChecks c m) ≡ true → 1 ≤ length o
       → feedRecords c m o (framed (r ∷ []))
-      ≡ record { answer = answered 1; store = feed c m r .store; table = feed c m r .table; events = feed c m r .events; outcomes = outcomeOf (feed c m r .answer) ∷ drop 1 o }
+      ≡ record {
+        answer = answered 1;
+        store = feed c m r .store;
+        table = feed c m r .table;
+        events = feed c m r .events;
+        outcomes = outcomeOf
+            (feed c m r .answer) ∷ drop 1 o;
+      }
   -- words past the last event keep their content
   pub pastEvents : (c : Committee) (m : Lent) (rs : List Bytes) → length (m .events) < 2 ^ 63
       → drop (wordsOfAll (feedAll c m rs .outcomes)) (feedAll c m rs .events) ≡ drop (wordsOfAll (feedAll c m rs .outcomes)) (m .events)

@@ -61,7 +61,12 @@ module _ (s rec : Bytes) (r : BlockReference) where
 
   pub position-own : referenceOrder (blockIn rec .reference) r ≡ Equal → positionOf (lookup (withNew s rec) r) ≡ usedBy (recordsOf s)
   unfolding positionOf new
-  position-own h = rw (with-new, ← reference-same (blockIn rec .reference) r (compared-equal (blockIn rec .reference) r h), lookup-new (entries (recordsOf s)) new)
+  position-own h = rw (
+    with-new,
+    ← reference-same (blockIn rec .reference) r (compared-equal (blockIn rec .reference) r h),
+    lookup-new (entries (recordsOf s))
+        new,
+  )
 
   other : sameReference (blockIn rec .reference) r ≡ false → positionOf (lookup (withNew s rec) r) ≡ positionOf (lookup (entries (recordsOf s)) r)
   unfolding lookup find new
@@ -71,7 +76,8 @@ module _ (s rec : Bytes) (r : BlockReference) where
   unfolding referenceOrder
   position-less h = other (not-equal _ _ Less h less-equal)
 
-  pub position-greater : referenceOrder (blockIn rec .reference) r ≡ Greater → positionOf (lookup (withNew s rec) r) ≡ positionOf (lookup (entries (recordsOf s)) r)
+  pub position-greater : referenceOrder (blockIn rec .reference) r ≡ Greater → positionOf (lookup (withNew s rec) r) ≡ positionOf
+      (lookup (entries (recordsOf s)) r)
   unfolding referenceOrder
   position-greater h = other (not-equal _ _ Greater h greater-equal)
 
@@ -82,19 +88,26 @@ module _ (s rec : Bytes) (r : BlockReference) where
       → missed (withNew s rec) r o ≡ pick (holds (λ e. isShareAt (e .block) o) (lookup (withNew s rec) r)) 2 3
   unfolding missed locator recordIn
   missed-found laid fresh o =
-      ap (λ (t : Bool). pick t 2 3) (share-looked-up (withNew s rec) (distinct-new (recordsOf s) (recordIn rec) (laid-out s laid .chain .distinct) fresh) (locator r o))
+      ap (λ (t : Bool). pick t 2 3) (share-looked-up (withNew s rec) (distinct-new (recordsOf s) (recordIn rec) (laid-out s laid .chain .distinct) fresh)
+      (locator r o))
 
   -- a block that is not stored has none
-  pub missed-unknown : laidOut s ≡ true → isStored (recordsOf s) (blockIn rec .reference) ≡ false → 0 ≡ positionOf (lookup (withNew s rec) r) → (o : ℕ) → missed (withNew s rec) r o ≡ 3
+  pub missed-unknown : laidOut s ≡ true → isStored (recordsOf s) (blockIn rec .reference) ≡ false → 0 ≡ positionOf (lookup (withNew s rec) r) → (o : ℕ) →
+      missed (withNew s rec) r o ≡ 3
   unfolding holds positionOf
   missed-unknown laid fresh h o = missed-found laid fresh o ∙ go (lookup (withNew s rec) r) refl h
     where
       go : (d : Option Entry) → lookup (withNew s rec) r ≡ d → 0 ≡ positionOf d → _≡_ {A = ℕ} (pick (holds (λ e. isShareAt (e .block) o) d) 2 3) 3
       go none q z = refl
-      go (some e) q z = absurd (omega (arith, every-in (withNew s rec) e (entries-within (recordIn rec ∷ recordsOf s)) (lookup-in (withNew s rec) r e q .0) .from))
+      go (some e) q z = absurd (omega (
+        arith,
+        every-in (withNew s rec) e (entries-within (recordIn rec ∷ recordsOf s)) (lookup-in (withNew s rec) r e q .0)
+            .from,
+      ))
 
   -- the block being fed
-  pub missed-own : laidOut s ≡ true → isStored (recordsOf s) (blockIn rec .reference) ≡ false → usedBy (recordsOf s) ≡ positionOf (lookup (withNew s rec) r) → (o : ℕ)
+  pub missed-own : laidOut s ≡ true → isStored (recordsOf s) (blockIn rec .reference) ≡ false → usedBy (recordsOf s) ≡ positionOf (lookup (withNew s rec) r) →
+      (o : ℕ)
       → missed (withNew s rec) r o ≡ pick (isShareAt (blockIn rec) o) 2 3
   unfolding holds positionOf new
   missed-own laid fresh h o = missed-found laid fresh o ∙ go (lookup (withNew s rec) r) refl h
@@ -109,34 +122,36 @@ module _ (s rec : Bytes) (r : BlockReference) where
       go (some e) q z = rw (own e (in-cases (rw with-new at (lookup-in (withNew s rec) r e q .0))) (sym z))
 
   -- another stored block
-  module _ (p : ℕ) (at : p ≡ positionOf (lookup (withNew s rec) r)) (some-where : p ≡ 0 → ⊥) (earlier : p ≡ usedBy (recordsOf s) → ⊥) (ok : readable s ≡ true) where
-    record Stood : Type 0 where
-      entry : Entry
-      looked : lookup (withNew s rec) r ≡ some entry
-      stands : entry ∈ entries (recordsOf s)
-      place : p ≡ entry .position
+  module _ (p : ℕ) (at : p ≡ positionOf (lookup (withNew s rec) r)) (some-where : p ≡ 0 → ⊥) (earlier : p ≡ usedBy (recordsOf s) → ⊥) (ok : readable s ≡ true)
+    where
+      record Stood : Type 0 where
+        entry : Entry
+        looked : lookup (withNew s rec) r ≡ some entry
+        stands : entry ∈ entries (recordsOf s)
+        place : p ≡ entry .position
 
-    stood : Stood
-    unfolding positionOf new
-    stood = go (lookup (withNew s rec) r) refl
-      where
-        older : (e : Entry) → (e ≡ new) ⊎ (e ∈ entries (recordsOf s)) → p ≡ e .position → e ∈ entries (recordsOf s)
-        older e (inl q) z = absurd (earlier (z ∙ ap (λ (x : Entry). x .position) q))
-        older e (inr m) z = m
+      stood : Stood
+      unfolding positionOf new
+      stood = go (lookup (withNew s rec) r) refl
+        where
+          older : (e : Entry) → (e ≡ new) ⊎ (e ∈ entries (recordsOf s)) → p ≡ e .position → e ∈ entries (recordsOf s)
+          older e (inl q) z = absurd (earlier (z ∙ ap (λ (x : Entry). x .position) q))
+          older e (inr m) z = m
 
-        go : (d : Option Entry) → lookup (withNew s rec) r ≡ d → Stood
-        go none q = absurd (some-where (at ∙ ap positionOf q))
-        go (some e) q =
-            let z : p ≡ e .position = at ∙ ap positionOf q in
-            record { entry = e; looked = q; stands = older e (in-cases (rw with-new at (lookup-in (withNew s rec) r e q .0))) z; place = z }
+          go : (d : Option Entry) → lookup (withNew s rec) r ≡ d → Stood
+          go none q = absurd (some-where (at ∙ ap positionOf q))
+          go (some e) q =
+              let z : p ≡ e .position = at ∙ ap positionOf q in
+              record { entry = e; looked = q; stands = older e (in-cases (rw with-new at (lookup-in (withNew s rec) r e q .0))) z; place = z }
 
-    pub stored-at : isEntry s p ≡ true
-    stored-at = rw (stood .place) (is-entry s (stood .entry) ok (stood .stands))
+      pub stored-at : isEntry s p ≡ true
+      stored-at = rw (stood .place) (is-entry s (stood .entry) ok (stood .stands))
 
-    pub missed-stored : laidOut s ≡ true → isStored (recordsOf s) (blockIn rec .reference) ≡ false → (o : ℕ) → missed (withNew s rec) r o ≡ pick (isShareAt (blockAt s p) o) 2 3
-    unfolding holds
-    missed-stored laid fresh o =
-        missed-found laid fresh o ∙
-        let x : EntryAt s p = entry-at s p stored-at in
-        let d : x .entry ≡ stood .entry = one-position (recordsOf s) (x .entry) (stood .entry) (x .stored) (stood .stands) (x .place ∙ stood .place) in
-        rw (stood .looked, block-at s p (record { bytes = x .entry .bytes; block = x .entry .block }) (x .stands), d)
+      pub missed-stored : laidOut s ≡ true → isStored (recordsOf s) (blockIn rec .reference) ≡ false → (o : ℕ) → missed (withNew s rec) r o ≡ pick
+          (isShareAt (blockAt s p) o) 2 3
+      unfolding holds
+      missed-stored laid fresh o =
+          missed-found laid fresh o ∙
+          let x : EntryAt s p = entry-at s p stored-at in
+          let d : x .entry ≡ stood .entry = one-position (recordsOf s) (x .entry) (stood .entry) (x .stored) (stood .stands) (x .place ∙ stood .place) in
+          rw (stood .looked, block-at s p (record { bytes = x .entry .bytes; block = x .entry .block }) (x .stands), d)

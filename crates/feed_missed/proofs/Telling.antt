@@ -26,7 +26,8 @@ unfolding wordsOf flatten eventWords event
 one-event k j i o e = rw e
 
 -- events written after others
-pub words-on : (ev : List ℕ) (n : ℕ) (vs ws : List Event) → sets (sets ev (3 * n) (wordsOf vs)) (3 * (n + length vs)) (wordsOf ws) ≡ sets ev (3 * n) (wordsOf (vs ++ ws))
+pub words-on : (ev : List ℕ) (n : ℕ) (vs ws : List Event) → sets (sets ev (3 * n) (wordsOf vs)) (3 * (n + length vs)) (wordsOf ws) ≡ sets ev (3 * n)
+    (wordsOf (vs ++ ws))
 words-on ev n vs ws =
     let e : 3 * (n + length vs) ≡ 3 * n + length (wordsOf vs) = omega (arith, length-words vs) in
     rw (e, words-append vs ws, sets-append (wordsOf vs) (wordsOf ws) ev (3 * n))
@@ -80,7 +81,8 @@ module _ (f : ℕ → ℕ) (i start end n : ℕ) (ev : List ℕ) where
           let c : k ≡ n + length (eventsBy f i start o) = omega (arith, t .many, length-eventsBy f i start o) in
           rw (t .words, c, one-more f i start o (t .from)) (words-on ev n (eventsBy f i start o) (event (f o) i o ∷ []))
 
-  pub telling-end : (o k : ℕ) (now : List ℕ) → Telling f i start end n ev o k now → end ≤ o → (k ≡ n + (end - start)) × (now ≡ sets ev (3 * n) (wordsOf (eventsBy f i start end)))
+  pub telling-end : (o k : ℕ) (now : List ℕ) → Telling f i start end n ev o k now → end ≤ o → (k ≡ n + (end - start)) ×
+      (now ≡ sets ev (3 * n) (wordsOf (eventsBy f i start end)))
   telling-end o k now t h =
       let z : o ≡ end = omega (arith, t .most) in
       (rw (← z) (t .many), rw (← z) (t .words))
@@ -90,7 +92,8 @@ pub same-kinds : (f g : ℕ → ℕ) (i start end : ℕ) → ((o : ℕ) → f o 
 unfolding eventsBy
 same-kinds f g i start end h = go (countFrom start (end - start))
   where
-    go : (os : List ℕ) → _≡_ {A = List Event} (map (λ o. record { kind = f o; statement = i; offset = o }) os) (map (λ o. record { kind = g o; statement = i; offset = o }) os)
+    go : (os : List ℕ) → _≡_ {A = List Event} (map (λ o. record { kind = f o; statement = i; offset = o }) os)
+        (map (λ o. record { kind = g o; statement = i; offset = o }) os)
     go [] = refl
     go (o ∷ os) = rw (h o, go os)
 

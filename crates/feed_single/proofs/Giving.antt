@@ -83,4 +83,10 @@ accepted-as c s t v bytes after t′ v′ q a e w =
     enough : 0 + length words ≤ length v
     enough =
         unfold processed recordIn in
-        omega (arith, length-words (processed c m (recordIn bytes) .events), events-processBlock c (entries (recordIn bytes ∷ recordsOf s)) (blockIn bytes) (itemsOf t), a .events)
+        omega (
+          arith,
+          length-words (processed c m (recordIn bytes) .events),
+          events-processBlock c (entries (recordIn bytes ∷ recordsOf s)) (blockIn bytes)
+              (itemsOf t),
+          a .events,
+        )

@@ -6,5 +6,6 @@ use Rattle.feed_spec.specs.Feed.{processed, lentChecks, ruleChecks, acce
 use Rattle.feed_spec.specs.Pending.{pendingChecks, standingOf, standingAt, pending}
 
 unfoldable pub computing : Unit {0}
-unfolding computing-pending-items eventWords wordsOf missed eventAt eventOf vote votes registering processBlock countedOffsets eventRoom processed lentChecks ruleChecks acceptChecks recordChecks feedChecks refusedFeed acceptedFeed feedRecord feed pendingChecks standingOf standingAt pending
+unfolding computing-pending-items eventWords wordsOf missed eventAt eventOf vote votes registering processBlock countedOffsets eventRoom processed lentChecks
+    ruleChecks acceptChecks recordChecks feedChecks refusedFeed acceptedFeed feedRecord feed pendingChecks standingOf standingAt pending
 computing = tt

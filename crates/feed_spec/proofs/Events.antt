@@ -92,7 +92,18 @@ pub record Source (es : List Entry) (i : ℕ) (ss : List Statement) (v : Event) 
 
 later : (es : List Entry) (i : ℕ) (s : Statement) (ss : List Statement) (v : Event) → Source es (i + 1) ss v → Source es i (s ∷ ss) v
 later es i s ss v u =
-    record { index = suc (u .index); told = omega (arith, u .told); statement = u .statement; stands = u .stands; range = u .range; votes = u .votes; within = u .within; processed = u .processed; missing = u .missing }
+    record {
+      index = suc (u .index);
+      told = omega (arith, u .told);
+      statement = u .statement;
+      stands = u .stands;
+      range = u .range;
+      votes = u .votes;
+      within =
+          u .within;
+      processed = u .processed;
+      missing = u .missing;
+    }
 
 -- the event of one offset
 record Told (c : Committee) (es : List Entry) (r : BlockReference) (i o : ℕ) (x : Option Item) (v : Event) : Type 0 where
@@ -110,12 +121,24 @@ told-of c es r i o none v m = go (in-cases m)
     not-one false e = omega arith
 
     go : (v ≡ record { kind = missed es r o; statement = i; offset = o }) ⊎ (v ∈ []) → Told c es r i o none v
-    go (inl e) = record { by = ap (λ (w : Event). w .statement) e; at = ap (λ (w : Event). w .offset) e; item = λ k. absurd (not-one (isStoredShare (blocksAt es) (locator r o)) (sym (ap (λ (w : Event). w .kind) e) ∙ k)); kind = inr (ap (λ (w : Event). w .kind) e) }
+    go (inl e) = record {
+      by = ap (λ (w : Event). w .statement) e;
+      at = ap (λ (w : Event). w .offset) e;
+      item = λ k. absurd
+          (not-one (isStoredShare (blocksAt es) (locator r o)) (sym (ap (λ (w : Event). w .kind) e) ∙ k));
+      kind = inr (ap (λ (w : Event). w .kind) e);
+    }
     go (inr k) = absurd (in-empty k)
 told-of c es r i o (some y) v m = split (hasQuorum c (y .aggregator)) m
   where
     go : (v ≡ record { kind = 1; statement = i; offset = o }) ⊎ (v ∈ []) → Told c es r i o (some y) v
-    go (inl e) = record { by = ap (λ (w : Event). w .statement) e; at = ap (λ (w : Event). w .offset) e; item = λ k. (y, refl); kind = inl (ap (λ (w : Event). w .kind) e) }
+    go (inl e) = record {
+      by = ap (λ (w : Event). w .statement) e;
+      at = ap (λ (w : Event). w .offset) e;
+      item = λ k. (y, refl);
+      kind = inl
+          (ap (λ (w : Event). w .kind) e);
+    }
     go (inr k) = absurd (in-empty k)
 
     split : (t : Bool) → v ∈ pick t (record { kind = 1; statement = i; offset = o } ∷ []) [] → Told c es r i o (some y) v
@@ -123,7 +146,8 @@ told-of c es r i o (some y) v m = split (hasQuorum c (y .aggregator)) m
     split false k = absurd (in-empty k)
 
 module _ (c : Committee) (rs : List Record) (a : AuthorityIndex) (k : known c a ≡ true) where
-  vote-source : (i : ℕ) (s : Statement) (ss : List Statement) (r : Option TransactionLocatorRange) → votedRange s ≡ r → (z : Processing) → Sound c (entries rs) z → (v : Event)
+  vote-source : (i : ℕ) (s : Statement) (ss : List Statement) (r : Option TransactionLocatorRange) → votedRange s ≡ r → (z : Processing) → Sound c
+      (entries rs) z → (v : Event)
       → v ∈ vote c (entries rs) a i r z .events → (v ∈ z .events) ⊎ Source (entries rs) i (s ∷ ss) v
   unfolding vote
   vote-source i s ss none e z h v m = inl m
@@ -165,7 +189,8 @@ module _ (c : Committee) (rs : List Record) (a : AuthorityIndex) (k : known c a 
       → (v ∈ z .events) ⊎ Source (entries rs) i ss v
   unfolding votes
   votes-source i [] z h v m = inl m
-  votes-source i (s ∷ ss) z h v m = go (votes-source (i + 1) ss (vote c (entries rs) a i (votedRange s) z) (sound-vote c (entries rs) a k i (votedRange s) z h) v m)
+  votes-source i (s ∷ ss) z h v m = go (votes-source (i + 1) ss (vote c (entries rs) a i (votedRange s) z)
+      (sound-vote c (entries rs) a k i (votedRange s) z h) v m)
     where
       go : (v ∈ vote c (entries rs) a i (votedRange s) z .events) ⊎ Source (entries rs) (i + 1) ss v → (v ∈ z .events) ⊎ Source (entries rs) i (s ∷ ss) v
       go (inl n) = vote-source i s ss (votedRange s) refl z h v n
@@ -176,9 +201,11 @@ pub processed-source : (c : Committee) (m : Lent) (r : Record) → passes (feedC
     → Source (entries (r ∷ recordsOf (m .store))) 0 (r .block .statements) v
 unfolding processed processBlock registering
 processed-source c m r p v n =
-    go (votes-source c (r ∷ recordsOf (m .store)) (author (r .block)) (known-author c (recordsOf (m .store)) (r .block) (passed c m r p .block)) 0 (r .block .statements)
+    go (votes-source c (r ∷ recordsOf (m .store)) (author (r .block)) (known-author c (recordsOf (m .store)) (r .block) (passed c m r p .block)) 0
+    (r .block .statements)
     (registering c (entries (r ∷ recordsOf (m .store))) (r .block) (itemsOf (m .table))) (sound-registering c m r (lent-state c m r p) (passed c m r p)) v n)
   where
-    go : (v ∈ []) ⊎ Source (entries (r ∷ recordsOf (m .store))) 0 (r .block .statements) v → Source (entries (r ∷ recordsOf (m .store))) 0 (r .block .statements) v
+    go : (v ∈ []) ⊎ Source (entries (r ∷ recordsOf (m .store))) 0 (r .block .statements) v → Source (entries (r ∷ recordsOf (m .store))) 0
+        (r .block .statements) v
     go (inl k) = absurd (in-empty k)
     go (inr u) = u

@@ -24,7 +24,8 @@ use Rattle.pending_spec.proofs.Table.{length-tableOf}
 use Rattle.pending_spec.proofs.Order.{InOrder, in-order, order-tableOf, room-fits}
 use Rattle.feed_spec.specs.ProcessBlock.{wordsOf, registering}
 use Rattle.feed_spec.specs.Pending.{pendingChecks}
-use Rattle.feed_spec.specs.Feed.{Lent, Fed, processed, lentChecks, ruleChecks, acceptChecks, recordChecks, feedChecks, refusedFeed, acceptedFeed, feedRecord, feed}
+use Rattle.feed_spec.specs.Feed.{Lent, Fed, processed, lentChecks, ruleChecks, acceptChecks, recordChecks, feedChecks, refusedFeed, acceptedFeed}
+use Rattle.feed_spec.specs.Feed.{feedRecord, feed}
 use Rattle.feed_spec.proofs.ProcessBlock.{Sound, sound-registered, sound-processBlock, events-processBlock, length-words}
 
 -- what passing the checks of a record but 14 says
@@ -102,7 +103,11 @@ kept-accepted : (c : Committee) (m : Lent) (r : Record) → State c (m .store) (
 unfolding acceptedFeed
 kept-accepted c m r h q p =
     record {
-      state = record { store = held .order; table = rw (held .records) (order-tableOf c (entries (r ∷ rs)) (length (m .table)) (processed c m r .items) fits (z .ordered) (z .pending)) };
+      state = record {
+        store = held .order;
+        table = rw (held .records)
+            (order-tableOf c (entries (r ∷ rs)) (length (m .table)) (processed c m r .items) fits (z .ordered) (z .pending));
+      };
       store = held .size;
       table = length-tableOf (length (m .table)) (processed c m r .items) fits;
       events = simp (length-append, length-drop) (omega (arith, enough));
@@ -126,7 +131,13 @@ kept-accepted c m r h q p =
         (in-order c (entries rs) (m .table) (h .table)) (omega (arith, z .few, items-fit c m r p))
 
     enough : length (wordsOf (processed c m r .events)) ≤ length (m .events)
-    enough = unfold processed in omega (arith, length-words (processed c m r .events), events-processBlock c (entries (r ∷ rs)) (r .block) (itemsOf (m .table)), a .events)
+    enough = unfold processed in omega (
+      arith,
+      length-words (processed c m r .events),
+      events-processBlock c (entries (r ∷ rs)) (r .block)
+          (itemsOf (m .table)),
+      a .events,
+    )
 
 -- one feed, accepted or refused, leaves store and table in order, and every slice as long as it was
 pub feed-keeps : (c : Committee) (m : Lent) (bytes : Bytes) → State c (m .store) (m .table) → Kept c m (feed c m bytes)
@@ -140,7 +151,8 @@ feed-keeps c m bytes h = go (readRecord bytes) refl
     go none e = refused-keeps _
     go (some r) e = by-checks (passes (feedChecks c m (some r))) refl
       where
-        by-checks : (t : Bool) → passes (feedChecks c m (some r)) ≡ t → Kept c m (pick t (acceptedFeed c m r) (refusedFeed m (refusal (feedChecks c m (some r)))))
+        by-checks : (t : Bool) → passes (feedChecks c m (some r)) ≡ t → Kept c m
+            (pick t (acceptedFeed c m r) (refusedFeed m (refusal (feedChecks c m (some r)))))
         by-checks true p = kept-accepted c m r h (readRecord-some bytes r e) p
         by-checks false p = refused-keeps _
 

@@ -88,7 +88,8 @@ module _ (c : Committee) (es : List Entry) (a : AuthorityIndex) where
         length-countFrom (r .start) (r .end - r .start),
       )
 
-  events-votes : (i : ℕ) (ss : List Statement) (z : Processing) → length (votes c es a i ss z .events) ≤ length (z .events) + sumOf (map (λ s. countedOffsets (votedRange s)) ss)
+  events-votes : (i : ℕ) (ss : List Statement) (z : Processing) → length (votes c es a i ss z .events) ≤ length (z .events) + sumOf
+      (map (λ s. countedOffsets (votedRange s)) ss)
   unfolding votes sumOf
   events-votes i [] z = omega arith
   events-votes i (s ∷ ss) z = omega (arith, events-vote i (votedRange s) z, events-votes (i + 1) ss (vote c es a i (votedRange s) z))

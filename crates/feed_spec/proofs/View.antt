@@ -50,7 +50,8 @@ abbrev pub positionIn : List Entry → BlockReference → ℕ
 positionIn es r = positionOf (lookup es r)
 
 -- of a stored block and any other reference: the positions are the same where the references are
-pub same-position : (rs : List Record) (q r : BlockReference) (e : Entry) → lookup (entries rs) q ≡ some e → eqb (positionIn (entries rs) q) (positionIn (entries rs) r) ≡ sameReference r q
+pub same-position : (rs : List Record) (q r : BlockReference) (e : Entry) → lookup (entries rs) q ≡ some e → eqb (positionIn (entries rs) q)
+    (positionIn (entries rs) r) ≡ sameReference r q
 unfolding positionOf
 same-position rs q r e h =
     same-test _ _ (λ t. go (lookup (entries rs) r) refl (rw h at t))
@@ -107,7 +108,8 @@ votesOf x = Option·map (λ y. y .aggregator) x
 
 module _ (c : Committee) (es : List Entry) (i o : ℕ) (under : ℕ → Bool) where
   -- the event of one offset
-  processed-offset : (r : BlockReference) (n : ℕ) (x : Option Item) → keep (processedAt o under) (eventOf c es r i n x) ≡ pick (eqb n o && under i) (processedBy c i n (votesOf x)) []
+  processed-offset : (r : BlockReference) (n : ℕ) (x : Option Item) → keep (processedAt o under) (eventOf c es r i n x) ≡ pick (eqb n o && under i)
+      (processedBy c i n (votesOf x)) []
   unfolding keep eventAt eventOf missed processedBy
   processed-offset r n none = go (isStoredShare (blocksAt es) (locator r n))
     where
@@ -116,13 +118,15 @@ module _ (c : Committee) (es : List Entry) (i o : ℕ) (under : ℕ → Bool) wh
       go false = either-way (eqb n o && under i) []
   processed-offset r n (some x) = go (hasQuorum c (x .aggregator))
     where
-      go : (t : Bool) → keep (processedAt o under) (pick t (record { kind = 1; statement = i; offset = n } ∷ []) []) ≡ pick (eqb n o && under i) (pick t (record { kind = 1; statement = i; offset = n } ∷ []) []) []
+      go : (t : Bool) → keep (processedAt o under) (pick t (record { kind = 1; statement = i; offset = n } ∷ []) []) ≡ pick (eqb n o && under i)
+          (pick t (record { kind = 1; statement = i; offset = n } ∷ []) []) []
       go true = refl
       go false = either-way (eqb n o && under i) []
 
   -- of the offsets of a range only o itself has one
   processed-offsets : (r : BlockReference) (f : ℕ → Option Item) (s n : ℕ)
-      → keep (processedAt o under) (flatten (map (λ k. eventOf c es r i k (f k)) (countFrom s n))) ≡ pick (under i && within s (s + n) o) (processedBy c i o (votesOf (f o))) []
+      → keep (processedAt o under) (flatten (map (λ k. eventOf c es r i k (f k)) (countFrom s n))) ≡ pick (under i && within s (s + n) o)
+      (processedBy c i o (votesOf (f o))) []
   unfolding keep flatten countFrom
   processed-offsets r f s zero = rw (within-no s (s + 0) o (λ u v. omega arith), and-false (under i))
   processed-offsets r f s (suc n) =
@@ -132,7 +136,8 @@ module _ (c : Committee) (es : List Entry) (i o : ℕ) (under : ℕ → Bool) wh
       by : ℕ → List Event
       by k = processedBy c i k (votesOf (f k))
 
-      go : Dec (s ≡ o) → (t : Bool) → pick (eqb s o && t) (by s) [] ++ pick (t && within (s + 1) (s + 1 + n) o) (by o) [] ≡ pick (t && within s (s + suc n) o) (by o) []
+      go : Dec (s ≡ o) → (t : Bool) → pick (eqb s o && t) (by s) [] ++ pick (t && within (s + 1) (s + 1 + n) o) (by o) [] ≡ pick (t && within s (s + suc n) o)
+          (by o) []
       go d false = rw (and-false (eqb s o))
       go (yes e) true =
           rw (eq-eqb s o e, within-no (s + 1) (s + 1 + n) o (λ u v. omega arith), within-yes s (s + suc n) o (omega arith) (omega arith), e) (append-nil (by o))
@@ -151,7 +156,8 @@ full-range s e o =
 
 -- a range that covers the locator of a stored block gives an event processed there exactly where what stands there holds quorum with the vote;
 -- any other gives none there. The test holds of the statement where its range is of that block.
-pub processed-vote : (c : Committee) (rs : List Record) (l : TransactionLocator) (e : Entry) → lookup (entries rs) (l .block) ≡ some e → (a : AuthorityIndex) (i : ℕ) (under : ℕ → Bool)
+pub processed-vote : (c : Committee) (rs : List Record) (l : TransactionLocator) (e : Entry) → lookup (entries rs) (l .block) ≡ some e → (a : AuthorityIndex)
+    (i : ℕ) (under : ℕ → Bool)
     (r : TransactionLocatorRange) → under i ≡ sameReference (r .block) (l .block) → (z : Processing)
     → keep (processedAt (l .offset) under) (vote c (entries rs) a i (some r) z .events)
     ≡ keep (processedAt (l .offset) under) (z .events)
@@ -181,7 +187,8 @@ processed-vote c rs l e stored a i under r u z =
 -- ---- a block's shares
 
 -- another block is found as before
-pub found-still : (rs : List Record) (r : Record) (q : BlockReference) → sameReference (r .block .reference) q ≡ false → lookup (entries (r ∷ rs)) q ≡ lookup (entries rs) q
+pub found-still : (rs : List Record) (r : Record) (q : BlockReference) → sameReference (r .block .reference) q ≡ false → lookup (entries (r ∷ rs)) q ≡ lookup
+    (entries rs) q
 unfolding entries lookup find
 found-still rs r q d = rw d
 
@@ -189,7 +196,8 @@ module _ (c : Committee) (rs : List Record) (r : Record) (xs : List Item) (h : E
   new : Entry
   new = record { position = usedBy rs; bytes = r .bytes; block = r .block }
 
-  held-new : (p o : ℕ) → heldAt (registering c (entries (r ∷ rs)) (r .block) xs .items) p o ≡ pick (eqb (usedBy rs) p && isShareAt (r .block) o) (some (counted c noVotes (author (r .block)))) (heldAt xs p o)
+  held-new : (p o : ℕ) → heldAt (registering c (entries (r ∷ rs)) (r .block) xs .items) p o ≡ pick (eqb (usedBy rs) p && isShareAt (r .block) o)
+      (some (counted c noVotes (author (r .block)))) (heldAt xs p o)
   unfolding registering entries positionOf new
   held-new p o =
       rw (lookup-new (entries rs) new)
@@ -197,7 +205,8 @@ module _ (c : Committee) (rs : List Record) (r : Record) (xs : List Item) (h : E
 
   -- a share of the new block is held with its author's vote
   pub held-own : (l : TransactionLocator) → r .block .reference ≡ l .block → isShareAt (r .block) (l .offset) ≡ true
-      → heldAt (registering c (entries (r ∷ rs)) (r .block) xs .items) (positionIn (entries (r ∷ rs)) (l .block)) (l .offset) ≡ some (counted c noVotes (author (r .block)))
+      → heldAt (registering c (entries (r ∷ rs)) (r .block) xs .items) (positionIn (entries (r ∷ rs)) (l .block)) (l .offset) ≡ some
+      (counted c noVotes (author (r .block)))
   unfolding entries positionOf new
   held-own l e k =
       let here : positionIn (entries (r ∷ rs)) (l .block) ≡ usedBy rs = rw (← e, lookup-new (entries rs) new) in
@@ -205,7 +214,8 @@ module _ (c : Committee) (rs : List Record) (r : Record) (xs : List Item) (h : E
 
   -- what is held of another stored block stays
   pub held-other : (l : TransactionLocator) (e : Entry) → lookup (entries rs) (l .block) ≡ some e → sameReference (r .block .reference) (l .block) ≡ false
-      → heldAt (registering c (entries (r ∷ rs)) (r .block) xs .items) (positionIn (entries (r ∷ rs)) (l .block)) (l .offset) ≡ heldAt xs (positionIn (entries rs) (l .block)) (l .offset)
+      → heldAt (registering c (entries (r ∷ rs)) (r .block) xs .items) (positionIn (entries (r ∷ rs)) (l .block)) (l .offset) ≡ heldAt xs
+      (positionIn (entries rs) (l .block)) (l .offset)
   unfolding positionOf
   held-other l e k d =
       let below : e .position < usedBy rs = every-in (entries rs) e (entries-below rs) (found-in (entries rs) (l .block) e k) in
@@ -214,11 +224,13 @@ module _ (c : Committee) (rs : List Record) (r : Record) (xs : List Item) (h : E
 -- ---- the pending question
 
 -- 01: "Asking for a pending locator gives its stake and its number of voters": of the votes that are held there
-pub standing-held : (xs : List Item) (p o : ℕ) (g : StakeAggregator) → heldAt xs p o ≡ some g → standingOf (itemAt xs p o) ≡ answered (record { stake = g .stake; voters = numberOfVoters (g .votes) })
+pub standing-held : (xs : List Item) (p o : ℕ) (g : StakeAggregator) → heldAt xs p o ≡ some g → standingOf (itemAt xs p o) ≡ answered
+    (record { stake = g .stake; voters = numberOfVoters (g .votes) })
 unfolding heldAt standingOf
 standing-held xs p o g h = go (itemAt xs p o) h
   where
-    go : (x : Option Item) → Option·map (λ y. y .aggregator) x ≡ some g → standingOf x ≡ answered (record { stake = g .stake; voters = numberOfVoters (g .votes) })
+    go : (x : Option Item) → Option·map (λ y. y .aggregator) x ≡ some g → standingOf x ≡ answered
+        (record { stake = g .stake; voters = numberOfVoters (g .votes) })
     go none k = absurd (Option·none-ne-some g k)
     go (some x) k = let e : x .aggregator ≡ g = Option·some-injective _ _ k in rw e
 

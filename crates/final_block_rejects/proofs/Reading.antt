@@ -43,7 +43,8 @@ module _ (b : Block) (l : TransactionLocator) where
   pub rejects-found : (i : ℕ) → i < length (b .statements) → statementRejects (getD (b .statements) i noStatement) l ≡ true → true ≡ rejectsFrom b l i
   rejects-found i h e = sym (rejects-on i h ∙ ap (λ (t : Bool). t || rejectsFrom b l (i + 1)) e)
 
-  pub rejects-passed : (i : ℕ) → i < length (b .statements) → statementRejects (getD (b .statements) i noStatement) l ≡ false → rejectsFrom b l i ≡ rejectsFrom b l (i + 1)
+  pub rejects-passed : (i : ℕ) → i < length (b .statements) → statementRejects (getD (b .statements) i noStatement) l ≡ false → rejectsFrom b l i ≡
+      rejectsFrom b l (i + 1)
   rejects-passed i h e = rejects-on i h ∙ ap (λ (t : Bool). t || rejectsFrom b l (i + 1)) e
 
   -- ---- its author, or nobody

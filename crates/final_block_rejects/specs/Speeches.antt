@@ -1,4 +1,5 @@
--- Machinery for the contracts of private functions: what one statement rejects, and which of a block's two speeches is asked for. Assumes nothing: these are definitions.
+-- Machinery for the contracts of private functions: what one statement rejects, and which of a block's two speeches is asked for. Assumes nothing:
+-- these are definitions.
 use mathlib.Core.Bool.{Bool, true, false}
 use Rattle.base.specs.Lists.{anyOf}
 use Rattle.record_spec.specs.Reference.{TransactionLocator, sameLocator}

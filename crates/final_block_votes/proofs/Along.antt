@@ -53,7 +53,8 @@ module _ (s : Bytes) (h : laidOut s ≡ true) where
       let asc : List Entry = ascending es in
       let m : k < length asc = omega (arith, length-map asc (λ e. e .position)) in
       let e : Entry = getD asc k noEntry in
-      let parts : asc ≡ take k asc ++ e ∷ drop (suc k) asc = sym (take-append-drop k asc) ∙ ap (λ (l : List Entry). take k asc ++ l) (drop-cons asc k noEntry m) in
+      let parts : asc ≡ take k asc ++ e ∷ drop (suc k) asc = sym (take-append-drop k asc) ∙ ap (λ (l : List Entry). take k asc ++ l)
+      (drop-cons asc k noEntry m) in
       let long : length (take k asc) ≡ k = length-take-le k asc (omega arith) in
       let stored = ascending-in es e (in-place noEntry asc k m) in
       ap (leAt 4 s) (List·getD-map (λ d. d .position) asc k noEntry)

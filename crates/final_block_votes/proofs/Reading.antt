@@ -28,7 +28,8 @@ within-one o p =
     (λ h. let a = leb-true o p (and-left (leb o p) _ h) in let b = ltb-true p (o + 1) (and-right (leb o p) _ h) in eq-eqb o p (omega arith))
     (λ h. let e = eqb-true o p h in and-both _ _ (le-leb o p (omega arith)) (lt-ltb p (o + 1) (omega arith)))
 
-pub covers-one : (r : BlockReference) (o : ℕ) (l : TransactionLocator) → sameReference r (l .block) ≡ true → covers (oneRange (locator r o)) l ≡ eqb o (l .offset)
+pub covers-one : (r : BlockReference) (o : ℕ) (l : TransactionLocator) → sameReference r (l .block) ≡ true → covers (oneRange (locator r o)) l ≡ eqb o
+    (l .offset)
 unfolding covers oneRange newRange locator
 covers-one r o l h = rw (h, within-one o (l .offset))
 
@@ -40,7 +41,8 @@ pub covers-early : (q : TransactionLocatorRange) (l : TransactionLocator) → l 
 unfolding covers within
 covers-early q l h = rw (lt-leb (q .start) (l .offset) h) (and-false (sameReference (q .block) (l .block)))
 
-pub covers-from : (q : TransactionLocatorRange) (l : TransactionLocator) → sameReference (q .block) (l .block) ≡ true → q .start ≤ l .offset → covers q l ≡ ltb (l .offset) (q .end)
+pub covers-from : (q : TransactionLocatorRange) (l : TransactionLocator) → sameReference (q .block) (l .block) ≡ true → q .start ≤ l .offset → covers q l ≡
+    ltb (l .offset) (q .end)
 unfolding covers within
 covers-from q l e h = rw (e, le-leb (q .start) (l .offset) h)
 
@@ -86,7 +88,8 @@ module _ (b : Block) (l : TransactionLocator) where
   unfolding votesFor spans
   votes-start = refl
 
-  pub votes-on : (i : ℕ) → i < length (b .statements) → votesFrom b l i ≡ statementVotes (b .reference) i (getD (b .statements) i noStatement) l || votesFrom b l (i + 1)
+  pub votes-on : (i : ℕ) → i < length (b .statements) → votesFrom b l i ≡ statementVotes (b .reference) i (getD (b .statements) i noStatement) l || votesFrom
+      b l (i + 1)
   unfolding statementVotes
   votes-on i h =
       let p : TransactionLocatorRange → Bool = λ q. covers q l in
@@ -96,8 +99,10 @@ module _ (b : Block) (l : TransactionLocator) where
   unfolding anyOf
   votes-end i h = ap (anyOf (λ q. covers q l)) (spans-end (b .reference) (b .statements) i h)
 
-  pub votes-found : (i : ℕ) → i < length (b .statements) → statementVotes (b .reference) i (getD (b .statements) i noStatement) l ≡ true → true ≡ votesFrom b l i
+  pub votes-found : (i : ℕ) → i < length (b .statements) → statementVotes (b .reference) i (getD (b .statements) i noStatement) l ≡ true → true ≡ votesFrom b
+      l i
   votes-found i h e = sym (votes-on i h ∙ ap (λ (t : Bool). t || votesFrom b l (i + 1)) e)
 
-  pub votes-passed : (i : ℕ) → i < length (b .statements) → statementVotes (b .reference) i (getD (b .statements) i noStatement) l ≡ false → votesFrom b l i ≡ votesFrom b l (i + 1)
+  pub votes-passed : (i : ℕ) → i < length (b .statements) → statementVotes (b .reference) i (getD (b .statements) i noStatement) l ≡ false → votesFrom b l i ≡
+      votesFrom b l (i + 1)
   votes-passed i h e = votes-on i h ∙ ap (λ (t : Bool). t || votesFrom b l (i + 1)) e

@@ -44,14 +44,16 @@ use Rattle.final_spec.proofs.Claimed.{well-stored, small-authors}
 -- ---- accepted blocks
 
 -- 25: an include's round is lower
-lower-include : (c : Committee) (rs : List Record) (b : Block) → passes (blockChecks c rs b) ≡ true → (i : BlockReference) → i ∈ b .includes → i .round < round b
+lower-include : (c : Committee) (rs : List Record) (b : Block) → passes (blockChecks c rs b) ≡ true → (i : BlockReference) → i ∈ b .includes → i .round <
+    round b
 unfolding blockChecks bodyChecks includeChecks
 lower-include c rs b h i m =
     leb-false (round b) (i .round)
     (passes-none (blockChecks c rs b) h (leb (round b) (i .round) ⇒ 25)
     (in-right (headChecks c b) (there (in-left _ (in-left _ (in-flatten (there here) (in-map (includeChecks c b) m)))))))
 
-lower-includes : (c : Committee) (rs : List Record) → allAccepted c rs ≡ true → (b : Block) → b ∈ blocks rs → (i : BlockReference) → i ∈ b .includes → i .round < round b
+lower-includes : (c : Committee) (rs : List Record) → allAccepted c rs ≡ true → (b : Block) → b ∈ blocks rs → (i : BlockReference) → i ∈ b .includes → i
+    .round < round b
 unfolding allAccepted
 lower-includes c [] h b m i k = absurd (in-empty m)
 lower-includes c (r ∷ rs) h b here i k = lower-include c rs b (and-left _ _ h) i k
@@ -62,7 +64,8 @@ before-round : (r q : BlockReference) → referenceBefore r q ≡ true → r .ro
 unfolding referenceBefore referenceKey before
 before-round r q h = go (or-cases (ltb (r .round) (q .round)) _ h)
   where
-    go : (ltb (r .round) (q .round) ≡ true) ⊎ (eqb (r .round) (q .round) && before (r .authority ∷ r .digest) (q .authority ∷ q .digest) ≡ true) → r .round ≤ q .round
+    go : (ltb (r .round) (q .round) ≡ true) ⊎ (eqb (r .round) (q .round) && before (r .authority ∷ r .digest) (q .authority ∷ q .digest) ≡ true) → r .round ≤
+        q .round
     go (inl k) = omega (arith, ltb-true (r .round) (q .round) k)
     go (inr k) = omega (arith, eqb-true (r .round) (q .round) (and-left _ _ k))
 
@@ -146,13 +149,19 @@ module _ (s : Bytes) (order : List ℕ) (o : SortedStore s order) where
           lower : blockAtPlace s order i .reference .round < round (blockAtPlace s order k)
           lower =
               rw e
-              (lower-includes (sorted-is .0) (recordsOf s) sorted-accepted (blockAtPlace s order k) place-stored (getD (blockAtPlace s order k .includes) j noReference)
+              (lower-includes (sorted-is .0) (recordsOf s) sorted-accepted (blockAtPlace s order k) place-stored
+              (getD (blockAtPlace s order k .includes) j noReference)
               (in-place noReference (blockAtPlace s order k .includes) j n))
 
           above : Dec (k ≡ i) → k ≤ i → i < k
           above (yes q) z = absurd (omega (arith, lower, ap (λ (x : ℕ). round (blockAtPlace s order x)) q))
           above (no q) z =
-              absurd (omega (arith, lower, before-round (blockAtPlace s order k .reference) (blockAtPlace s order i .reference) (order-rises s (sorted-is .1 .laid) order (sorted-is .1 .places) k i (omega arith) m)))
+              absurd (omega (
+                arith,
+                lower,
+                before-round (blockAtPlace s order k .reference) (blockAtPlace s order i .reference)
+                    (order-rises s (sorted-is .1 .laid) order (sorted-is .1 .places) k i (omega arith) m),
+              ))
 
           go : Dec (i < k) → i < k
           go (yes q) = q

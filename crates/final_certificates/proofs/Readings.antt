@@ -36,4 +36,5 @@ module _ (c : Committee) (s : Bytes) (order : List ℕ) (l : TransactionLocator)
   pub certifies-new : (v w : AuthoritySet) → v ≡ spokenAt ownVote s order l k → w ≡ spokenAt ownReject s order l k → certifiesIn old c (blocksOf s) l at ≡ true
       → certifiesIn withdrawing c (blocksOf s) l at ≡ isQuorum c (stakeOf c (without v w))
   unfolding certifiesIn votersIn spokenAt blockAtPlace
-  certifies-new v w e f h = rw (e, f) (ap (λ (t : Bool). t && isQuorum c (stakeOf c (without (spokenAt ownVote s order l k) (spokenAt ownReject s order l k)))) (and-left (not (at .marked)) _ h))
+  certifies-new v w e f h = rw (e, f) (ap (λ (t : Bool). t && isQuorum c
+      (stakeOf c (without (spokenAt ownVote s order l k) (spokenAt ownReject s order l k)))) (and-left (not (at .marked)) _ h))

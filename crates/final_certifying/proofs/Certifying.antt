@@ -19,6 +19,7 @@ module _ (reading : Reading) (c : Committee) (s : Bytes) (l : TransactionLocator
   unfolding certifyingPositionsIn
   certifying-all = found-all (certifiesIn reading c (blocksOf s) l) s c order o
 
-  pub certifiers-all : (v : AuthoritySet) → Authors s (found (certifiesIn reading c (blocksOf s) l) s order (length order)) v → v ≡ setOf (map author (certifiersIn reading c (blocksOf s) l))
+  pub certifiers-all : (v : AuthoritySet) → Authors s (found (certifiesIn reading c (blocksOf s) l) s order (length order)) v → v ≡ setOf
+      (map author (certifiersIn reading c (blocksOf s) l))
   unfolding certifiersIn
   certifiers-all = authors-all c s order o (certifiesIn reading c (blocksOf s) l)

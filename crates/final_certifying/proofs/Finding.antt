@@ -67,7 +67,8 @@ module _ (test : Block → Bool) (s : Bytes) where
       go true = refl
       go false = refl
 
-  pub found-all : (c : Committee) (order : List ℕ) → Sorted c s order → found order (length order) ≡ map (λ e. e .position) (keep (λ e. test (e .block)) (ascending (entries (recordsOf s))))
+  pub found-all : (c : Committee) (order : List ℕ) → Sorted c s order → found order (length order) ≡ map (λ e. e .position)
+      (keep (λ e. test (e .block)) (ascending (entries (recordsOf s))))
   unfolding sortedPositions
   found-all c order o =
       rw (take-length order, o .places)
@@ -80,7 +81,8 @@ unfolding anyOf
 any-more p g [] x = or-false (p (g x))
 any-more p g (y ∷ ys) x = go (p (g y)) (any-more p g ys x)
   where
-    go : (t : Bool) → anyOf p (map g (ys ++ (x ∷ []))) ≡ anyOf p (map g ys) || p (g x) → t || anyOf p (map g (ys ++ (x ∷ []))) ≡ (t || anyOf p (map g ys)) || p (g x)
+    go : (t : Bool) → anyOf p (map g (ys ++ (x ∷ []))) ≡ anyOf p (map g ys) || p (g x) → t || anyOf p (map g (ys ++ (x ∷ []))) ≡ (t || anyOf p (map g ys)) ||
+        p (g x)
     go true h = refl
     go false h = h
 
@@ -98,7 +100,8 @@ pub authors-none : (s : Bytes) → Authors s [] nobody
 unfolding anyOf
 authors-none s = record { small = small-nobody; are = λ a. member-nobody a }
 
-pub authors-more : (s : Bytes) (ps : List ℕ) (v : AuthoritySet) (p : ℕ) → author (blockAt s p) < 128 → Authors s ps v → Authors s (ps ++ (p ∷ [])) (inserted v (author (blockAt s p)))
+pub authors-more : (s : Bytes) (ps : List ℕ) (v : AuthoritySet) (p : ℕ) → author (blockAt s p) < 128 → Authors s ps v → Authors s (ps ++ (p ∷ []))
+    (inserted v (author (blockAt s p)))
 authors-more s ps v p h w =
     record {
       small = small-inserted v (author (blockAt s p)) h (w .small);
@@ -132,7 +135,8 @@ module _ (c : Committee) (s : Bytes) (order : List ℕ) (o : Sorted c s order) w
           let b = map-in author (keep test (blocksOf s)) m in
           rw (← b .2) (sorted-authors s order (some-committee o) (b .0) (keep-in test (blocksOf s) (b .1) .0))
 
-      there-too : (a : AuthorityIndex) → anyOf (eqb a) (map (λ p. author (blockAt s p)) (found test s order (length order))) ≡ true → anyOf (eqb a) (map author (keep test (blocksOf s))) ≡ true
+      there-too : (a : AuthorityIndex) → anyOf (eqb a) (map (λ p. author (blockAt s p)) (found test s order (length order))) ≡ true → anyOf (eqb a)
+          (map author (keep test (blocksOf s))) ≡ true
       there-too a h =
           let x = any-in (eqb a) (map (λ p. author (blockAt s p)) (found test s order (length order))) h in
           let p = map-in (λ q. author (blockAt s q)) (found test s order (length order)) (x .1) in
@@ -140,7 +144,8 @@ module _ (c : Committee) (s : Bytes) (order : List ℕ) (o : Sorted c s order) w
           let m : p .0 ∈ order = subst (λ (ps : List ℕ). p .0 ∈ ps) (take-length order) (k .0) in
           in-any (eqb a) (in-map author (in-keep test (blocksOf s) (position-block (p .0) m) (k .1))) (ap (eqb a) (p .2) ∙ x .2)
 
-      back : (a : AuthorityIndex) → anyOf (eqb a) (map author (keep test (blocksOf s))) ≡ true → anyOf (eqb a) (map (λ p. author (blockAt s p)) (found test s order (length order))) ≡ true
+      back : (a : AuthorityIndex) → anyOf (eqb a) (map author (keep test (blocksOf s))) ≡ true → anyOf (eqb a)
+          (map (λ p. author (blockAt s p)) (found test s order (length order))) ≡ true
       back a h =
           let x = any-in (eqb a) (map author (keep test (blocksOf s))) h in
           let b = map-in author (keep test (blocksOf s)) (x .1) in
@@ -148,7 +153,8 @@ module _ (c : Committee) (s : Bytes) (order : List ℕ) (o : Sorted c s order) w
           let p = block-position (b .0) (k .0) in
           let m : p .0 ∈ take (length order) order = subst (λ (ps : List ℕ). p .0 ∈ ps) (sym (take-length order)) (p .1) in
           let e : author (blockAt s (p .0)) ≡ x .0 = ap author (p .2) ∙ b .2 in
-          in-any (eqb a) (in-map (λ q. author (blockAt s q)) (in-keep (holdsAt test s) (take (length order) order) m (ap test (p .2) ∙ k .1))) (ap (eqb a) e ∙ x .2)
+          in-any (eqb a) (in-map (λ q. author (blockAt s q)) (in-keep (holdsAt test s) (take (length order) order) m (ap test (p .2) ∙ k .1)))
+          (ap (eqb a) e ∙ x .2)
 
 -- what a walk has when it has read the blocks at the first k places
 pub record Walked (test : Block → Bool) (s : Bytes) (order ps₀ ps : List ℕ) (authors : AuthoritySet) (n k : ℕ) : Type 0 where
@@ -163,7 +169,8 @@ pub walked-start : (test : Block → Bool) (s : Bytes) (order ps : List ℕ) →
 unfolding keep
 walked-start test s order ps = record { inside = omega arith; few = omega arith; room = refl; many = refl; written = refl; authored = authors-none s }
 
-module _ (test : Block → Bool) (s : Bytes) (order ps₀ ps : List ℕ) (authors : AuthoritySet) (n k : ℕ) (w : Walked test s order ps₀ ps authors n k) (h : k < length order) where
+module _ (test : Block → Bool) (s : Bytes) (order ps₀ ps : List ℕ) (authors : AuthoritySet) (n k : ℕ) (w : Walked test s order ps₀ ps authors n k)
+    (h : k < length order) where
   pub walked-no : holdsAt test s (getD order k 0) ≡ false → Walked test s order ps₀ ps authors n (k + 1)
   walked-no e =
       let f = found-no test s order k h e in

@@ -30,7 +30,8 @@ module _ (reading : Reading) (c : Committee) (s : Bytes) (ps : List ℕ) (l : Tr
       unfolding finalityIn finalityChecks checked passes refusal allOf
       finality-short h = rw (b, o, lt-ltb (length ps) (length (recordsOf s)) h)
 
-      pub finality-asked : length (recordsOf s) ≤ length ps → (t : Bool) (n : ℕ) (qs : List ℕ) → t ≡ isFinalIn reading c (blocksOf s) l → n ≡ length (certifyingPositionsIn reading c s l)
+      pub finality-asked : length (recordsOf s) ≤ length ps → (t : Bool) (n : ℕ) (qs : List ℕ) → t ≡ isFinalIn reading c (blocksOf s) l → n ≡ length
+          (certifyingPositionsIn reading c s l)
           → qs ≡ certifyingPositionsIn reading c s l ++ drop (length (certifyingPositionsIn reading c s l)) ps
           → record { answer = answered (record { final = t; certifying = n }); positions = qs } ≡ finalityIn reading c s ps l
       unfolding finalityIn finalityChecks checked passes refusal allOf

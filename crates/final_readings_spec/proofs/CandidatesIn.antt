@@ -40,7 +40,8 @@ unfolding afterRejections locator
 after-rejected d l o e h =
     let f : o + 1 ≡ l .offset = omega arith in
     let own : locator (l .block) (o + 1) ≡ l = λ i. record { block = l .block; offset = f i } in
-    subst (λ (x : TransactionLocator). x ∈ afterRejections d) own (in-map (λ (x : TransactionLocator). locator (x .block) (x .offset + 1)) (listed d (locator (l .block) o) h))
+    subst (λ (x : TransactionLocator). x ∈ afterRejections d) own
+    (in-map (λ (x : TransactionLocator). locator (x .block) (x .offset + 1)) (listed d (locator (l .block) o) h))
 
 pub final-just-before : (reading : Reading) (c : Committee) (bs : List Block) (l : TransactionLocator) → ((d : Block) → d ∈ bs → l ∈ starts d → ⊥)
     → ((d : Block) → d ∈ bs → l ∈ afterRejections d → ⊥) → isFinalIn reading c bs l ≡ true
@@ -64,13 +65,15 @@ module _ (c : Committee) (bs : List Block) (after : Option TransactionLocator) w
   unfolding candidatesIn
   reject-candidate d m k = in-right (candidates bs after) (in-flatten k (in-map afterRejections m))
 
-  stepped : (l : TransactionLocator) → (l ∈ candidatesIn withdrawing bs after → ⊥) → isFinalIn withdrawing c bs l ≡ true → isAfter after l ≡ true → JustBefore (isFinalIn withdrawing c bs) after l
+  stepped : (l : TransactionLocator) → (l ∈ candidatesIn withdrawing bs after → ⊥) → isFinalIn withdrawing c bs l ≡ true → isAfter after l ≡ true → JustBefore
+      (isFinalIn withdrawing c bs) after l
   stepped l none-there f h =
       let r = final-just-before withdrawing c bs l (λ d m k. none-there (start-candidate d m k)) (λ d m k. none-there (reject-candidate d m k)) f in
       record { offset = r .0; next = r .1; holds = r .2; later = after-below after l (r .0) (r .1) (λ k. none-there (just-candidate k)) h }
 
 -- what is computed is the least final locator after the given one, in both readings
-pub least-final-in : (reading : Reading) (c : Committee) (bs : List Block) (after : Option TransactionLocator) → LeastFinalIn reading c bs after (leastFinalIn reading c bs after)
+pub least-final-in : (reading : Reading) (c : Committee) (bs : List Block) (after : Option TransactionLocator) → LeastFinalIn reading c bs after
+    (leastFinalIn reading c bs after)
 unfolding leastFinalIn candidatesIn leastFinal isFinalIn certifiersIn certifiesIn votersIn isFinal certifiers certifies
 least-final-in old c bs after = least-final c bs after
 least-final-in withdrawing c bs after = least-among (isFinalIn withdrawing c bs) after (candidatesIn withdrawing bs after) (stepped c bs after)
@@ -83,7 +86,8 @@ least-stands reading c bs after l h =
     stood (least-locator (keep (λ x. isAfter after x && isFinalIn reading c bs x) (candidatesIn reading bs after)))
     (least-once (isFinalIn reading c bs) (isFinalIn reading c bs) (λ x. refl) after (least-final-in reading c bs after) h)
   where
-    stood : {o : Option TransactionLocator} → Least (keep (λ x. isAfter after x && isFinalIn reading c bs x) (candidatesIn reading bs after)) o → o ≡ some l → l ∈ candidatesIn reading bs after
+    stood : {o : Option TransactionLocator} → Least (keep (λ x. isAfter after x && isFinalIn reading c bs x) (candidatesIn reading bs after)) o → o ≡ some l →
+        l ∈ candidatesIn reading bs after
     stood (one-of x m f) e =
         subst (λ (y : TransactionLocator). y ∈ candidatesIn reading bs after) (Option·some-injective x l e)
         (keep-in (λ y. isAfter after y && isFinalIn reading c bs y) (candidatesIn reading bs after) m .0)

@@ -15,16 +15,21 @@ use Rattle.final_spec.proofs.Claimed.{well-stored, small-authors}
 use Rattle.final_readings_spec.specs.Readings.{old, withdrawing, votersIn, certifiesIn, certifiersIn, isFinalIn}
 use Rattle.final_readings_spec.specs.Finality.{certifyingPositionsIn, finalityIn}
 use Rattle.final_readings_spec.specs.NextFinal.{candidatesIn, leastFinalIn, nextFinalIn, finalListIn}
-use Rattle.final_readings_spec.specs.Claims.{OldReading, RejectersMeant, VotersInMeant, FinalInMeant, LeastFinalInMeant, LeastStands, FinalListInMeant, VotersLess, FinalInBoth, SameWithoutRejects, SameAnswered, VotersInOfAncestry, InAnyOrder, VotersOfRecords, CutAtRejects}
-use Rattle.final_readings_spec.proofs.VotersIn.{voters-less, rejecter-counted, counted-rejecter, voters-in-iff, rejecters-equal, voters-in-equal, voters-in-same}
-use Rattle.final_readings_spec.proofs.FinalsIn.{final-in-iff, final-in-old, certifiers-in-alike, certifies-in-same, final-in-same, certifies-in-kept, final-in-order}
+use Rattle.final_readings_spec.specs.Claims.{OldReading, RejectersMeant, VotersInMeant, FinalInMeant, LeastFinalInMeant, LeastStands, FinalListInMeant}
+use Rattle.final_readings_spec.specs.Claims.{VotersLess, FinalInBoth, SameWithoutRejects, SameAnswered, VotersInOfAncestry, InAnyOrder, VotersOfRecords}
+use Rattle.final_readings_spec.specs.Claims.{CutAtRejects}
+use Rattle.final_readings_spec.proofs.VotersIn.{voters-less, rejecter-counted, counted-rejecter, voters-in-iff, rejecters-equal, voters-in-equal}
+use Rattle.final_readings_spec.proofs.VotersIn.{voters-in-same}
+use Rattle.final_readings_spec.proofs.FinalsIn.{final-in-iff, final-in-old, certifiers-in-alike, certifies-in-same, final-in-same, certifies-in-kept}
+use Rattle.final_readings_spec.proofs.FinalsIn.{final-in-order}
 use Rattle.final_readings_spec.proofs.CandidatesIn.{least-final-in, least-stands}
 use Rattle.final_readings_spec.proofs.ListsIn.{list-same, least-same, asked-on-in}
 use Rattle.final_readings_spec.proofs.Records.{voter-more, voter-in-whole}
 use Rattle.final_readings_spec.proofs.Cutting.{rejects-between}
 
 pub old-reading : OldReading
-unfolding finalityIn certifyingPositionsIn nextFinalIn leastFinalIn candidatesIn finalListIn isFinalIn certifiersIn certifiesIn votersIn finality certifyingPositions nextFinal leastFinal finalList isFinal certifiers certifies
+unfolding finalityIn certifyingPositionsIn nextFinalIn leastFinalIn candidatesIn finalListIn isFinalIn certifiersIn certifiesIn votersIn finality
+    certifyingPositions nextFinal leastFinal finalList isFinal certifiers certifies
 old-reading =
     record {
       voters = λ bs l r. refl;
@@ -93,7 +98,8 @@ same-answered c s f =
             answer = checked (finalityChecks c s ps) (record { final = final-in-same withdrawing c (blocksOf s) f l i; certifying = length (found l i) });
             positions = pick (passes (finalityChecks c s ps)) (found l i ++ drop (length (found l i)) ps) ps;
           };
-      nextFinal = λ after. ap (checked (nextFinalChecks c s)) (least-same withdrawing old c (blocksOf s) (blocksOf s) (final-in-same withdrawing c (blocksOf s) f) after);
+      nextFinal = λ after. ap (checked (nextFinalChecks c s)) (least-same withdrawing old c (blocksOf s) (blocksOf s)
+          (final-in-same withdrawing c (blocksOf s) f) after);
     }
   where
     found : (l : TransactionLocator) → certifyingPositionsIn withdrawing c s l ≡ certifyingPositionsIn old c s l
@@ -103,7 +109,8 @@ pub voters-in-of-ancestry : VotersInOfAncestry
 unfolding VotersInOfAncestry
 voters-in-of-ancestry c d bs cs h k b m n f l = (
   rejecters-equal (well-stored c bs h) (well-stored d cs k) (small-authors c bs h) (small-authors d cs k) b m (λ x y. ancestor-stored (f x .0 y)) l,
-  λ reading. voters-in-equal reading (well-stored c bs h) (well-stored d cs k) (small-authors c bs h) (small-authors d cs k) b m (λ x y. ancestor-stored (f x .0 y)) l,
+  λ reading. voters-in-equal reading (well-stored c bs h) (well-stored d cs k) (small-authors c bs h) (small-authors d cs k) b m
+      (λ x y. ancestor-stored (f x .0 y)) l,
 )
 
 pub in-any-order : InAnyOrder
@@ -111,7 +118,8 @@ unfolding InAnyOrder
 in-any-order reading c bs cs h k same-blocks =
     let same-finals = final-in-order reading c (well-stored c bs h) (well-stored c cs k) (small-authors c bs h) (small-authors c cs k) same-blocks in
     record {
-      certifies = λ l b m. certifies-in-kept reading c (well-stored c bs h) (well-stored c cs k) (small-authors c bs h) (small-authors c cs k) (λ x. same-blocks x .0) l b m;
+      certifies = λ l b m. certifies-in-kept reading c (well-stored c bs h) (well-stored c cs k) (small-authors c bs h) (small-authors c cs k)
+          (λ x. same-blocks x .0) l b m;
       final = same-finals;
       leastFinal = λ after. least-same reading reading c bs cs same-finals after;
       finalList = list-same reading reading c bs cs same-finals;

@@ -7,5 +7,6 @@ use Rattle.final_readings_spec.specs.Finality.{certifyingPositionsIn, fi
 use Rattle.final_readings_spec.specs.NextFinal.{afterRejections, candidatesIn, leastFinalIn, nextFinalIn, finalListIn, rejectEdges}
 
 unfoldable pub computing : Unit {0}
-unfolding computing-finality rejectedIn rejections rejects ownReject without votersIn certifiesIn certifiersIn isFinalIn certifyingPositionsIn finalityIn afterRejections candidatesIn leastFinalIn nextFinalIn finalListIn rejectEdges
+unfolding computing-finality rejectedIn rejections rejects ownReject without votersIn certifiesIn certifiersIn isFinalIn certifyingPositionsIn finalityIn
+    afterRejections candidatesIn leastFinalIn nextFinalIn finalListIn rejectEdges
 computing = tt

@@ -16,7 +16,8 @@ use Rattle.final_readings_spec.specs.NextFinal.{rejectEdges}
 use Rattle.final_readings_spec.proofs.Rejecting.{listed}
 
 -- a rejected offset and the one after it are edges
-edge-at : (bs : List Block) (d : Block) (l : TransactionLocator) → d ∈ bs → rejects d l ≡ true → (e : ℕ) → e ∈ (l .offset ∷ (l .offset + 1) ∷ []) → e ∈ rejectEdges bs (l .block)
+edge-at : (bs : List Block) (d : Block) (l : TransactionLocator) → d ∈ bs → rejects d l ≡ true → (e : ℕ) → e ∈ (l .offset ∷ (l .offset + 1) ∷ []) → e ∈
+    rejectEdges bs (l .block)
 unfolding rejectEdges
 edge-at bs d l m h e k =
     let own : TransactionLocator → List ℕ = λ x. pick (sameReference (x .block) (l .block)) (x .offset ∷ (x .offset + 1) ∷ []) [] in

@@ -31,7 +31,8 @@ unfolding finalListIn
 list-ascending reading c bs = keep-ascending (isFinalIn reading c bs) (ascending-locators (flatten (map voted bs)))
 
 -- it holds the final locators and no others
-pub list-in : (reading : Reading) (c : Committee) (bs : List Block) (l : TransactionLocator) → (l ∈ finalListIn reading c bs) ↔ (isFinalIn reading c bs l ≡ true)
+pub list-in : (reading : Reading) (c : Committee) (bs : List Block) (l : TransactionLocator) → (l ∈ finalListIn reading c bs) ↔
+    (isFinalIn reading c bs l ≡ true)
 unfolding finalListIn
 list-in reading c bs l = (
   λ m. keep-in (isFinalIn reading c bs) (ascendingLocators (flatten (map voted bs))) m .1,
@@ -58,7 +59,9 @@ unfolding nextFinalIn nextFinalChecks checked passes refusal allOf
 next-answers-in reading c s after b h = rw (b, h)
 
 -- 01: "asked on from the start until none, it gives the final list"
-pub asked-on-in : (reading : Reading) (c : Committee) (s : Bytes) → broken c ≡ false → storeInOrder c s ≡ true → FinalListIn reading c s (finalListIn reading c (blocksOf s))
+pub asked-on-in : (reading : Reading) (c : Committee) (s : Bytes) → broken c ≡ false → storeInOrder c s ≡ true → FinalListIn reading c s
+    (finalListIn reading c (blocksOf s))
 asked-on-in reading c s b h =
-    asked-all (isFinalIn reading c (blocksOf s)) (nextFinalIn reading c s) (leastFinalIn reading c (blocksOf s)) (λ after. next-answers-in reading c s after b h)
+    asked-all (isFinalIn reading c (blocksOf s)) (nextFinalIn reading c s) (leastFinalIn reading c (blocksOf s))
+    (λ after. next-answers-in reading c s after b h)
     (λ after. least-final-in reading c (blocksOf s) after) (list-ascending reading c (blocksOf s)) (λ l. list-in reading c (blocksOf s) l)

@@ -22,7 +22,8 @@ whole-ancestor {bs} one {b = b} m f more (included {i = i} k j a) =
     let same-one : r .0 ≡ i = one (r .0) i (more (r .0) below) (descendant-stored a) (r .2) in
     included m j (whole-ancestor one (subst (λ (x : Block). x ∈ bs) same-one (r .1)) (λ x y. f x (included m j y)) (λ x y. more x (included m j y)) a)
 
-module _ {bs cs : List Block} (w : WellStored cs) (more : (x : Block) → x ∈ bs → x ∈ cs) (b : Block) (m : b ∈ bs) (l : TransactionLocator) (a : AuthorityIndex) where
+module _ {bs cs : List Block} (w : WellStored cs) (more : (x : Block) → x ∈ bs → x ∈ cs) (b : Block) (m : b ∈ bs) (l : TransactionLocator)
+    (a : AuthorityIndex) where
   pub voter-more : Voter bs b l a → Voter cs b l a
   voter-more v = record { voting = v .voting; ancestor = ancestor-grows more (v .ancestor); votes = v .votes; authored = v .authored }
 
@@ -31,10 +32,21 @@ module _ {bs cs : List Block} (w : WellStored cs) (more : (x : Block) → x ∈ 
 
   module _ (f : WholeAncestry bs b) where
     voter-back : Voter cs b l a → Voter bs b l a
-    voter-back v = record { voting = v .voting; ancestor = whole-ancestor (λ x y. one-reference w) m f (λ x y. more x (ancestor-stored y)) (v .ancestor); votes = v .votes; authored = v .authored }
+    voter-back v = record {
+      voting = v .voting;
+      ancestor = whole-ancestor (λ x y. one-reference w) m f (λ x y. more x (ancestor-stored y)) (v .ancestor);
+      votes = v .votes;
+      authored = v .authored;
+    }
 
     rejecter-back : Rejecter cs b l a → Rejecter bs b l a
-    rejecter-back v = record { rejecting = v .rejecting; ancestor = whole-ancestor (λ x y. one-reference w) m f (λ x y. more x (ancestor-stored y)) (v .ancestor); rejects = v .rejects; authored = v .authored }
+    rejecter-back v = record {
+      rejecting = v .rejecting;
+      ancestor = whole-ancestor (λ x y. one-reference w) m f (λ x y. more x (ancestor-stored y))
+          (v .ancestor);
+      rejects = v .rejects;
+      authored = v .authored;
+    }
 
     pub voter-in-whole : (reading : Reading) → VoterIn reading bs b l a ↔ VoterIn reading cs b l a
     voter-in-whole old = (voter-more, voter-back)

@@ -31,11 +31,18 @@ voters-less bs l r a = member-without (voters bs l r) (rejecters bs l r) a
 
 -- ---- the rejecting owners, computed and as a relation
 
-pub rejecter-counted : {bs : List Block} → WellStored bs → (l : TransactionLocator) (a : AuthorityIndex) (b : Block) → b ∈ bs → Rejecter bs b l a → member (rejecters bs l (b .reference)) a ≡ true
+pub rejecter-counted : {bs : List Block} → WellStored bs → (l : TransactionLocator) (a : AuthorityIndex) (b : Block) → b ∈ bs → Rejecter bs b l a → member
+    (rejecters bs l (b .reference)) a ≡ true
 rejecter-counted w l a b m r =
-    speaker-counted ownReject w l a b m (record { speaking = r .rejecting; ancestor = r .ancestor; heard = reject-own (r .rejecting) l a (r .rejects) (r .authored) })
+    speaker-counted ownReject w l a b m (record {
+      speaking = r .rejecting;
+      ancestor = r .ancestor;
+      heard = reject-own (r .rejecting) l a (r .rejects)
+          (r .authored);
+    })
 
-pub counted-rejecter : {bs : List Block} → WellStored bs → (l : TransactionLocator) (a : AuthorityIndex) (b : Block) → b ∈ bs → member (rejecters bs l (b .reference)) a ≡ true → Rejecter bs b l a
+pub counted-rejecter : {bs : List Block} → WellStored bs → (l : TransactionLocator) (a : AuthorityIndex) (b : Block) → b ∈ bs → member
+    (rejecters bs l (b .reference)) a ≡ true → Rejecter bs b l a
 counted-rejecter w l a b m h =
     let s = counted-speaker ownReject w l a b m h in
     let r = own-reject (s .speaking) l a (s .heard) in
@@ -77,8 +84,10 @@ pub rejecters-equal : {bs cs : List Block} → WellStored bs → WellStored cs �
 rejecters-equal v w f g b m h l = spoken-equal ownReject v w l (λ x k. own-reject-small x l (f x k)) (λ x k. own-reject-small x l (g x k)) b m h
 
 -- two stores of which one holds a block's ancestry in the other have the same two words for its voters, in both readings
-pub voters-in-equal : (reading : Reading) {bs cs : List Block} → WellStored bs → WellStored cs → ((x : Block) → x ∈ bs → author x < 128) → ((x : Block) → x ∈ cs → author x < 128)
-    → (b : Block) → b ∈ bs → ((x : Block) → Ancestor bs x b → x ∈ cs) → (l : TransactionLocator) → votersIn reading bs l (b .reference) ≡ votersIn reading cs l (b .reference)
+pub voters-in-equal : (reading : Reading) {bs cs : List Block} → WellStored bs → WellStored cs → ((x : Block) → x ∈ bs → author x < 128) →
+    ((x : Block) → x ∈ cs → author x < 128)
+    → (b : Block) → b ∈ bs → ((x : Block) → Ancestor bs x b → x ∈ cs) → (l : TransactionLocator) → votersIn reading bs l (b .reference) ≡ votersIn reading cs
+    l (b .reference)
 unfolding votersIn
 voters-in-equal old v w f g b m h l = voters-equal v w f g b m h l
 voters-in-equal withdrawing v w f g b m h l = ap₂ without (voters-equal v w f g b m h l) (rejecters-equal v w f g b m h l)
@@ -88,7 +97,8 @@ voters-in-equal withdrawing v w f g b m h l = ap₂ without (voters-equal v w f 
 pub no-rejecters : (bs : List Block) → NoRejects bs → (l : TransactionLocator) (r : BlockReference) → rejecters bs l r ≡ nobody
 no-rejecters bs f l r = spoken-nobody ownReject l bs (λ d m. own-reject-none d l (f d m l)) r
 
-pub voters-in-same : (reading : Reading) (bs : List Block) → NoRejects bs → (l : TransactionLocator) (r : BlockReference) → votersIn reading bs l r ≡ votersIn old bs l r
+pub voters-in-same : (reading : Reading) (bs : List Block) → NoRejects bs → (l : TransactionLocator) (r : BlockReference) → votersIn reading bs l r ≡ votersIn
+    old bs l r
 unfolding votersIn
 voters-in-same old bs f l r = refl
 voters-in-same withdrawing bs f l r = rw (no-rejecters bs f l r) (without-nobody (voters bs l r))

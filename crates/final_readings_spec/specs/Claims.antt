@@ -50,10 +50,12 @@ VotersInMeant = (reading : Reading) (c : Committee) (bs : List Block) → Stored
     → (member (votersIn reading bs l (b .reference)) a ≡ true) ↔ VoterIn reading bs b l a
 
 unfoldable pub FinalInMeant : Type 0
-FinalInMeant = (reading : Reading) (c : Committee) (bs : List Block) → Stored c bs → (l : TransactionLocator) → (isFinalIn reading c bs l ≡ true) ↔ FinalIn reading c bs l
+FinalInMeant = (reading : Reading) (c : Committee) (bs : List Block) → Stored c bs → (l : TransactionLocator) → (isFinalIn reading c bs l ≡ true) ↔ FinalIn
+    reading c bs l
 
 unfoldable pub LeastFinalInMeant : Type 0
-LeastFinalInMeant = (reading : Reading) (c : Committee) (bs : List Block) (after : Option TransactionLocator) → LeastFinalIn reading c bs after (leastFinalIn reading c bs after)
+LeastFinalInMeant = (reading : Reading) (c : Committee) (bs : List Block) (after : Option TransactionLocator) → LeastFinalIn reading c bs after
+    (leastFinalIn reading c bs after)
 
 -- the least one stands just after the given locator, where a vote begins, or, in the new reading, just after a rejected locator
 unfoldable pub LeastStands : Type 0
@@ -62,7 +64,8 @@ LeastStands = (reading : Reading) (c : Committee) (bs : List Block) (after : Opt
 
 -- the computed list is the one that the question gives when it is asked on
 unfoldable pub FinalListInMeant : Type 0
-FinalListInMeant = (reading : Reading) (c : Committee) (s : Bytes) → broken c ≡ false → storeInOrder c s ≡ true → FinalListIn reading c s (finalListIn reading c (blocksOf s))
+FinalListInMeant = (reading : Reading) (c : Committee) (s : Bytes) → broken c ≡ false → storeInOrder c s ≡ true → FinalListIn reading c s
+    (finalListIn reading c (blocksOf s))
 
 -- ---- Twelve
 
@@ -111,7 +114,8 @@ pub record SameInAnyOrder (reading : Reading) (c : Committee) (bs cs : List Bloc
   pub finalList : finalListIn reading c bs ≡ finalListIn reading c cs
 
 unfoldable pub InAnyOrder : Type 0
-InAnyOrder = (reading : Reading) (c : Committee) (bs cs : List Block) → Stored c bs → Stored c cs → ((x : Block) → x ∈ bs ↔ x ∈ cs) → SameInAnyOrder reading c bs cs
+InAnyOrder = (reading : Reading) (c : Committee) (bs cs : List Block) → Stored c bs → Stored c cs → ((x : Block) → x ∈ bs ↔ x ∈ cs) → SameInAnyOrder reading c
+    bs cs
 
 -- 02, Two: "in every store under that committee with those records they then really certify": what blocks alone say of the voters of one of them is so
 -- in every store with them, in the old reading whichever blocks they are, in the new one where they hold its whole ancestry
@@ -120,7 +124,8 @@ pub record ReallyVote (cs bs : List Block) (b : Block) (l : TransactionLocator) 
   pub whole : WholeAncestry bs b → (reading : Reading) → VoterIn reading bs b l a ↔ VoterIn reading cs b l a
 
 unfoldable pub VotersOfRecords : Type 0
-VotersOfRecords = (c : Committee) (cs bs : List Block) → Stored c cs → ((x : Block) → x ∈ bs → x ∈ cs) → (b : Block) → b ∈ bs → (l : TransactionLocator) (a : AuthorityIndex)
+VotersOfRecords = (c : Committee) (cs bs : List Block) → Stored c cs → ((x : Block) → x ∈ bs → x ∈ cs) → (b : Block) → b ∈ bs → (l : TransactionLocator)
+    (a : AuthorityIndex)
     → ReallyVote cs bs b l a
 
 -- a stretch of the list in bulk is cut at a rejected offset and at the one after it too: where no such edge lies above an offset up to another, and

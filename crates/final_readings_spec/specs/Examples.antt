@@ -20,7 +20,8 @@ block a r is ss = record { reference = ref a r; marked = false; includes = is; s
 abbrev pub four : Committee
 four = 1 ∷ 1 ∷ 1 ∷ 1 ∷ []
 
--- author 0 shares in round 1; authors 1 and 2 accept in round 2; author 1 rejects in round 3, and author 3 accepts there and rejects another with the share as second locator
+-- author 0 shares in round 1; authors 1 and 2 accept in round 2; author 1 rejects in round 3, and author 3 accepts there and rejects another with the
+-- share as second locator
 abbrev pub the : TransactionLocator
 the = record { block = ref 0 1; offset = 0 }
 

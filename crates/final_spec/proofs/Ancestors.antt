@@ -35,7 +35,8 @@ ancestor-kept {d = d} f (itself m) = itself (f d (itself m))
 ancestor-kept {b = b} f (included {i = i} m k a) = included (f b (itself m)) k (ancestor-kept (λ x y. f x (included m k y)) a)
 
 -- and it has no other ancestry there
-pub ancestor-only : {bs cs : List Block} → WellStored bs → WellStored cs → {d b : Block} → b ∈ bs → ((x : Block) → Ancestor bs x b → x ∈ cs) → Ancestor cs d b → Ancestor bs d b
+pub ancestor-only : {bs cs : List Block} → WellStored bs → WellStored cs → {d b : Block} → b ∈ bs → ((x : Block) → Ancestor bs x b → x ∈ cs) → Ancestor cs d b
+    → Ancestor bs d b
 ancestor-only v w m f (itself k) = itself m
 ancestor-only {bs} {cs} v w {b = b} m f (included {i = i} k j a) =
     let r = include-stored v m (i .reference) j in

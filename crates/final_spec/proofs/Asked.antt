@@ -18,7 +18,8 @@ use Rattle.store_spec.proofs.Store.{in-order}
 use Rattle.store_spec.proofs.Accepted.{accepted-stored}
 use Rattle.final_spec.specs.Voters.{isFinal}
 use Rattle.final_spec.specs.Finality.{blocksOf}
-use Rattle.final_spec.specs.NextFinal.{isAfter, LeastOf, least, nothing, leastFinal, nextFinalChecks, nextFinal, AskedOf, done, onward, FinalList, finalList}
+use Rattle.final_spec.specs.NextFinal.{isAfter, LeastOf, least, nothing, leastFinal, nextFinalChecks, nextFinal, AskedOf, done, onward, FinalList}
+use Rattle.final_spec.specs.NextFinal.{finalList}
 use Rattle.final_spec.proofs.Candidates.{least-final}
 use Rattle.final_spec.proofs.FinalList.{Ascending, none-left, and-then, final-list-ascending, final-list-in}
 
@@ -43,7 +44,8 @@ unfolding blocksOf
 in-order-stored c s h = accepted-stored c (recordsOf s) (in-order c s h .accepted)
 
 -- a question that is not refused gives the least final locator
-pub next-answers : (c : Committee) (s : Bytes) (after : Option TransactionLocator) → broken c ≡ false → storeInOrder c s ≡ true → nextFinal c s after ≡ answered (leastFinal c (blocksOf s) after)
+pub next-answers : (c : Committee) (s : Bytes) (after : Option TransactionLocator) → broken c ≡ false → storeInOrder c s ≡ true → nextFinal c s after ≡
+    answered (leastFinal c (blocksOf s) after)
 unfolding nextFinal nextFinalChecks checked passes refusal allOf
 next-answers c s after b h = rw (b, h)
 
@@ -63,7 +65,8 @@ module _ (test : TransactionLocator → Bool) where
   nothing-left after r (least l f k g) = absurd (in-empty (r l .1 (f, k)))
   nothing-left after r (nothing g) = refl
 
-  first-left : (after : Option TransactionLocator) (l : TransactionLocator) {ls : List TransactionLocator} → ((m : TransactionLocator) → m ∈ ls → locatorBefore l m ≡ true) → Rest after (l ∷ ls)
+  first-left : (after : Option TransactionLocator) (l : TransactionLocator) {ls : List TransactionLocator} →
+      ((m : TransactionLocator) → m ∈ ls → locatorBefore l m ≡ true) → Rest after (l ∷ ls)
       → {o : Option TransactionLocator} → LeastOf test after o → o ≡ some l
   unfolding Rest
   first-left after l {ls} h r (least x f k g) = split (in-cases (r x .1 (f, k)))
@@ -73,7 +76,8 @@ module _ (test : TransactionLocator → Bool) where
       split (inr m) = let q = r l .0 here in absurd (not-both (h x m) (g l (q .0) (q .1)))
   first-left after l h r (nothing g) = let q = r l .0 here in absurd (not-both (q .0) (g l (q .1)))
 
-  tail-left : (after : Option TransactionLocator) (l : TransactionLocator) {ls : List TransactionLocator} → ((m : TransactionLocator) → m ∈ ls → locatorBefore l m ≡ true) → Rest after (l ∷ ls) → Rest (some l) ls
+  tail-left : (after : Option TransactionLocator) (l : TransactionLocator) {ls : List TransactionLocator} →
+      ((m : TransactionLocator) → m ∈ ls → locatorBefore l m ≡ true) → Rest after (l ∷ ls) → Rest (some l) ls
   unfolding Rest isAfter
   tail-left after l {ls} h r m = (λ k. (r m .0 (there k) .0, h m k), λ q. back q (in-cases (r m .1 (q .0, later-after after l m (r l .0 here .1) (q .1)))))
     where
@@ -85,7 +89,8 @@ module _ (test : TransactionLocator → Bool) where
   asked-of : (next : Option TransactionLocator → Answer (Option TransactionLocator)) (found : Option TransactionLocator → Option TransactionLocator)
       → ((after : Option TransactionLocator) → next after ≡ answered (found after)) → ((after : Option TransactionLocator) → LeastOf test after (found after))
       → (after : Option TransactionLocator) {ls : List TransactionLocator} → Ascending ls → Rest after ls → AskedOf next after ls
-  asked-of next found answers finds after none-left r = done (answers after ∙ ap {B = Answer (Option TransactionLocator)} answered (nothing-left after r (finds after)))
+  asked-of next found answers finds after none-left r = done (answers after ∙ ap {B = Answer (Option TransactionLocator)} answered
+      (nothing-left after r (finds after)))
   asked-of next found answers finds after (and-then {l = l} k a) r =
       onward {l = l} (answers after ∙ ap {B = Answer (Option TransactionLocator)} answered (first-left after l k r (finds after)))
       (asked-of next found answers finds (some l) a (tail-left after l k r))
@@ -100,7 +105,8 @@ module _ (test : TransactionLocator → Bool) where
 -- 01: "asked on from the start until none, it gives the final list"
 pub asked-on : (c : Committee) (s : Bytes) → broken c ≡ false → storeInOrder c s ≡ true → FinalList c s (finalList c (blocksOf s))
 asked-on c s b h =
-    asked-all (isFinal c (blocksOf s)) (nextFinal c s) (leastFinal c (blocksOf s)) (λ after. next-answers c s after b h) (λ after. least-final c (blocksOf s) after)
+    asked-all (isFinal c (blocksOf s)) (nextFinal c s) (leastFinal c (blocksOf s)) (λ after. next-answers c s after b h)
+    (λ after. least-final c (blocksOf s) after)
     (final-list-ascending c (blocksOf s)) (λ l. final-list-in c (blocksOf s) l)
 
 -- the question gives one list

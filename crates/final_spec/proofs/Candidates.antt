@@ -58,7 +58,8 @@ votes-below bs l no-start v = at-offset (l .offset) refl
     never e d m (starting k) = no-start d m k
     never e d m (going-on p f u) = omega arith
 
-    at-offset : (n : ℕ) → l .offset ≡ n → (o : ℕ) × (suc o ≡ l .offset) × ((d : Block) → d ∈ bs → votesFor d l ≡ true → votesFor d (locator (l .block) o) ≡ true)
+    at-offset : (n : ℕ) → l .offset ≡ n → (o : ℕ) × (suc o ≡ l .offset) ×
+        ((d : Block) → d ∈ bs → votesFor d l ≡ true → votesFor d (locator (l .block) o) ≡ true)
     at-offset zero e = absurd (never e (v .block) (v .stands) (begins (v .block) l (v .votes)))
     at-offset (suc o) e = (o, sym e, λ d m u. voted d o (sym e) m (begins d l u))
 
@@ -74,7 +75,13 @@ module _ (c : Committee) (bs : List Block) (after : Option TransactionLocator) w
   stepped : (l : TransactionLocator) → (l ∈ candidates bs after → ⊥) → isFinal c bs l ≡ true → isAfter after l ≡ true → JustBefore (isFinal c bs) after l
   stepped l none-there f h =
       let r = votes-below bs l (λ d m k. none-there (start-candidate m k)) (final-votes c bs l f) in
-      record { offset = r .0; next = r .1; holds = final-mono c bs l (locator (l .block) (r .0)) (r .2) f; later = after-below after l (r .0) (r .1) (λ k. none-there (just-candidate k)) h }
+      record {
+        offset = r .0;
+        next = r .1;
+        holds = final-mono c bs l (locator (l .block) (r .0)) (r .2) f;
+        later = after-below after l (r .0) (r .1)
+            (λ k. none-there (just-candidate k)) h;
+      }
 
   -- what is computed is the least final locator after the given one
   pub least-final : LeastFinal c bs after (leastFinal c bs after)

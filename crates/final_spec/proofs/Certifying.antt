@@ -38,7 +38,8 @@ placed-count p e [] = refl
 placed-count p e (d ∷ ds) = split (referenceBefore (referenceOf e) (referenceOf d)) (p d) (p e) refl refl (placed-count p e ds)
   where
     split : (t u v : Bool) → p d ≡ u → p e ≡ v → length (keep p (placed e ds)) ≡ length (pick v (e ∷ keep p ds) (keep p ds))
-        → length (keep p (pick t (e ∷ d ∷ ds) (d ∷ placed e ds))) ≡ length (pick v (e ∷ pick u (d ∷ keep p ds) (keep p ds)) (pick u (d ∷ keep p ds) (keep p ds)))
+        → length (keep p (pick t (e ∷ d ∷ ds) (d ∷ placed e ds))) ≡ length
+        (pick v (e ∷ pick u (d ∷ keep p ds) (keep p ds)) (pick u (d ∷ keep p ds) (keep p ds)))
     split true u v a b ih = rw (a, b)
     split false true true a b ih = rw a (ap suc ih)
     split false true false a b ih = rw a (ap suc ih)
@@ -49,7 +50,8 @@ unfolding ascending keep
 ascending-count p [] = refl
 ascending-count p (e ∷ es) = placed-count p e (ascending es) ∙ split (p e) (ascending-count p es)
   where
-    split : (t : Bool) → length (keep p (ascending es)) ≡ length (keep p es) → length (pick t (e ∷ keep p (ascending es)) (keep p (ascending es))) ≡ length (pick t (e ∷ keep p es) (keep p es))
+    split : (t : Bool) → length (keep p (ascending es)) ≡ length (keep p es) → length (pick t (e ∷ keep p (ascending es)) (keep p (ascending es))) ≡ length
+        (pick t (e ∷ keep p es) (keep p es))
     split true ih = ap suc ih
     split false ih = ih
 
@@ -59,7 +61,8 @@ entries-count p [] = refl
 entries-count p (r ∷ rs) = split (p (r .block)) (entries-count p rs)
   where
     split : (t : Bool) → length (keep (λ e. p (e .block)) (entries rs)) ≡ length (keep p (blocks rs))
-        → length (pick t (record { position = usedBy rs; bytes = r .bytes; block = r .block } ∷ keep (λ e. p (e .block)) (entries rs)) (keep (λ e. p (e .block)) (entries rs))) ≡ length (pick t (r .block ∷ keep p (blocks rs)) (keep p (blocks rs)))
+        → length (pick t (record { position = usedBy rs; bytes = r .bytes; block = r .block } ∷ keep (λ e. p (e .block)) (entries rs))
+        (keep (λ e. p (e .block)) (entries rs))) ≡ length (pick t (r .block ∷ keep p (blocks rs)) (keep p (blocks rs)))
     split true ih = ap suc ih
     split false ih = ih
 
@@ -67,7 +70,8 @@ certifying-count : (c : Committee) (s : Bytes) (l : TransactionLocator) → leng
 unfolding certifyingPositions certifiers blocksOf
 certifying-count c s l =
     let p : (Entry → Bool) = λ e. certifies c (blocksOf s) l (e .block) in
-    length-map (keep p (ascending (entries (recordsOf s)))) (λ e. e .position) ∙ ascending-count p (entries (recordsOf s)) ∙ entries-count (certifies c (blocksOf s) l) (recordsOf s)
+    length-map (keep p (ascending (entries (recordsOf s)))) (λ e. e .position) ∙ ascending-count p (entries (recordsOf s)) ∙ entries-count
+    (certifies c (blocksOf s) l) (recordsOf s)
 
 pub certifying-meant : (c : Committee) (s : Bytes) (l : TransactionLocator) → storeInOrder c s ≡ true → CertifyingMeant c s l
 unfolding certifyingPositions

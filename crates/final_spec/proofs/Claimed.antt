@@ -35,7 +35,12 @@ known-authors c (r ∷ rs) h b (there m) = known-authors c rs (and-right (passes
 
 pub small-authors : (c : Committee) (bs : List Block) → Stored c bs → (b : Block) → b ∈ bs → author b < 128
 small-authors c bs h b m =
-    omega (arith, few-members c (h .sound), known-below c (author b) (known-authors c (h .records) (h .accepted) b (subst (λ (ds : List Block). b ∈ ds) (h .blocks) m)))
+    omega (
+      arith,
+      few-members c (h .sound),
+      known-below c (author b)
+          (known-authors c (h .records) (h .accepted) b (subst (λ (ds : List Block). b ∈ ds) (h .blocks) m)),
+    )
 
 -- ---- the claims
 

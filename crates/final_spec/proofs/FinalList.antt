@@ -23,15 +23,18 @@ use Rattle.final_spec.proofs.Finals.{is-final-order}
 
 pub data Ascending : List TransactionLocator → Type 0 where
   none-left : Ascending []
-  and-then : {l : TransactionLocator} {ls : List TransactionLocator} → ((m : TransactionLocator) → m ∈ ls → locatorBefore l m ≡ true) → Ascending ls → Ascending (l ∷ ls)
+  and-then : {l : TransactionLocator} {ls : List TransactionLocator} → ((m : TransactionLocator) → m ∈ ls → locatorBefore l m ≡ true) → Ascending ls →
+      Ascending (l ∷ ls)
 
 -- ascending lists with the same elements are equal
-pub ascending-unique : {xs ys : List TransactionLocator} → Ascending xs → Ascending ys → ((x : TransactionLocator) → x ∈ xs → x ∈ ys) → ((x : TransactionLocator) → x ∈ ys → x ∈ xs) → xs ≡ ys
+pub ascending-unique : {xs ys : List TransactionLocator} → Ascending xs → Ascending ys → ((x : TransactionLocator) → x ∈ xs → x ∈ ys) →
+    ((x : TransactionLocator) → x ∈ ys → x ∈ xs) → xs ≡ ys
 ascending-unique none-left none-left f g = refl
 ascending-unique none-left (and-then {l = y} k b) f g = absurd (in-empty (g y here))
 ascending-unique (and-then {l = x} h a) none-left f g = absurd (in-empty (f x here))
 ascending-unique (and-then {l = x} {ls = xs} h a) (and-then {l = y} {ls = ys} k b) f g =
-    ap₂ {C = List TransactionLocator} (λ z zs. z ∷ zs) heads (ascending-unique a b (λ z m. later h heads z m (in-cases (f z (there m)))) (λ z m. later k (sym heads) z m (in-cases (g z (there m)))))
+    ap₂ {C = List TransactionLocator} (λ z zs. z ∷ zs) heads (ascending-unique a b (λ z m. later h heads z m (in-cases (f z (there m))))
+    (λ z m. later k (sym heads) z m (in-cases (g z (there m)))))
   where
     first : (x ≡ y) ⊎ (x ∈ ys) → (y ≡ x) ⊎ (y ∈ xs) → x ≡ y
     first (inl e) n = e
@@ -41,7 +44,8 @@ ascending-unique (and-then {l = x} {ls = xs} h a) (and-then {l = y} {ls = ys} k 
     heads : x ≡ y
     heads = first (in-cases (f x here)) (in-cases (g y here))
 
-    later : {p q : TransactionLocator} {ps qs : List TransactionLocator} → ((m : TransactionLocator) → m ∈ ps → locatorBefore p m ≡ true) → p ≡ q → (z : TransactionLocator) → z ∈ ps → (z ≡ q) ⊎ (z ∈ qs) → z ∈ qs
+    later : {p q : TransactionLocator} {ps qs : List TransactionLocator} → ((m : TransactionLocator) → m ∈ ps → locatorBefore p m ≡ true) → p ≡ q →
+        (z : TransactionLocator) → z ∈ ps → (z ≡ q) ⊎ (z ∈ qs) → z ∈ qs
     later {p} before-all e z m (inl d) = absurd (locator-irrefl p (rw (d ∙ sym e) at (before-all z m)))
     later before-all e z m (inr n) = n
 
@@ -90,7 +94,8 @@ placed-in l x (m ∷ ms) k = split (locatorBefore l m) (sameLocator l m) (λ j. 
     placed ih (inl e) = inr (in-first e)
     placed ih (inr j) = onward (ih j)
 
-    split : (t u : Bool) → (x ∈ placedLocator l ms → (x ≡ l) ⊎ (x ∈ ms)) → x ∈ pick t (l ∷ m ∷ ms) (pick u (m ∷ ms) (m ∷ placedLocator l ms)) → (x ≡ l) ⊎ (x ∈ (m ∷ ms))
+    split : (t u : Bool) → (x ∈ placedLocator l ms → (x ≡ l) ⊎ (x ∈ ms)) → x ∈ pick t (l ∷ m ∷ ms) (pick u (m ∷ ms) (m ∷ placedLocator l ms)) → (x ≡ l) ⊎
+        (x ∈ (m ∷ ms))
     split true u ih j = in-cases j
     split false true ih j = inr j
     split false false ih j = placed ih (in-cases j)
@@ -112,7 +117,8 @@ placed-ascending l (and-then {l = m} {ls = ms} h a) = split (locatorBefore l m) 
     back t x (inl e) = rw e t
     back t x (inr k) = h x k
 
-    split : (t u : Bool) → locatorBefore l m ≡ t → sameLocator l m ≡ u → Ascending (placedLocator l ms) → Ascending (pick t (l ∷ m ∷ ms) (pick u (m ∷ ms) (m ∷ placedLocator l ms)))
+    split : (t u : Bool) → locatorBefore l m ≡ t → sameLocator l m ≡ u → Ascending (placedLocator l ms) → Ascending
+        (pick t (l ∷ m ∷ ms) (pick u (m ∷ ms) (m ∷ placedLocator l ms)))
     split true u t e b = and-then (λ x k. front t x (in-cases k)) (and-then h a)
     split false true t e b = and-then h a
     split false false t e b = and-then (λ x k. back (turned t e (holds-or-not (locatorBefore m l))) x (placed-in l x ms k)) b

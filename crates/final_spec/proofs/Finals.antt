@@ -34,7 +34,8 @@ voter-grows f g b a v =
       authored = v .authored;
     }
 
-pub final-grows : (c : Committee) {bs cs : List Block} → ((x : Block) → x ∈ bs → x ∈ cs) → {l m : TransactionLocator} → ((d : Block) → d ∈ bs → VotesFor d l → VotesFor d m)
+pub final-grows : (c : Committee) {bs cs : List Block} → ((x : Block) → x ∈ bs → x ∈ cs) → {l m : TransactionLocator} →
+    ((d : Block) → d ∈ bs → VotesFor d l → VotesFor d m)
     → Final c bs l → Final c cs m
 final-grows c {bs} {cs} f {l} {m} g =
     quorum-mono c (Certificate c bs l) (Certificate c cs m) (λ a k.
@@ -69,7 +70,8 @@ module _ (c : Committee) {bs : List Block} (w : WellStored bs) (l : TransactionL
   unfolding certifiers
   certificate-in a k =
       member-setOf (map author (certifiers c bs l)) a
-      ∙ in-any (eqb a) (in-map author (in-keep (certifies c bs l) bs (k .stored) (true-certifies (k .block) (k .stored) (k .unmarked) (k .quorum)))) (eq-eqb a (author (k .block)) (sym (k .authored)))
+      ∙ in-any (eqb a) (in-map author (in-keep (certifies c bs l) bs (k .stored) (true-certifies (k .block) (k .stored) (k .unmarked) (k .quorum))))
+      (eq-eqb a (author (k .block)) (sym (k .authored)))
 
   in-certificate : (a : AuthorityIndex) → member (setOf (map author (certifiers c bs l))) a ≡ true → Certificate c bs l a
   unfolding certifiers
@@ -93,7 +95,8 @@ module _ (c : Committee) {bs : List Block} (w : WellStored bs) (l : TransactionL
   final-iff = (final-is, is-final)
 
 -- order: the computed answer depends on which blocks are stored alone
-pub is-final-order : (c : Committee) {bs cs : List Block} → WellStored bs → WellStored cs → ((x : Block) → x ∈ bs ↔ x ∈ cs) → (l : TransactionLocator) → isFinal c bs l ≡ isFinal c cs l
+pub is-final-order : (c : Committee) {bs cs : List Block} → WellStored bs → WellStored cs → ((x : Block) → x ∈ bs ↔ x ∈ cs) → (l : TransactionLocator) →
+    isFinal c bs l ≡ isFinal c cs l
 is-final-order c {bs} {cs} v w same-blocks l =
     let e = final-order c bs cs l same-blocks in
     same-test (isFinal c bs l) (isFinal c cs l) (λ h. is-final c w l (e .0 (final-is c v l h))) (λ h. is-final c v l (e .1 (final-is c w l h)))

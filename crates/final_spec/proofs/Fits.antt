@@ -16,4 +16,5 @@ unfolding blocksOf
 block-fits s bytes b m =
     let r = map-in (λ x. x .block) (recordsOf s) m in
     subst BlockFits (r .2)
-    (blockOf-fits (r .0 .bytes) (r .0 .block) (every-in (recordsOf s) (r .0) (recordsOf-bytes s bytes) (r .1)) (right-block (r .0) (every-in (recordsOf s) (r .0) (recordsOf-right s) (r .1))))
+    (blockOf-fits (r .0 .bytes) (r .0 .block) (every-in (recordsOf s) (r .0) (recordsOf-bytes s bytes) (r .1))
+    (right-block (r .0) (every-in (recordsOf s) (r .0) (recordsOf-right s) (r .1))))

@@ -27,10 +27,12 @@ pub record VoteAmong (bs : List Block) (l : TransactionLocator) : Type 0 where
 
 -- every locator with a voter has a vote
 pub voter-votes : (bs : List Block) (l : TransactionLocator) (r : BlockReference) (a : AuthorityIndex) → member (voters bs l r) a ≡ true → VoteAmong bs l
-voter-votes bs l r a h = let s = spoken-among ownVote bs l r a h in record { block = s .block; stands = s .stands; votes = own-votes (s .block) l a (s .heard) .0 }
+voter-votes bs l r a h = let s = spoken-among ownVote bs l r a h in record
+    { block = s .block; stands = s .stands; votes = own-votes (s .block) l a (s .heard) .0 }
 
 -- where every vote for l is one for m too, so is every voter
-pub voters-mono : (l m : TransactionLocator) (bs : List Block) → ((d : Block) → d ∈ bs → votesFor d l ≡ true → votesFor d m ≡ true) → (r : BlockReference) (a : AuthorityIndex)
+pub voters-mono : (l m : TransactionLocator) (bs : List Block) → ((d : Block) → d ∈ bs → votesFor d l ≡ true → votesFor d m ≡ true) → (r : BlockReference)
+    (a : AuthorityIndex)
     → member (voters bs l r) a ≡ true → member (voters bs m r) a ≡ true
 voters-mono l m bs f r a h = spoken-mono ownVote l m bs own r a h
   where
@@ -52,13 +54,15 @@ module _ (c : Committee) (bs : List Block) (l m : TransactionLocator) (f : (d : 
       more-quorum c (stakeOf c (setOf (map author (certifiers c bs l)))) (stakeOf c (setOf (map author (certifiers c bs m))))
       (stake-mono c (setOf (map author (certifiers c bs l))) (setOf (map author (certifiers c bs m))) authors) h
     where
-      authors : (a : AuthorityIndex) → a < length c → member (setOf (map author (certifiers c bs l))) a ≡ true → member (setOf (map author (certifiers c bs m))) a ≡ true
+      authors : (a : AuthorityIndex) → a < length c → member (setOf (map author (certifiers c bs l))) a ≡ true → member
+          (setOf (map author (certifiers c bs m))) a ≡ true
       authors a k e =
           let x = any-in (eqb a) (map author (certifiers c bs l)) (sym (member-setOf (map author (certifiers c bs l)) a) ∙ e) in
           let b = map-in author (certifiers c bs l) (x .1) in
           let s = keep-in (certifies c bs l) bs (b .1) in
           member-setOf (map author (certifiers c bs m)) a
-          ∙ in-any (eqb a) (in-map author (in-keep (certifies c bs m) bs (s .0) (certifies-mono (b .0) (s .1)))) (ap (λ (n : AuthorityIndex). eqb a n) (b .2) ∙ x .2)
+          ∙ in-any (eqb a) (in-map author (in-keep (certifies c bs m) bs (s .0) (certifies-mono (b .0) (s .1))))
+          (ap (λ (n : AuthorityIndex). eqb a n) (b .2) ∙ x .2)
 
 -- a final locator has a vote
 pub final-votes : (c : Committee) (bs : List Block) (l : TransactionLocator) → isFinal c bs l ≡ true → VoteAmong bs l

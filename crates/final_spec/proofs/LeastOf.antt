@@ -17,7 +17,8 @@ use Rattle.final_spec.specs.NextFinal.{isAfter, LeastOf, least, nothing,
 use Rattle.final_spec.proofs.Least.{Least, one-of, no-one, least-locator}
 
 -- one offset earlier is still after the given locator, but for the one just after it
-pub after-below : (after : Option TransactionLocator) (l : TransactionLocator) (o : ℕ) → suc o ≡ l .offset → (l ∈ justAfter after → ⊥) → isAfter after l ≡ true → isAfter after (locator (l .block) o) ≡ true
+pub after-below : (after : Option TransactionLocator) (l : TransactionLocator) (o : ℕ) → suc o ≡ l .offset → (l ∈ justAfter after → ⊥) → isAfter after l ≡
+    true → isAfter after (locator (l .block) o) ≡ true
 unfolding isAfter justAfter locator
 after-below none l o e no-just h = refl
 after-below (some m) l o e no-just h = is-before m (locator (l .block) o) (split (precedes m l h))
@@ -52,7 +53,8 @@ record Below (test : TransactionLocator → Bool) (after : Option TransactionLoc
 -- where the test holds at no other locator than the places without holding just before it
 module _ (test : TransactionLocator → Bool) (after : Option TransactionLocator) (places : List TransactionLocator)
     (step : (l : TransactionLocator) → (l ∈ places → ⊥) → test l ≡ true → isAfter after l ≡ true → JustBefore test after l) where
-  one-step : (l : TransactionLocator) → ((o : ℕ) → suc o ≡ l .offset → test (locator (l .block) o) ≡ true → isAfter after (locator (l .block) o) ≡ true → Below test after places (locator (l .block) o))
+  one-step : (l : TransactionLocator) → ((o : ℕ) → suc o ≡ l .offset → test (locator (l .block) o) ≡ true → isAfter after (locator (l .block) o) ≡ true →
+      Below test after places (locator (l .block) o))
       → test l ≡ true → isAfter after l ≡ true → Below test after places l
   unfolding locator
   one-step l ih f h = split (holds-or-not (anyOf (sameLocator l) places))
@@ -79,7 +81,8 @@ module _ (test : TransactionLocator → Bool) (after : Option TransactionLocator
   place-below (suc n) l e = one-step l (λ o k. place-below n (locator (l .block) o) (suc-inj (k ∙ e)))
 
   -- a place no later than l comes before what l comes before
-  still-before : {l : TransactionLocator} (m : TransactionLocator) (b : Below test after places l) → locatorBefore l m ≡ true → locatorBefore (b .place) m ≡ true
+  still-before : {l : TransactionLocator} (m : TransactionLocator) (b : Below test after places l) → locatorBefore l m ≡ true → locatorBefore (b .place) m ≡
+      true
   still-before {l} m b h = is-before (b .place) m (split (precedes l m h))
     where
       split : Precedes l m → Precedes (b .place) m
@@ -101,17 +104,20 @@ module _ (test : TransactionLocator → Bool) (after : Option TransactionLocator
   least-among = least-of (least-locator (keep (λ x. isAfter after x && test x) places))
 
 -- there is one least, of one test or of two that say the same
-pub least-once : (p q : TransactionLocator → Bool) → ((l : TransactionLocator) → p l ≡ q l) → (after : Option TransactionLocator) {o u : Option TransactionLocator}
+pub least-once : (p q : TransactionLocator → Bool) → ((l : TransactionLocator) → p l ≡ q l) → (after : Option TransactionLocator)
+    {o u : Option TransactionLocator}
     → LeastOf p after o → LeastOf q after u → o ≡ u
 least-once p q e after (least l f h a) (least m g k b) = ap {B = Option TransactionLocator} some (locator-total l m (b l (sym (e l) ∙ f) h) (a m (e m ∙ g) k))
 least-once p q e after (least l f h a) (nothing b) = absurd (not-both (sym (e l) ∙ f) (b l h))
 least-once p q e after (nothing a) (least m g k b) = absurd (not-both (e m ∙ g) (a m k))
 least-once p q e after (nothing a) (nothing b) = refl
 
-pub one-least : (test : TransactionLocator → Bool) (after : Option TransactionLocator) {o u : Option TransactionLocator} → LeastOf test after o → LeastOf test after u → o ≡ u
+pub one-least : (test : TransactionLocator → Bool) (after : Option TransactionLocator) {o u : Option TransactionLocator} → LeastOf test after o → LeastOf test
+    after u → o ≡ u
 one-least test = least-once test test (λ l. refl)
 
 -- the test holds of it
-pub least-holds : (test : TransactionLocator → Bool) (after : Option TransactionLocator) (l : TransactionLocator) {o : Option TransactionLocator} → LeastOf test after o → o ≡ some l → test l ≡ true
+pub least-holds : (test : TransactionLocator → Bool) (after : Option TransactionLocator) (l : TransactionLocator) {o : Option TransactionLocator} → LeastOf
+    test after o → o ≡ some l → test l ≡ true
 least-holds test after l (least x f h g) e = subst (λ (y : TransactionLocator). test y ≡ true) (Option·some-injective x l e) f
 least-holds test after l (nothing g) e = absurd (Option·none-ne-some l e)

@@ -39,7 +39,8 @@ member-unions (v ∷ vs) a = rw (member-united v (unions vs) a, member-unions vs
 
 module _ (own : Speech) where
   together : (b : Block) (older : List Block) (l : TransactionLocator) (a : AuthorityIndex)
-      → member (united (own b l) (unions (map (spoken own older l) (b .includes)))) a ≡ member (own b l) a || anyOf (λ v. member v a) (map (spoken own older l) (b .includes))
+      → member (united (own b l) (unions (map (spoken own older l) (b .includes)))) a ≡ member (own b l) a || anyOf (λ v. member v a)
+      (map (spoken own older l) (b .includes))
   together b older l a =
       member-united (own b l) (unions (map (spoken own older l) (b .includes))) a
       ∙ ap (λ (t : Bool). member (own b l) a || t) (member-unions (map (spoken own older l) (b .includes)) a)
@@ -84,7 +85,8 @@ module _ (own : Speech) where
         let v = ih (d .0) (d .1) counted in
         record {
           speaking = v .speaking;
-          ancestor = included here (subst (λ (r : BlockReference). r ∈ h .includes) (sym (d .2)) (i .1)) (ancestor-grows (λ x m. there m) {d = v .speaking} (v .ancestor));
+          ancestor = included here (subst (λ (r : BlockReference). r ∈ h .includes) (sym (d .2)) (i .1))
+              (ancestor-grows (λ x m. there m) {d = v .speaking} (v .ancestor));
           heard = v .heard;
         }
 
@@ -109,14 +111,17 @@ module _ (own : Speech) where
       record { speaking = k .speaking; ancestor = ancestor-grows (λ x j. there j) {d = k .speaking} (k .ancestor); heard = k .heard }
 
   -- the step: a stored block's set is its own with its includes', all over the same blocks
-  pub spoken-step : {bs : List Block} → WellStored bs → (l : TransactionLocator) (b : Block) → b ∈ bs → spoken own bs l (b .reference) ≡ united (own b l) (unions (map (spoken own bs l) (b .includes)))
+  pub spoken-step : {bs : List Block} → WellStored bs → (l : TransactionLocator) (b : Block) → b ∈ bs → spoken own bs l (b .reference) ≡ united (own b l)
+      (unions (map (spoken own bs l) (b .includes)))
   spoken-step fresh l b m = absurd (in-empty m)
   spoken-step (stored {b = h} {older = older} new found w) l b here =
       newest-set h older new found w l 0
-      ∙ ap (λ (vs : List AuthoritySet). united (own h l) (unions vs)) (map-same (spoken own older l) (spoken own (h ∷ older) l) (h .includes) (λ i m. older-set h older new found w l 0 i (found i m)))
+      ∙ ap (λ (vs : List AuthoritySet). united (own h l) (unions vs))
+      (map-same (spoken own older l) (spoken own (h ∷ older) l) (h .includes) (λ i m. older-set h older new found w l 0 i (found i m)))
   spoken-step (stored {b = h} {older = older} new found w) l b (there m) =
       others h older new found w l 0 b m ∙ spoken-step w l b m
-      ∙ ap (λ (vs : List AuthoritySet). united (own b l) (unions vs)) (map-same (spoken own older l) (spoken own (h ∷ older) l) (b .includes) (λ i k. older-set h older new found w l 0 i (include-stored w m i k)))
+      ∙ ap (λ (vs : List AuthoritySet). united (own b l) (unions vs))
+      (map-same (spoken own older l) (spoken own (h ∷ older) l) (b .includes) (λ i k. older-set h older new found w l 0 i (include-stored w m i k)))
 
   -- 01: "they depend on that ancestry alone": where a block's ancestry among bs is stored among cs
   pub spoken-agree : {bs cs : List Block} → WellStored bs → WellStored cs → (b : Block) → b ∈ bs → ((x : Block) → Ancestor bs x b → x ∈ cs)
@@ -141,7 +146,8 @@ module _ (own : Speech) where
   spoken-small [] l f r = small-nobody
   spoken-small (b ∷ older) l f r =
       split (sameReference (b .reference) r)
-      (small-united (own b l) (unions (map (spoken own older l) (b .includes))) (f b here) (together (b .includes) (spoken-small older l (λ x m. f x (there m)))))
+      (small-united (own b l) (unions (map (spoken own older l) (b .includes))) (f b here)
+      (together (b .includes) (spoken-small older l (λ x m. f x (there m)))))
       (spoken-small older l (λ x m. f x (there m)) r)
     where
       together : (is : List BlockReference) → ((i : BlockReference) → Small (spoken own older l i)) → Small (unions (map (spoken own older l) is))
@@ -157,12 +163,14 @@ module _ (own : Speech) where
       → ((x : Block) → x ∈ bs → Small (own x l)) → ((x : Block) → x ∈ cs → Small (own x l))
       → (b : Block) → b ∈ bs → ((x : Block) → Ancestor bs x b → x ∈ cs) → spoken own bs l (b .reference) ≡ spoken own cs l (b .reference)
   spoken-equal {bs} {cs} v w l f g b m h =
-      set-ext (spoken own bs l (b .reference)) (spoken own cs l (b .reference)) (spoken-small bs l f (b .reference)) (spoken-small cs l g (b .reference)) (λ a k. spoken-agree v w b m h l a)
+      set-ext (spoken own bs l (b .reference)) (spoken own cs l (b .reference)) (spoken-small bs l f (b .reference)) (spoken-small cs l g (b .reference))
+      (λ a k. spoken-agree v w b m h l a)
 
   -- ---- over any list of blocks: nothing is asked of how they are stored
 
   -- who is heard is heard from a block
-  pub spoken-among : (bs : List Block) (l : TransactionLocator) (r : BlockReference) (a : AuthorityIndex) → member (spoken own bs l r) a ≡ true → SpokenAmong own bs l a
+  pub spoken-among : (bs : List Block) (l : TransactionLocator) (r : BlockReference) (a : AuthorityIndex) → member (spoken own bs l r) a ≡ true → SpokenAmong
+      own bs l a
   unfolding spoken
   spoken-among [] l r a h = absurd (not-both h (member-nobody a))
   spoken-among (b ∷ older) l r a h = split (sameReference (b .reference) r) (λ i k. spoken-among older l i a k) h
@@ -179,12 +187,14 @@ module _ (own : Speech) where
           later (ih (i .0) (ap (λ (v : AuthoritySet). member v a) (i .2) ∙ s .2))
 
       split : (t : Bool) → ((i : BlockReference) → member (spoken own older l i) a ≡ true → SpokenAmong own older l a)
-          → member (pick t (united (own b l) (unions (map (spoken own older l) (b .includes)))) (spoken own older l r)) a ≡ true → SpokenAmong own (b ∷ older) l a
+          → member (pick t (united (own b l) (unions (map (spoken own older l) (b .includes)))) (spoken own older l r)) a ≡ true → SpokenAmong own (b ∷ older)
+          l a
       split true ih k = newest-one ih (or-cases (member (own b l) a) _ (sym (together b older l a) ∙ k))
       split false ih k = later (ih r k)
 
   -- where every block speaks at m for those for whom it speaks at l, so do all together
-  pub spoken-mono : (l m : TransactionLocator) (bs : List Block) → ((d : Block) → d ∈ bs → (a : AuthorityIndex) → member (own d l) a ≡ true → member (own d m) a ≡ true)
+  pub spoken-mono : (l m : TransactionLocator) (bs : List Block) →
+      ((d : Block) → d ∈ bs → (a : AuthorityIndex) → member (own d l) a ≡ true → member (own d m) a ≡ true)
       → (r : BlockReference) (a : AuthorityIndex) → member (spoken own bs l r) a ≡ true → member (spoken own bs m r) a ≡ true
   unfolding spoken
   spoken-mono l m [] f r a h = h
@@ -216,7 +226,8 @@ module _ (own : Speech) where
       none-of [] g = refl
       none-of (i ∷ is) g = rw (g i, none-of is g)
 
-      split : (t : Bool) → ((i : BlockReference) → spoken own older l i ≡ nobody) → pick t (united nobody (unions (map (spoken own older l) (b .includes)))) (spoken own older l r) ≡ nobody
+      split : (t : Bool) → ((i : BlockReference) → spoken own older l i ≡ nobody) → pick t (united nobody (unions (map (spoken own older l) (b .includes))))
+          (spoken own older l r) ≡ nobody
       split true g = rw (none-of (b .includes) g)
       split false g = g r
 

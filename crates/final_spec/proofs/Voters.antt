@@ -42,19 +42,27 @@ own-small b l h = split (votesFor b l)
     split false = small-nobody
 
 -- every voter is counted
-pub voter-counted : {bs : List Block} → WellStored bs → (l : TransactionLocator) (a : AuthorityIndex) (b : Block) → b ∈ bs → Voter bs b l a → member (voters bs l (b .reference)) a ≡ true
+pub voter-counted : {bs : List Block} → WellStored bs → (l : TransactionLocator) (a : AuthorityIndex) (b : Block) → b ∈ bs → Voter bs b l a → member
+    (voters bs l (b .reference)) a ≡ true
 voter-counted w l a b m v =
-    speaker-counted ownVote w l a b m (record { speaking = v .voting; ancestor = v .ancestor; heard = votes-own (v .voting) l a (for-votes (v .voting) l (v .votes)) (v .authored) })
+    speaker-counted ownVote w l a b m (record {
+      speaking = v .voting;
+      ancestor = v .ancestor;
+      heard = votes-own (v .voting) l a
+          (for-votes (v .voting) l (v .votes)) (v .authored);
+    })
 
 -- and nobody else is
-pub counted-voter : {bs : List Block} → WellStored bs → (l : TransactionLocator) (a : AuthorityIndex) (b : Block) → b ∈ bs → member (voters bs l (b .reference)) a ≡ true → Voter bs b l a
+pub counted-voter : {bs : List Block} → WellStored bs → (l : TransactionLocator) (a : AuthorityIndex) (b : Block) → b ∈ bs → member
+    (voters bs l (b .reference)) a ≡ true → Voter bs b l a
 counted-voter w l a b m h =
     let s = counted-speaker ownVote w l a b m h in
     let v = own-votes (s .speaking) l a (s .heard) in
     record { voting = s .speaking; ancestor = s .ancestor; votes = votes-for (s .speaking) l (v .0); authored = v .1 }
 
 -- the computed voters of a stored block are its voters
-pub voters-iff : {bs : List Block} → WellStored bs → (l : TransactionLocator) (a : AuthorityIndex) (b : Block) → b ∈ bs → (member (voters bs l (b .reference)) a ≡ true) ↔ Voter bs b l a
+pub voters-iff : {bs : List Block} → WellStored bs → (l : TransactionLocator) (a : AuthorityIndex) (b : Block) → b ∈ bs →
+    (member (voters bs l (b .reference)) a ≡ true) ↔ Voter bs b l a
 voters-iff w l a b m = (counted-voter w l a b m, voter-counted w l a b m)
 
 -- 01: "they depend on that ancestry alone, so two stores agreeing on it agree on them": the same two words

@@ -51,7 +51,8 @@ pub is-spanned : (b : Block) (l : TransactionLocator) → Spanned b l → votesF
 unfolding votesFor
 is-spanned b l r = in-any (λ q. covers q l) (r .stands) (is-covered (r .span) l (r .covering))
 
-pub statement-vote : (b : Block) (l : TransactionLocator) (q : TransactionLocatorRange) (s : Statement) → s ∈ b .statements → votedRange s ≡ some q → Covered q l → VoteIn b l
+pub statement-vote : (b : Block) (l : TransactionLocator) (q : TransactionLocatorRange) (s : Statement) → s ∈ b .statements → votedRange s ≡ some q → Covered
+    q l → VoteIn b l
 unfolding votedRange oneRange newRange
 statement-vote b l q (share p) m e h = absurd (Option·none-ne-some q e)
 statement-vote b l q (accept k) m e h =

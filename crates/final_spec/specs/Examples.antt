@@ -1,4 +1,5 @@
--- Certificates, final locators and lists over blocks: worked examples, and a certificate shown by hand; 01's marked cards stand in crate cards. Assumes nothing: these are definitions.
+-- Certificates, final locators and lists over blocks: worked examples, and a certificate shown by hand; 01's marked cards stand in crate cards.
+-- Assumes nothing: these are definitions.
 use Prim.Native.Nat.{ℕ}
 use mathlib.Core.Path.{_≡_}
 use mathlib.Core.Bool.{Bool, true, false}
@@ -61,7 +62,8 @@ alone = block (ref 0 0 1) false [] (voteRange (newRange (ref 7 9 0) 3 6) ∷ vot
 pub record Examples : Type 0 where
   pub below-marked : members (voters grown the (ref 0 3 0)) ≡ 0 ∷ 1 ∷ 2 ∷ []
   -- two votes of one author count once
-  pub voter-twice : certifies four (top 3 3 false (ref 1 2 1 ∷ ref 1 2 9 ∷ []) ∷ block (ref 1 2 9) false (ref 0 1 5 ∷ []) (accept the ∷ []) ∷ votes) the (top 3 3 false (ref 1 2 1 ∷ ref 1 2 9 ∷ [])) ≡ false
+  pub voter-twice : certifies four (top 3 3 false (ref 1 2 1 ∷ ref 1 2 9 ∷ []) ∷ block (ref 1 2 9) false (ref 0 1 5 ∷ []) (accept the ∷ []) ∷ votes) the
+      (top 3 3 false (ref 1 2 1 ∷ ref 1 2 9 ∷ [])) ≡ false
   -- the other share has no quorum; the first is the only final locator
   pub only-the : finalList four (certified 2 ∷ certified 1 ∷ certified 0 ∷ votes) ≡ the ∷ []
   pub least-the : leastFinal four (certified 2 ∷ certified 1 ∷ certified 0 ∷ votes) none ≡ some the

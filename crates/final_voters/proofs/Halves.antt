@@ -26,7 +26,8 @@ module _ (s : Bytes) (order : List ℕ) (l : TransactionLocator) where
         long = length-replicate {A = ℕ} 6144 0;
         votes = remembers-nothing ownVote (take 3072 zeros) (λ k h. getD-take 3072 zeros (3 * k + 2) 0 (omega (arith, h, few)) ∙ zeros-at 6144 (3 * k + 2));
         rejects = remembers-nothing ownReject (take 3072 (drop 3072 zeros))
-            (λ k h. getD-take 3072 (drop 3072 zeros) (3 * k + 2) 0 (omega (arith, h, few)) ∙ getD-drop 3072 zeros (3 * k + 2) 0 ∙ zeros-at 6144 (3072 + (3 * k + 2)));
+            (λ k h. getD-take 3072 (drop 3072 zeros) (3 * k + 2) 0 (omega (arith, h, few)) ∙ getD-drop 3072 zeros (3 * k + 2) 0 ∙ zeros-at 6144
+            (3072 + (3 * k + 2)));
       }
 
   module _ (memo : List ℕ) (r : RemembersBoth s order l memo) (ys : List ℕ) where

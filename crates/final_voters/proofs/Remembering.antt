@@ -44,7 +44,8 @@ module _ (memo : List ℕ) (k : ℕ) (v : AuthoritySet) where
   unfolding remembered
   others-remembered j ne =
       let z : 3 * j + 0 ≡ 3 * j = omega arith in
-      let e : getD (noted memo k v) (3 * j) 0 ≡ getD memo (3 * j) 0 = subst (λ (x : ℕ). getD (noted memo k v) x 0 ≡ getD memo x 0) z (noted-other j 0 (omega arith) ne) in
+      let e : getD (noted memo k v) (3 * j) 0 ≡ getD memo (3 * j) 0 = subst (λ (x : ℕ). getD (noted memo k v) x 0 ≡ getD memo x 0) z
+      (noted-other j 0 (omega arith) ne) in
       let f = noted-other j 1 (omega arith) ne in
       λ i. record { low = e i; high = f i }
 
@@ -52,7 +53,8 @@ module _ (memo : List ℕ) (k : ℕ) (v : AuthoritySet) where
 
 module _ (own : Speech) (s : Bytes) (order : List ℕ) (l : TransactionLocator) where
   -- what was just found is remembered with the rest
-  pub remembers-more : (memo : List ℕ) (k : ℕ) (v : AuthoritySet) → 3 * k + 2 < length memo → v ≡ spokenAt own s order l k → Remembers own s order l memo → Remembers own s order l (noted memo k v)
+  pub remembers-more : (memo : List ℕ) (k : ℕ) (v : AuthoritySet) → 3 * k + 2 < length memo → v ≡ spokenAt own s order l k → Remembers own s order l memo →
+      Remembers own s order l (noted memo k v)
   unfolding Remembers
   remembers-more memo k v h e r j m t = go (ℕ-discrete j k)
     where
@@ -71,7 +73,8 @@ module _ (f : BlockReference → AuthoritySet) (is : List BlockReference) where
       let g = or-zero-l (u .high) in
       λ i. record { low = e i; high = g i }
 
-  pub unions-on : (j : ℕ) (votes : AuthoritySet) → j < length is → united votes (unions (map f (drop j is))) ≡ united (united votes (f (getD is j noReference))) (unions (map f (drop (j + 1) is)))
+  pub unions-on : (j : ℕ) (votes : AuthoritySet) → j < length is → united votes (unions (map f (drop j is))) ≡ united
+      (united votes (f (getD is j noReference))) (unions (map f (drop (j + 1) is)))
   unfolding unions
   unions-on j votes h = rw (drop-cons is j noReference h, add-one j) (sym (united-assoc votes (f (getD is j noReference)) (unions (map f (drop (suc j) is)))))
 

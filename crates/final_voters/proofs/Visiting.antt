@@ -13,11 +13,13 @@ use Rattle.final_block_votes.specs.Walk.{SortedStore, blockAtPlace}
 use Rattle.final_block_votes.proofs.Sorting.{sorted-well, place-stored}
 use Rattle.final_voters.specs.Walk.{spokenAt, Remembers}
 
-pub record VisitedIncludes (own : Speech) (s : Bytes) (order : List ℕ) (l : TransactionLocator) (k : ℕ) (memo₀ memo : List ℕ) (found : AuthoritySet) (j : ℕ) : Type 0 where
+pub record VisitedIncludes (own : Speech) (s : Bytes) (order : List ℕ) (l : TransactionLocator) (k : ℕ) (memo₀ memo : List ℕ) (found : AuthoritySet) (j : ℕ) :
+    Type 0 where
   pub some-read : j ≤ length (blockAtPlace s order k .includes)
   pub long : length memo ≡ length memo₀
   pub remembers : Remembers own s order l memo
-  pub together : united found (unions (map (spoken own (blocksOf s) l) (drop j (blockAtPlace s order k .includes)))) ≡ unions (map (spoken own (blocksOf s) l) (blockAtPlace s order k .includes))
+  pub together : united found (unions (map (spoken own (blocksOf s) l) (drop j (blockAtPlace s order k .includes)))) ≡ unions
+      (map (spoken own (blocksOf s) l) (blockAtPlace s order k .includes))
 
 -- the step: whom the block itself speaks for, with its includes
 pub place-spoken : (own : Speech) (s : Bytes) (order : List ℕ) (o : SortedStore s order) (k : ℕ) → k < length order → (l : TransactionLocator)

@@ -97,7 +97,8 @@ add-kept c b a n bytes e = by (ℕ-discrete (length b) 24)
         ∙ three-read b bytes h
 
 -- the call, once the stakes are read and the answer is told
-pub call-sound : (stakes b : List ℕ) (a : ℕ) (r : AddAnswer) (n : ℕ) {held out : List ℕ} → held ≡ committeeOf stakes → (numbered (asAddAnswer r) ≡ addOf held b a .answer) × (out ≡ addOf held b a .aggregator)
+pub call-sound : (stakes b : List ℕ) (a : ℕ) (r : AddAnswer) (n : ℕ) {held out : List ℕ} → held ≡ committeeOf stakes →
+    (numbered (asAddAnswer r) ≡ addOf held b a .answer) × (out ≡ addOf held b a .aggregator)
     → n ≡ encoded (numbered (asAddAnswer r)) → (n ≡ encoded (addCall stakes b a .answer)) × (out ≡ addCall stakes b a .aggregator)
 unfolding addCall
 call-sound stakes b a r n h told e = (e ∙ ap encoded (told .0) ∙ rw h, told .1 ∙ rw h)

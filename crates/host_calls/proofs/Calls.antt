@@ -53,7 +53,12 @@ module _ (s : List ℕ) where
   pub call-many : length s % 8 ≡ 0 → 128 < length s / 8 → (t : Bool) → anyOf (λ w. eqb w 0) (wordsOf s) ≡ t → newCommitteeCall s ≡ refused (pick t 2 3)
   unfolding newCommittee committeeChecks checked passes refusal allOf
   call-many h k true e = call-words h ∙ rw (ne-eqb (length (wordsOf s)) 0 (λ z. omega (arith, words-many k)), e)
-  call-many h k false e = call-words h ∙ rw (ne-eqb (length (wordsOf s)) 0 (λ z. omega (arith, words-many k)), e, lt-ltb 128 (length (wordsOf s)) (words-many k))
+  call-many h k false e = call-words h ∙ rw (
+    ne-eqb (length (wordsOf s)) 0 (λ z. omega (arith, words-many k)),
+    e,
+    lt-ltb 128 (length (wordsOf s))
+        (words-many k),
+  )
 
   pub call-held : length s % 8 ≡ 0 → length s / 8 ≤ 128 → newCommitteeCall s ≡ newCommittee (committeeOf s)
   unfolding wordsOf

@@ -22,7 +22,8 @@ use Rattle.store_spec.specs.Accept.{blockChecks}
 use Rattle.store_spec.specs.Store.{recordsOf}
 use Rattle.words.specs.Words.{wordsIn, wordsOf}
 use Rattle.feed_spec.specs.Pending.{pendingChecks}
-use Rattle.feed_spec.specs.Feed.{Lent, lentOf, processed, lentChecks, ruleChecks, acceptChecks, recordChecks, feedChecks, refusedFeed, acceptedFeed, feedRecord, feed}
+use Rattle.feed_spec.specs.Feed.{Lent, lentOf, processed, lentChecks, ruleChecks, acceptChecks, recordChecks, feedChecks, refusedFeed, acceptedFeed, feedRecord}
+use Rattle.feed_spec.specs.Feed.{feed}
 use Rattle.feed_refusals.specs.Refusals.{earlyChecks}
 use Rattle.host_locators.specs.Locators.{refusalBefore}
 use Rattle.host_feed_bytes.specs.Feed.{FeedCall, refusedCall, fedCall, fedWith, feedOf}
@@ -65,7 +66,8 @@ block-ordinary c rs b =
     and (lit< tt, lit< tt) (and (lit< tt, lit< tt) (and (lit< tt, lit< tt)
     (every-append (bodyChecks c b) _
     (every-append (flatten (map (includeChecks c b) (b .includes))) _
-    (every-flatten {P = λ i. Unit {0}} (includeChecks c b) (λ i u. and (lit< tt, lit< tt) (and (lit< tt, lit< tt) none-of)) (b .includes) (every-one (λ i. tt) (b .includes)))
+    (every-flatten {P = λ i. Unit {0}} (includeChecks c b) (λ i u. and (lit< tt, lit< tt) (and (lit< tt, lit< tt) none-of)) (b .includes)
+    (every-one (λ i. tt) (b .includes)))
     (every-append (flatten (map statementChecks (b .statements))) _
     (every-flatten {P = λ s. Unit {0}} statementChecks (λ s u. statement-ordinary s) (b .statements) (every-one (λ s. tt) (b .statements)))
     (and (lit< tt, lit< tt) none-of)))
@@ -115,7 +117,8 @@ work-free c s t w u v rec e = by (readRecord rec)
     by (some r) = rw e
 
 -- the events as bytes
-pub fed-lent : (c : Committee) (s : Bytes) (t w u : List ℕ) (v rec : Bytes) → length w ≡ length t → length v ≡ 65536 → u ≡ wordsIn 8192 v → feed c (lentOf s t w u) rec ≡ fedWith c s t (wordsOf v) rec
+pub fed-lent : (c : Committee) (s : Bytes) (t w u : List ℕ) (v rec : Bytes) → length w ≡ length t → length v ≡ 65536 → u ≡ wordsIn 8192 v → feed c
+    (lentOf s t w u) rec ≡ fedWith c s t (wordsOf v) rec
 unfolding fedWith wordsOf
 fed-lent c s t w u v rec h k e = work-free c s t w t u rec h ∙ rw (e, k)
 
@@ -126,7 +129,8 @@ module _ (c : Committee) (s t v rec : List ℕ) where
   unfolding feedOf
   feed-unsized h = rw (ne-eqb (length t) 49160 h)
 
-  pub feed-eventless : length t ≡ 49160 → (length v ≡ 65536 → ⊥) → feedOf c s t v rec ≡ refusedCall s t v (refusal (earlyChecks c s (wordsIn 6145 t) rec ++ ((true ⇒ 15) ∷ [])))
+  pub feed-eventless : length t ≡ 49160 → (length v ≡ 65536 → ⊥) → feedOf c s t v rec ≡ refusedCall s t v
+      (refusal (earlyChecks c s (wordsIn 6145 t) rec ++ ((true ⇒ 15) ∷ [])))
   unfolding feedOf wordsOf
   feed-eventless h k = rw (eq-eqb (length t) 49160 h, ne-eqb (length v) 65536 k, h)
 
@@ -147,9 +151,17 @@ fed-most c s t v rec n e = by (ℕ-discrete (length t) 49160) (ℕ-discrete (len
         let ks = earlyChecks c s (wordsIn 6145 t) rec ++ ((true ⇒ 15) ∷ []) in
         let f : _≡_ {A = Answer ℕ} (refused (refusal ks)) (refused n) = sym (ap (λ (x : FeedCall). x .answer) (feed-eventless c s t v rec h k)) ∙ e in
         let z : refusal ks ≡ n = cc in
-        omega (arith, most ks (every-append (earlyChecks c s (wordsIn 6145 t) rec) _ (early-ordinary c s (wordsIn 6145 t) rec) (and (lit< tt, lit< tt) none-of)))
+        omega (
+          arith,
+          most ks (every-append (earlyChecks c s (wordsIn 6145 t) rec) _ (early-ordinary c s (wordsIn 6145 t) rec)
+              (and (lit< tt, lit< tt) none-of)),
+        )
     by (yes h) (yes k) =
-        omega (arith, feed-most c (lentOf s (wordsIn 6145 t) (wordsIn 6145 t) (wordsOf v)) rec n (sym (ap (λ (x : FeedCall). x .answer) (feed-sized c s t v rec h k)) ∙ e))
+        omega (
+          arith,
+          feed-most c (lentOf s (wordsIn 6145 t) (wordsIn 6145 t) (wordsOf v)) rec n
+              (sym (ap (λ (x : FeedCall). x .answer) (feed-sized c s t v rec h k)) ∙ e),
+        )
 
 -- ---- 15 comes after 5, 10, 11, 20 to 30
 

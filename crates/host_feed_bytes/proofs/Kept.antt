@@ -36,7 +36,8 @@ words-kept c m rec n e = by (readRecord rec) e
 -- of the bytes
 module _ (c : Committee) (s t v rec : List ℕ) (n : ℕ) where
   -- a refused call that kept what it was lent
-  same-bytes : (k : ℕ) → feedOf c s t v rec ≡ refusedCall s t v k → (feedOf c s t v rec .store ≡ s) × ((feedOf c s t v rec .table ≡ t) × (feedOf c s t v rec .events ≡ v))
+  same-bytes : (k : ℕ) → feedOf c s t v rec ≡ refusedCall s t v k → (feedOf c s t v rec .store ≡ s) ×
+      ((feedOf c s t v rec .table ≡ t) × (feedOf c s t v rec .events ≡ v))
   unfolding refusedCall
   same-bytes k e = (ap (λ (x : FeedCall). x .store) e, (ap (λ (x : FeedCall). x .table) e, ap (λ (x : FeedCall). x .events) e))
 
@@ -46,13 +47,15 @@ module _ (c : Committee) (s t v rec : List ℕ) (n : ℕ) where
       let sized = feed-sized c s t v rec h k in
       let m : Lent = lentOf s (wordsIn 6145 t) (wordsIn 6145 t) (wordsOf v) in
       let whole : wordsOf v ≡ wordsIn 8192 v = rw k in
-      sized ∙ ap fedCall (words-kept c m rec n (sym (ap (λ (x : FeedCall). x .answer) sized) ∙ e)) ∙ rw (bytesOf-wordsIn 6145 t a h, whole, bytesOf-wordsIn 8192 v b k)
+      sized ∙ ap fedCall (words-kept c m rec n (sym (ap (λ (x : FeedCall). x .answer) sized) ∙ e)) ∙ rw
+      (bytesOf-wordsIn 6145 t a h, whole, bytesOf-wordsIn 8192 v b k)
 
   pub fed-kept : AllBytes t → AllBytes v → feedOf c s t v rec .answer ≡ refused n
       → (feedOf c s t v rec .store ≡ s) × ((feedOf c s t v rec .table ≡ t) × (feedOf c s t v rec .events ≡ v))
   fed-kept a b e = by (ℕ-discrete (length t) 49160) (ℕ-discrete (length v) 65536)
     where
-      by : Dec (length t ≡ 49160) → Dec (length v ≡ 65536) → (feedOf c s t v rec .store ≡ s) × ((feedOf c s t v rec .table ≡ t) × (feedOf c s t v rec .events ≡ v))
+      by : Dec (length t ≡ 49160) → Dec (length v ≡ 65536) → (feedOf c s t v rec .store ≡ s) ×
+          ((feedOf c s t v rec .table ≡ t) × (feedOf c s t v rec .events ≡ v))
       by (no h) k = same-bytes _ (feed-unsized c s t v rec h)
       by (yes h) (no k) = same-bytes _ (feed-eventless c s t v rec h k)
       by (yes h) (yes k) = same-bytes n (sized-kept a b h k e)

@@ -31,7 +31,8 @@ use Rattle.host_feed_indexed.specs.IndexedFeed.{IndexedCall, refusedCall
 
 early-below : (c : Committee) (s : Bytes) (t ix : List ℕ) (rec : Bytes) → Below 56 (earlyIndexedChecks c s t ix rec)
 unfolding earlyIndexedChecks indexedLentChecks pendingChecks
-early-below c s t ix rec = and (lit< tt, lit< tt) (and (lit< tt, lit< tt) (and (lit< tt, lit< tt) (and (lit< tt, lit< tt) (ordinary _ (rules-ordinary c s (readRecord rec))))))
+early-below c s t ix rec = and (lit< tt, lit< tt) (and (lit< tt, lit< tt)
+    (and (lit< tt, lit< tt) (and (lit< tt, lit< tt) (ordinary _ (rules-ordinary c s (readRecord rec))))))
 
 -- the events as bytes
 pub fed-lent : (c : Committee) (s : Bytes) (t w u ix : List ℕ) (v rec : Bytes) → length w ≡ length t → length v ≡ 65536 → u ≡ wordsIn 8192 v
@@ -61,23 +62,31 @@ fed-below c s t ix v rec n e = by (ℕ-discrete (length t) 49160) (ℕ-discrete 
   where
     by : Dec (length t ≡ 49160) → Dec (length v ≡ 65536) → n < 56
     by (no h) k =
-        let f : _≡_ {A = Answer ℕ} (refused (refusalBefore 11 c s)) (refused n) = sym (ap (λ (x : IndexedCall). x .answer) (feed-unsized c s t ix v rec h)) ∙ e in
+        let f : _≡_ {A = Answer ℕ} (refused (refusalBefore 11 c s)) (refused n) = sym (ap (λ (x : IndexedCall). x .answer) (feed-unsized c s t ix v rec h)) ∙
+        e in
         let z : refusalBefore 11 c s ≡ n = cc in
         omega (arith, before-most 11 c s (omega arith))
     by (yes h) (no k) =
         let ks = earlyIndexedChecks c s (wordsIn 6145 t) ix rec ++ ((true ⇒ 15) ∷ []) in
         let f : _≡_ {A = Answer ℕ} (refused (refusal ks)) (refused n) = sym (ap (λ (x : IndexedCall). x .answer) (feed-eventless c s t ix v rec h k)) ∙ e in
         let z : refusal ks ≡ n = cc in
-        omega (arith, below 56 (lit< tt) ks (every-append (earlyIndexedChecks c s (wordsIn 6145 t) ix rec) _ (early-below c s (wordsIn 6145 t) ix rec) (and (lit< tt, lit< tt) none-of)))
+        omega (
+          arith,
+          below 56 (lit< tt) ks (every-append (earlyIndexedChecks c s (wordsIn 6145 t) ix rec) _ (early-below c s (wordsIn 6145 t) ix rec)
+              (and (lit< tt, lit< tt) none-of)),
+        )
     by (yes h) (yes k) =
-        feed-below c (lentOf s (wordsIn 6145 t) (wordsIn 6145 t) (wordsOf v)) ix rec n (sym (ap (λ (x : IndexedCall). x .answer) (feed-sized c s t ix v rec h k)) ∙ e)
+        feed-below c (lentOf s (wordsIn 6145 t) (wordsIn 6145 t) (wordsOf v)) ix rec n
+        (sym (ap (λ (x : IndexedCall). x .answer) (feed-sized c s t ix v rec h k)) ∙ e)
 
 -- ---- 15 comes after 5, 10, 11, 54, 20 to 30
 
 module _ (c : Committee) (s : Bytes) (t ix : List ℕ) (rec : Bytes) where
-  pub early-refused : (refusal (earlyIndexedChecks c s t ix rec) ≡ 0 → ⊥) → refusal (earlyIndexedChecks c s t ix rec ++ ((true ⇒ 15) ∷ [])) ≡ refusal (earlyIndexedChecks c s t ix rec)
+  pub early-refused : (refusal (earlyIndexedChecks c s t ix rec) ≡ 0 → ⊥) → refusal (earlyIndexedChecks c s t ix rec ++ ((true ⇒ 15) ∷ [])) ≡ refusal
+      (earlyIndexedChecks c s t ix rec)
   early-refused h = refusal-first (earlyIndexedChecks c s t ix rec) ((true ⇒ 15) ∷ []) h
 
   pub early-passed : refusal (earlyIndexedChecks c s t ix rec) ≡ 0 → refusal (earlyIndexedChecks c s t ix rec ++ ((true ⇒ 15) ∷ [])) ≡ 15
   unfolding refusal
-  early-passed h = refusal-then (earlyIndexedChecks c s t ix rec) ((true ⇒ 15) ∷ []) (numbered 56 (earlyIndexedChecks c s t ix rec) (early-below c s t ix rec)) h
+  early-passed h = refusal-then (earlyIndexedChecks c s t ix rec) ((true ⇒ 15) ∷ [])
+      (numbered 56 (earlyIndexedChecks c s t ix rec) (early-below c s t ix rec)) h

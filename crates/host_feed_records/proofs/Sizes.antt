@@ -30,7 +30,8 @@ records-most c m o recs n e = go (passes (recordsChecks c m o (recordsIn recs)))
     most : refusal (recordsChecks c m o (recordsIn recs)) ≤ 64
     most = unfold recordsChecks lentChecks pendingChecks allOf in refusal-most 64 (recordsChecks c m o (recordsIn recs)) refl
 
-    go : (b : Bool) → pick b (fedCall o (feedAll c m (recordsIn recs))) (refusedCall m o (refusal (recordsChecks c m o (recordsIn recs)))) .answer ≡ refused n → n ≤ 64
+    go : (b : Bool) → pick b (fedCall o (feedAll c m (recordsIn recs))) (refusedCall m o (refusal (recordsChecks c m o (recordsIn recs)))) .answer ≡ refused n
+        → n ≤ 64
     go true e = let z : _≡_ {A = ℕ} 0 1 = cc in absurd (omega arith)
     go false e = let z : refusal (recordsChecks c m o (recordsIn recs)) ≡ n = cc in omega (arith, most)
 

@@ -31,7 +31,8 @@ records-most c m ix o recs n e = go (passes (indexedRecordsChecks c m ix o (reco
     most : refusal (indexedRecordsChecks c m ix o (recordsIn recs)) ≤ 64
     most = unfold indexedRecordsChecks indexedLentChecks pendingChecks allOf in refusal-most 64 (indexedRecordsChecks c m ix o (recordsIn recs)) refl
 
-    go : (b : Bool) → pick b (fedIndexedCall o (feedAllIndexed c m ix (recordsIn recs))) (refusedIndexedCall m ix o (refusal (indexedRecordsChecks c m ix o (recordsIn recs)))) .answer ≡ refused n → n ≤ 64
+    go : (b : Bool) → pick b (fedIndexedCall o (feedAllIndexed c m ix (recordsIn recs)))
+        (refusedIndexedCall m ix o (refusal (indexedRecordsChecks c m ix o (recordsIn recs)))) .answer ≡ refused n → n ≤ 64
     go true e = let z : _≡_ {A = ℕ} 0 1 = cc in absurd (omega arith)
     go false e = let z : refusal (indexedRecordsChecks c m ix o (recordsIn recs)) ≡ n = cc in omega (arith, most)
 

@@ -27,7 +27,8 @@ use Rattle.host_calls.proofs.Numbers.{checked-most}
 use Rattle.host_locators.proofs.Locators.{locator-none, locator-read}
 
 -- the numbers of the question are at most 41 (40 is its greatest)
-pub finality-most : (reading : Reading) (c : Committee) (s ps : List ℕ) (l : TransactionLocator) (n : ℕ) → finalityIn reading c s ps l .answer ≡ refused n → n ≤ 41
+pub finality-most : (reading : Reading) (c : Committee) (s ps : List ℕ) (l : TransactionLocator) (n : ℕ) → finalityIn reading c s ps l .answer ≡ refused n → n
+    ≤ 41
 unfolding finalityIn finalityChecks allOf
 finality-most reading c s ps l n e = checked-most 41 (finalityChecks c s ps) _ n refl e
 
@@ -59,7 +60,8 @@ finality-fits reading c s ps l (NotFinal n) h e k = omega (arith, finality-count
 finality-fits reading c s ps l (Refused n) h e k = finality-most reading c s ps l n (sym e)
 
 -- a refused question leaves the words as they were
-words-kept : (reading : Reading) (c : Committee) (s ws : List ℕ) (l : TransactionLocator) (n : ℕ) → finalityNumber (finalityIn reading c s ws l .answer) ≡ refused n → finalityIn reading c s ws l .positions ≡ ws
+words-kept : (reading : Reading) (c : Committee) (s ws : List ℕ) (l : TransactionLocator) (n : ℕ) → finalityNumber (finalityIn reading c s ws l .answer) ≡
+    refused n → finalityIn reading c s ws l .positions ≡ ws
 unfolding finalityIn checked finalityNumber
 words-kept reading c s ws l n e = by (passes (finalityChecks c s ws)) e
   where
@@ -69,13 +71,18 @@ words-kept reading c s ws l n e = by (passes (finalityChecks c s ws)) e
     told : Finality
     told = record { final = isFinalIn reading c (blocksOf s) l; certifying = length found }
 
-    by : (t : Bool) → finalityNumber (pick t (answered told) (refused (refusal (finalityChecks c s ws)))) ≡ refused n → pick t (found ++ drop (length found) ws) ws ≡ ws
+    by : (t : Bool) → finalityNumber (pick t (answered told) (refused (refusal (finalityChecks c s ws)))) ≡ refused n → pick t
+        (found ++ drop (length found) ws) ws ≡ ws
     by true e = let z : _≡_ {A = ℕ} 0 1 = cc in absurd (omega arith)
     by false e = refl
 
 -- positions of 1,024 words: the engine's question
 pub asked-sized : (reading : Reading) (c : Committee) (s ps : List ℕ) (l : TransactionLocator) → length ps ≡ 8192
-    → finalityOf reading c s ps l ≡ record { answer = finalityNumber (finalityIn reading c s (wordsIn 1024 ps) l .answer); positions = bytesOf (finalityIn reading c s (wordsIn 1024 ps) l .positions) }
+    → finalityOf reading c s ps l ≡ record {
+      answer = finalityNumber (finalityIn reading c s (wordsIn 1024 ps) l .answer);
+      positions = bytesOf
+          (finalityIn reading c s (wordsIn 1024 ps) l .positions);
+    }
 unfolding finalityOf wordsOf
 asked-sized reading c s ps l h = rw (eq-eqb (length ps) 8192 h, h)
 
@@ -90,13 +97,18 @@ module _ (reading : Reading) (c : Committee) (s ps b : List ℕ) where
   unfolding askedFinality
   asked-none h = rw (locator-none b h)
 
-  pub asked-ragged : length b ≡ 56 → (length ps ≡ 8192 → ⊥) → askedFinality reading c s ps (locatorOf b) ≡ record { answer = refused (refusalBefore 40 c s); positions = ps }
+  pub asked-ragged : length b ≡ 56 → (length ps ≡ 8192 → ⊥) → askedFinality reading c s ps (locatorOf b) ≡ record
+      { answer = refused (refusalBefore 40 c s); positions = ps }
   unfolding askedFinality
   asked-ragged h k = rw (locator-read b h) (asked-other reading c s ps (locatorAt b 0) k)
 
   pub asked-words : length b ≡ 56 → length ps ≡ 8192
       → askedFinality reading c s ps (locatorOf b)
-      ≡ record { answer = finalityNumber (finalityIn reading c s (wordsIn 1024 ps) (locatorAt b 0) .answer); positions = bytesOf (finalityIn reading c s (wordsIn 1024 ps) (locatorAt b 0) .positions) }
+      ≡ record {
+        answer = finalityNumber (finalityIn reading c s (wordsIn 1024 ps) (locatorAt b 0) .answer);
+        positions = bytesOf
+            (finalityIn reading c s (wordsIn 1024 ps) (locatorAt b 0) .positions);
+      }
   unfolding askedFinality
   asked-words h k = rw (locator-read b h) (asked-sized reading c s ps (locatorAt b 0) k)
 

@@ -36,7 +36,8 @@ module _ (c : Committee) (s : List ℕ) (k : Listing) (o : Option (Option Transa
   next-unsized after e h = rw (e, h)
 
   -- a place and room for a locator: the engine's question
-  pub next-asked : (after : Option TransactionLocator) (a : Answer (Option TransactionLocator)) → o ≡ some after → eqb (length out) 56 ≡ true → listNext c s k after ≡ a
+  pub next-asked : (after : Option TransactionLocator) (a : Answer (Option TransactionLocator)) → o ≡ some after → eqb (length out) 56 ≡ true → listNext c s k
+      after ≡ a
       → askedNextFinal c s k o out ≡ foundIn out a
   unfolding askedNextFinal
   next-asked after a e h q = rw (e, h, q)

@@ -35,7 +35,8 @@ few-stretches c bs k (suc n) after = go (k .next after) (few-stretches c bs k n)
     go (some l) h = omega (arith, h (some (lastLocator (stretchAt c bs k l))))
 
 -- so the answer leaves room for the word
-given-few : (c : Committee) (s ws : List ℕ) (k : Listing) (after : Option TransactionLocator) (g : Given) → listStretches c s k ws after .answer ≡ answered g → g .stretches ≤ stretchRoom ws
+given-few : (c : Committee) (s ws : List ℕ) (k : Listing) (after : Option TransactionLocator) (g : Given) → listStretches c s k ws after .answer ≡ answered g
+    → g .stretches ≤ stretchRoom ws
 unfolding listStretches checked givenAfter
 given-few c s ws k after g e = by (passes (nextFinalChecks c s)) e
   where
@@ -66,6 +67,7 @@ module _ (c : Committee) (s : List ℕ) (k : Listing) (o : Option (Option Transa
   unfolding askedStretches
   stretches-unsized after e h = rw (e, h)
 
-  pub stretches-asked : (after : Option TransactionLocator) → o ≡ some after → wholeStretches out ≡ true → askedStretches c s k o out ≡ stretchesIn c s k after out
+  pub stretches-asked : (after : Option TransactionLocator) → o ≡ some after → wholeStretches out ≡ true → askedStretches c s k o out ≡ stretchesIn c s k
+      after out
   unfolding askedStretches
   stretches-asked after e h = rw (e, h)

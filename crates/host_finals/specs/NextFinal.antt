@@ -34,8 +34,10 @@ nextWideCall stakes s after out = askedNextFinal (committeeOf stakes) s (wide (c
 
 -- 02: "calls of its own for finality, both lists and slips": of the ordinary list where owners may withdraw
 unfoldable pub nextFinalWithdrawingCall : Bytes → Bytes → Bytes → Bytes → NextFinalCall
-nextFinalWithdrawingCall stakes s after out = askedNextFinal (committeeOf stakes) s (listing true withdrawing (committeeOf stakes) (blocksOf s)) (afterOf after) out
+nextFinalWithdrawingCall stakes s after out = askedNextFinal (committeeOf stakes) s (listing true withdrawing (committeeOf stakes) (blocksOf s))
+    (afterOf after) out
 
 -- of the wide list where owners may withdraw
 unfoldable pub nextWideWithdrawingCall : Bytes → Bytes → Bytes → Bytes → NextFinalCall
-nextWideWithdrawingCall stakes s after out = askedNextFinal (committeeOf stakes) s (listing false withdrawing (committeeOf stakes) (blocksOf s)) (afterOf after) out
+nextWideWithdrawingCall stakes s after out = askedNextFinal (committeeOf stakes) s (listing false withdrawing (committeeOf stakes) (blocksOf s))
+    (afterOf after) out

@@ -46,8 +46,10 @@ wideStretchesCall stakes s after out = askedStretches (committeeOf stakes) s (wi
 
 -- 02: "calls of its own for finality, both lists and slips": of the ordinary list where owners may withdraw
 unfoldable pub stretchesWithdrawingCall : Bytes → Bytes → Bytes → Bytes → StretchesCall
-stretchesWithdrawingCall stakes s after out = askedStretches (committeeOf stakes) s (listing true withdrawing (committeeOf stakes) (blocksOf s)) (afterOf after) out
+stretchesWithdrawingCall stakes s after out = askedStretches (committeeOf stakes) s (listing true withdrawing (committeeOf stakes) (blocksOf s))
+    (afterOf after) out
 
 -- of the wide list where owners may withdraw
 unfoldable pub wideStretchesWithdrawingCall : Bytes → Bytes → Bytes → Bytes → StretchesCall
-wideStretchesWithdrawingCall stakes s after out = askedStretches (committeeOf stakes) s (listing false withdrawing (committeeOf stakes) (blocksOf s)) (afterOf after) out
+wideStretchesWithdrawingCall stakes s after out = askedStretches (committeeOf stakes) s (listing false withdrawing (committeeOf stakes) (blocksOf s))
+    (afterOf after) out

@@ -48,7 +48,8 @@ module _ (n : ℕ) (c : Committee) (s ix : List ℕ) where
 
 -- ---- counts
 
-given-few : (c : Committee) (s ix ws : List ℕ) (k : Listing) (after : Option TransactionLocator) (g : Given) → listStretchesIndexed c s ix k ws after .answer ≡ answered g → g .stretches ≤ stretchRoom ws
+given-few : (c : Committee) (s ix ws : List ℕ) (k : Listing) (after : Option TransactionLocator) (g : Given) → listStretchesIndexed c s ix k ws after .answer
+    ≡ answered g → g .stretches ≤ stretchRoom ws
 unfolding listStretchesIndexed checked givenAfter
 given-few c s ix ws k after g e = by (passes (indexedChecks c s ix)) e
   where
@@ -79,6 +80,7 @@ module _ (c : Committee) (s ix : List ℕ) (k : Listing) (o : Option (Option Tra
   unfolding askedStretchesIndexed
   stretches-unsized after e h = rw (e, h)
 
-  pub stretches-asked : (after : Option TransactionLocator) → o ≡ some after → wholeStretches out ≡ true → askedStretchesIndexed c s ix k o out ≡ stretchesIndexedIn c s ix k after out
+  pub stretches-asked : (after : Option TransactionLocator) → o ≡ some after → wholeStretches out ≡ true → askedStretchesIndexed c s ix k o out ≡
+      stretchesIndexedIn c s ix k after out
   unfolding askedStretchesIndexed
   stretches-asked after e h = rw (e, h)

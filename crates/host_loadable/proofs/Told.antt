@@ -31,7 +31,8 @@ question-most : (reading : Reading) (c : Committee) (s : Bytes) (l : Transaction
 unfolding loadableQuestionIn nextFinalChecks allOf
 question-most reading c s l n e = checked-most 41 (nextFinalChecks c s) (isLoadableIn reading c (blocksOf s) l) n refl e
 
-module _ (reading : Reading) (stakes s b : Bytes) (c : Committee) (h : c ≡ committeeOf stakes) (r : one.LoadableAnswer) (e : asLoadable r ≡ asked c s (loadableQuestionIn reading c s) (locatorOf b)) where
+module _ (reading : Reading) (stakes s b : Bytes) (c : Committee) (h : c ≡ committeeOf stakes) (r : one.LoadableAnswer)
+    (e : asLoadable r ≡ asked c s (loadableQuestionIn reading c s) (locatorOf b)) where
   same-call : flagged (asLoadable r) ≡ isLoadableCall reading stakes s b
   unfolding isLoadableCall
   same-call = ap flagged e ∙ ap (λ (d : Committee). flagged (asked d s (loadableQuestionIn reading d s) (locatorOf b))) h
@@ -46,7 +47,11 @@ module _ (reading : Reading) (stakes s b : Bytes) (c : Committee) (h : c ≡ com
 
   pub told-refusal : (n : ℕ) → r ≡ Refused n → (n ≤ 41) × (9223372036854775808 + n ≡ encoded (isLoadableCall reading stakes s b))
   unfolding asLoadable encoded flagged
-  told-refusal n k = (asked-most c s (loadableQuestionIn reading c s) (locatorOf b) n (question-most reading c s) (sym e ∙ ap asLoadable k), rw (← same-call, k))
+  told-refusal n k = (
+    asked-most c s (loadableQuestionIn reading c s) (locatorOf b) n (question-most reading c s) (sym e ∙ ap asLoadable k),
+    rw
+        (← same-call, k),
+  )
 
 -- ---- the list
 
@@ -54,17 +59,19 @@ list-most : (reading : Reading) (c : Committee) (s : Bytes) (ps : List ℕ) (n :
 unfolding loadableQuestionsIn listChecks allOf
 list-most reading c s ps n e = checked-most 58 (listChecks c s ps) (length (loadableListIn reading c (blocksOf s))) n refl e
 
-pub list-same : (reading : Reading) (stakes s : Bytes) (ps : List ℕ) (c : Committee) → c ≡ committeeOf stakes → loadableQuestionsIn reading c s ps ≡ loadableCall reading stakes s ps
+pub list-same : (reading : Reading) (stakes s : Bytes) (ps : List ℕ) (c : Committee) → c ≡ committeeOf stakes → loadableQuestionsIn reading c s ps ≡
+    loadableCall reading stakes s ps
 unfolding loadableCall
 list-same reading stakes s ps c h = rw h
 
-module _ (reading : Reading) (stakes s : Bytes) (ps : List ℕ) (r : all.LoadableList) (e : asLoadableList r ≡ loadableCall reading stakes s ps .answer) (n : ℕ) where
-  pub told-number : r ≡ Places n → n ≡ encoded (loadableCall reading stakes s ps .answer)
-  unfolding asLoadableList encoded
-  told-number k = rw (← e, k)
+module _ (reading : Reading) (stakes s : Bytes) (ps : List ℕ) (r : all.LoadableList) (e : asLoadableList r ≡ loadableCall reading stakes s ps .answer) (n : ℕ)
+  where
+    pub told-number : r ≡ Places n → n ≡ encoded (loadableCall reading stakes s ps .answer)
+    unfolding asLoadableList encoded
+    told-number k = rw (← e, k)
 
-  pub told-denied : r ≡ Denied n → (n ≤ 58) × (9223372036854775808 + n ≡ encoded (loadableCall reading stakes s ps .answer))
-  unfolding asLoadableList encoded loadableCall
-  told-denied k =
-      let z : loadableQuestionsIn reading (committeeOf stakes) s ps .answer ≡ refused n = sym e ∙ ap asLoadableList k in
-      (list-most reading (committeeOf stakes) s ps n z, rw z)
+    pub told-denied : r ≡ Denied n → (n ≤ 58) × (9223372036854775808 + n ≡ encoded (loadableCall reading stakes s ps .answer))
+    unfolding asLoadableList encoded loadableCall
+    told-denied k =
+        let z : loadableQuestionsIn reading (committeeOf stakes) s ps .answer ≡ refused n = sym e ∙ ap asLoadableList k in
+        (list-most reading (committeeOf stakes) s ps n z, rw z)

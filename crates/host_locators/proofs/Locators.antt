@@ -34,7 +34,8 @@ locator-none b h = by (decLt (length b) 56)
   where
     by : Dec (length b < 56) → complete (readLocator b) ≡ none
     by (yes k) = rw (short-at readLocator 56 fixed-locator b 0 (omega arith))
-    by (no k) = rw (reads-at readLocator 56 fixed-locator b 0 (omega arith)) (ap (λ (t : Bool). pick t (some (fixed-locator .value b)) none) (isEmpty-false (drop 56 b) (omega (arith, length-drop 56 b))))
+    by (no k) = rw (reads-at readLocator 56 fixed-locator b 0 (omega arith))
+        (ap (λ (t : Bool). pick t (some (fixed-locator .value b)) none) (isEmpty-false (drop 56 b) (omega (arith, length-drop 56 b))))
 
 -- ---- numbers
 

@@ -63,7 +63,8 @@ question-most c s t l n e = go (passes (pendingChecks c s t)) (itemAt (itemsOf t
 
 in-most : (c : Committee) (s t : List ℕ) (o : Option TransactionLocator) (n : ℕ) → pendingIn c s t o ≡ refused n → n ≤ 42
 unfolding pendingIn pendingChecks allOf
-in-most c s t none n e = let z : refusal (pendingChecks c s t ++ ((true ⇒ 20) ∷ [])) ≡ n = cc in omega (arith, refusal-most 42 (pendingChecks c s t ++ ((true ⇒ 20) ∷ [])) refl)
+in-most c s t none n e = let z : refusal (pendingChecks c s t ++ ((true ⇒ 20) ∷ [])) ≡ n = cc in omega
+    (arith, refusal-most 42 (pendingChecks c s t ++ ((true ⇒ 20) ∷ [])) refl)
 in-most c s t (some l) n e = question-most c s t l n e
 
 pub pending-most : (c : Committee) (s t : List ℕ) (o : Option TransactionLocator) (n : ℕ) → askedPending c s t o ≡ refused n → n ≤ 42

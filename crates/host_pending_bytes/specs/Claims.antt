@@ -10,4 +10,5 @@ use Rattle.feed_spec.specs.Pending.{Standing, pending}
 
 pub record Claims : Type 0 where
   -- a pending stake stays below 2^63, so it is taken for no refusal
-  pub pendingStake : (c : Committee) (s : Bytes) (t : List ℕ) (l : TransactionLocator) (y : Standing) → pending c s t l ≡ answered y → y .stake < 9223372036854775808
+  pub pendingStake : (c : Committee) (s : Bytes) (t : List ℕ) (l : TransactionLocator) (y : Standing) → pending c s t l ≡ answered y → y .stake <
+      9223372036854775808

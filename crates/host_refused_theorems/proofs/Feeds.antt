@@ -90,7 +90,8 @@ unfolding wordsOf
 whole-table t a h = rw h (bytesOf-wordsIn 6145 t a h)
 
 pub refused-records : RefusedRecords
-unfolding RefusedRecords plain.feedRecordsCall plain.feedRecordsOf plain.toldHost plain.refusedHost plain.recordsWith one.feedRecords one.refusedCall one.fedCall
+unfolding RefusedRecords plain.feedRecordsCall plain.feedRecordsOf plain.toldHost plain.refusedHost plain.recordsWith one.feedRecords one.refusedCall
+    one.fedCall
 refused-records stakes s t v o recs n a = by (ℕ-discrete (length t) 49160)
   where
     c : Committee
@@ -113,7 +114,8 @@ refused-records stakes s t v o recs n a = by (ℕ-discrete (length t) 49160)
         go false e = let z : refusal ks ≡ n = cc in rw (z, whole-table t (bytes-fit t a) h)
 
 pub refused-records-indexed : RefusedRecordsIndexed
-unfolding RefusedRecordsIndexed indexed.feedRecordsIndexedCall indexed.feedRecordsIndexedOf indexed.toldHost indexed.refusedHost indexed.recordsWith both.feedRecordsIndexed both.refusedIndexedCall both.fedIndexedCall
+unfolding RefusedRecordsIndexed indexed.feedRecordsIndexedCall indexed.feedRecordsIndexedOf indexed.toldHost indexed.refusedHost indexed.recordsWith
+    both.feedRecordsIndexed both.refusedIndexedCall both.fedIndexedCall
 refused-records-indexed stakes s t ix v o recs n a = by (ℕ-discrete (length t) 49160)
   where
     c : Committee

@@ -34,7 +34,8 @@ use Rattle.host_ring.specs.Ring.{ringIn, askedRing, ringTold, whomToRing
 use Rattle.host_ring.specs.Step.{Tellable}
 
 module _ (c : Committee) (s t : List ℕ) (r : AuthoritySet) where
-  pub in-refused : (o : Option TransactionLocator) (n : ℕ) → (refusal (pendingChecks c s t) ≡ 0 → ⊥) → ringIn c s t r o n ≡ refused (refusal (pendingChecks c s t))
+  pub in-refused : (o : Option TransactionLocator) (n : ℕ) → (refusal (pendingChecks c s t) ≡ 0 → ⊥) → ringIn c s t r o n ≡ refused
+      (refusal (pendingChecks c s t))
   unfolding ringIn
   in-refused none n h = rw (refusal-first (pendingChecks c s t) ((true ⇒ 20) ∷ []) h)
   in-refused (some l) n h = go (eqb n 24)
@@ -85,7 +86,8 @@ whom-most c s t r l k e = go (passes (pendingChecks c s t)) (itemAt (itemsOf t) 
 in-most : (c : Committee) (s t : List ℕ) (r : AuthoritySet) (o : Option TransactionLocator) (n k : ℕ) → ringIn c s t r o n ≡ refused k → k ≤ 60
 unfolding ringIn
 in-most c s t r none n k e =
-    let most : refusal (pendingChecks c s t ++ ((true ⇒ 20) ∷ [])) ≤ 60 = unfold pendingChecks allOf in refusal-most 60 (pendingChecks c s t ++ ((true ⇒ 20) ∷ [])) refl in
+    let most : refusal (pendingChecks c s t ++ ((true ⇒ 20) ∷ [])) ≤ 60 = unfold pendingChecks allOf in refusal-most 60
+    (pendingChecks c s t ++ ((true ⇒ 20) ∷ [])) refl in
     let z : refusal (pendingChecks c s t ++ ((true ⇒ 20) ∷ [])) ≡ k = cc in
     omega arith
 in-most c s t r (some l) n k e = go (eqb n 24) e

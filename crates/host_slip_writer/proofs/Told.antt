@@ -22,7 +22,8 @@ use Rattle.host_locators.specs.Locators.{locatorOf, refusalBefore}
 use Rattle.host_locators.proofs.Locators.{before-most}
 use Rattle.host_slip_writer.specs.WriteSlip.{askedSlip, writeSlipCall}
 
-asked-most : (reading : Reading) (c : Committee) (s : Bytes) (o : Option TransactionLocator) (out : Bytes) (n : ℕ) → askedSlip reading c s o out .answer ≡ refused n → n ≤ 52
+asked-most : (reading : Reading) (c : Committee) (s : Bytes) (o : Option TransactionLocator) (out : Bytes) (n : ℕ) → askedSlip reading c s o out .answer ≡
+    refused n → n ≤ 52
 unfolding askedSlip writeSlip writeChecks allOf
 asked-most reading c s none out n e =
     let z : refusalBefore 20 c s ≡ n = cc in
@@ -30,7 +31,8 @@ asked-most reading c s none out n e =
 asked-most reading c s (some l) out n e = checked-most 52 (writeChecks reading c s out l) (length (slipBytes (slipFor reading c (blocksOf s) l))) n refl e
 
 -- the call, by the stakes that it holds
-pub call-same : (reading : Reading) (stakes s b out : Bytes) (c : Committee) → c ≡ committeeOf stakes → askedSlip reading c s (locatorOf b) out ≡ writeSlipCall reading stakes s b out
+pub call-same : (reading : Reading) (stakes s b out : Bytes) (c : Committee) → c ≡ committeeOf stakes → askedSlip reading c s (locatorOf b) out ≡
+    writeSlipCall reading stakes s b out
 unfolding writeSlipCall
 call-same reading stakes s b out c h = rw h
 

@@ -23,12 +23,14 @@ module _ (c : List ℕ) (b : Bytes) where
   unfolding loadedBytes
   put-other h = rw (ne-eqb (length b) 1024 h)
 
-  pub put-front : length b ≡ 1024 → length c ≤ 128 → loadedBytes (answered c) b ≡ record { answer = answered (length c); stakes = bytesOf c ++ drop (8 * length c) b }
+  pub put-front : length b ≡ 1024 → length c ≤ 128 → loadedBytes (answered c) b ≡ record
+      { answer = answered (length c); stakes = bytesOf c ++ drop (8 * length c) b }
   unfolding loadedBytes
   put-front h l = let n = length-bytesOf c in rw (eq-eqb (length b) 1024 h, sets-eq (bytesOf c) b 0 (omega arith), n, zero-add)
 
 -- loading into 128 words of the call's own
-module _ (f : Bytes) (out : List ℕ) (r : LoadAnswer) (h : asLoad r ≡ loadedInto (load f) (replicate 128 0) .answer) (e : out ≡ loadedInto (load f) (replicate 128 0) .stakes) where
+module _ (f : Bytes) (out : List ℕ) (r : LoadAnswer) (h : asLoad r ≡ loadedInto (load f) (replicate 128 0) .answer)
+    (e : out ≡ loadedInto (load f) (replicate 128 0) .stakes) where
   told : membersAtMost 128 r × (stakesIn r out ≡ load f)
   told = loaded-front (replicate 128 0) out r (omega arith) f h e
 

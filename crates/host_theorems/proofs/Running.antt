@@ -45,7 +45,8 @@ use Rattle.host_calls.specs.Calls.{committeeOf}
 use Rattle.host_feed_bytes.specs.Feed.{FeedCall, refusedCall, fedCall, fedWith, feedOf, feedCall}
 use Rattle.host_feed_bytes.proofs.Feeds.{work-free, feed-eventless, feed-sized}
 use Rattle.host_theorems.specs.Feeds.{ByteFeed, ByteEngine, freshBytes, fedBytes, leftBytes, runBytes, acceptedBytes, ByteStart, hostOf, acceptedBy}
-use Rattle.host_theorems.proofs.Fitting.{words-append, words-drop, lent-words, VotesFit, process-fits, table-words, events-words, layout-bytes, holding-bytes}
+use Rattle.host_theorems.proofs.Fitting.{words-append, words-drop, lent-words, VotesFit, process-fits, table-words, events-words, layout-bytes}
+use Rattle.host_theorems.proofs.Fitting.{holding-bytes}
 
 fresh-items : (n : ℕ) → itemsOf (replicate n 0) ≡ []
 unfolding itemsOf itemsRead repeated give

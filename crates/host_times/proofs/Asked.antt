@@ -35,7 +35,8 @@ reference-none b h = by (decLt (length b) 48)
   where
     by : Dec (length b < 48) → complete (readReference b) ≡ none
     by (yes k) = rw (short-at readReference 48 fixed-reference b 0 (omega arith))
-    by (no k) = rw (reads-at readReference 48 fixed-reference b 0 (omega arith)) (ap (λ (t : Bool). pick t (some (fixed-reference .value b)) none) (isEmpty-false (drop 48 b) (omega (arith, length-drop 48 b))))
+    by (no k) = rw (reads-at readReference 48 fixed-reference b 0 (omega arith))
+        (ap (λ (t : Bool). pick t (some (fixed-reference .value b)) none) (isEmpty-false (drop 48 b) (omega (arith, length-drop 48 b))))
 
 pub time-most : (c : Committee) (s : List ℕ) (r : BlockReference) (n : ℕ) → askTime c s r ≡ refused n → n ≤ 10
 unfolding askTime timeChecks allOf
@@ -51,6 +52,7 @@ module _ (c : Committee) (s b out : List ℕ) where
   time-unsized e h = rw (reference-read b e, ne-eqb (length out) 8 h)
 
   -- a reference and room for a time: the engine's question
-  pub time-asked : (a : Answer (Option ℕ)) → length b ≡ 48 → length out ≡ 8 → askTime c s (referenceAt b 0) ≡ a → askedTime c s (referenceOf b) out ≡ foundIn out a
+  pub time-asked : (a : Answer (Option ℕ)) → length b ≡ 48 → length out ≡ 8 → askTime c s (referenceAt b 0) ≡ a → askedTime c s (referenceOf b) out ≡ foundIn
+      out a
   unfolding askedTime
   time-asked a e h k = rw (reference-read b e, eq-eqb (length out) 8 h, k)

@@ -52,12 +52,14 @@ module _ (c : Committee) (m : Lent) (ix o : List ℕ) (rs : List Bytes) where
     refuses-nothing k l = after-lent ∙ rw (le-ltb (length (m .work)) (length (m .table)) k, le-ltb (length o) (length rs) l)
 
 module _ (c : Committee) (m : Lent) (ix o : List ℕ) (bytes : Bytes) where
-  call-refuses : (n : ℕ) → n ≡ refusal (indexedRecordsChecks c m ix o (recordsIn bytes)) → (n ≡ 0 → ⊥) → feedRecordsIndexed c m ix o bytes ≡ refusedIndexedCall m ix o n
+  call-refuses : (n : ℕ) → n ≡ refusal (indexedRecordsChecks c m ix o (recordsIn bytes)) → (n ≡ 0 → ⊥) → feedRecordsIndexed c m ix o bytes ≡
+      refusedIndexedCall m ix o n
   unfolding feedRecordsIndexed
   call-refuses n e f =
       rw (fails (passes (indexedRecordsChecks c m ix o (recordsIn bytes))) (λ p. f (e ∙ passes-zero _ p))) (ap (refusedIndexedCall m ix o) (sym e))
 
-  pub call-feeds : refusal (indexedRecordsChecks c m ix o (recordsIn bytes)) ≡ 0 → feedRecordsIndexed c m ix o bytes ≡ fedIndexedCall o (feedAllIndexed c m ix (recordsIn bytes))
+  pub call-feeds : refusal (indexedRecordsChecks c m ix o (recordsIn bytes)) ≡ 0 → feedRecordsIndexed c m ix o bytes ≡ fedIndexedCall o
+      (feedAllIndexed c m ix (recordsIn bytes))
   unfolding feedRecordsIndexed
   call-feeds z = rw (zero-passes _ (numbered c m ix o (recordsIn bytes)) z)
 

@@ -52,4 +52,5 @@ afresh c m ix rs h =
     let p = passes-zero _ (passes-left (pendingChecks c (m .store) (m .table)) _ h) in
     let l = lying c (m .store) (m .table) p in
     let a = not-false _ (passes-first _ _ (passes-right (pendingChecks c (m .store) (m .table)) _ h)) in
-    used-words (blocksOf (feedAllIndexed c m ix rs .store)) (feedAllIndexed c m ix rs .index) (all-agree c m ix rs (record { store = l .store; table = l .table }) a)
+    used-words (blocksOf (feedAllIndexed c m ix rs .store)) (feedAllIndexed c m ix rs .index)
+    (all-agree c m ix rs (record { store = l .store; table = l .table }) a)

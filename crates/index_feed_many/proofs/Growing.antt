@@ -106,7 +106,8 @@ taken c m ix bytes n e = go (readRecord bytes) refl e
         by true p e = record { own = r; read = q; right = p; is = rw (q, p) }
         by false p e = let z : _≡_ {A = ℕ} 0 1 = cc in absurd (omega arith)
 
-module _ (c : Committee) (m : Lent) (ix : List ℕ) (bytes : Bytes) (order starts₀ : List ℕ) (h : ReadyIndexed c (m .store) (m .table) ix (m .work) order starts₀) where
+module _ (c : Committee) (m : Lent) (ix : List ℕ) (bytes : Bytes) (order starts₀ : List ℕ)
+    (h : ReadyIndexed c (m .store) (m .table) ix (m .work) order starts₀) where
   abbrev f : IndexedFed
   f = feedIndexed c m ix bytes
 
@@ -115,7 +116,8 @@ module _ (c : Committee) (m : Lent) (ix : List ℕ) (bytes : Bytes) (order start
 
   -- ---- refused
 
-  pub told-refused : (n : ℕ) → refused n ≡ f .fed .answer → FedNextIndexed f (record { outcome = 2 ^ 63 + n; words = 0 }) (f .fed .store) (f .fed .table) (f .index) (f .fed .events)
+  pub told-refused : (n : ℕ) → refused n ≡ f .fed .answer → FedNextIndexed f (record { outcome = 2 ^ 63 + n; words = 0 }) (f .fed .store) (f .fed .table)
+      (f .index) (f .fed .events)
   unfolding outcomeOf wordsTold
   told-refused n e = record { outcome = ap outcomeOf e; words = ap wordsTold e; room = omega arith; store = refl; table = refl; index = refl; events = refl }
 
@@ -192,7 +194,8 @@ module _ (c : Committee) (m : Lent) (ix : List ℕ) (bytes : Bytes) (order start
     old-known : Known (m .store) (sortedPositions (recordsOf (m .store))) (indexWords (blocksOf (m .store))) starts₀ (blocksOf (m .store))
     old-known =
         subst (λ (p : List ℕ). Known (m .store) p (indexWords (blocksOf (m .store))) starts₀ (blocksOf (m .store))) (a .sorted .places)
-        (subst (λ (w : List ℕ). Known (m .store) (take (length (recordsOf (m .store))) order) w starts₀ (blocksOf (m .store))) (used-words (blocksOf (m .store)) ix (a .agrees)) (a .known))
+        (subst (λ (w : List ℕ). Known (m .store) (take (length (recordsOf (m .store))) order) w starts₀ (blocksOf (m .store)))
+        (used-words (blocksOf (m .store)) ix (a .agrees)) (a .known))
 
     module _ (bytes′ : AllBytes (f .fed .store)) (order′ starts : List ℕ)
         (noted : Noted (recordsOf (f .fed .store)) (usedBy (recordsOf (m .store))) (getD ix 0 0) order′ starts₀ starts) where
@@ -209,7 +212,8 @@ module _ (c : Committee) (m : Lent) (ix : List ℕ) (bytes : Bytes) (order start
             h .parts,
           )
 
-      grown : Known (f .fed .store) (sortedPositions (r ∷ recordsOf (m .store))) (indexWords (r .block ∷ blocksOf (m .store))) starts (r .block ∷ blocksOf (m .store))
+      grown : Known (f .fed .store) (sortedPositions (r ∷ recordsOf (m .store))) (indexWords (r .block ∷ blocksOf (m .store))) starts
+          (r .block ∷ blocksOf (m .store))
       grown =
           known-grown (m .store) (f .fed .store) r (a .laid) laid records-are new-one order′ starts₀ starts noted-so old-known
           (new-stands (r .block) (blocksOf (m .store)) (runs-fit (f .fed .store) bytes′ (r .block) (blocksOf (m .store)) blocks-are)) long

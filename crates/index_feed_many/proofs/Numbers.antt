@@ -44,11 +44,13 @@ feed-below c m ix rec n e = by (readRecord rec) e
       where
         go : (t : Bool) → pick t (acceptedIndexed c m ix r) (refusedIndexed m ix (refusal (indexedChecks c m ix (some r)))) .fed .answer ≡ refused n → n < 56
         go true e = let z : _≡_ {A = ℕ} 0 1 = cc in absurd (omega arith)
-        go false e = let z : refusal (indexedChecks c m ix (some r)) ≡ n = cc in omega (arith, below 56 (lit< tt) (indexedChecks c m ix (some r)) (checks-below c m ix (some r)))
+        go false e = let z : refusal (indexedChecks c m ix (some r)) ≡ n = cc in omega
+            (arith, below 56 (lit< tt) (indexedChecks c m ix (some r)) (checks-below c m ix (some r)))
 
 -- ---- the work slice: no answer reads it
 
-pub work-free : (c : Committee) (s : Bytes) (t w u v ix : List ℕ) (rec : Bytes) → length w ≡ length u → feedIndexed c (lentOf s t w v) ix rec ≡ feedIndexed c (lentOf s t u v) ix rec
+pub work-free : (c : Committee) (s : Bytes) (t w u v ix : List ℕ) (rec : Bytes) → length w ≡ length u → feedIndexed c (lentOf s t w v) ix rec ≡ feedIndexed c
+    (lentOf s t u v) ix rec
 unfolding feedIndexed feedIndexedRecord indexedChecks roomChecks recordChecks processed refusedIndexed acceptedIndexed refusedFeed acceptedFeed
 work-free c s t w u v ix rec e = by (readRecord rec)
   where

@@ -35,19 +35,38 @@ pub record Walked (c : Committee) (w : List ℕ) (z : FedAllIndexed) (o₀ : Lis
 pub walked-none : (c : Committee) (w o₀ : List ℕ) (recs s : Bytes) (t ix v : List ℕ)
     → Walked c w (feedAllIndexed c (lentOf s t w v) ix (recordsIn recs)) o₀ recs s t ix v o₀ 0 0 0
 walked-none c w o₀ recs s t ix v =
-    record { store = refl; table = refl; index = refl; events = refl; outcomes = refl; past = refl; many = omega arith; within = omega arith; room = omega arith }
+    record {
+      store = refl;
+      table = refl;
+      index = refl;
+      events = refl;
+      outcomes = refl;
+      past = refl;
+      many = omega arith;
+      within = omega arith;
+      room = omega
+          arith;
+    }
 
 -- the feeds of a record and of those after it
 feed-first : (c : Committee) (s s′ : Bytes) (t t′ ix ix′ w w′ v v′ : List ℕ) (rec : Bytes) (rs : List Bytes) (r : Told) → length w′ ≡ length w
     → FedNextIndexed (feedIndexed c (lentOf s t w′ v) ix rec) r s′ t′ ix′ v′
     → feedAllIndexed c (lentOf s t w v) ix (rec ∷ rs)
     ≡ (let rest : FedAllIndexed = feedAllIndexed c (lentOf s′ t′ w (drop (r .words) v′)) ix′ rs in
-    record { outcomes = r .outcome ∷ rest .outcomes; store = rest .store; table = rest .table; index = rest .index; events = take (r .words) v′ ++ rest .events })
+    record {
+      outcomes = r .outcome ∷ rest .outcomes;
+      store = rest .store;
+      table = rest .table;
+      index = rest .index;
+      events = take (r .words) v′ ++ rest
+          .events;
+    })
 unfolding feedAllIndexed
 feed-first c s s′ t t′ ix ix′ w w′ v v′ rec rs r e f =
     rw (← work-free c s t w′ w v ix rec e, f .outcome, f .words, f .store, f .table, f .index, f .events)
 
-module _ (c : Committee) (w w′ : List ℕ) (z : FedAllIndexed) (o₀ : List ℕ) (recs s s′ : Bytes) (t t′ ix ix′ v v′ o : List ℕ) (at used k : ℕ) (f : Frame) (r : Told)
+module _ (c : Committee) (w w′ : List ℕ) (z : FedAllIndexed) (o₀ : List ℕ) (recs s s′ : Bytes) (t t′ ix ix′ v v′ o : List ℕ) (at used k : ℕ) (f : Frame)
+    (r : Told)
     (a : Walked c w z o₀ recs s t ix v o at used k) (n : NextRecord recs at f) (e : length w′ ≡ length w)
     (d : FedNextIndexed (feedIndexed c (lentOf s t w′ (drop used v)) ix (take (f .end - f .start) (drop (f .start) recs))) r s′ t′ ix′ v′)
     (h : k < length o) where
@@ -55,7 +74,14 @@ module _ (c : Committee) (w w′ : List ℕ) (z : FedAllIndexed) (o₀ : List �
   rest = feedAllIndexed c (lentOf s′ t′ w (drop (r .words) v′)) ix′ (recordsIn (drop (f .end) recs))
 
   told : feedAllIndexed c (lentOf s t w (drop used v)) ix (recordsIn (drop at recs))
-      ≡ record { outcomes = r .outcome ∷ rest .outcomes; store = rest .store; table = rest .table; index = rest .index; events = take (r .words) v′ ++ rest .events }
+      ≡ record {
+        outcomes = r .outcome ∷ rest .outcomes;
+        store = rest .store;
+        table = rest .table;
+        index = rest .index;
+        events = take (r .words) v′ ++ rest
+            .events;
+      }
   unfolding rest
   told = rw (n .records) (feed-first c s s′ t t′ ix ix′ w w′ (drop used v) v′ _ (recordsIn (drop (f .end) recs)) r e d)
 
@@ -76,8 +102,10 @@ module _ (c : Committee) (w w′ : List ℕ) (z : FedAllIndexed) (o₀ : List �
         store = a .store ∙ ap (λ (x : FedAllIndexed). x .store) told ∙ rw dropped;
         table = a .table ∙ ap (λ (x : FedAllIndexed). x .table) told ∙ rw dropped;
         index = a .index ∙ ap (λ (x : FedAllIndexed). x .index) told ∙ rw dropped;
-        events = a .events ∙ ap (λ (x : FedAllIndexed). take used v ++ x .events) told ∙ rw (taken, dropped) (sym (append-assoc (take used v) (take (r .words) v′) (rest .events)));
-        outcomes = a .outcomes ∙ ap (λ (x : FedAllIndexed). take k o ++ x .outcomes) told ∙ rw (dropped, add-one k, take-suc-set o k (r .outcome) h) (sym (append-assoc (take k o) (r .outcome ∷ []) (rest .outcomes)));
+        events = a .events ∙ ap (λ (x : FedAllIndexed). take used v ++ x .events) told ∙ rw (taken, dropped)
+            (sym (append-assoc (take used v) (take (r .words) v′) (rest .events)));
+        outcomes = a .outcomes ∙ ap (λ (x : FedAllIndexed). take k o ++ x .outcomes) told ∙ rw (dropped, add-one k, take-suc-set o k (r .outcome) h)
+            (sym (append-assoc (take k o) (r .outcome ∷ []) (rest .outcomes)));
         past = drop-set-lt (k + 1) o k (r .outcome) (omega arith) ∙ sym (drop-drop 1 k o) ∙ ap (drop 1) (a .past) ∙ drop-drop 1 k o₀;
         many = omega (arith, a .many, ap length (n .records));
         within = n .within;

@@ -37,7 +37,8 @@ indexed-cases c m ix bytes P kept took = go (readRecord bytes) refl
     go none e = kept _
     go (some r) e = by-checks (passes (indexedChecks c m ix (some r))) refl
       where
-        by-checks : (t : Bool) → passes (indexedChecks c m ix (some r)) ≡ t → P (pick t (acceptedIndexed c m ix r) (refusedIndexed m ix (refusal (indexedChecks c m ix (some r)))))
+        by-checks : (t : Bool) → passes (indexedChecks c m ix (some r)) ≡ t → P
+            (pick t (acceptedIndexed c m ix r) (refusedIndexed m ix (refusal (indexedChecks c m ix (some r)))))
         by-checks true p = took r e p
         by-checks false p = kept _
 
@@ -53,7 +54,14 @@ as-without c m ix bytes h f = go (readRecord bytes) f
             → (feedIndexedRecord c m ix (some r) .fed .answer ≡ refused 55 → ⊥) → feedIndexedRecord c m ix (some r) .fed ≡ feedRecord c m (some r)
         by-checks true p true q u = absurd (u (rw (room-passes c m ix r h, p, q, room-refusal c m ix r h p, q)))
         by-checks true p false q u = rw (room-passes c m ix r h, p, q)
-        by-checks false p s q u = rw (room-passes c m ix r h, p, agreed-refusal c m ix (some r) h, refusal-append (feedChecks c m (some r)) (roomChecks m ix (some r)), p)
+        by-checks false p s q u = rw (
+          room-passes c m ix r h,
+          p,
+          agreed-refusal c m ix (some r) h,
+          refusal-append (feedChecks c m (some r))
+              (roomChecks m ix (some r)),
+          p,
+        )
 
 pub refused-leaves : RefusedLeaves
 unfolding RefusedLeaves refusedIndexed acceptedIndexed refusedFeed acceptedFeed
@@ -73,7 +81,8 @@ stays-agreed c m ix bytes o h =
     indexed-cases c m ix bytes (λ x. indexAgrees (blocksOf (x .fed .store)) (x .index) ≡ true) (λ n. h) grown
   where
     grown : (r : Record) → readRecord bytes ≡ some r → passes (indexedChecks c m ix (some r)) ≡ true
-        → indexAgrees (blocksOf (storeHolding (r ∷ recordsOf (m .store)) (m .store))) (appended ix (partIn (r .block ∷ blocksOf (m .store)) (r .block .reference))) ≡ true
+        → indexAgrees (blocksOf (storeHolding (r ∷ recordsOf (m .store)) (m .store)))
+        (appended ix (partIn (r .block ∷ blocksOf (m .store)) (r .block .reference))) ≡ true
     grown r e p =
         let q = sym (room-passes c m ix r h) ∙ p in
         let a : Passed c m r = passed c m r (and-left (passes (feedChecks c m (some r))) _ q) in

@@ -42,7 +42,8 @@ module _ (c : Committee) (s : Bytes) (t ix : List ℕ) where
 
 module _ (c : Committee) (m : Lent) (ix : List ℕ) (o : Option Record) where
   -- 5, 10, 11, 54
-  pub lent-refuses : (refusal (indexedLentChecks c (m .store) (m .table) ix) ≡ 0 → ⊥) → refusal (indexedChecks c m ix o) ≡ refusal (indexedLentChecks c (m .store) (m .table) ix)
+  pub lent-refuses : (refusal (indexedLentChecks c (m .store) (m .table) ix) ≡ 0 → ⊥) → refusal (indexedChecks c m ix o) ≡ refusal
+      (indexedLentChecks c (m .store) (m .table) ix)
   unfolding indexedChecks
   lent-refuses h = refusal-first (indexedLentChecks c (m .store) (m .table) ix) _ h
 
@@ -62,10 +63,12 @@ module _ (c : Committee) (m : Lent) (ix : List ℕ) (o : Option Record) where
 
 -- 55 comes last: a record that passes the checks of feeding
 module _ (c : Committee) (m : Lent) (ix : List ℕ) (r : Record) (h : indexAgrees (blocksOf (m .store)) ix ≡ true) where
-  pub room-refusal : passes (feedChecks c m (some r)) ≡ true → refusal (indexedChecks c m ix (some r)) ≡ pick (indexShort (r .block ∷ blocksOf (m .store)) ix) 55 0
+  pub room-refusal : passes (feedChecks c m (some r)) ≡ true → refusal (indexedChecks c m ix (some r)) ≡ pick (indexShort (r .block ∷ blocksOf (m .store)) ix)
+      55 0
   unfolding roomChecks refusal
   room-refusal p = agreed-refusal c m ix (some r) h ∙ refusal-append (feedChecks c m (some r)) _ ∙ rw p
 
   pub room-passes : passes (indexedChecks c m ix (some r)) ≡ passes (feedChecks c m (some r)) && not (indexShort (r .block ∷ blocksOf (m .store)) ix)
   unfolding roomChecks passes allOf
-  room-passes = agreed-passes c m ix (some r) h ∙ (unfold passes in passes-append (feedChecks c m (some r)) _) ∙ ap (λ (t : Bool). passes (feedChecks c m (some r)) && t) (and-true _)
+  room-passes = agreed-passes c m ix (some r) h ∙ (unfold passes in passes-append (feedChecks c m (some r)) _) ∙ ap
+      (λ (t : Bool). passes (feedChecks c m (some r)) && t) (and-true _)

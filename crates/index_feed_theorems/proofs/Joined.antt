@@ -43,12 +43,14 @@ agreeing-lent c m ix h =
 lent-none : (c : Committee) (m : Lent) (ix : List ℕ) → Agreeing c (m .store) (m .table) ix → refusal (indexedLentChecks c (m .store) (m .table) ix) ≡ 0
 unfolding indexedLentChecks refusal
 lent-none c m ix k =
-    refusal-then (pendingChecks c (m .store) (m .table)) _ (pending-numbered c (m .store) (m .table)) (refuses-none c _ _ (k .committee) (k .state .store) (k .state .table))
+    refusal-then (pendingChecks c (m .store) (m .table)) _ (pending-numbered c (m .store) (m .table))
+    (refuses-none c _ _ (k .committee) (k .state .store) (k .state .table))
     ∙ rw (k .agrees)
 
 -- ---- two calls
 
-call-framed : (c : Committee) (m : Lent) (ix o : List ℕ) (rs : List Bytes) → Agreeing c (m .store) (m .table) ix → length (m .table) ≤ length (m .work) → sized rs ≡ true
+call-framed : (c : Committee) (m : Lent) (ix o : List ℕ) (rs : List Bytes) → Agreeing c (m .store) (m .table) ix → length (m .table) ≤ length (m .work) →
+    sized rs ≡ true
     → length rs ≤ length o → feedRecordsIndexed c m ix o (framed rs) ≡ fedIndexedCall o (feedAllIndexed c m ix rs)
 call-framed c m ix o rs k w z l =
     let e = records-framed rs z in
@@ -59,7 +61,8 @@ answered-passes : (c : Committee) (m : Lent) (ix o : List ℕ) (bytes : Bytes) (
 unfolding feedRecordsIndexed refusedIndexedCall
 answered-passes c m ix o bytes n e = go (passes (indexedRecordsChecks c m ix o (recordsIn bytes))) e
   where
-    go : (t : Bool) → pick t (fedIndexedCall o (feedAllIndexed c m ix (recordsIn bytes))) (refusedIndexedCall m ix o (refusal (indexedRecordsChecks c m ix o (recordsIn bytes)))) .answer ≡ answered n → t ≡ true
+    go : (t : Bool) → pick t (fedIndexedCall o (feedAllIndexed c m ix (recordsIn bytes)))
+        (refusedIndexedCall m ix o (refusal (indexedRecordsChecks c m ix o (recordsIn bytes)))) .answer ≡ answered n → t ≡ true
     go true e = refl
     go false e = let z : _≡_ {A = ℕ} 0 1 = cc in absurd (omega arith)
 

@@ -38,12 +38,14 @@ abbrev next : Committee → Lent → List ℕ → Bytes → List ℕ
 next c m ix r = feedIndexed c m ix r .index
 
 module _ (c : Committee) (m : Lent) (ix : List ℕ) (bytes : Bytes) (k : Agreeing c (m .store) (m .table) ix) where
-  kept : State c (feedIndexed c m ix bytes .fed .store) (feedIndexed c m ix bytes .fed .table) × (length (feedIndexed c m ix bytes .fed .table) ≡ length (m .table))
+  kept : State c (feedIndexed c m ix bytes .fed .store) (feedIndexed c m ix bytes .fed .table) ×
+      (length (feedIndexed c m ix bytes .fed .table) ≡ length (m .table))
   unfolding AsWithout RefusedLeaves refusedFeed
   kept = go (feedIndexed c m ix bytes .fed .answer) refl
     where
       go : (x : Answer ℕ) → feedIndexed c m ix bytes .fed .answer ≡ x
-          → State c (feedIndexed c m ix bytes .fed .store) (feedIndexed c m ix bytes .fed .table) × (length (feedIndexed c m ix bytes .fed .table) ≡ length (m .table))
+          → State c (feedIndexed c m ix bytes .fed .store) (feedIndexed c m ix bytes .fed .table) ×
+          (length (feedIndexed c m ix bytes .fed .table) ≡ length (m .table))
       go (refused n) e = rw (refused-leaves c m ix bytes n e .0) (k .state, refl)
       go (answered n) e =
           let f = feed-keeps c m bytes (k .state) in
@@ -106,43 +108,47 @@ pub record Parted (c : Committee) (m : Lent) (ix : List ℕ) (rs qs : List Bytes
       ≡ take (wordsOfAll (feedAllIndexed c m ix rs .outcomes)) (feedAllIndexed c m ix rs .events)
       ++ feedAllIndexed c (after c m ix rs) (feedAllIndexed c m ix rs .index) qs .events
 
-module _ (c : Committee) (m : Lent) (ix : List ℕ) (r : Bytes) (rs : List Bytes) (k : Agreeing c (m .store) (m .table) ix) (l : length (m .events) < 2 ^ 63) where
-  abbrev n : ℕ
-  n = wordsTold (feedIndexed c m ix r .fed .answer)
+module _ (c : Committee) (m : Lent) (ix : List ℕ) (r : Bytes) (rs : List Bytes) (k : Agreeing c (m .store) (m .table) ix) (l : length (m .events) < 2 ^ 63)
+  where
+    abbrev n : ℕ
+    n = wordsTold (feedIndexed c m ix r .fed .answer)
 
-  abbrev those : List ℕ
-  those = feedAllIndexed c (onward c m ix r) (next c m ix r) rs .outcomes
+    abbrev those : List ℕ
+    those = feedAllIndexed c (onward c m ix r) (next c m ix r) rs .outcomes
 
-  -- the words of the first record's events, and of the others'
-  words-on : wordsOfAll (feedAllIndexed c m ix (r ∷ rs) .outcomes) ≡ n + wordsOfAll those
-  unfolding feedAllIndexed wordsOfAll sumOf
-  words-on = rw (told c m ix r k .told l)
+    -- the words of the first record's events, and of the others'
+    words-on : wordsOfAll (feedAllIndexed c m ix (r ∷ rs) .outcomes) ≡ n + wordsOfAll those
+    unfolding feedAllIndexed wordsOfAll sumOf
+    words-on = rw (told c m ix r k .told l)
 
-  front : length (take n (feedIndexed c m ix r .fed .events)) ≡ n
-  front = length-take-le n (feedIndexed c m ix r .fed .events) (told c m ix r k .inside)
+    front : length (take n (feedIndexed c m ix r .fed .events)) ≡ n
+    front = length-take-le n (feedIndexed c m ix r .fed .events) (told c m ix r k .inside)
 
-  rest-on : drop (wordsOfAll (feedAllIndexed c m ix (r ∷ rs) .outcomes)) (feedAllIndexed c m ix (r ∷ rs) .events)
-      ≡ drop (wordsOfAll those) (feedAllIndexed c (onward c m ix r) (next c m ix r) rs .events)
-  rest-on =
-      rw words-on
-      (unfold feedAllIndexed in
-      rw front at (drop-append-add (take n (feedIndexed c m ix r .fed .events)) (feedAllIndexed c (onward c m ix r) (next c m ix r) rs .events) (wordsOfAll those)))
+    rest-on : drop (wordsOfAll (feedAllIndexed c m ix (r ∷ rs) .outcomes)) (feedAllIndexed c m ix (r ∷ rs) .events)
+        ≡ drop (wordsOfAll those) (feedAllIndexed c (onward c m ix r) (next c m ix r) rs .events)
+    rest-on =
+        rw words-on
+        (unfold feedAllIndexed in
+        rw front at (drop-append-add (take n (feedIndexed c m ix r .fed .events)) (feedAllIndexed c (onward c m ix r) (next c m ix r) rs .events)
+        (wordsOfAll those)))
 
-  front-on : take (wordsOfAll (feedAllIndexed c m ix (r ∷ rs) .outcomes)) (feedAllIndexed c m ix (r ∷ rs) .events)
-      ≡ take n (feedIndexed c m ix r .fed .events) ++ take (wordsOfAll those) (feedAllIndexed c (onward c m ix r) (next c m ix r) rs .events)
-  front-on =
-      rw words-on
-      (unfold feedAllIndexed in
-      rw front at (take-append-add (take n (feedIndexed c m ix r .fed .events)) (feedAllIndexed c (onward c m ix r) (next c m ix r) rs .events) (wordsOfAll those)))
+    front-on : take (wordsOfAll (feedAllIndexed c m ix (r ∷ rs) .outcomes)) (feedAllIndexed c m ix (r ∷ rs) .events)
+        ≡ take n (feedIndexed c m ix r .fed .events) ++ take (wordsOfAll those) (feedAllIndexed c (onward c m ix r) (next c m ix r) rs .events)
+    front-on =
+        rw words-on
+        (unfold feedAllIndexed in
+        rw front at (take-append-add (take n (feedIndexed c m ix r .fed .events)) (feedAllIndexed c (onward c m ix r) (next c m ix r) rs .events)
+        (wordsOfAll those)))
 
-  -- what the records after these are lent
-  after-on : after c m ix (r ∷ rs) ≡ after c (onward c m ix r) (next c m ix r) rs
-  after-on = rw rest-on (unfold feedAllIndexed in refl)
+    -- what the records after these are lent
+    after-on : after c m ix (r ∷ rs) ≡ after c (onward c m ix r) (next c m ix r) rs
+    after-on = rw rest-on (unfold feedAllIndexed in refl)
 
-  shorter : length (onward c m ix r .events) < 2 ^ 63
-  shorter = omega (arith, l, told c m ix r k .kept, length-drop n (feedIndexed c m ix r .fed .events))
+    shorter : length (onward c m ix r .events) < 2 ^ 63
+    shorter = omega (arith, l, told c m ix r k .kept, length-drop n (feedIndexed c m ix r .fed .events))
 
-pub parted : (c : Committee) (m : Lent) (ix : List ℕ) (rs qs : List Bytes) → Agreeing c (m .store) (m .table) ix → length (m .events) < 2 ^ 63 → Parted c m ix rs qs
+pub parted : (c : Committee) (m : Lent) (ix : List ℕ) (rs qs : List Bytes) → Agreeing c (m .store) (m .table) ix → length (m .events) < 2 ^ 63 → Parted c m ix
+    rs qs
 unfolding feedAllIndexed wordsOfAll sumOf
 parted c m ix [] qs k l = record { outcomes = refl; store = refl; table = refl; index = refl; events = refl }
 parted c m ix (r ∷ rs) qs k l =
@@ -151,12 +157,14 @@ parted c m ix (r ∷ rs) qs k l =
     let last = feedAllIndexed c (onward c m ix r) (next c m ix r) rs .index in
     record {
       outcomes = ap (λ (x : List ℕ). outcomeOf (feedIndexed c m ix r .fed .answer) ∷ x) (ih .outcomes)
-          ∙ ap (λ (x : Lent). outcomeOf (feedIndexed c m ix r .fed .answer) ∷ feedAllIndexed c (onward c m ix r) (next c m ix r) rs .outcomes ++ feedAllIndexed c x last qs .outcomes) (sym e);
+          ∙ ap (λ (x : Lent). outcomeOf (feedIndexed c m ix r .fed .answer) ∷ feedAllIndexed c (onward c m ix r) (next c m ix r) rs .outcomes ++
+          feedAllIndexed c x last qs .outcomes) (sym e);
       store = ih .store ∙ ap (λ (x : Lent). feedAllIndexed c x last qs .store) (sym e);
       table = ih .table ∙ ap (λ (x : Lent). feedAllIndexed c x last qs .table) (sym e);
       index = ih .index ∙ ap (λ (x : Lent). feedAllIndexed c x last qs .index) (sym e);
       events = ap (λ (x : List ℕ). take (wordsTold (feedIndexed c m ix r .fed .answer)) (feedIndexed c m ix r .fed .events) ++ x) (ih .events)
           ∙ sym (append-assoc (take (wordsTold (feedIndexed c m ix r .fed .answer)) (feedIndexed c m ix r .fed .events)) _ _)
           ∙ ap (λ (x : List ℕ). x ++ feedAllIndexed c (after c (onward c m ix r) (next c m ix r) rs) last qs .events) (sym (front-on c m ix r rs k l))
-          ∙ ap (λ (x : Lent). take (wordsOfAll (feedAllIndexed c m ix (r ∷ rs) .outcomes)) (feedAllIndexed c m ix (r ∷ rs) .events) ++ feedAllIndexed c x last qs .events) (sym e);
+          ∙ ap (λ (x : Lent). take (wordsOfAll (feedAllIndexed c m ix (r ∷ rs) .outcomes)) (feedAllIndexed c m ix (r ∷ rs) .events) ++ feedAllIndexed c x last
+          qs .events) (sym e);
     }

@@ -66,9 +66,11 @@ used-agrees bs ix = go (decLt (length ix) (getD ix 0 0)) (decLt 0 (getD ix 0 0))
 
     go : Dec (length ix < getD ix 0 0) → Dec (0 < getD ix 0 0) → indexAgrees bs (take (usedIn ix) ix) ≡ indexAgrees bs ix
     go (yes h) k = none (usedIn ix) (omega (arith, used-over ix h)) ∙ sym (fails (indexAgrees bs ix) (λ t. omega (arith, agrees-inside bs ix t)))
-    go (no h) (yes k) = ap (λ (n : ℕ). indexAgrees bs (take n ix)) (used-all ix (omega arith)) ∙ (unfold indexAgrees in ap (λ (ws : List ℕ). same ws (indexWords bs)) (kept k))
+    go (no h) (yes k) = ap (λ (n : ℕ). indexAgrees bs (take n ix)) (used-all ix (omega arith)) ∙
+        (unfold indexAgrees in ap (λ (ws : List ℕ). same ws (indexWords bs)) (kept k))
     go (no h) (no k) = none (usedIn ix) (omega (arith, used-all ix (omega arith))) ∙ sym (fails (indexAgrees bs ix) (λ t. omega (arith, agrees-some bs ix t)))
 
 -- so that the parts stand among them
-pub known-used : {s : Bytes} {order starts : List ℕ} (bs : List Block) (ix : List ℕ) → indexAgrees bs ix ≡ true → Known s order (take (usedIn ix) ix) starts bs → Known s order (usedPart ix) starts bs
+pub known-used : {s : Bytes} {order starts : List ℕ} (bs : List Block) (ix : List ℕ) → indexAgrees bs ix ≡ true → Known s order (take (usedIn ix) ix) starts
+    bs → Known s order (usedPart ix) starts bs
 known-used {s} {order} {starts} bs ix h k = subst (λ (ws : List ℕ). Known s order ws starts bs) (used-part bs ix h) k

@@ -17,9 +17,11 @@ use Rattle.list_stretches_spec.specs.Bulk.{Given, givenAfter, stretchRoom, byte
 use Rattle.index_spec.specs.Index.{indexAgrees}
 use Rattle.index_list_spec.specs.Indexed.{indexedChecks, listStretchesIndexed}
 use Rattle.list_bulk.proofs.Asking.{bulk-asked}
-use Rattle.index_list_spec.proofs.Asking.{refusal-broken, refusal-disordered, refusal-disagrees, refusal-none, indexed-broken, indexed-disordered, indexed-disagrees, same-list}
+use Rattle.index_list_spec.proofs.Asking.{refusal-broken, refusal-disordered, refusal-disagrees, refusal-none, indexed-broken, indexed-disordered}
+use Rattle.index_list_spec.proofs.Asking.{indexed-disagrees, same-list}
 
-module _ (c : Committee) (s : Bytes) (ix : List ℕ) (k : Listing) (out : Bytes) (after : Option TransactionLocator) (n : ℕ) (e : n ≡ refusal (indexedChecks c s ix)) where
+module _ (c : Committee) (s : Bytes) (ix : List ℕ) (k : Listing) (out : Bytes) (after : Option TransactionLocator) (n : ℕ)
+    (e : n ≡ refusal (indexedChecks c s ix)) where
   numbered : (m : ℕ) → m ≡ refusal (indexedChecks c s ix) → record { answer = refused m; out = out } ≡ listStretchesIndexed c s ix k out after
       → record { answer = refused n; out = out } ≡ listStretchesIndexed c s ix k out after
   numbered m d h = subst (λ (i : ℕ). record { answer = refused i; out = out } ≡ listStretchesIndexed c s ix k out after) (d ∙ sym e) h
@@ -27,7 +29,8 @@ module _ (c : Committee) (s : Bytes) (ix : List ℕ) (k : Listing) (out : Bytes)
   pub indexed-refused : (n ≡ 0 → ⊥) → record { answer = refused n; out = out } ≡ listStretchesIndexed c s ix k out after
   indexed-refused f = go (holds-or-not (broken c)) (holds-or-not (storeInOrder c s)) (holds-or-not (indexAgrees (blocksOf s) ix))
     where
-      go : (broken c ≡ true) ⊎ (broken c ≡ false) → (storeInOrder c s ≡ true) ⊎ (storeInOrder c s ≡ false) → (indexAgrees (blocksOf s) ix ≡ true) ⊎ (indexAgrees (blocksOf s) ix ≡ false)
+      go : (broken c ≡ true) ⊎ (broken c ≡ false) → (storeInOrder c s ≡ true) ⊎ (storeInOrder c s ≡ false) → (indexAgrees (blocksOf s) ix ≡ true) ⊎
+          (indexAgrees (blocksOf s) ix ≡ false)
           → record { answer = refused n; out = out } ≡ listStretchesIndexed c s ix k out after
       go (inl b) o a = numbered 5 (refusal-broken c s ix b) (indexed-broken c s ix k out after b)
       go (inr b) (inr o) a = numbered 10 (refusal-disordered c s ix b o) (indexed-disordered c s ix k out after b o)

@@ -61,7 +61,8 @@ module _ (c : Committee) (s : Bytes) (ix : List ℕ) (k : Listing) (out : Bytes)
     unfolding listStretchesIndexed listStretches indexedChecks nextFinalChecks checked passes refusal allOf
     same-list = go (holds-or-not (broken c)) (holds-or-not (storeInOrder c s))
       where
-        go : (broken c ≡ true) ⊎ (broken c ≡ false) → (storeInOrder c s ≡ true) ⊎ (storeInOrder c s ≡ false) → listStretchesIndexed c s ix k out after ≡ listStretches c s k out after
+        go : (broken c ≡ true) ⊎ (broken c ≡ false) → (storeInOrder c s ≡ true) ⊎ (storeInOrder c s ≡ false) → listStretchesIndexed c s ix k out after ≡
+            listStretches c s k out after
         go (inl b) o = rw b
         go (inr b) (inl o) = rw (b, o, agrees)
         go (inr b) (inr o) = rw (b, o)
@@ -70,16 +71,19 @@ module _ (c : Committee) (s : Bytes) (ix : List ℕ) (k : Listing) (out : Bytes)
   unfolding listStretchesIndexed listStretches indexedChecks nextFinalChecks checked passes refusal allOf
   same-refusal h = go (holds-or-not (broken c)) (holds-or-not (storeInOrder c s))
     where
-      go : (broken c ≡ true) ⊎ (broken c ≡ false) → (storeInOrder c s ≡ true) ⊎ (storeInOrder c s ≡ false) → listStretchesIndexed c s ix k out after ≡ listStretches c s k out after
+      go : (broken c ≡ true) ⊎ (broken c ≡ false) → (storeInOrder c s ≡ true) ⊎ (storeInOrder c s ≡ false) → listStretchesIndexed c s ix k out after ≡
+          listStretches c s k out after
       go (inl b) o = rw b
       go (inr b) (inl o) = let t : passes (nextFinalChecks c s) ≡ true = rw (b, o) in absurd (not-both t h)
       go (inr b) (inr o) = rw (b, o)
 
-  pub fifty-four : passes (nextFinalChecks c s) ≡ true → indexAgrees (blocksOf s) ix ≡ false → listStretchesIndexed c s ix k out after ≡ record { answer = refused 54; out = out }
+  pub fifty-four : passes (nextFinalChecks c s) ≡ true → indexAgrees (blocksOf s) ix ≡ false → listStretchesIndexed c s ix k out after ≡ record
+      { answer = refused 54; out = out }
   unfolding nextFinalChecks passes allOf
   fifty-four h d = go (holds-or-not (broken c)) (holds-or-not (storeInOrder c s))
     where
-      go : (broken c ≡ true) ⊎ (broken c ≡ false) → (storeInOrder c s ≡ true) ⊎ (storeInOrder c s ≡ false) → listStretchesIndexed c s ix k out after ≡ record { answer = refused 54; out = out }
+      go : (broken c ≡ true) ⊎ (broken c ≡ false) → (storeInOrder c s ≡ true) ⊎ (storeInOrder c s ≡ false) → listStretchesIndexed c s ix k out after ≡ record
+          { answer = refused 54; out = out }
       go (inl b) o = let t : passes (nextFinalChecks c s) ≡ false = rw b in absurd (not-both h t)
       go (inr b) (inl o) = sym (indexed-disagrees b o d)
       go (inr b) (inr o) = let t : passes (nextFinalChecks c s) ≡ false = rw (b, o) in absurd (not-both h t)

@@ -32,7 +32,8 @@ RefusedAlike = (c : Committee) (s : Bytes) (ix : List ℕ) (k : Listing) (out : 
 
 -- 02: "An index that disagrees with the store answers 54"; the slice is as it was
 unfoldable pub Disagreeing : Type 0
-Disagreeing = (c : Committee) (s : Bytes) (ix : List ℕ) (k : Listing) (out : Bytes) (after : Option TransactionLocator) → passes (nextFinalChecks c s) ≡ true → indexAgrees (blocksOf s) ix ≡ false
+Disagreeing = (c : Committee) (s : Bytes) (ix : List ℕ) (k : Listing) (out : Bytes) (after : Option TransactionLocator) → passes (nextFinalChecks c s) ≡ true
+    → indexAgrees (blocksOf s) ix ≡ false
     → listStretchesIndexed c s ix k out after ≡ record { answer = refused 54; out = out }
 
 pub record Claims : Type 0 where

@@ -22,13 +22,19 @@ use Rattle.index_pieces.specs.Sources.{namedBy, Ready, Moved, together, Merging
 
 module _ {f : TransactionLocator → AuthoritySet} where
   -- a piece that touches and has the same voters
-  pub grown : (p : Place) (x y : Run) → Piece f p x → Piece f (beyond (x .reference) (x .end)) y → touches x y && sameVoters (x .votes) (y .votes) ≡ true → Piece f p (ended x (y .end))
+  pub grown : (p : Place) (x y : Run) → Piece f p x → Piece f (beyond (x .reference) (x .end)) y → touches x y && sameVoters (x .votes) (y .votes) ≡ true →
+      Piece f p (ended x (y .end))
   unfolding ended run
   grown p x y c d h =
       record {
         there = c .there;
         ahead = record {
-          stretch = record { full = omega (arith, c .ahead .stretch .full, d .ahead .stretch .full, t .1); voted = c .ahead .stretch .voted; told = λ o i j. told o i j (decLt o (x .end)) };
+          stretch = record {
+            full = omega (arith, c .ahead .stretch .full, d .ahead .stretch .full, t .1);
+            voted = c .ahead .stretch .voted;
+            told = λ o i j.
+                told o i j (decLt o (x .end));
+          };
           first = c .ahead .first;
         };
       }
@@ -54,7 +60,8 @@ module _ {f : TransactionLocator → AuthoritySet} where
         first = c .ahead .first;
       }
 
-  pub run-other : (p : Place) (x y : Run) → Piece f p x → Piece f (beyond (x .reference) (x .end)) y → touches x y && sameVoters (x .votes) (y .votes) ≡ false → NextRun f p x
+  pub run-other : (p : Place) (x y : Run) → Piece f p x → Piece f (beyond (x .reference) (x .end)) y → touches x y && sameVoters (x .votes) (y .votes) ≡ false
+      → NextRun f p x
   unfolding locator
   run-other p x y c d h =
       record {
@@ -107,7 +114,10 @@ module _ (own ms₀ ix : List ℕ) (n : ℕ) (cs₀ : List ℕ) (first : Run) wh
       (w : Moved own 1 (beyond (first .reference) e) ms ms′) where
     told-on : (f : TransactionLocator → AuthoritySet) → Merging f own ms₀ ix cs₀ n first → Merging f own ms′ ix cs′ n (ended first e)
     unfolding ended run together
-    told-on f k = record { told = λ l a. ap (λ (v : AuthoritySet). united v (namedBy ix cs′ n l)) (w .names l a) ∙ ap (united (namedBy own ms 1 l)) (m .names l a) ∙ g .merging f k .told l a }
+    told-on f k = record {
+      told = λ l a. ap (λ (v : AuthoritySet). united v (namedBy ix cs′ n l)) (w .names l a) ∙ ap (united (namedBy own ms 1 l))
+          (m .names l a) ∙ g .merging f k .told l a;
+    }
 
     next-of : (f : TransactionLocator → AuthoritySet) → Merging f own ms₀ ix cs₀ n first → PieceOr f (beyond (first .reference) e) next
     unfolding ended run
@@ -131,7 +141,8 @@ module _ (own ms₀ ix : List ℕ) (n : ℕ) (cs₀ : List ℕ) (first : Run) wh
     unfolding PieceOr ended run
     grown-none z = ends (λ f p k c. run-none p (ended first e) (g .piece f p k c) (subst (PieceOr f (beyond (first .reference) e)) z (next-of f k)))
 
-    pub grown-other : (y : Run) → next ≡ some y → touches (ended first e) y && sameVoters (first .votes) (y .votes) ≡ false → GrownFrom own ms₀ ms′ ix n cs₀ cs′ first (ended first e) next
+    pub grown-other : (y : Run) → next ≡ some y → touches (ended first e) y && sameVoters (first .votes) (y .votes) ≡ false → GrownFrom own ms₀ ms′ ix n cs₀
+        cs′ first (ended first e) next
     unfolding PieceOr ended run
     grown-other y z t = ends (λ f p k c. run-other p (ended first e) y (g .piece f p k c) (subst (PieceOr f (beyond (first .reference) e)) z (next-of f k)) t)
 

@@ -61,11 +61,13 @@ module _ (s : Bytes) (v : AuthoritySet) where
   unfolding Apart endsBefore keyOf locator
   ends-past r q h = go (precedes (locator (referenceAt s (r .at)) (r .mark)) (locator (referenceAt s (q .at)) (q .offset)) h)
     where
-      go : Precedes (locator (referenceAt s (r .at)) (r .mark)) (locator (referenceAt s (q .at)) (q .offset)) → Past (referenceAt s (r .at)) (r .mark) (referenceAt s (q .at)) (q .offset)
+      go : Precedes (locator (referenceAt s (r .at)) (r .mark)) (locator (referenceAt s (q .at)) (q .offset)) → Past (referenceAt s (r .at)) (r .mark)
+          (referenceAt s (q .at)) (q .offset)
       go (order.byBlock x) = byBlock x
       go (order.byOffset x y) = byOffset x (omega arith)
 
-  chain-rows : (v ≡ nobody → ⊥) → (p : Place) (rs : List Row) → Every (λ r. At p (referenceAt s (r .at)) (r .offset)) rs → Every (Proper s) rs → Pairs (Apart s) rs
+  chain-rows : (v ≡ nobody → ⊥) → (p : Place) (rs : List Row) → Every (λ r. At p (referenceAt s (r .at)) (r .offset)) rs → Every (Proper s) rs → Pairs
+      (Apart s) rs
       → Chain Anything p (map (rowRun s v) rs)
   unfolding rowRun run
   chain-rows n p [] none-of none-of no-pairs = end
@@ -93,7 +95,8 @@ module _ (s : Bytes) (b : Block) (t u : List ℕ) (m : ℕ) (o : OwnRanges Votes
       record {
         inside = h;
         chain = subst (Chain Anything anywhere) (sym e)
-            (chain-rows s (inserted nobody (author b)) (one-not-nobody (author b)) anywhere (rowsOf u m) (every-one (λ r. tt) (rowsOf u m)) (o .proper) (o .apart));
+            (chain-rows s (inserted nobody (author b)) (one-not-nobody (author b)) anywhere (rowsOf u m) (every-one (λ r. tt) (rowsOf u m)) (o .proper)
+            (o .apart));
         names = λ l.
             ap (λ (xs : List Run). votersIn xs l) e
             ∙ names-rows s (inserted nobody (author b)) (rowsOf u m) l

@@ -33,7 +33,8 @@ words-more xs y =
     ∙ ap (λ (ws : List ℕ). runsWords xs ++ ws) (append-nil (runWords y))
 
 -- runs read back from words that begin with theirs
-words-back : (ws : List ℕ) (xs : List Run) (rest : List ℕ) → ws ≡ runsWords xs ++ rest → ((x : Run) → x ∈ xs → ReferenceFits (x .reference)) → runsFrom (length xs) ws ≡ xs
+words-back : (ws : List ℕ) (xs : List Run) (rest : List ℕ) → ws ≡ runsWords xs ++ rest → ((x : Run) → x ∈ xs → ReferenceFits (x .reference)) → runsFrom
+    (length xs) ws ≡ xs
 unfolding partAt partWords
 words-back ws xs rest e h = part-back (length xs ∷ ws) 0 xs rest (ap (λ (us : List ℕ). length xs ∷ us) e) h
 
@@ -72,12 +73,14 @@ module _ (s : Bytes) (v : AuthoritySet) (rows ws₀ : List ℕ) where
 
   module _ (bytes : AllBytes s) where
     part-bytes : (n p : ℕ) → AllBytes (take n (drop p s))
-    part-bytes n p = bytes-left (take n (drop p s)) (drop n (drop p s)) (subst AllBytes (sym (take-append-drop n (drop p s))) (bytes-right (take p s) (drop p s) (subst AllBytes (sym (take-append-drop p s)) bytes)))
+    part-bytes n p = bytes-left (take n (drop p s)) (drop n (drop p s))
+        (subst AllBytes (sym (take-append-drop n (drop p s))) (bytes-right (take p s) (drop p s) (subst AllBytes (sym (take-append-drop p s)) bytes)))
 
     number-fits : (p : ℕ) → p + 8 ≤ length s → leAt 8 s p < 256 ^ 8
     unfolding leAt
     number-fits p h =
-        subst (λ (n : ℕ). leNumber (take 8 (drop p s)) < 256 ^ n) (length-take-le 8 (drop p s) (omega (arith, length-drop p s))) (leNumber-lt (take 8 (drop p s)) (part-bytes 8 p))
+        subst (λ (n : ℕ). leNumber (take 8 (drop p s)) < 256 ^ n) (length-take-le 8 (drop p s) (omega (arith, length-drop p s)))
+        (leNumber-lt (take 8 (drop p s)) (part-bytes 8 p))
 
     reference-fits : (p : ℕ) → p + 48 ≤ length s → ReferenceFits (referenceAt s p)
     unfolding referenceAt
@@ -89,7 +92,8 @@ module _ (s : Bytes) (v : AuthoritySet) (rows ws₀ : List ℕ) where
           bytes = part-bytes 32 (p + 16);
         }
 
-    pub put-end : (ws : List ℕ) (m : ℕ) → Every (Proper s) (rowsOf rows m) → 10 * m ≤ length ws₀ → RunsPut s v rows ws₀ ws m → runsFrom m ws ≡ map (rowRun s v) (rowsOf rows m)
+    pub put-end : (ws : List ℕ) (m : ℕ) → Every (Proper s) (rowsOf rows m) → 10 * m ≤ length ws₀ → RunsPut s v rows ws₀ ws m → runsFrom m ws ≡ map
+        (rowRun s v) (rowsOf rows m)
     unfolding RunsPut runs rowRun run
     put-end ws m f h e =
         ap (λ (n : ℕ). runsFrom n ws) (sym (count m))

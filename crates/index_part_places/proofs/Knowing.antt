@@ -81,7 +81,8 @@ module _ (s s′ : Bytes) (r : Record) (l : laidOut s ≡ true) (l′ : laidOut 
   others : (i : ℕ) → i < length P → blockAt s (getD P i 0) .reference ≡ r .block .reference → ⊥
   others i h q =
       let x = at i h in
-      let z = ap (λ (b : Block). b .reference) (sym (block-of-entry s (laid-out s l .reads) (x .entry) (x .stored))) ∙ ap (λ (p : ℕ). blockAt s p .reference) (x .place) ∙ q in
+      let z = ap (λ (b : Block). b .reference) (sym (block-of-entry s (laid-out s l .reads) (x .entry) (x .stored))) ∙ ap (λ (p : ℕ). blockAt s p .reference)
+      (x .place) ∙ q in
       not-both (stored-entry rs (r .block .reference) (x .entry) (x .stored) z) fresh
 
   module _ (order starts₀ starts : List ℕ) (n : Noted (r ∷ rs) (usedBy rs) (usedWords (indexed bs)) order starts₀ starts) where
@@ -100,10 +101,17 @@ module _ (s s′ : Bytes) (r : Record) (l : laidOut s ≡ true) (l′ : laidOut 
         go (yes h) k =
             absurd (omega (arith, n .found, ins .below (n .place) h, lower (n .place) (omega (arith, ins .within))))
         go (no h) (yes k) =
-            absurd (omega (arith, n .found, ins .above (n .place) k (omega (arith, n .within, ins .long)), lower (n .place - 1) (omega (arith, n .within, ins .long))))
+            absurd (omega (
+              arith,
+              n .found,
+              ins .above (n .place) k (omega (arith, n .within, ins .long)),
+              lower (n .place - 1)
+                  (omega (arith, n .within, ins .long)),
+            ))
         go (no h) (no k) = omega arith
 
-    module _ (k : Known s P (indexWords bs) starts₀ bs) (new : Stands (indexWords (r .block ∷ bs)) (usedWords (indexed bs)) (partIn (r .block ∷ bs) (r .block .reference))) where
+    module _ (k : Known s P (indexWords bs) starts₀ bs) (new : Stands (indexWords (r .block ∷ bs)) (usedWords (indexed bs))
+        (partIn (r .block ∷ bs) (r .block .reference))) where
       other-part : (q : BlockReference) → (r .block .reference ≡ q → ⊥) → partIn (r .block ∷ bs) q ≡ partIn bs q
       unfolding partIn
       other-part q h = rw (other-reference (r .block .reference) q h)
@@ -131,7 +139,8 @@ module _ (s s′ : Bytes) (r : Record) (l : laidOut s ≡ true) (l′ : laidOut 
       unfolding blockAtPlace
       new-part j z d q =
           let is : d .reference ≡ r .block .reference =
-          q ∙ ap (λ (x : ℕ). blockAt s′ (getD P′ x 0) .reference) z ∙ ap (λ (x : ℕ). blockAt s′ x .reference) (ins .own) ∙ ap (λ (b : Block). b .reference) new-block in
+          q ∙ ap (λ (x : ℕ). blockAt s′ (getD P′ x 0) .reference) z ∙ ap (λ (x : ℕ). blockAt s′ x .reference) (ins .own) ∙ ap (λ (b : Block). b .reference)
+          new-block in
           let st : getD starts j 0 ≡ usedWords (indexed bs) = ap (λ (x : ℕ). getD starts x 0) (z ∙ sym same-place) ∙ n .put .own in
           rw (st, is) new
 

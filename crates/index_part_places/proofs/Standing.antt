@@ -65,7 +65,8 @@ module _ (b : Block) (bs : List Block) where
   old-stands zero xs h = absurd (never-first bs xs h)
   old-stands (suc q) xs h =
       rw (index-grows b bs)
-      (stands-grown (usedWords (indexed bs)) _ (bodyWords (indexed bs)) (partWords (partIn (b ∷ bs) (b .reference))) (suc q) xs (unfold indexWords in h) (omega arith))
+      (stands-grown (usedWords (indexed bs)) _ (bodyWords (indexed bs)) (partWords (partIn (b ∷ bs) (b .reference))) (suc q) xs (unfold indexWords in h)
+      (omega arith))
 
   -- the new part begins where the others end
   pub new-stands : ((x : Run) → x ∈ partIn (b ∷ bs) (b .reference) → ReferenceFits (x .reference))
@@ -84,10 +85,12 @@ module _ (b : Block) (bs : List Block) where
 pub runs-fit : (s : Bytes) → AllBytes s → (b : Block) (bs : List Block) → blocksOf s ≡ b ∷ bs
     → (x : Run) → x ∈ partIn (b ∷ bs) (b .reference) → ReferenceFits (x .reference)
 unfolding blocksOf
-runs-fit s bytes b bs e x m = run-reference (b ∷ bs) (b .reference) x m ReferenceFits (λ d n q k. span-fits d (fits d (subst (λ (l : List Block). d ∈ l) (sym e) n)) q k)
+runs-fit s bytes b bs e x m = run-reference (b ∷ bs) (b .reference) x m ReferenceFits
+    (λ d n q k. span-fits d (fits d (subst (λ (l : List Block). d ∈ l) (sym e) n)) q k)
   where
     fits : (d : Block) → d ∈ map (λ r. r .block) (recordsOf s) → BlockFits d
     fits d n =
         let r = map-in (λ x. x .block) (recordsOf s) n in
         subst BlockFits (r .2)
-        (blockOf-fits (r .0 .bytes) (r .0 .block) (every-in (recordsOf s) (r .0) (recordsOf-bytes s bytes) (r .1)) (right-block (r .0) (every-in (recordsOf s) (r .0) (recordsOf-right s) (r .1))))
+        (blockOf-fits (r .0 .bytes) (r .0 .block) (every-in (recordsOf s) (r .0) (recordsOf-bytes s bytes) (r .1))
+        (right-block (r .0) (every-in (recordsOf s) (r .0) (recordsOf-right s) (r .1))))

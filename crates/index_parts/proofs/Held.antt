@@ -23,7 +23,8 @@ use Rattle.index_cursors.specs.declared.Spot.{Spot}
 use Rattle.index_parts.specs.Parts.{RunPassed, StoodOver, Compared}
 use Rattle.index_parts.specs.declared.PartEnd.the-variants.{Ends, Differs}
 use Rattle.index_strides.proofs.Words.{runsWords, part-count, part-body, run-stands, Stood, stood-start, stood-on, stood-part, row-stands}
-use Rattle.index_strides.proofs.Stepping.{Left, Standing, next-same, Begun, begun, nexts-at, nexts-same, standing-start, standing-none, standing-more, standing-first}
+use Rattle.index_strides.proofs.Stepping.{Left, Standing, next-same, Begun, begun, nexts-at, nexts-same, standing-start, standing-none, standing-more}
+use Rattle.index_strides.proofs.Stepping.{standing-first}
 
 -- ---- a run and those that the sources share after it
 

@@ -85,11 +85,13 @@ module _ (ix : List ℕ) (p : Place) (cs₀ : List ℕ) where
 
     pub at-same : cursorAt next-cs k ≡ at
     unfolding cursorAt
-    at-same = getD-set-other (set cs (2 * k) at) (2 * k + 1) (2 * k) left 0 (λ (e : 2 * k ≡ 2 * k + 1). omega arith) ∙ getD-set-same cs (2 * k) at 0 (omega arith)
+    at-same = getD-set-other (set cs (2 * k) at) (2 * k + 1) (2 * k) left 0 (λ (e : 2 * k ≡ 2 * k + 1). omega arith) ∙ getD-set-same cs (2 * k) at 0
+        (omega arith)
 
     pub left-same : cursorLeft next-cs k ≡ left
     unfolding cursorLeft
-    left-same = let h : 2 * k + 1 < length (set cs (2 * k) at) = omega (arith, length-set cs (2 * k) at) in getD-set-same (set cs (2 * k) at) (2 * k + 1) left 0 h
+    left-same = let h : 2 * k + 1 < length (set cs (2 * k) at) = omega (arith, length-set cs (2 * k) at) in getD-set-same (set cs (2 * k) at) (2 * k + 1) left
+        0 h
 
     pub at-other : (j : ℕ) → (j ≡ k → ⊥) → cursorAt next-cs j ≡ cursorAt cs j
     unfolding cursorAt
@@ -118,7 +120,11 @@ module _ (ix : List ℕ) (p : Place) (cs₀ : List ℕ) where
           long = length-set (set cs (2 * k) at) (2 * k + 1) left ∙ length-set cs (2 * k) at ∙ h .long;
           done = λ j n. now j (decLt j k) n;
           within = λ j n. inside j (decLt j k) n;
-          rest = λ j n. (at-other j (λ (z : j ≡ k). omega arith) ∙ h .rest j (omega arith) .0, left-other j (λ (z : j ≡ k). omega arith) ∙ h .rest j (omega arith) .1);
+          rest = λ j n. (
+            at-other j (λ (z : j ≡ k). omega arith) ∙ h .rest j (omega arith) .0,
+            left-other j (λ (z : j ≡ k). omega arith) ∙ h .rest j
+                (omega arith) .1,
+          );
         }
       where
         now : (j : ℕ) → Dec (j < k) → j < k + 1 → source ix next-cs j ≡ skipped p (source ix cs₀ j)
@@ -156,11 +162,13 @@ module _ (ix cs₀ : List ℕ) (p : Place) (other : Option Run) where
   unfolding SoFar namedBy
   so-far-start f h = pieces-same f (λ l. united (f l) nobody) p other (λ l a. sym (united-nobody (f l))) h
 
-  pub so-far-on : (k : ℕ) (o q : Option Run) → Chain Anything anywhere (source ix cs₀ k) → SoFar ix cs₀ p other k o → q ≡ firstPiece p (source ix cs₀ k) → SoFar ix cs₀ p other (k + 1) (both o q)
+  pub so-far-on : (k : ℕ) (o q : Option Run) → Chain Anything anywhere (source ix cs₀ k) → SoFar ix cs₀ p other k o → q ≡ firstPiece p (source ix cs₀ k) →
+      SoFar ix cs₀ p other (k + 1) (both o q)
   unfolding SoFar namedBy
   so-far-on k o q h s e f m =
       rw (add-one k)
       (let g : TransactionLocator → AuthoritySet = λ l. united (f l) (namedBy ix cs₀ k l) in
-      pieces-same (λ l. united (g l) (votersIn (source ix cs₀ k) l)) (λ l. united (f l) (united (namedBy ix cs₀ k l) (votersIn (source ix cs₀ k) l))) p (both o q)
+      pieces-same (λ l. united (g l) (votersIn (source ix cs₀ k) l)) (λ l. united (f l) (united (namedBy ix cs₀ k l) (votersIn (source ix cs₀ k) l))) p
+      (both o q)
       (λ l a. united-assoc (f l) (namedBy ix cs₀ k l) (votersIn (source ix cs₀ k) l))
       (both-pieces g (votersIn (source ix cs₀ k)) p o q (s f m) (subst (PieceOr (votersIn (source ix cs₀ k)) p) (sym e) (first-piece p (source ix cs₀ k) h))))

@@ -20,7 +20,8 @@ use Rattle.index_spec.specs.Runs.{Run, run, votersIn}
 use Rattle.index_spec.specs.Walk.{Past, byBlock, byOffset, Place, anywhere, beyond, At}
 use Rattle.index_spec.proofs.Sets.{united-comm, united-nobody-left}
 use Rattle.index_spec.proofs.Chain.{past-trans, Covered, Chain, end, link, past-head, nobody-before, at-head}
-use Rattle.index_pieces.specs.Pieces.{Ahead, Piece, NobodyFrom, PieceOr, fromOffset, fromPlace, nearer, cut, overlaidBy, overlaid, both, orElse, firstPiece, keptIf, skipped}
+use Rattle.index_pieces.specs.Pieces.{Ahead, Piece, NobodyFrom, PieceOr, fromOffset, fromPlace, nearer, cut, overlaidBy, overlaid, both, orElse}
+use Rattle.index_pieces.specs.Pieces.{firstPiece, keptIf, skipped}
 
 -- ---- places
 
@@ -57,14 +58,16 @@ passed p x h = subst (PassedBy p x) h (by p)
     by (beyond q e) = go (referenceOrder q (x .reference)) refl
       where
         not-earlier : (l : TransactionLocator) → referenceBefore (x .reference) q ≡ true → Past q e (l .block) (l .offset) → Covered x l → ⊥
-        not-earlier l h (byBlock b) c = reference-irrefl q (reference-trans q (x .reference) q (subst (λ (r : BlockReference). referenceBefore q r ≡ true) (sym (c .of)) b) h)
+        not-earlier l h (byBlock b) c = reference-irrefl q (reference-trans q (x .reference) q
+            (subst (λ (r : BlockReference). referenceBefore q r ≡ true) (sym (c .of)) b) h)
         not-earlier l h (byOffset b k) c = reference-irrefl q (subst (λ (r : BlockReference). referenceBefore r q ≡ true) (c .of ∙ sym b) h)
 
         not-past : (l : TransactionLocator) → q ≡ x .reference → x .end ≤ e → Past q e (l .block) (l .offset) → Covered x l → ⊥
         not-past l h k (byBlock b) c = reference-irrefl q (subst (λ (r : BlockReference). referenceBefore q r ≡ true) (sym (c .of) ∙ sym h) b)
         not-past l h k (byOffset b m) c = omega (arith, c .below)
 
-        tested : (t u : Bool) → leb (x .end) e ≡ t → leb e (x .start) ≡ u → q ≡ x .reference → PassedBy (beyond q e) x (pick t none (pick u (some x) (some (run (x .reference) e (x .end) (x .votes)))))
+        tested : (t u : Bool) → leb (x .end) e ≡ t → leb e (x .start) ≡ u → q ≡ x .reference → PassedBy (beyond q e) x
+            (pick t none (pick u (some x) (some (run (x .reference) e (x .end) (x .votes)))))
         tested true u h k r = λ l a c. not-past l r (leb-true (x .end) e h) a c
         tested false true h k r = tt
         tested false false h k r = tt
@@ -98,7 +101,8 @@ module _ {f : TransactionLocator → AuthoritySet} where
                 };
               }
 
-          tested : (t u : Bool) → leb (x .end) e ≡ t → leb e (x .start) ≡ u → q ≡ x .reference → PieceIf f (beyond q e) (pick t none (pick u (some x) (some (run (x .reference) e (x .end) (x .votes)))))
+          tested : (t u : Bool) → leb (x .end) e ≡ t → leb e (x .start) ≡ u → q ≡ x .reference → PieceIf f (beyond q e)
+              (pick t none (pick u (some x) (some (run (x .reference) e (x .end) (x .votes)))))
           tested true u i k r = tt
           tested false true i k r = record { there = byOffset r (leb-true e (x .start) k); ahead = b }
           tested false false i k r = later r (leb-false e (x .start) k) (leb-false (x .end) e i)
@@ -110,7 +114,8 @@ module _ {f : TransactionLocator → AuthoritySet} where
 
 -- ---- other names for the same voters
 
-pub piece-same : {f g : TransactionLocator → AuthoritySet} (p : Place) (x : Run) → ((l : TransactionLocator) → At p (l .block) (l .offset) → f l ≡ g l) → Piece f p x → Piece g p x
+pub piece-same : {f g : TransactionLocator → AuthoritySet} (p : Place) (x : Run) → ((l : TransactionLocator) → At p (l .block) (l .offset) → f l ≡ g l) →
+    Piece f p x → Piece g p x
 unfolding locator
 piece-same p x e c =
     record {
@@ -125,7 +130,8 @@ piece-same p x e c =
       };
     }
 
-pub pieces-same : (f g : TransactionLocator → AuthoritySet) (p : Place) (o : Option Run) → ((l : TransactionLocator) → At p (l .block) (l .offset) → f l ≡ g l) → PieceOr f p o → PieceOr g p o
+pub pieces-same : (f g : TransactionLocator → AuthoritySet) (p : Place) (o : Option Run) →
+    ((l : TransactionLocator) → At p (l .block) (l .offset) → f l ≡ g l) → PieceOr f p o → PieceOr g p o
 unfolding PieceOr NobodyFrom
 pieces-same f g p none e h = λ l a. sym (e l a) ∙ h l a
 pieces-same f g p (some x) e h = piece-same p x e h
@@ -153,7 +159,8 @@ module _ {f g : TransactionLocator → AuthoritySet} where
       }
 
   -- both from the same offset on
-  two-piece : (p : Place) (x y : Run) (e : ℕ) → Piece f p x → Piece g p y → x .reference ≡ y .reference → x .start ≡ y .start → x .start < e → e ≤ x .end → e ≤ y .end
+  two-piece : (p : Place) (x y : Run) (e : ℕ) → Piece f p x → Piece g p y → x .reference ≡ y .reference → x .start ≡ y .start → x .start < e → e ≤ x .end → e
+      ≤ y .end
       → Piece (λ l. united (f l) (g l)) p (run (x .reference) (x .start) e (united (x .votes) (y .votes)))
   unfolding run
   two-piece p x y e c d r s m n k =
@@ -168,7 +175,8 @@ module _ {f g : TransactionLocator → AuthoritySet} where
           first = λ l i j.
               rw (
                 c .ahead .first l i j,
-                d .ahead .first l i (subst (λ (z : ℕ). Past (l .block) (l .offset + 1) (y .reference) z) s (subst (λ (z : BlockReference). Past (l .block) (l .offset + 1) z (x .start)) r j)),
+                d .ahead .first l i (subst (λ (z : ℕ). Past (l .block) (l .offset + 1) (y .reference) z) s
+                    (subst (λ (z : BlockReference). Past (l .block) (l .offset + 1) z (x .start)) r j)),
               ) (united-nobody nobody);
         };
       }
@@ -189,7 +197,8 @@ first-piece-of p x y e c d m n h =
 swapped : (f g : TransactionLocator → AuthoritySet) (p : Place) (x : Run) → Piece (λ l. united (g l) (f l)) p x → Piece (λ l. united (f l) (g l)) p x
 swapped f g p x c = piece-same p x (λ l a. united-comm (g l) (f l)) c
 
-pub both-piece : {f g : TransactionLocator → AuthoritySet} (p : Place) (x y : Run) → Piece f p x → Piece g p y → Piece (λ l. united (f l) (g l)) p (overlaid x y)
+pub both-piece : {f g : TransactionLocator → AuthoritySet} (p : Place) (x y : Run) → Piece f p x → Piece g p y → Piece (λ l. united (f l) (g l)) p
+    (overlaid x y)
 unfolding overlaid overlaidBy cut nearer run
 both-piece {f} {g} p x y c d = go (referenceOrder (x .reference) (y .reference)) refl
   where
@@ -216,25 +225,31 @@ both-piece {f} {g} p x y c d = go (referenceOrder (x .reference) (y .reference))
         (run (x .reference) (x .start) (pick (ltb (x .end) (y .end)) (x .end) (y .end)) (united (x .votes) (y .votes)))))
     tested true u h k r =
         let n = nearest (x .end) (y .start) in
-        first-piece-of p x y (pick (ltb (x .end) (y .start)) (x .end) (y .start)) c d (past-both (x .start) (x .end) (y .start) (c .ahead .stretch .full) (ltb-true (x .start) (y .start) h)) (n .0)
+        first-piece-of p x y (pick (ltb (x .end) (y .start)) (x .end) (y .start)) c d
+        (past-both (x .start) (x .end) (y .start) (c .ahead .stretch .full) (ltb-true (x .start) (y .start) h)) (n .0)
         (λ o j. byOffset r (omega (arith, n .1)))
     tested false true h k r =
         let n = nearest (y .end) (x .start) in
         swapped f g p _
-        (first-piece-of p y x (pick (ltb (y .end) (x .start)) (y .end) (x .start)) d c (past-both (y .start) (y .end) (x .start) (d .ahead .stretch .full) (ltb-true (y .start) (x .start) k)) (n .0)
+        (first-piece-of p y x (pick (ltb (y .end) (x .start)) (y .end) (x .start)) d c
+        (past-both (y .start) (y .end) (x .start) (d .ahead .stretch .full) (ltb-true (y .start) (x .start) k)) (n .0)
         (λ o j. byOffset (sym r) (omega (arith, n .1))))
     tested false false h k r =
         let n = nearest (x .end) (y .end) in
         let s : x .start ≡ y .start = omega (arith, ltb-false (x .start) (y .start) h, ltb-false (y .start) (x .start) k) in
         let m : x .start < y .end = omega (arith, d .ahead .stretch .full) in
-        two-piece p x y (pick (ltb (x .end) (y .end)) (x .end) (y .end)) c d r s (past-both (x .start) (x .end) (y .end) (c .ahead .stretch .full) m) (n .0) (n .1)
+        two-piece p x y (pick (ltb (x .end) (y .end)) (x .end) (y .end)) c d r s (past-both (x .start) (x .end) (y .end) (c .ahead .stretch .full) m) (n .0)
+        (n .1)
 
     go : (o : Ordering) → referenceOrder (x .reference) (y .reference) ≡ o → Piece U p (overlaidBy o x y)
     go Less h = first-piece-of p x y (x .end) c d (c .ahead .stretch .full) (omega arith) (λ o j. byBlock (compared-less (x .reference) (y .reference) h .1))
-    go Greater h = swapped f g p y (first-piece-of p y x (y .end) d c (d .ahead .stretch .full) (omega arith) (λ o j. byBlock (compared-greater (x .reference) (y .reference) h .1)))
-    go Equal h = tested (ltb (x .start) (y .start)) (ltb (y .start) (x .start)) refl refl (reference-same (x .reference) (y .reference) (compared-equal (x .reference) (y .reference) h))
+    go Greater h = swapped f g p y (first-piece-of p y x (y .end) d c (d .ahead .stretch .full) (omega arith)
+        (λ o j. byBlock (compared-greater (x .reference) (y .reference) h .1)))
+    go Equal h = tested (ltb (x .start) (y .start)) (ltb (y .start) (x .start)) refl refl
+        (reference-same (x .reference) (y .reference) (compared-equal (x .reference) (y .reference) h))
 
-pub both-pieces : (f g : TransactionLocator → AuthoritySet) (p : Place) (o q : Option Run) → PieceOr f p o → PieceOr g p q → PieceOr (λ l. united (f l) (g l)) p (both o q)
+pub both-pieces : (f g : TransactionLocator → AuthoritySet) (p : Place) (o q : Option Run) → PieceOr f p o → PieceOr g p q → PieceOr (λ l. united (f l) (g l))
+    p (both o q)
 unfolding PieceOr NobodyFrom both
 both-pieces f g p none none c d = λ l a. rw (c l a, d l a) (united-nobody nobody)
 both-pieces f g p none (some y) c d = piece-same p y (λ l a. sym (rw (c l a) (nobody-united (g l)))) d
@@ -248,7 +263,12 @@ module _ {D : Run → List Run → Type 0} where
   unfolding locator
   chain-ahead p x xs (link a g d h) =
       record {
-        stretch = record { full = g .full; voted = g .voted; told = λ o i j. at-head x xs h (locator (x .reference) o) (record { of = refl; from = i; below = j }) };
+        stretch = record {
+          full = g .full;
+          voted = g .voted;
+          told = λ o i j. at-head x xs h (locator (x .reference) o)
+              (record { of = refl; from = i; below = j });
+        };
         first = λ l i j. nobody-before (l .block) (l .offset) (x ∷ xs) (link j g d h);
       }
 

@@ -94,11 +94,13 @@ module _ (ix : List ℕ) (p : ℕ) where
   and : (s : Bool) {t u : Bool} → t ≡ u → s && t ≡ s && u
   and s e = ap (λ (x : Bool). s && x) e
 
-  on : (k v : ℕ) (vs : List ℕ) → p + k < length ix → {t : Bool} → startsWith vs (drop (p + (k + 1)) ix) ≡ t → startsWith (v ∷ vs) (drop (p + k) ix) ≡ eqb (getD ix (p + k) 0) v && t
+  on : (k v : ℕ) (vs : List ℕ) → p + k < length ix → {t : Bool} → startsWith vs (drop (p + (k + 1)) ix) ≡ t → startsWith (v ∷ vs) (drop (p + k) ix) ≡ eqb
+      (getD ix (p + k) 0) v && t
   on k v vs j e = starts-on v vs ix (p + k) j ∙ and (eqb (getD ix (p + k) 0) v) (ap (λ (n : ℕ). startsWith vs (drop n ix)) (add-assoc p k 1) ∙ e)
 
   pub four-words : (a b c d : ℕ) → p + 4 ≤ length ix
-      → startsWith (a ∷ b ∷ c ∷ d ∷ []) (drop p ix) ≡ eqb (getD ix p 0) a && (eqb (getD ix (p + 1) 0) b && (eqb (getD ix (p + 2) 0) c && eqb (getD ix (p + 3) 0) d))
+      → startsWith (a ∷ b ∷ c ∷ d ∷ []) (drop p ix) ≡ eqb (getD ix p 0) a &&
+      (eqb (getD ix (p + 1) 0) b && (eqb (getD ix (p + 2) 0) c && eqb (getD ix (p + 3) 0) d))
   unfolding startsWith
   four-words a b c d h =
       starts-on a (b ∷ c ∷ d ∷ []) ix p (omega arith)
@@ -109,14 +111,16 @@ starts-append : (vs us ws : List ℕ) → startsWith (vs ++ us) ws ≡ startsWit
 unfolding startsWith
 starts-append [] us ws = refl
 starts-append (v ∷ vs) us [] = refl
-starts-append (v ∷ vs) us (w ∷ ws) = ap (λ (t : Bool). eqb w v && t) (starts-append vs us ws) ∙ sym (and-assoc (eqb w v) (startsWith vs ws) (startsWith us (drop (length vs) ws)))
+starts-append (v ∷ vs) us (w ∷ ws) = ap (λ (t : Bool). eqb w v && t) (starts-append vs us ws) ∙ sym
+    (and-assoc (eqb w v) (startsWith vs ws) (startsWith us (drop (length vs) ws)))
 
 -- author, round, digest, and the four words after it
 pub run-starts : (ix : List ℕ) (p : ℕ) (x : Run) → p + 10 ≤ length ix
     → startsWith (runWords x) (drop p ix)
     ≡ eqb (getD ix p 0) (x .reference .authority)
     && (eqb (getD ix (p + 1) 0) (x .reference .round)
-    && (startsWith (digestWords (x .reference .digest)) (drop (p + 2) ix) && startsWith (x .start ∷ x .end ∷ x .votes .low ∷ x .votes .high ∷ []) (drop (p + 6) ix)))
+    && (startsWith (digestWords (x .reference .digest)) (drop (p + 2) ix) && startsWith (x .start ∷ x .end ∷ x .votes .low ∷ x .votes .high ∷ [])
+    (drop (p + 6) ix)))
 unfolding runWords startsWith digestWords
 run-starts ix p x h =
     let ds = digestWords (x .reference .digest) in
@@ -137,7 +141,8 @@ four-stores ix p a b c d = simp towards-suc
 
 -- author and round, the words of the digest, and the four words after them
 pub run-stores : (ix : List ℕ) (p a r s e l h : ℕ) (ds : List ℕ) → length ds ≡ 4
-    → set (set (set (set (sets (set (set ix p a) (p + 1) r) (p + 2) ds) (p + 6) s) (p + 7) e) (p + 8) l) (p + 9) h ≡ sets ix p ((a ∷ r ∷ ds) ++ (s ∷ e ∷ l ∷ h ∷ []))
+    → set (set (set (set (sets (set (set ix p a) (p + 1) r) (p + 2) ds) (p + 6) s) (p + 7) e) (p + 8) l) (p + 9) h ≡ sets ix p
+    ((a ∷ r ∷ ds) ++ (s ∷ e ∷ l ∷ h ∷ []))
 run-stores ix p a r s e l h ds k =
     let six : p + length (a ∷ r ∷ ds) ≡ p + 6 = omega arith in
     let nine : p + 9 ≡ suc (p + 8) = omega arith in

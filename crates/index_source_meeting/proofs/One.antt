@@ -13,7 +13,8 @@ use Rattle.committee_set.specs.AuthoritySet.{nobody}
 use Rattle.record_spec.specs.Reference.{BlockReference, TransactionLocator, locator}
 use Rattle.index_spec.specs.Runs.{Run, votersIn, touches}
 use Rattle.index_spec.specs.Walk.{Past, byBlock, byOffset, anywhere, beyond, runFrom, runsFrom}
-use Rattle.index_spec.proofs.Chain.{past-trans, touching, touched, Covered, Anything, Chain, end, link, past-head, chain-from, nobody-before, at-head, passed-out}
+use Rattle.index_spec.proofs.Chain.{past-trans, touching, touched, Covered, Anything, Chain, end, link, past-head, chain-from, nobody-before, at-head}
+use Rattle.index_spec.proofs.Chain.{passed-out}
 use Rattle.index_pieces.proofs.Cursors.{next}
 use Rattle.index_two_runs.specs.Two.{SameOffsets, afterVotes}
 use Rattle.index_source_meeting.specs.Source.{Meets, MetBy}

@@ -12,7 +12,8 @@ use Rattle.base.proofs.Tests.{and-both, and-left, and-right, not-both}
 use Rattle.committee_set.specs.AuthoritySet.{AuthoritySet, nobody, united}
 use Rattle.record_spec.specs.Reference.{BlockReference, TransactionLocator}
 use Rattle.committee_set.proofs.Words.{nobody-united}
-use Rattle.index_spec.specs.Runs.{Run, run, votesAt, votersIn, sameVoters, runBefore, touches, unlessEmpty, overlaid, overlapping, added, says, gathered, joinedTo, joined, stretched, merged}
+use Rattle.index_spec.specs.Runs.{Run, run, votesAt, votersIn, sameVoters, runBefore, touches, unlessEmpty, overlaid, overlapping, added, says, gathered}
+use Rattle.index_spec.specs.Runs.{joinedTo, joined, stretched, merged}
 use Rattle.index_spec.specs.Part.{RunsOf}
 use Rattle.index_spec.proofs.Sets.{united-nobody-left, same-voters, voters-same}
 use Rattle.index_spec.specs.Walk.{Place, anywhere, beyond, At}
@@ -35,7 +36,8 @@ module _ (r : BlockReference) (y x : Run) (xs : List Run) (further : Run → Lis
       go : Dec (x .end < y .end) → Dec (y .end < x .end) → Chain Anything p (overlaid r s y x xs further)
       go (yes n) m =
           rw (lt-ltb (x .end) (y .end) n)
-          (link a (record { full = h; voted = voted }) tt (others (run r (x .end) (y .end) (y .votes)) (record { full = n; voted = v }) (past-itself r (x .end))))
+          (link a (record { full = h; voted = voted }) tt (others (run r (x .end) (y .end) (y .votes)) (record { full = n; voted = v })
+          (past-itself r (x .end))))
       go (no n) (yes m) =
           rw (le-ltb (x .end) (y .end) (omega arith), lt-ltb (y .end) (x .end) m)
           (link a (record { full = k; voted = voted }) tt (link {p = beyond r (y .end)} (past-itself r (y .end)) (record { full = m; voted = w }) tt rest))
@@ -99,7 +101,8 @@ unfolding gathered votersIn
 gathered-names [] l = refl
 gathered-names (x ∷ xs) l = go (says x) refl (gathered-names xs l)
   where
-    go : (t : Bool) → says x ≡ t → votersIn (gathered xs) l ≡ votersIn xs l → votersIn (pick t (added x (gathered xs)) (gathered xs)) l ≡ united (votesAt x l) (votersIn xs l)
+    go : (t : Bool) → says x ≡ t → votersIn (gathered xs) l ≡ votersIn xs l → votersIn (pick t (added x (gathered xs)) (gathered xs)) l ≡ united (votesAt x l)
+        (votersIn xs l)
     go true e ih =
         added-names x (gathered xs) (says-good x e .full) (λ z m. good-in z (gathered xs) (gathered-chain xs) m .full) l
         ∙ ap (united (votesAt x l)) ih
@@ -107,17 +110,20 @@ gathered-names (x ∷ xs) l = go (says x) refl (gathered-names xs l)
 
 -- ---- neighbours joined
 
-joined-to-chain : (p : Place) (x : Run) (ys : List Run) → Good x → At p (x .reference) (x .start) → Chain Differs (beyond (x .reference) (x .end)) ys → Chain Differs p (joinedTo x ys)
+joined-to-chain : (p : Place) (x : Run) (ys : List Run) → Good x → At p (x .reference) (x .start) → Chain Differs (beyond (x .reference) (x .end)) ys → Chain
+    Differs p (joinedTo x ys)
 unfolding joinedTo run
 joined-to-chain p x [] g a h = link a g no-next end
 joined-to-chain p x (y ∷ ys) g a (link b k d h) = go (touches x y && sameVoters (x .votes) (y .votes)) refl
   where
-    differs : {zs : List Run} → Differs y zs → x .reference ≡ y .reference → x .votes ≡ y .votes → Differs (run (x .reference) (x .start) (y .end) (x .votes)) zs
+    differs : {zs : List Run} → Differs y zs → x .reference ≡ y .reference → x .votes ≡ y .votes → Differs (run (x .reference) (x .start) (y .end) (x .votes))
+        zs
     differs no-next r v = no-next
     differs (other {y = z} f) r v =
         other (λ t e. let n = touched (run (x .reference) (x .start) (y .end) (x .votes)) z t in f (touching y z (sym r ∙ n .0) (n .1)) (sym v ∙ e))
 
-    go : (t : Bool) → touches x y && sameVoters (x .votes) (y .votes) ≡ t → Chain Differs p (pick t (run (x .reference) (x .start) (y .end) (x .votes) ∷ ys) (x ∷ y ∷ ys))
+    go : (t : Bool) → touches x y && sameVoters (x .votes) (y .votes) ≡ t → Chain Differs p
+        (pick t (run (x .reference) (x .start) (y .end) (x .votes) ∷ ys) (x ∷ y ∷ ys))
     go true e =
         let n = touched x y (and-left _ _ e) in
         let v = same-voters (x .votes) (y .votes) (and-right (touches x y) _ e) in
@@ -146,7 +152,8 @@ stretched-names xs l = joined-names anywhere (gathered xs) (gathered-chain xs) l
 
 pub stretched-runs : (f : TransactionLocator → AuthoritySet) (xs : List Run) → ((l : TransactionLocator) → votersIn xs l ≡ f l) → RunsOf f (stretched xs)
 unfolding stretched
-stretched-runs f xs e = chain-runs f (joined (gathered xs)) (joined-chain anywhere (gathered xs) (gathered-chain xs)) (λ l. unfold stretched in (stretched-names xs l ∙ e l))
+stretched-runs f xs e = chain-runs f (joined (gathered xs)) (joined-chain anywhere (gathered xs) (gathered-chain xs))
+    (λ l. unfold stretched in (stretched-names xs l ∙ e l))
 
 -- whom two lists name together, their merge names
 pub merged-names : (xs ys : List Run) (l : TransactionLocator) → votersIn (merged xs ys) l ≡ united (votersIn xs l) (votersIn ys l)

@@ -64,7 +64,8 @@ no-quorum c = rw (stake-nobody c 0, le-ltb (2 * totalStake c) 0 (omega arith))
 
 module _ (c : Committee) (b : Block) (l : TransactionLocator) where
   -- the author, where a run with quorum covers the locator
-  kept-names : (xs : List Run) → votersIn (map (authorRun b) (keep (quorumRun c) xs)) l ≡ pick (anyOf (λ x. runCovers x l && quorumRun c x) xs) (inserted nobody (author b)) nobody
+  kept-names : (xs : List Run) → votersIn (map (authorRun b) (keep (quorumRun c) xs)) l ≡ pick (anyOf (λ x. runCovers x l && quorumRun c x) xs)
+      (inserted nobody (author b)) nobody
   unfolding votersIn votesAt runCovers authorRun run keep anyOf
   kept-names [] = refl
   kept-names (x ∷ xs) = go (quorumRun c x) (kept-names xs)
@@ -82,12 +83,14 @@ module _ (c : Committee) (b : Block) (l : TransactionLocator) where
       one false u = refl
 
       go : (q : Bool) → votersIn (map (authorRun b) (keep (quorumRun c) xs)) l ≡ pick (anyOf (λ z. runCovers z l && quorumRun c z) xs) whom nobody
-          → votersIn (map (authorRun b) (pick q (x ∷ keep (quorumRun c) xs) (keep (quorumRun c) xs))) l ≡ pick ((runCovers x l && q) || anyOf (λ z. runCovers z l && quorumRun c z) xs) whom nobody
+          → votersIn (map (authorRun b) (pick q (x ∷ keep (quorumRun c) xs) (keep (quorumRun c) xs))) l ≡ pick
+          ((runCovers x l && q) || anyOf (λ z. runCovers z l && quorumRun c z) xs) whom nobody
       go true ih = ap (united (votesAt (authorRun b x) l)) ih ∙ two (runCovers x l) (anyOf (λ z. runCovers z l && quorumRun c z) xs)
       go false ih = ih ∙ one (runCovers x l) (anyOf (λ z. runCovers z l && quorumRun c z) xs)
 
   -- a run with quorum covers the locator exactly where the voters hold quorum
-  quorum-covers : {f : TransactionLocator → AuthoritySet} (xs : List Run) → RunsOf f xs → anyOf (λ x. runCovers x l && quorumRun c x) xs ≡ isQuorum c (stakeOf c (votersIn xs l))
+  quorum-covers : {f : TransactionLocator → AuthoritySet} (xs : List Run) → RunsOf f xs → anyOf (λ x. runCovers x l && quorumRun c x) xs ≡ isQuorum c
+      (stakeOf c (votersIn xs l))
   unfolding quorumRun
   quorum-covers xs r =
       same-test _ _
@@ -96,7 +99,8 @@ module _ (c : Committee) (b : Block) (l : TransactionLocator) where
     where
       forth : ((x : Run) × (x ∈ xs) × (runCovers x l && quorumRun c x ≡ true)) → isQuorum c (stakeOf c (votersIn xs l)) ≡ true
       forth x =
-          ap (λ (v : AuthoritySet). isQuorum c (stakeOf c v)) (in-chain (x .0) xs (runs-chain xs r) (x .1) l (covered (x .0) l (and-left (runCovers (x .0) l) _ (x .2))))
+          ap (λ (v : AuthoritySet). isQuorum c (stakeOf c v)) (in-chain (x .0) xs (runs-chain xs r) (x .1) l
+          (covered (x .0) l (and-left (runCovers (x .0) l) _ (x .2))))
           ∙ and-right (runCovers (x .0) l) _ (x .2)
 
       back : isQuorum c (stakeOf c (votersIn xs l)) ≡ true → (anyOf (λ x. runCovers x l) xs ≡ true) ⊎ (anyOf (λ x. runCovers x l) xs ≡ false)
@@ -113,7 +117,8 @@ module _ (c : Committee) (b : Block) (l : TransactionLocator) where
   unfolding certifyingRuns partCertifies votersIn
   certifying-names part r = go (b .marked)
     where
-      go : (t : Bool) → votersIn (pick t [] (map (authorRun b) (keep (quorumRun c) part))) l ≡ pick (not t && isQuorum c (stakeOf c (votersIn part l))) (inserted nobody (author b)) nobody
+      go : (t : Bool) → votersIn (pick t [] (map (authorRun b) (keep (quorumRun c) part))) l ≡ pick (not t && isQuorum c (stakeOf c (votersIn part l)))
+          (inserted nobody (author b)) nobody
       go true = refl
       go false = kept-names part ∙ ap (λ (t : Bool). pick t (inserted nobody (author b)) nobody) (quorum-covers part r)
 
@@ -127,9 +132,11 @@ all-names c l (stored {b = b} {older = older} new found w) =
     ∙ ap (λ (v : AuthoritySet). united v (votersIn (flatten (map (λ x. certifyingRuns c (x .block) (x .runs)) (indexed older))) l))
     (certifying-names c b l (partIn (b ∷ older) (b .reference)) (part-runs (b ∷ older) (b .reference)))
     ∙ ap (united (pick (partCertifies c b (partIn (b ∷ older) (b .reference)) l) (inserted nobody (author b)) nobody)) (all-names c l w)
-    ∙ ap (λ (t : Bool). united (pick t (inserted nobody (author b)) nobody) (setOf (map author (keep (certifies c older l) older)))) (part-certifies c b older new l)
+    ∙ ap (λ (t : Bool). united (pick t (inserted nobody (author b)) nobody) (setOf (map author (keep (certifies c older l) older))))
+    (part-certifies c b older new l)
     ∙ go (certifies c (b ∷ older) l b)
-    ∙ ap (λ (ds : List Block). setOf (map author (pick (certifies c (b ∷ older) l b) (b ∷ ds) ds))) (sym (keep-same (certifies c (b ∷ older) l) (certifies c older l) older (older-certify c b older new l)))
+    ∙ ap (λ (ds : List Block). setOf (map author (pick (certifies c (b ∷ older) l b) (b ∷ ds) ds)))
+    (sym (keep-same (certifies c (b ∷ older) l) (certifies c older l) older (older-certify c b older new l)))
   where
     go : (t : Bool) → united (pick t (inserted nobody (author b)) nobody) (setOf (map author (keep (certifies c older l) older)))
         ≡ setOf (map author (pick t (b ∷ keep (certifies c older l) older) (keep (certifies c older l) older)))
@@ -139,9 +146,11 @@ all-names c l (stored {b = b} {older = older} new found w) =
 -- in the longest stretches
 pub certified-runs : (c : Committee) {bs : List Block} → WellStored bs → RunsOf (λ l. setOf (map author (certifiers c bs l))) (certified c (indexed bs))
 unfolding certified
-certified-runs c {bs} w = stretched-runs (λ l. setOf (map author (certifiers c bs l))) (flatten (map (λ x. certifyingRuns c (x .block) (x .runs)) (indexed bs))) (λ l. all-names c l w)
+certified-runs c {bs} w = stretched-runs (λ l. setOf (map author (certifiers c bs l)))
+    (flatten (map (λ x. certifyingRuns c (x .block) (x .runs)) (indexed bs))) (λ l. all-names c l w)
 
 -- so a locator is final exactly where these runs name quorum
-pub certified-final : (c : Committee) {bs : List Block} → WellStored bs → (l : TransactionLocator) → isFinal c bs l ≡ isQuorum c (stakeOf c (votersIn (certified c (indexed bs)) l))
+pub certified-final : (c : Committee) {bs : List Block} → WellStored bs → (l : TransactionLocator) → isFinal c bs l ≡ isQuorum c
+    (stakeOf c (votersIn (certified c (indexed bs)) l))
 unfolding isFinal
 certified-final c {bs} w l = ap (λ (v : AuthoritySet). isQuorum c (stakeOf c v)) (sym (runs-told (certified c (indexed bs)) (certified-runs c w) l))

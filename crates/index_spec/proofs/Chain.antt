@@ -50,7 +50,11 @@ touching x y e f = and-both (sameReference (x .reference) (y .reference)) _ (sam
 
 pub touched : (x y : Run) → touches x y ≡ true → (x .reference ≡ y .reference) × (x .end ≡ y .start)
 unfolding touches
-touched x y h = (reference-same (x .reference) (y .reference) (and-left _ _ h), eqb-true (x .end) (y .start) (and-right (sameReference (x .reference) (y .reference)) _ h))
+touched x y h = (
+  reference-same (x .reference) (y .reference) (and-left _ _ h),
+  eqb-true (x .end) (y .start)
+      (and-right (sameReference (x .reference) (y .reference)) _ h),
+)
 
 -- ---- whom one run names
 
@@ -67,7 +71,8 @@ covered x l h =
 
 pub is-covered : (x : Run) (l : TransactionLocator) → Covered x l → runCovers x l ≡ true
 unfolding runCovers covers newRange
-is-covered x l h = and-both (sameReference (x .reference) (l .block)) _ (same-reference (h .of)) (within-yes (x .start) (x .end) (l .offset) (h .from) (h .below))
+is-covered x l h = and-both (sameReference (x .reference) (l .block)) _ (same-reference (h .of))
+    (within-yes (x .start) (x .end) (l .offset) (h .from) (h .below))
 
 pub votes-in : (x : Run) (l : TransactionLocator) → Covered x l → votesAt x l ≡ x .votes
 unfolding votesAt
@@ -86,7 +91,8 @@ pub record Good (x : Run) : Type 0 where
 -- ascending runs, each at or past the end of the one before; D is asked of each and those after it
 pub data Chain (D : Run → List Run → Type 0) : Place → List Run → Type 0 where
   end : {p : Place} → Chain D p []
-  link : {p : Place} {x : Run} {xs : List Run} → At p (x .reference) (x .start) → Good x → D x xs → Chain D (beyond (x .reference) (x .end)) xs → Chain D p (x ∷ xs)
+  link : {p : Place} {x : Run} {xs : List Run} → At p (x .reference) (x .start) → Good x → D x xs → Chain D (beyond (x .reference) (x .end)) xs → Chain D p
+      (x ∷ xs)
 
 -- nothing is asked
 abbrev pub Anything : Run → List Run → Type 0
@@ -133,7 +139,8 @@ module _ {D : Run → List Run → Type 0} where
       (nobody-before (x .reference) (l .offset) xs (chain-from (λ r o b. past-trans (byOffset refl m) (omega arith) b) xs h))
 
   -- the first run names its voters
-  pub at-head : (x : Run) (xs : List Run) → Chain D (beyond (x .reference) (x .end)) xs → (l : TransactionLocator) → Covered x l → votersIn (x ∷ xs) l ≡ x .votes
+  pub at-head : (x : Run) (xs : List Run) → Chain D (beyond (x .reference) (x .end)) xs → (l : TransactionLocator) → Covered x l → votersIn (x ∷ xs) l ≡ x
+      .votes
   unfolding votersIn
   at-head x xs h l c =
       ap (λ (v : AuthoritySet). united v (votersIn xs l)) (votes-in x l c)

@@ -72,7 +72,8 @@ checked-on b older ix rest h e =
     let part : List ℕ = partWords (partIn (b ∷ older) (b .reference)) in
     let first : List ℕ = getD ix 0 0 ∷ bodyWords (indexed older) in
     let later : drop (usedWords (indexed (b ∷ older))) ix ≡ rest =
-    ap (λ (n : ℕ). drop n ix) (used-grows b older) ∙ sym (drop-drop (length part) (usedWords (indexed older)) ix) ∙ ap (drop (length part)) e ∙ drop-at part rest (length part) refl in
+    ap (λ (n : ℕ). drop n ix) (used-grows b older) ∙ sym (drop-drop (length part) (usedWords (indexed older)) ix) ∙ ap (drop (length part)) e ∙ drop-at part
+    rest (length part) refl in
     h
     ∙ ap (λ (xs : List ℕ). first ++ xs) (e ∙ ap (λ (xs : List ℕ). part ++ xs) (sym later))
     ∙ sym (append-assoc first part (drop (usedWords (indexed (b ∷ older))) ix))

@@ -1,6 +1,7 @@
 -- The claims about the index hold. Assumes nothing.
 use Rattle.final_spec.proofs.Claimed.{well-stored}
-use Rattle.index_spec.specs.Claims.{OneList, LongestRuns, MergedNames, MergedRuns, PartMeant, RunsVoted, IndexedBlocks, IndexedParts, IndexFresh, IndexGrows, IndexAppends, IndexHolds, IndexKept, IndexFed, CertifiedMeant, FinalByIndex, Claims}
+use Rattle.index_spec.specs.Claims.{OneList, LongestRuns, MergedNames, MergedRuns, PartMeant, RunsVoted, IndexedBlocks, IndexedParts, IndexFresh}
+use Rattle.index_spec.specs.Claims.{IndexGrows, IndexAppends, IndexHolds, IndexKept, IndexFed, CertifiedMeant, FinalByIndex, Claims}
 use Rattle.index_spec.proofs.Relation.{one-list, longest-runs}
 use Rattle.index_spec.proofs.Ascending.{merged-names, merged-runs}
 use Rattle.index_spec.proofs.Parts.{part-runs}
@@ -10,7 +11,8 @@ use Rattle.index_spec.proofs.Checking.{fed-index}
 use Rattle.index_spec.proofs.Certifying.{certified-runs, certified-final}
 
 pub claimed : Claims
-unfolding OneList LongestRuns MergedNames MergedRuns PartMeant RunsVoted IndexedBlocks IndexedParts IndexFresh IndexGrows IndexAppends IndexHolds IndexKept IndexFed CertifiedMeant FinalByIndex
+unfolding OneList LongestRuns MergedNames MergedRuns PartMeant RunsVoted IndexedBlocks IndexedParts IndexFresh IndexGrows IndexAppends IndexHolds IndexKept
+    IndexFed CertifiedMeant FinalByIndex
 claimed =
     record {
       oneList = one-list;

@@ -84,7 +84,8 @@ module _ (bs : List Block) (r : BlockReference) (x : Run) (m : x ∈ partIn bs r
       subst Small (s .told (x .start) (omega arith) (s .full)) (voters-small bs h (locator (x .reference) (x .start)) r)
 
 -- what a run has passed at a locator it has passed at every later one of a sorted list
-pub past-sorted : (l m : TransactionLocator) → locatorBefore m l ≡ false → {q : BlockReference} {e : ℕ} → walk.Past q e (l .block) (l .offset) → walk.Past q e (m .block) (m .offset)
+pub past-sorted : (l m : TransactionLocator) → locatorBefore m l ≡ false → {q : BlockReference} {e : ℕ} → walk.Past q e (l .block) (l .offset) → walk.Past q e
+    (m .block) (m .offset)
 past-sorted l m h {q} {e} p = go (holds-or-not (locatorBefore l m))
   where
     on : Precedes l m → walk.Past q e (m .block) (m .offset)
@@ -105,12 +106,15 @@ some-member v s n = go (holds-or-not (anyOf (member v) (countFrom 0 128)))
     go (inr h) =
         absurd
         (n
-        (set-ext v nobody s small-nobody (λ a k. fails (member v a) (λ t. not-both (in-any (member v) (in-countFrom 0 128 a (omega arith) (omega arith)) t) h) ∙ sym (member-nobody a))))
+        (set-ext v nobody s small-nobody (λ a k. fails (member v a) (λ t. not-both (in-any (member v) (in-countFrom 0 128 a (omega arith) (omega arith)) t) h)
+        ∙ sym (member-nobody a))))
 
-module _ (c : Committee) (bs : List Block) (h : Stored c bs) (b : Block) (m : b ∈ bs) (x : Run) (n : x ∈ partIn bs (b .reference)) (o : ℕ) (from : x .start ≤ o) (below : o < x .end) where
+module _ (c : Committee) (bs : List Block) (h : Stored c bs) (b : Block) (m : b ∈ bs) (x : Run) (n : x ∈ partIn bs (b .reference)) (o : ℕ)
+    (from : x .start ≤ o) (below : o < x .end) where
   pub run-voters : (a : AuthorityIndex) → (member (x .votes) a ≡ true) ↔ Voter bs b (locator (x .reference) o) a
   run-voters a =
-      subst (λ (v : AuthoritySet). (member v a ≡ true) ↔ Voter bs b (locator (x .reference) o) a) (part-runs bs (b .reference) .stretches x n .told o from below)
+      subst (λ (v : AuthoritySet). (member v a ≡ true) ↔ Voter bs b (locator (x .reference) o) a)
+      (part-runs bs (b .reference) .stretches x n .told o from below)
       (voters-iff (well-stored c bs h) (locator (x .reference) o) a b m)
 
   pub at-least-one : (a : AuthorityIndex) × Voter bs b (locator (x .reference) o) a

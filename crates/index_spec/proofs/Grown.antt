@@ -19,7 +19,8 @@ use Rattle.store_spec.proofs.Stored.{WellStored, fresh, stored}
 use Rattle.final_spec.specs.Voters.{spoken, voters}
 use Rattle.index_spec.specs.Runs.{Run}
 use Rattle.index_spec.specs.Part.{RunsOf, PartOf, partIn}
-use Rattle.index_spec.specs.Index.{partWords, Indexed, indexed, bodyWords, usedWords, indexWords, freshIndex, usedPart, indexAgrees, indexShort, indexHolding, appended, Kept}
+use Rattle.index_spec.specs.Index.{partWords, Indexed, indexed, bodyWords, usedWords, indexWords, freshIndex, usedPart, indexAgrees, indexShort}
+use Rattle.index_spec.specs.Index.{indexHolding, appended, Kept}
 use Rattle.index_spec.proofs.Relation.{runs-chain, runs-told, chain-runs}
 use Rattle.index_spec.proofs.Parts.{part-runs}
 
@@ -37,14 +38,16 @@ unfolding usedWords bodyWords indexed
 used-grows b bs = omega (arith, length-append (bodyWords (indexed bs)) (partWords (partIn (b ∷ bs) (b .reference))))
 
 pub index-grows : (b : Block) (bs : List Block)
-    → indexWords (b ∷ bs) ≡ (usedWords (indexed bs) + length (partWords (partIn (b ∷ bs) (b .reference)))) ∷ (bodyWords (indexed bs) ++ partWords (partIn (b ∷ bs) (b .reference)))
+    → indexWords (b ∷ bs) ≡ (usedWords (indexed bs) + length (partWords (partIn (b ∷ bs) (b .reference)))) ∷
+    (bodyWords (indexed bs) ++ partWords (partIn (b ∷ bs) (b .reference)))
 unfolding indexWords bodyWords indexed
 index-grows b bs = ap (λ (n : ℕ). n ∷ (bodyWords (indexed bs) ++ partWords (partIn (b ∷ bs) (b .reference)))) (unfold indexed in used-grows b bs)
 
 -- an index that holds the blocks agrees with them
 pub holding-agrees : (bs : List Block) (ix : List ℕ) → indexAgrees bs (indexHolding bs ix) ≡ true
 unfolding indexAgrees usedPart indexHolding indexWords
-holding-agrees bs ix = go (unfold indexWords in (ap (λ (n : ℕ). take n (indexWords bs ++ drop (usedWords (indexed bs)) ix)) (used-length bs) ∙ take-append-seam (indexWords bs) _))
+holding-agrees bs ix = go (unfold indexWords in (ap (λ (n : ℕ). take n (indexWords bs ++ drop (usedWords (indexed bs)) ix)) (used-length bs) ∙
+    take-append-seam (indexWords bs) _))
   where
     go : {xs : List ℕ} → xs ≡ indexWords bs → same xs (indexWords bs) ≡ true
     go e = ap (λ (ys : List ℕ). same ys (indexWords bs)) e ∙ same-refl (indexWords bs)
@@ -100,7 +103,8 @@ part-at newer b older =
     let first : List ℕ = usedWords (indexed (newer ++ b ∷ older)) ∷ bodyWords (indexed older) in
     let e : usedWords (indexed older) ≡ length first = unfold indexWords in used-length older in (
       r .0,
-      ap (λ (xs : List ℕ). drop (usedWords (indexed older)) (usedWords (indexed (newer ++ b ∷ older)) ∷ xs)) (r .1 ∙ append-assoc (bodyWords (indexed older)) part (r .0))
+      ap (λ (xs : List ℕ). drop (usedWords (indexed older)) (usedWords (indexed (newer ++ b ∷ older)) ∷ xs))
+          (r .1 ∙ append-assoc (bodyWords (indexed older)) part (r .0))
           ∙ drop-at first (part ++ r .0) (usedWords (indexed older)) (sym e),
     )
 
@@ -115,7 +119,8 @@ pub block-in : (x : Indexed) (bs : List Block) → x ∈ indexed bs → x .block
 block-in x bs m = subst (λ (ds : List Block). x .block ∈ ds) (indexed-blocks bs) (in-map (λ z. z .block) m)
 
 -- a newer block leaves the voters of those before it
-pub voters-stay : (b : Block) (older : List Block) → ((d : Block) → d ∈ older → d .reference ≡ b .reference → ⊥) → (d : Block) → d ∈ older → (l : TransactionLocator)
+pub voters-stay : (b : Block) (older : List Block) → ((d : Block) → d ∈ older → d .reference ≡ b .reference → ⊥) → (d : Block) → d ∈ older →
+    (l : TransactionLocator)
     → voters older l (d .reference) ≡ voters (b ∷ older) l (d .reference)
 unfolding spoken
 voters-stay b older new d m l = rw (other-reference (b .reference) (d .reference) (λ e. new d m (sym e)))
@@ -128,6 +133,7 @@ unfolding indexed
 index-parts fresh x m = absurd (in-empty m)
 index-parts (stored {b = b} {older = older} new found w) x m = split (in-cases m) (index-parts w x)
   where
-    split : (x ≡ record { block = b; runs = partIn (b ∷ older) (b .reference) }) ⊎ (x ∈ indexed older) → (x ∈ indexed older → PartOf older (x .block) (x .runs)) → PartOf (b ∷ older) (x .block) (x .runs)
+    split : (x ≡ record { block = b; runs = partIn (b ∷ older) (b .reference) }) ⊎ (x ∈ indexed older) →
+        (x ∈ indexed older → PartOf older (x .block) (x .runs)) → PartOf (b ∷ older) (x .block) (x .runs)
     split (inl e) ih = subst (λ (z : Indexed). PartOf (b ∷ older) (z .block) (z .runs)) (sym e) (part-runs (b ∷ older) (b .reference))
     split (inr n) ih = runs-same (x .runs) (voters-stay b older new (x .block) (block-in x older n)) (ih n)

@@ -24,7 +24,8 @@ unfolding votersIn votesAt runCovers ownRun run newRange anyOf
 own-names b l [] = refl
 own-names b l (q ∷ qs) = ap (united (votesAt (ownRun b q) l)) (own-names b l qs) ∙ go (covers q l) (anyOf (λ r. covers r l) qs)
   where
-    go : (s t : Bool) → united (pick s (inserted nobody (author b)) nobody) (pick t (inserted nobody (author b)) nobody) ≡ pick (s || t) (inserted nobody (author b)) nobody
+    go : (s t : Bool) → united (pick s (inserted nobody (author b)) nobody) (pick t (inserted nobody (author b)) nobody) ≡ pick (s || t)
+        (inserted nobody (author b)) nobody
     go true true = united-self (inserted nobody (author b))
     go true false = united-nobody (inserted nobody (author b))
     go false t = nobody-united (pick t (inserted nobody (author b)) nobody)
@@ -43,7 +44,8 @@ includes-name f g l h (i ∷ is) =
     ∙ ap (λ (v : AuthoritySet). united v (votersIn (flatten (map f is)) l)) (h i)
     ∙ ap (united (g i)) (includes-name f g l h is)
 
-pub from-names : (b : Block) (f : BlockReference → List Run) (g : BlockReference → AuthoritySet) (l : TransactionLocator) → ((r : BlockReference) → votersIn (f r) l ≡ g r)
+pub from-names : (b : Block) (f : BlockReference → List Run) (g : BlockReference → AuthoritySet) (l : TransactionLocator) →
+    ((r : BlockReference) → votersIn (f r) l ≡ g r)
     → votersIn (ownRuns b ++ flatten (map f (b .includes))) l ≡ united (ownVote b l) (unions (map g (b .includes)))
 from-names b f g l h =
     append-names (ownRuns b) (flatten (map f (b .includes))) l
@@ -71,6 +73,7 @@ part-runs (b ∷ older) r = go (sameReference (b .reference) r) (part-runs older
     go : (t : Bool) → RunsOf (λ l. voters older l r) (partIn older r)
         → RunsOf (λ l. pick t (united (ownVote b l) (unions (map (voters older l) (b .includes)))) (voters older l r))
         (pick t (stretched (ownRuns b ++ flatten (map (partIn older) (b .includes)))) (partIn older r))
-    go true ih = stretched-runs (λ l. united (ownVote b l) (unions (map (voters older l) (b .includes)))) (ownRuns b ++ flatten (map (partIn older) (b .includes)))
+    go true ih = stretched-runs (λ l. united (ownVote b l) (unions (map (voters older l) (b .includes))))
+        (ownRuns b ++ flatten (map (partIn older) (b .includes)))
         (λ l. from-names b (partIn older) (voters older l) l (part-names older l))
     go false ih = ih

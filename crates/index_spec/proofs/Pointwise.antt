@@ -13,7 +13,8 @@ use Rattle.committee_set.proofs.Words.{united-assoc, united-nobody, nobody-unit
 use Rattle.record_spec.specs.Reference.{BlockReference, TransactionLocator, newRange, sameReference, within, covers}
 use Rattle.record_spec.proofs.Ranges.{within-parts}
 use Rattle.record_spec.proofs.References.{reference-total}
-use Rattle.index_spec.specs.Runs.{Run, run, runCovers, votesAt, votersIn, sameVoters, runBefore, touches, unlessEmpty, overlaid, overlapping, added, says, joinedTo}
+use Rattle.index_spec.specs.Runs.{Run, run, runCovers, votesAt, votersIn, sameVoters, runBefore, touches, unlessEmpty, overlaid, overlapping, added, says}
+use Rattle.index_spec.specs.Runs.{joinedTo}
 use Rattle.index_spec.proofs.Sets.{united-self, united-swap, same-voters}
 use Rattle.index_spec.specs.Walk.{byOffset}
 use Rattle.index_spec.proofs.Chain.{past-before, touched, votes-out}
@@ -56,28 +57,48 @@ four a b c d = united-assoc a b (united c d) ∙ ap (united a) (united-swap b c 
 module _ (r : BlockReference) (y x : Run) (xs : List Run) (further : Run → List Run) (l : TransactionLocator)
     (others : (z : Run) → z .start < z .end → votersIn (further z) l ≡ united (votesAt z l) (votersIn xs l)) where
   overlaid-names : (s : ℕ) → s ≤ x .end → s ≤ y .end
-      → votersIn (overlaid r s y x xs further) l ≡ united (votesAt (run r s (y .end) (y .votes)) l) (united (votesAt (run r s (x .end) (x .votes)) l) (votersIn xs l))
+      → votersIn (overlaid r s y x xs further) l ≡ united (votesAt (run r s (y .end) (y .votes)) l)
+      (united (votesAt (run r s (x .end) (x .votes)) l) (votersIn xs l))
   unfolding overlaid votersIn run
   overlaid-names s h k = go (decLt (x .end) (y .end))
     where
       go : Dec (x .end < y .end)
-          → votersIn (overlaid r s y x xs further) l ≡ united (votesAt (run r s (y .end) (y .votes)) l) (united (votesAt (run r s (x .end) (x .votes)) l) (votersIn xs l))
+          → votersIn (overlaid r s y x xs further) l ≡ united (votesAt (run r s (y .end) (y .votes)) l)
+          (united (votesAt (run r s (x .end) (x .votes)) l) (votersIn xs l))
       go (yes n) =
-          rw (lt-ltb (x .end) (y .end) n, others (run r (x .end) (y .end) (y .votes)) n, both-named r (y .votes) l s (x .end) (x .votes), in-parts r (y .votes) l s (x .end) (y .end) h (omega arith))
+          rw (
+            lt-ltb (x .end) (y .end) n,
+            others (run r (x .end) (y .end) (y .votes)) n,
+            both-named r (y .votes) l s (x .end) (x .votes),
+            in-parts r
+                (y .votes) l s (x .end) (y .end) h (omega arith),
+          )
           (four _ _ _ _)
       go (no n) =
-          rw (le-ltb (x .end) (y .end) (omega arith), unless-empty (run r (y .end) (x .end) (x .votes)) xs l, both-named r (y .votes) l s (y .end) (x .votes), in-parts r (x .votes) l s (y .end) (x .end) k (omega arith))
+          rw (
+            le-ltb (x .end) (y .end) (omega arith),
+            unless-empty (run r (y .end) (x .end) (x .votes)) xs l,
+            both-named r (y .votes) l s (y .end) (x .votes),
+            in-parts r (x .votes) l s (y .end) (x .end) k (omega arith),
+          )
           (simp united-assoc)
 
   overlapping-names : y .start < y .end → x .start < x .end → y .start < x .end → x .start < y .end
-      → votersIn (overlapping r y x xs further) l ≡ united (votesAt (run r (y .start) (y .end) (y .votes)) l) (united (votesAt (run r (x .start) (x .end) (x .votes)) l) (votersIn xs l))
+      → votersIn (overlapping r y x xs further) l ≡ united (votesAt (run r (y .start) (y .end) (y .votes)) l)
+      (united (votesAt (run r (x .start) (x .end) (x .votes)) l) (votersIn xs l))
   unfolding overlapping votersIn
   overlapping-names a b c d = go (decLt (y .start) (x .start))
     where
       go : Dec (y .start < x .start)
-          → votersIn (overlapping r y x xs further) l ≡ united (votesAt (run r (y .start) (y .end) (y .votes)) l) (united (votesAt (run r (x .start) (x .end) (x .votes)) l) (votersIn xs l))
+          → votersIn (overlapping r y x xs further) l ≡ united (votesAt (run r (y .start) (y .end) (y .votes)) l)
+          (united (votesAt (run r (x .start) (x .end) (x .votes)) l) (votersIn xs l))
       go (yes n) =
-          rw (lt-ltb (y .start) (x .start) n, overlaid-names (x .start) (omega arith) (omega arith), in-parts r (y .votes) l (y .start) (x .start) (y .end) (omega arith) (omega arith))
+          rw (
+            lt-ltb (y .start) (x .start) n,
+            overlaid-names (x .start) (omega arith) (omega arith),
+            in-parts r (y .votes) l (y .start) (x .start) (y .end)
+                (omega arith) (omega arith),
+          )
           (sym (united-assoc _ _ _))
       go (no n) =
           rw (
@@ -116,8 +137,10 @@ added-names y (x ∷ xs) f g l = go (runBefore y x) refl (runBefore x y) refl (�
         overlapping-names (x .reference) y x xs (λ z. added z xs) l ih f (g x here) (o .left) (o .right)
         ∙ ap (λ (r : BlockReference). united (votesAt (run r (y .start) (y .end) (y .votes)) l) (united (votesAt x l) (votersIn xs l))) (sym (o .of))
 
-    go : (t : Bool) → runBefore y x ≡ t → (u : Bool) → runBefore x y ≡ u → ((z : Run) → z .start < z .end → votersIn (added z xs) l ≡ united (votesAt z l) (votersIn xs l))
-        → votersIn (pick t (y ∷ x ∷ xs) (pick u (x ∷ added y xs) (overlapping (x .reference) y x xs (λ z. added z xs)))) l ≡ united (votesAt y l) (united (votesAt x l) (votersIn xs l))
+    go : (t : Bool) → runBefore y x ≡ t → (u : Bool) → runBefore x y ≡ u →
+        ((z : Run) → z .start < z .end → votersIn (added z xs) l ≡ united (votesAt z l) (votersIn xs l))
+        → votersIn (pick t (y ∷ x ∷ xs) (pick u (x ∷ added y xs) (overlapping (x .reference) y x xs (λ z. added z xs)))) l ≡ united (votesAt y l)
+        (united (votesAt x l) (votersIn xs l))
     go true e u k ih = refl
     go false e true k ih = ap (united (votesAt x l)) (ih y f) ∙ united-swap (votesAt x l) (votesAt y l) (votersIn xs l)
     go false e false k ih = both (overlap y x e k) ih
@@ -147,12 +170,14 @@ joined-to-names x (y ∷ ys) f g l = go (touches x y && sameVoters (x .votes) (y
     one r e v = λ i. record { reference = r i; start = e i; end = y .end; votes = v i }
 
     go : (t : Bool) → touches x y && sameVoters (x .votes) (y .votes) ≡ t
-        → votersIn (pick t (run (x .reference) (x .start) (y .end) (x .votes) ∷ ys) (x ∷ y ∷ ys)) l ≡ united (votesAt x l) (united (votesAt y l) (votersIn ys l))
+        → votersIn (pick t (run (x .reference) (x .start) (y .end) (x .votes) ∷ ys) (x ∷ y ∷ ys)) l ≡ united (votesAt x l)
+        (united (votesAt y l) (votersIn ys l))
     go false e = refl
     go true e =
         let n = touched x y (and-left _ _ e) in
         let v = same-voters (x .votes) (y .votes) (and-right (touches x y) _ e) in
-        ap (λ (w : AuthoritySet). united w (votersIn ys l)) (in-parts (x .reference) (x .votes) l (x .start) (x .end) (y .end) (omega arith) (omega (arith, n .1, g y here)))
+        ap (λ (w : AuthoritySet). united w (votersIn ys l)) (in-parts (x .reference) (x .votes) l (x .start) (x .end) (y .end) (omega arith)
+        (omega (arith, n .1, g y here)))
         ∙ united-assoc (votesAt x l) _ _
         ∙ ap (λ (z : Run). united (votesAt x l) (united (votesAt z l) (votersIn ys l))) (one (n .0) (n .1) v)
 

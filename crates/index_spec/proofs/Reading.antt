@@ -43,7 +43,8 @@ digest-back : (d : Bytes) → length d ≡ 32 → AllBytes d
     → digestOf (leNumber (take 8 d)) (leNumber (take 8 (drop 8 d))) (leNumber (take 8 (drop 16 d))) (leNumber (take 8 (drop 24 d))) ≡ d
 unfolding digestOf
 digest-back d h k =
-    ap (λ (s : Bytes). word 0 ++ (word 8 ++ (word 16 ++ s))) (sym (append-nil (word 24)) ∙ ap (λ (s : Bytes). word 24 ++ s) (sym none-left) ∙ at 24 (omega arith))
+    ap (λ (s : Bytes). word 0 ++ (word 8 ++ (word 16 ++ s))) (sym (append-nil (word 24)) ∙ ap (λ (s : Bytes). word 24 ++ s) (sym none-left) ∙ at 24
+    (omega arith))
     ∙ ap (λ (s : Bytes). word 0 ++ (word 8 ++ s)) (at 16 (omega arith))
     ∙ ap (λ (s : Bytes). word 0 ++ s) (at 8 (omega arith))
     ∙ at 0 (omega arith)
@@ -64,9 +65,15 @@ run-back : (x : Run) (rest : List ℕ) → ReferenceFits (x .reference) → runF
 unfolding runFrom runWords digestWords
 run-back x rest h =
     let e = digest-back (x .reference .digest) (h .size) (h .bytes) in
-    λ i. record { reference = record { authority = x .reference .authority; round = x .reference .round; digest = e i }; start = x .start; end = x .end; votes = x .votes }
+    λ i. record {
+      reference = record { authority = x .reference .authority; round = x .reference .round; digest = e i };
+      start = x .start;
+      end = x .end;
+      votes = x .votes;
+    }
 
-runs-back : (xs : List Run) (rest : List ℕ) → ((x : Run) → x ∈ xs → ReferenceFits (x .reference)) → runsFrom (length xs) (flatten (map runWords xs) ++ rest) ≡ xs
+runs-back : (xs : List Run) (rest : List ℕ) → ((x : Run) → x ∈ xs → ReferenceFits (x .reference)) → runsFrom (length xs) (flatten (map runWords xs) ++ rest) ≡
+    xs
 unfolding runsFrom runWords digestWords flatten
 runs-back [] rest h = refl
 runs-back (x ∷ xs) rest h =
@@ -75,10 +82,12 @@ runs-back (x ∷ xs) rest h =
     λ i. e i ∷ f i
 
 -- a part, where its words stand
-pub part-back : (ix : List ℕ) (p : ℕ) (xs : List Run) (rest : List ℕ) → drop p ix ≡ partWords xs ++ rest → ((x : Run) → x ∈ xs → ReferenceFits (x .reference)) → partAt ix p ≡ xs
+pub part-back : (ix : List ℕ) (p : ℕ) (xs : List Run) (rest : List ℕ) → drop p ix ≡ partWords xs ++ rest → ((x : Run) → x ∈ xs → ReferenceFits (x .reference))
+    → partAt ix p ≡ xs
 unfolding partAt partWords
 part-back ix p xs rest e h =
-    ap (λ (n : ℕ). runsFrom n (drop (p + 1) ix)) (ap (λ (m : ℕ). getD ix m 0) (sym (add-zero p)) ∙ sym (getD-drop p ix 0 0) ∙ ap (λ (ws : List ℕ). getD ws 0 0) e)
+    ap (λ (n : ℕ). runsFrom n (drop (p + 1) ix)) (ap (λ (m : ℕ). getD ix m 0) (sym (add-zero p)) ∙ sym (getD-drop p ix 0 0) ∙ ap
+    (λ (ws : List ℕ). getD ws 0 0) e)
     ∙ ap (runsFrom (length xs)) (sym (drop-drop 1 p ix) ∙ ap (drop 1) e)
     ∙ runs-back xs rest h
 

@@ -16,7 +16,8 @@ use Rattle.index_spec.specs.Runs.{Run, runCovers, votersIn, sameVoters, 
 use Rattle.index_spec.specs.Part.{Neighbours, next, later, RunsOf, Longest}
 use Rattle.index_spec.proofs.Sets.{same-voters, voters-same}
 use Rattle.index_spec.specs.Walk.{Past, byBlock, byOffset, Place, anywhere, beyond, At}
-use Rattle.index_spec.proofs.Chain.{before-past, past-before, Covered, covered, is-covered, Good, Chain, end, link, Differs, no-next, other, past-head, chain-past, rest-nobody, at-head}
+use Rattle.index_spec.proofs.Chain.{before-past, past-before, Covered, covered, is-covered, Good, Chain, end, link, Differs, no-next, other, past-head}
+use Rattle.index_spec.proofs.Chain.{chain-past, rest-nobody, at-head}
 use Rattle.index_spec.proofs.Unique.{at-end, chains-equal}
 
 -- ---- runs of a chain
@@ -93,7 +94,8 @@ module _ {f : TransactionLocator → AuthoritySet} (xs : List Run) (r : RunsOf f
           ∙ sym (r .stretches x m .told (l .offset) (c .from) (c .below))
           ∙ ap (λ (q : BlockReference). f (locator q (l .offset))) (c .of)
 
-      go : (anyOf (λ x. runCovers x l) xs ≡ true) ⊎ (anyOf (λ x. runCovers x l) xs ≡ false) → (sameVoters (f l) nobody ≡ true) ⊎ (sameVoters (f l) nobody ≡ false) → votersIn xs l ≡ f l
+      go : (anyOf (λ x. runCovers x l) xs ≡ true) ⊎ (anyOf (λ x. runCovers x l) xs ≡ false) → (sameVoters (f l) nobody ≡ true) ⊎
+          (sameVoters (f l) nobody ≡ false) → votersIn xs l ≡ f l
       go (inl h) e = let x = any-in (λ z. runCovers z l) xs h in inside (x .0) (x .1) (covered (x .0) l (x .2))
       go (inr h) (inl e) = none-covers xs l h ∙ sym (same-voters (f l) nobody e)
       go (inr h) (inr e) =
@@ -114,7 +116,8 @@ neighbours-differ : {p : Place} (x y : Run) (xs : List Run) → Chain Differs p 
 neighbours-differ x y xs (link a g (other d) h) next = d
 neighbours-differ x y xs (link {xs = ys} a g d h) (later n) = neighbours-differ x y ys h n
 
-pub chain-runs : {p : Place} (f : TransactionLocator → AuthoritySet) (xs : List Run) → Chain Differs p xs → ((l : TransactionLocator) → votersIn xs l ≡ f l) → RunsOf f xs
+pub chain-runs : {p : Place} (f : TransactionLocator → AuthoritySet) (xs : List Run) → Chain Differs p xs → ((l : TransactionLocator) → votersIn xs l ≡ f l) →
+    RunsOf f xs
 unfolding locator
 chain-runs f xs h e =
     record {
@@ -131,7 +134,8 @@ chain-runs f xs h e =
     neighbours-differ-in : (x y : Run) → Neighbours x y xs → touches x y ≡ true → x .votes ≡ y .votes → ⊥
     neighbours-differ-in x y n = neighbours-differ x y xs h n
 
-    go : (l : TransactionLocator) → (f l ≡ nobody → ⊥) → (anyOf (λ x. runCovers x l) xs ≡ true) ⊎ (anyOf (λ x. runCovers x l) xs ≡ false) → (x : Run) × (x ∈ xs) × (runCovers x l ≡ true)
+    go : (l : TransactionLocator) → (f l ≡ nobody → ⊥) → (anyOf (λ x. runCovers x l) xs ≡ true) ⊎ (anyOf (λ x. runCovers x l) xs ≡ false) → (x : Run) ×
+        (x ∈ xs) × (runCovers x l ≡ true)
     go l k (inl n) = any-in (λ z. runCovers z l) xs n
     go l k (inr n) = absurd (k (sym (e l) ∙ none-covers xs l n))
 
@@ -171,5 +175,6 @@ module _ (f : TransactionLocator → AuthoritySet) (xs : List Run) (r : RunsOf f
           found : ((y : Run) × (y ∈ xs) × (runCovers y (locator (x .reference) o) ≡ true)) → ⊥
           found y =
               let c = covered (y .0) (locator (x .reference) o) (y .2) in
-              let v : y .0 .votes ≡ x .votes = sym (in-chain (y .0) xs (runs-chain xs r) (y .1) (locator (x .reference) o) c) ∙ runs-told xs r (locator (x .reference) o) ∙ e in
+              let v : y .0 .votes ≡ x .votes = sym (in-chain (y .0) xs (runs-chain xs r) (y .1) (locator (x .reference) o) c) ∙ runs-told xs r
+              (locator (x .reference) o) ∙ e in
               split (y .0) (y .1) c v (decLt (x .start) (y .0 .end))

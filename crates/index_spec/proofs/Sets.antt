@@ -66,4 +66,5 @@ same-voters v w h =
 
 pub voters-same : (v w : AuthoritySet) → v ≡ w → sameVoters v w ≡ true
 unfolding sameVoters
-voters-same v w e = and-both (eqb (v .low) (w .low)) _ (eq-eqb (v .low) (w .low) (ap (λ (x : AuthoritySet). x .low) e)) (eq-eqb (v .high) (w .high) (ap (λ (x : AuthoritySet). x .high) e))
+voters-same v w e = and-both (eqb (v .low) (w .low)) _ (eq-eqb (v .low) (w .low) (ap (λ (x : AuthoritySet). x .low) e))
+    (eq-eqb (v .high) (w .high) (ap (λ (x : AuthoritySet). x .high) e))

@@ -14,7 +14,8 @@ use Rattle.record_spec.proofs.References.{reference-irrefl}
 use Rattle.index_spec.specs.Runs.{Run, runCovers, votesAt, votersIn}
 use Rattle.index_spec.specs.Walk.{Past, byBlock, byOffset, Place, beyond, At, NextRun, Unfolded, done, more}
 use Rattle.index_spec.proofs.Sets.{united-comm, united-nobody-left}
-use Rattle.index_spec.proofs.Chain.{past-trans, touched, Covered, covered, is-covered, votes-in, Good, Chain, end, link, Differs, no-next, other, past-head, chain-from, nobody-before, at-head}
+use Rattle.index_spec.proofs.Chain.{past-trans, touched, Covered, covered, is-covered, votes-in, Good, Chain, end, link, Differs, no-next, other}
+use Rattle.index_spec.proofs.Chain.{past-head, chain-from, nobody-before, at-head}
 use Rattle.index_spec.proofs.Unique.{PlaceOrder, earlier, later, alike, place-order}
 
 -- ---- one after the other
@@ -37,7 +38,8 @@ module _ {f : TransactionLocator → AuthoritySet} where
   unfolded-told : {p : Place} (xs : List Run) → Unfolded f p xs → (l : TransactionLocator) → At p (l .block) (l .offset) → votersIn xs l ≡ f l
   unfolding votersIn locator
   unfolded-told [] (done h) l a = sym (h l a)
-  unfolded-told (x ∷ xs) (more n u) l a = split (place-order (l .block) (l .offset) (x .reference) (x .start)) (decLt (l .offset) (x .end)) (unfolded-told xs u l)
+  unfolded-told (x ∷ xs) (more n u) l a = split (place-order (l .block) (l .offset) (x .reference) (x .start)) (decLt (l .offset) (x .end))
+      (unfolded-told xs u l)
     where
       inside : Covered x l → votersIn (x ∷ xs) l ≡ f l
       inside c =
@@ -61,7 +63,8 @@ module _ {f : TransactionLocator → AuthoritySet} where
 unfoldable pub Steady : BlockReference → ℕ → ℕ → Run → Type 0
 Steady r o e x = x .reference ≡ r → ((o < x .start) → e ≤ x .start) × ((o < x .end) → e ≤ x .end)
 
-pub steady : (r : BlockReference) (o e k : ℕ) (xs : List Run) → ((x : Run) → x ∈ xs → Steady r o e x) → o ≤ k → k < e → votersIn xs (locator r k) ≡ votersIn xs (locator r o)
+pub steady : (r : BlockReference) (o e k : ℕ) (xs : List Run) → ((x : Run) → x ∈ xs → Steady r o e x) → o ≤ k → k < e → votersIn xs (locator r k) ≡ votersIn
+    xs (locator r o)
 unfolding votersIn votesAt Steady locator
 steady r o e k [] h a b = refl
 steady r o e k (x ∷ xs) h a b =
@@ -78,7 +81,8 @@ steady r o e k (x ∷ xs) h a b =
     back c = let z = h x here (c .of) .1 (c .below) in record { of = c .of; from = omega (arith, c .from); below = omega (arith, z) }
 
     covers-both : runCovers x (locator r k) ≡ runCovers x (locator r o)
-    covers-both = same-test _ _ (λ t. is-covered x (locator r o) (forth (covered x (locator r k) t))) (λ t. is-covered x (locator r k) (back (covered x (locator r o) t)))
+    covers-both = same-test _ _ (λ t. is-covered x (locator r o) (forth (covered x (locator r k) t)))
+        (λ t. is-covered x (locator r k) (back (covered x (locator r o) t)))
 
 -- ---- by halving
 

@@ -11,7 +11,8 @@ use Rattle.record_spec.specs.Reference.{BlockReference, TransactionLocator, loc
 use Rattle.record_spec.proofs.References.{reference-total}
 use Rattle.index_spec.specs.Runs.{Run, runCovers, votersIn}
 use Rattle.index_spec.specs.Walk.{Past, byBlock, byOffset, Place, anywhere, beyond}
-use Rattle.index_spec.proofs.Chain.{touching, Covered, covered, is-covered, Good, Chain, end, link, Differs, other, past-head, nobody-before, rest-nobody, at-head}
+use Rattle.index_spec.proofs.Chain.{touching, Covered, covered, is-covered, Good, Chain, end, link, Differs, other, past-head, nobody-before}
+use Rattle.index_spec.proofs.Chain.{rest-nobody, at-head}
 
 -- where a run begins it names its voters
 pub starts : (x : Run) → Good x → Covered x (locator (x .reference) (x .start))
@@ -79,14 +80,16 @@ shorter x y xs ys r s v (link a g d h) (link b k e m) f n =
     ∙ sym v)
 
 -- one list of runs for each way of naming voters
-pub chains-equal : (xs ys : List Run) {p q : Place} → Chain Differs p xs → Chain Differs q ys → ((l : TransactionLocator) → votersIn xs l ≡ votersIn ys l) → xs ≡ ys
+pub chains-equal : (xs ys : List Run) {p q : Place} → Chain Differs p xs → Chain Differs q ys → ((l : TransactionLocator) → votersIn xs l ≡ votersIn ys l) →
+    xs ≡ ys
 unfolding votersIn
 chains-equal [] [] h k f = refl
 chains-equal [] (y ∷ ys) h (link b g e m) f =
     absurd (g .voted (sym (at-head y ys m (locator (y .reference) (y .start)) (starts y g)) ∙ sym (f (locator (y .reference) (y .start)))))
 chains-equal (x ∷ xs) [] (link a g d h) k f =
     absurd (g .voted (sym (at-head x xs h (locator (x .reference) (x .start)) (starts x g)) ∙ f (locator (x .reference) (x .start))))
-chains-equal (x ∷ xs) (y ∷ ys) (link a g d h) (link b k e m) f = split (place-order (x .reference) (x .start) (y .reference) (y .start)) (chains-equal xs ys h m)
+chains-equal (x ∷ xs) (y ∷ ys) (link a g d h) (link b k e m) f = split (place-order (x .reference) (x .start) (y .reference) (y .start))
+    (chains-equal xs ys h m)
   where
     left : Chain Differs anywhere (x ∷ xs)
     left = link {p = anywhere} tt g d h
@@ -120,7 +123,8 @@ chains-equal (x ∷ xs) (y ∷ ys) (link a g d h) (link b k e m) f = split (plac
         go (inr u) (inr v) =
             sym (past-head x xs l (λ c. not-both (is-covered x l c) u)) ∙ f l ∙ past-head y ys l (λ c. not-both (is-covered y l c) v)
 
-    split : PlaceOrder (x .reference) (x .start) (y .reference) (y .start) → (((l : TransactionLocator) → votersIn xs l ≡ votersIn ys l) → xs ≡ ys) → x ∷ xs ≡ y ∷ ys
+    split : PlaceOrder (x .reference) (x .start) (y .reference) (y .start) → (((l : TransactionLocator) → votersIn xs l ≡ votersIn ys l) → xs ≡ ys) → x ∷ xs ≡
+        y ∷ ys
     split (earlier n) ih = absurd (no-earlier left right f n)
     split (later n) ih = absurd (no-earlier right left (λ l. sym (f l)) n)
     split (alike r s) ih =

@@ -22,7 +22,8 @@ use Rattle.final_spec.specs.Finality.{blocksOf}
 use Rattle.final_spec.specs.Claims.{Stored}
 use Rattle.index_spec.specs.Runs.{Run, votersIn, merged}
 use Rattle.index_spec.specs.Part.{RunsOf, PartOf, Longest, partIn}
-use Rattle.index_spec.specs.Index.{partWords, Indexed, indexed, bodyWords, usedWords, indexWords, indexOf, freshIndex, usedPart, indexAgrees, indexShort, indexHolding, appended, Kept}
+use Rattle.index_spec.specs.Index.{partWords, Indexed, indexed, bodyWords, usedWords, indexWords, indexOf, freshIndex, usedPart, indexAgrees, indexShort}
+use Rattle.index_spec.specs.Index.{indexHolding, appended, Kept}
 use Rattle.index_spec.specs.Certified.{certified}
 
 -- ---- runs
@@ -74,7 +75,8 @@ IndexFresh = indexWords [] ≡ freshIndex
 -- the index of one block more: the used word grows by the new part, which stands at the end
 unfoldable pub IndexGrows : Type 0
 IndexGrows = (b : Block) (bs : List Block)
-    → indexWords (b ∷ bs) ≡ (usedWords (indexed bs) + length (partWords (partIn (b ∷ bs) (b .reference)))) ∷ (bodyWords (indexed bs) ++ partWords (partIn (b ∷ bs) (b .reference)))
+    → indexWords (b ∷ bs) ≡ (usedWords (indexed bs) + length (partWords (partIn (b ∷ bs) (b .reference)))) ∷
+    (bodyWords (indexed bs) ++ partWords (partIn (b ∷ bs) (b .reference)))
 
 -- 02: "Feeding a block appends that block's part only": that is all that is written into an index that agrees and has room, and it agrees again
 unfoldable pub IndexAppends : Type 0

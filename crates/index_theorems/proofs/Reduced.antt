@@ -42,15 +42,18 @@ is-55 a e = ap is55 e
 module _ (c : Committee) (g : IndexedEngine) (h : Agreeing c g) (f : Feed) where
   index-stays : indexAgrees (blocksOf (leftIndexed (outcomeIndexed c g f) .engine .store)) (leftIndexed (outcomeIndexed c g f) .index) ≡ true
   unfolding outcomeIndexed leftIndexed left StaysAgreed
-  index-stays = stays-agreed c (record { store = g .engine .store; table = g .engine .table; work = f .work; events = f .events }) (g .index) (f .bytes) (h .order) (h .agrees)
+  index-stays = stays-agreed c (record { store = g .engine .store; table = g .engine .table; work = f .work; events = f .events }) (g .index) (f .bytes)
+      (h .order) (h .agrees)
 
   pub same-outcome : (outcomeIndexed c g f .fed .answer ≡ refused 55 → ⊥) → outcomeIndexed c g f .fed ≡ outcome c (g .engine) f
   unfolding outcomeIndexed outcome AsWithout
-  same-outcome n = as-without c (record { store = g .engine .store; table = g .engine .table; work = f .work; events = f .events }) (g .index) (f .bytes) (h .agrees) n
+  same-outcome n = as-without c (record { store = g .engine .store; table = g .engine .table; work = f .work; events = f .events }) (g .index) (f .bytes)
+      (h .agrees) n
 
   left-alone : outcomeIndexed c g f .fed .answer ≡ refused 55 → leftIndexed (outcomeIndexed c g f) .engine ≡ g .engine
   unfolding outcomeIndexed leftIndexed left RefusedLeaves refusedFeed
-  left-alone e = ap left (refused-leaves c (record { store = g .engine .store; table = g .engine .table; work = f .work; events = f .events }) (g .index) (f .bytes) 55 e .0)
+  left-alone e = ap left (refused-leaves c (record { store = g .engine .store; table = g .engine .table; work = f .work; events = f .events }) (g .index)
+      (f .bytes) 55 e .0)
 
 -- ---- a list of feeds
 
@@ -103,16 +106,20 @@ module _ (c : Committee) (g : IndexedEngine) (h : Agreeing c g) where
       go : (t : Bool) → is55 (o .fed .answer) ≡ t → takenIndexed c g earlier ≡ accepted c (g .engine) (but55 c g earlier)
           → acceptedIn (readRecord (f .bytes)) (o .fed .answer) (o .fed .events) ++ takenIndexed c g earlier
           ≡ accepted c (g .engine) (pick t (but55 c g earlier) (f ∷ but55 c g earlier))
-      go true e ih = ap (λ (as′ : List Accepted). as′ ++ takenIndexed c g earlier) (none-taken (readRecord (f .bytes)) (o .fed .answer) (o .fed .events) (was55 _ e)) ∙ ih
+      go true e ih = ap (λ (as′ : List Accepted). as′ ++ takenIndexed c g earlier)
+          (none-taken (readRecord (f .bytes)) (o .fed .answer) (o .fed .events) (was55 _ e)) ∙ ih
       go false e ih =
-          let same = same-outcome c (runIndexed c g earlier) (run-agreeing earlier) f (λ u. not-both (is-55 _ u) e) ∙ ap (λ (x : Engine). outcome c x f) (run-reduced earlier) in
+          let same = same-outcome c (runIndexed c g earlier) (run-agreeing earlier) f (λ u. not-both (is-55 _ u) e) ∙ ap (λ (x : Engine). outcome c x f)
+          (run-reduced earlier) in
           ap (λ (x : Fed). acceptedIn (readRecord (f .bytes)) (x .answer) (x .events) ++ takenIndexed c g earlier) same
-          ∙ ap (λ (as′ : List Accepted). acceptedIn (readRecord (f .bytes)) (outcome c (run c (g .engine) (but55 c g earlier)) f .answer) (outcome c (run c (g .engine) (but55 c g earlier)) f .events) ++ as′) ih
+          ∙ ap (λ (as′ : List Accepted). acceptedIn (readRecord (f .bytes)) (outcome c (run c (g .engine) (but55 c g earlier)) f .answer)
+          (outcome c (run c (g .engine) (but55 c g earlier)) f .events) ++ as′) ih
 
 -- ---- an index that disagrees
 
 -- every feed is refused (54, or what comes before it), and leaves all as it was
-unmoved : (c : Committee) (g : IndexedEngine) → indexAgrees (blocksOf (g .engine .store)) (g .index) ≡ false → (f : Feed) → leftIndexed (outcomeIndexed c g f) ≡ g
+unmoved : (c : Committee) (g : IndexedEngine) → indexAgrees (blocksOf (g .engine .store)) (g .index) ≡ false → (f : Feed) → leftIndexed (outcomeIndexed c g f)
+    ≡ g
 unfolding outcomeIndexed leftIndexed left feedIndexed feedIndexedRecord refusedIndexed refusedFeed indexedChecks indexedLentChecks passes allOf
 unmoved c g e f = go (readRecord (f .bytes))
   where

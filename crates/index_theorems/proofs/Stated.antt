@@ -85,13 +85,15 @@ stored-alike c t u s r = (to t u (s r .0), to u t (s r .1))
 same-list : (c : Committee) → broken c ≡ false → (t u : IndexedStart) → SameStored c t u → (ls ms : List TransactionLocator)
     → FinalList c (engineIndexed c t .engine .store) ls → FinalList c (engineIndexed c u .engine .store) ms → ls ≡ ms
 same-list c b t u s ls ms x y =
-    third-statement .sameList c b (without55 c t) (without55 c u) (stored-alike c t u s) ls ms (subst (λ (g : Engine). FinalList c (g .store) ls) (same-engine c t) x)
+    third-statement .sameList c b (without55 c t) (without55 c u) (stored-alike c t u s) ls ms
+    (subst (λ (g : Engine). FinalList c (g .store) ls) (same-engine c t) x)
     (subst (λ (g : Engine). FinalList c (g .store) ms) (same-engine c u) y)
 
 same-shares : (c : Committee) → broken c ≡ false → (t u : IndexedStart) → SameStored c t u → (ls ms : List TransactionLocator)
     → FinalShareList c (engineIndexed c t .engine .store) ls → FinalShareList c (engineIndexed c u .engine .store) ms → ls ≡ ms
 same-shares c b t u s ls ms x y =
-    third-statement .sameShares c b (without55 c t) (without55 c u) (stored-alike c t u s) ls ms (subst (λ (g : Engine). FinalShareList c (g .store) ls) (same-engine c t) x)
+    third-statement .sameShares c b (without55 c t) (without55 c u) (stored-alike c t u s) ls ms
+    (subst (λ (g : Engine). FinalShareList c (g .store) ls) (same-engine c t) x)
     (subst (λ (g : Engine). FinalShareList c (g .store) ms) (same-engine c u) y)
 
 pub third-indexed : IndexedThird

@@ -35,7 +35,8 @@ pub record IndexStatement : Type 0 where
   -- 02: "listings with it equal listings without it": every list over the engine that was fed with the index, as many stretches as a slice holds, from
   -- wherever it goes on
   pub lists : (c : Committee) (t : IndexedStart) (k : Listing) (out : Bytes) (after : Option TransactionLocator)
-      → listStretchesIndexed c (engineIndexed c t .engine .store) (engineIndexed c t .index) k out after ≡ listStretches c (engineIndexed c t .engine .store) k out after
+      → listStretchesIndexed c (engineIndexed c t .engine .store) (engineIndexed c t .index) k out after ≡ listStretches c (engineIndexed c t .engine .store)
+      k out after
 
 -- "leaves the same records stored, in whatever order"
 abbrev pub SameStored : Committee → IndexedStart → IndexedStart → Type 0

@@ -14,7 +14,8 @@ module _ {A : Type 0} (p q : A → Bool) (f : (x : A) → q x ≡ true → p x �
   no-more [] = omega arith
   no-more (x ∷ xs) = go (p x) (q x) refl refl (no-more xs)
     where
-      go : (t u : Bool) → p x ≡ t → q x ≡ u → length (keep q xs) ≤ length (keep p xs) → length (pick u (x ∷ keep q xs) (keep q xs)) ≤ length (pick t (x ∷ keep p xs) (keep p xs))
+      go : (t u : Bool) → p x ≡ t → q x ≡ u → length (keep q xs) ≤ length (keep p xs) → length (pick u (x ∷ keep q xs) (keep q xs)) ≤ length
+          (pick t (x ∷ keep p xs) (keep p xs))
       go true true a b h = omega arith
       go true false a b h = omega arith
       go false true a b h = absurd (not-both (f x b) a)
@@ -25,7 +26,8 @@ module _ {A : Type 0} (p q : A → Bool) (f : (x : A) → q x ≡ true → p x �
   fewer-kept a h k (x ∷ xs) here = rw (h, k) (omega (arith, no-more xs))
   fewer-kept a h k (x ∷ xs) (there m) = go (p x) (q x) refl refl (fewer-kept a h k xs m)
     where
-      go : (t u : Bool) → p x ≡ t → q x ≡ u → length (keep q xs) < length (keep p xs) → length (pick u (x ∷ keep q xs) (keep q xs)) < length (pick t (x ∷ keep p xs) (keep p xs))
+      go : (t u : Bool) → p x ≡ t → q x ≡ u → length (keep q xs) < length (keep p xs) → length (pick u (x ∷ keep q xs) (keep q xs)) < length
+          (pick t (x ∷ keep p xs) (keep p xs))
       go true true b e g = omega arith
       go true false b e g = omega arith
       go false true b e g = absurd (not-both (f x e) b)

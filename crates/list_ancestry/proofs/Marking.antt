@@ -25,7 +25,8 @@ module _ (memo : List ℕ) (k : ℕ) (v : AuthoritySet) where
   with-same h =
       let one : List ℕ = set memo (2 * k) (v .low) in
       let n : length one ≡ length memo = simp length-set in
-      let e = getD-set-other one (2 * k + 1) (2 * k) (v .high) 0 (λ (q : 2 * k ≡ 2 * k + 1). omega arith) ∙ getD-set-same memo (2 * k) (v .low) 0 (omega arith) in
+      let e = getD-set-other one (2 * k + 1) (2 * k) (v .high) 0 (λ (q : 2 * k ≡ 2 * k + 1). omega arith) ∙ getD-set-same memo (2 * k) (v .low) 0
+      (omega arith) in
       let f = getD-set-same one (2 * k + 1) (v .high) 0 (omega (arith, n)) in
       λ i. record { low = e i; high = f i }
 
@@ -44,7 +45,8 @@ module _ (memo : List ℕ) (k : ℕ) (v : AuthoritySet) where
 -- ---- the marks
 
 -- one place more that is not marked
-pub unmarked-more : (own : List ℕ) (k : ℕ) → ((j : ℕ) → j < k → eqb (getD own j 0) 1 ≡ false) → (getD own k 0 ≡ 1 → ⊥) → (j : ℕ) → j < k + 1 → eqb (getD own j 0) 1 ≡ false
+pub unmarked-more : (own : List ℕ) (k : ℕ) → ((j : ℕ) → j < k → eqb (getD own j 0) 1 ≡ false) → (getD own k 0 ≡ 1 → ⊥) → (j : ℕ) → j < k + 1 → eqb
+    (getD own j 0) 1 ≡ false
 unmarked-more own k f n j h = go (ℕ-discrete j k)
   where
     go : Dec (j ≡ k) → eqb (getD own j 0) 1 ≡ false

@@ -30,7 +30,8 @@ own-said true b l = refl
 own-said false b l = refl
 
 -- who speaks in the ancestry of a block
-pub all-heard : (rejecting : Bool) (s : Bytes) (order : List ℕ) → SortedStore s order → (l : TransactionLocator) (k : ℕ) → k < length order → (own : List ℕ) → Owned rejecting s order l own → (below : AuthoritySet)
+pub all-heard : (rejecting : Bool) (s : Bytes) (order : List ℕ) → SortedStore s order → (l : TransactionLocator) (k : ℕ) → k < length order → (own : List ℕ) →
+    Owned rejecting s order l own → (below : AuthoritySet)
     → below ≡ unions (map (spoken (speechOf rejecting) (blocksOf s) l) (blockAtPlace s order k .includes))
     → united (pick (eqb (getD own k 0) 1) (inserted nobody (author (blockAtPlace s order k))) nobody) below ≡ spokenAt (speechOf rejecting) s order l k
 unfolding Owned
@@ -47,7 +48,8 @@ pub going-more : (order memo : List ℕ) (k : ℕ) → Going order memo k → k 
 going-more order memo k w h v = record { inside = omega arith; long = with-length memo k v ∙ w .long }
 
 -- one place more
-pub heard-more : (rejecting : Bool) (s : Bytes) (order : List ℕ) (l : TransactionLocator) (memo : List ℕ) (k : ℕ) → HeardBelow (speechOf rejecting) s order l memo k → 2 * k + 1 < length memo
+pub heard-more : (rejecting : Bool) (s : Bytes) (order : List ℕ) (l : TransactionLocator) (memo : List ℕ) (k : ℕ) → HeardBelow (speechOf rejecting) s order l
+    memo k → 2 * k + 1 < length memo
     → (v : AuthoritySet) → v ≡ spokenAt (speechOf rejecting) s order l k → HeardBelow (speechOf rejecting) s order l (withSet memo k v) (k + 1)
 heard-more rejecting s order l memo k w room v e j m = go (ℕ-discrete j k)
   where

@@ -28,7 +28,8 @@ HeardBelow own s order l memo n = (k : ℕ) → k < n → setAt memo k ≡ spoke
 
 -- of all of them, of whatever the marks are of
 unfoldable pub HeardMarked : Bytes → List ℕ → List ℕ → List ℕ → Type 0
-HeardMarked s order own memo = (rejecting : Bool) (l : TransactionLocator) → Owned rejecting s order l own → HeardBelow (speechOf rejecting) s order l memo (length order)
+HeardMarked s order own memo = (rejecting : Bool) (l : TransactionLocator) → Owned rejecting s order l own → HeardBelow (speechOf rejecting) s order l memo
+    (length order)
 
 -- one of the first n places is marked, or none is
 unfoldable pub AnyMarked : List ℕ → ℕ → Bool → Type 0

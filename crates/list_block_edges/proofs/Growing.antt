@@ -29,10 +29,12 @@ rows-before t w n k h = rows-front (putMid (3 * n) k t w) t n (take-put (3 * n) 
 
 module _ (kind : RangeKind) (s : Bytes) (b : Block) where
   -- the rows that own_ranges left are right, and their edges can be taken
-  rows-right : (last bound : Option TransactionLocator) (t u : List ℕ) (m : ℕ) → OwnRanges kind last bound s b t u m → OwnRows s last bound (kindRanges kind b) (rowsOf u m)
+  rows-right : (last bound : Option TransactionLocator) (t u : List ℕ) (m : ℕ) → OwnRanges kind last bound s b t u m → OwnRows s last bound
+      (kindRanges kind b) (rowsOf u m)
   rows-right last bound t u m o = record { proper = o .proper; apart = o .apart; covering = o .covering }
 
-  pub rows-takeable : (last bound : Option TransactionLocator) (t u e : List ℕ) (m place n : ℕ) → OwnRanges kind last bound s b t u m → 3 * length (b .statements) ≤ length t → 3 * (n + 2 * length (b .statements)) ≤ length e → place < 9223372036854775808 → Takeable s u e m place n
+  pub rows-takeable : (last bound : Option TransactionLocator) (t u e : List ℕ) (m place n : ℕ) → OwnRanges kind last bound s b t u m → 3 * length
+      (b .statements) ≤ length t → 3 * (n + 2 * length (b .statements)) ≤ length e → place < 9223372036854775808 → Takeable s u e m place n
   unfolding Inside
   rows-takeable last bound t u e m place n o h k l =
       record {
@@ -41,7 +43,8 @@ module _ (kind : RangeKind) (s : Bytes) (b : Block) where
       }
 
   module _ (last bound : Option TransactionLocator) (place n : ℕ) where
-    pub block-taken : (t u e f v : List ℕ) (m k : ℕ) → OwnRanges kind last bound s b t u m → EdgesTaken s last bound u f v m place n k → length f ≡ length e → rowsOf f n ≡ rowsOf e n → BlockTaken kind s b last bound e v place n k
+    pub block-taken : (t u e f v : List ℕ) (m k : ℕ) → OwnRanges kind last bound s b t u m → EdgesTaken s last bound u f v m place n k → length f ≡ length e →
+        rowsOf f n ≡ rowsOf e n → BlockTaken kind s b last bound e v place n k
     block-taken t u e f v m k o w l r =
         record {
           few = omega (arith, w .few, o .few);
@@ -57,7 +60,8 @@ module _ (kind : RangeKind) (s : Bytes) (b : Block) where
   edges-inside place (r ∷ rs) (and h hs) = and (h .inside) (and (h .inside) (edges-inside place rs hs))
 
   -- what is held with the edges of the block
-  pub held-more : (last bound : Option TransactionLocator) (u v : List ℕ) (place n k : ℕ) (w : BlockTaken kind s b last bound u v place n k) (es : List Row) → Held s last bound u n es → 3 * (n + 2 * length (b .statements)) ≤ length u
+  pub held-more : (last bound : Option TransactionLocator) (u v : List ℕ) (place n k : ℕ) (w : BlockTaken kind s b last bound u v place n k) (es : List Row) →
+      Held s last bound u n es → 3 * (n + 2 * length (b .statements)) ≤ length u
       → Held s last bound v k (es ++ edgesOf place (w .own))
   unfolding Inside
   held-more last bound u v place n k w es held h =

@@ -50,7 +50,13 @@ module _ (s : Bytes) (last bound : Option TransactionLocator) where
 
       pub edge-put : inWindow s last bound e ≡ true → 3 * n + 3 ≤ length u → EdgePut s last bound e u (sets u (3 * n) (rowWords e)) n (n + 1)
       unfolding keep
-      edge-put h k = record { few = omega arith; long = length-sets u (3 * n) (rowWords e); kept = put-kept u n (n + 1) e (omega arith); rows = rw h (rows-put u n e k) }
+      edge-put h k = record {
+        few = omega arith;
+        long = length-sets u (3 * n) (rowWords e);
+        kept = put-kept u n (n + 1) e (omega arith);
+        rows = rw h
+            (rows-put u n e k);
+      }
 
   -- ---- those of a block
 
@@ -61,13 +67,16 @@ module _ (s : Bytes) (last bound : Option TransactionLocator) where
 
     module _ (i : ℕ) where
       kept-more : keep (inWindow s last bound) (edgesOf place (rowsOf t (i + 1)))
-          ≡ keep (inWindow s last bound) (edgesOf place (rowsOf t i)) ++ (keep (inWindow s last bound) (startEdge place (rowAt t i) ∷ []) ++ keep (inWindow s last bound) (endEdge place (rowAt t i) ∷ []))
+          ≡ keep (inWindow s last bound) (edgesOf place (rowsOf t i)) ++
+          (keep (inWindow s last bound) (startEdge place (rowAt t i) ∷ []) ++ keep (inWindow s last bound) (endEdge place (rowAt t i) ∷ []))
       kept-more =
           ap (keep (inWindow s last bound)) (ap (edgesOf place) (rows-more t i) ∙ edges-more place (rowsOf t i) (rowAt t i))
           ∙ keep-append (inWindow s last bound) (edgesOf place (rowsOf t i)) (startEdge place (rowAt t i) ∷ endEdge place (rowAt t i) ∷ [])
-          ∙ ap (λ (xs : List Row). keep (inWindow s last bound) (edgesOf place (rowsOf t i)) ++ xs) (keep-append (inWindow s last bound) (startEdge place (rowAt t i) ∷ []) (endEdge place (rowAt t i) ∷ []))
+          ∙ ap (λ (xs : List Row). keep (inWindow s last bound) (edgesOf place (rowsOf t i)) ++ xs)
+          (keep-append (inWindow s last bound) (startEdge place (rowAt t i) ∷ []) (endEdge place (rowAt t i) ∷ []))
 
-      pub taken-more : (v w x : List ℕ) (j k l : ℕ) → EdgesTaken s last bound t u v i place n j → EdgePut s last bound (startEdge place (rowAt t i)) v w j k → EdgePut s last bound (endEdge place (rowAt t i)) w x k l
+      pub taken-more : (v w x : List ℕ) (j k l : ℕ) → EdgesTaken s last bound t u v i place n j → EdgePut s last bound (startEdge place (rowAt t i)) v w j k →
+          EdgePut s last bound (endEdge place (rowAt t i)) w x k l
           → EdgesTaken s last bound t u x (i + 1) place n l
       taken-more v w x j k l a b c =
           record {
@@ -79,7 +88,8 @@ module _ (s : Bytes) (last bound : Option TransactionLocator) where
                 ∙ drop-later (3 * (n + 2 * i)) (3 * (n + 2 * (i + 1))) v u (omega arith) (a .kept);
             rows =
                 c .rows
-                ∙ ap (λ (xs : List Row). xs ++ keep (inWindow s last bound) (endEdge place (rowAt t i) ∷ [])) (b .rows ∙ ap (λ (xs : List Row). xs ++ keep (inWindow s last bound) (startEdge place (rowAt t i) ∷ [])) (a .rows))
+                ∙ ap (λ (xs : List Row). xs ++ keep (inWindow s last bound) (endEdge place (rowAt t i) ∷ []))
+                (b .rows ∙ ap (λ (xs : List Row). xs ++ keep (inWindow s last bound) (startEdge place (rowAt t i) ∷ [])) (a .rows))
                 ∙ append-assoc (rowsOf u n ++ keep (inWindow s last bound) (edgesOf place (rowsOf t i))) _ _
                 ∙ append-assoc (rowsOf u n) _ _
                 ∙ ap (λ (xs : List Row). rowsOf u n ++ xs) (sym kept-more);

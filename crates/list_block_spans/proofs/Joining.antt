@@ -40,8 +40,10 @@ joined-run r o s [] h = let z : o + suc 0 ≡ o + 1 = omega arith in rw (h, z)
 joined-run r o s (x ∷ xs) h = rw h (go (isShare x) refl (joined-run r (o + 1) x xs))
   where
     go : (t : Bool) → isShare x ≡ t
-        → (isShare x ≡ true → joinedFrom r (o + 1) (x ∷ xs) ≡ newRange r (o + 1) (o + 1 + suc (leading true xs)) ∷ joinedFrom r (o + 1 + suc (leading true xs)) (drop (leading true xs) xs))
-        → lengthened r o (isShare x) (joinedFrom r (o + 1) (x ∷ xs)) ≡ newRange r o (o + suc (leading true (x ∷ xs))) ∷ joinedFrom r (o + suc (leading true (x ∷ xs))) (drop (leading true (x ∷ xs)) (x ∷ xs))
+        → (isShare x ≡ true → joinedFrom r (o + 1) (x ∷ xs) ≡ newRange r (o + 1) (o + 1 + suc (leading true xs)) ∷ joinedFrom r
+        (o + 1 + suc (leading true xs)) (drop (leading true xs) xs))
+        → lengthened r o (isShare x) (joinedFrom r (o + 1) (x ∷ xs)) ≡ newRange r o (o + suc (leading true (x ∷ xs))) ∷ joinedFrom r
+        (o + suc (leading true (x ∷ xs))) (drop (leading true (x ∷ xs)) (x ∷ xs))
     go true e ih =
         let z : o + suc (suc (leading true xs)) ≡ o + 1 + suc (leading true xs) = omega arith in
         rw (ih e) (rw (e, z))
@@ -65,9 +67,11 @@ module _ (l : TransactionLocator) where
   with-run : (r : BlockReference) (o e : ℕ) (qs : List TransactionLocatorRange) → o + 1 ≤ e
       → anyOf at (lengthened r o true (newRange r (o + 1) e ∷ qs)) ≡ at (newRange r o (o + 1)) || anyOf at (newRange r (o + 1) e ∷ qs)
   unfolding lengthened newRange anyOf
-  with-run r o e qs h = ap (λ (t : Bool). t || anyOf at qs) (covers-parts r o (o + 1) e (omega arith) h) ∙ or-assoc (at (newRange r o (o + 1))) (at (newRange r (o + 1) e)) (anyOf at qs)
+  with-run r o e qs h = ap (λ (t : Bool). t || anyOf at qs) (covers-parts r o (o + 1) e (omega arith) h) ∙ or-assoc (at (newRange r o (o + 1)))
+      (at (newRange r (o + 1) e)) (anyOf at qs)
 
-  longer : (r : BlockReference) (o : ℕ) (ss : List Statement) → beginsShare ss ≡ true → anyOf at (lengthened r o true (joinedFrom r (o + 1) ss)) ≡ at (newRange r o (o + 1)) || anyOf at (joinedFrom r (o + 1) ss)
+  longer : (r : BlockReference) (o : ℕ) (ss : List Statement) → beginsShare ss ≡ true → anyOf at (lengthened r o true (joinedFrom r (o + 1) ss)) ≡ at
+      (newRange r o (o + 1)) || anyOf at (joinedFrom r (o + 1) ss)
   unfolding beginsShare
   longer r o [] e = absurd (not-both e refl)
   longer r o (x ∷ xs) e =
@@ -75,14 +79,17 @@ module _ (l : TransactionLocator) where
       ∙ with-run r o (o + 1 + suc (leading true xs)) (joinedFrom r (o + 1 + suc (leading true xs)) (drop (leading true xs) xs)) (omega arith)
       ∙ ap (λ (qs : List TransactionLocatorRange). at (newRange r o (o + 1)) || anyOf at qs) (sym (joined-run r (o + 1) x xs e))
 
-  alone-covers : (r : BlockReference) (o : ℕ) (qs : List TransactionLocatorRange) → anyOf at (lengthened r o false qs) ≡ at (newRange r o (o + 1)) || anyOf at qs
+  alone-covers : (r : BlockReference) (o : ℕ) (qs : List TransactionLocatorRange) → anyOf at (lengthened r o false qs) ≡ at (newRange r o (o + 1)) || anyOf at
+      qs
   unfolding lengthened anyOf
   alone-covers r o qs = refl
 
-  with-share : (r : BlockReference) (o : ℕ) (ss : List Statement) → anyOf at (lengthened r o (beginsShare ss) (joinedFrom r (o + 1) ss)) ≡ at (newRange r o (o + 1)) || anyOf at (joinedFrom r (o + 1) ss)
+  with-share : (r : BlockReference) (o : ℕ) (ss : List Statement) → anyOf at (lengthened r o (beginsShare ss) (joinedFrom r (o + 1) ss)) ≡ at
+      (newRange r o (o + 1)) || anyOf at (joinedFrom r (o + 1) ss)
   with-share r o ss = go (beginsShare ss) refl
     where
-      go : (t : Bool) → beginsShare ss ≡ t → anyOf at (lengthened r o t (joinedFrom r (o + 1) ss)) ≡ at (newRange r o (o + 1)) || anyOf at (joinedFrom r (o + 1) ss)
+      go : (t : Bool) → beginsShare ss ≡ t → anyOf at (lengthened r o t (joinedFrom r (o + 1) ss)) ≡ at (newRange r o (o + 1)) || anyOf at
+          (joinedFrom r (o + 1) ss)
       go true e = longer r o ss e
       go false e = alone-covers r o (joinedFrom r (o + 1) ss)
 
@@ -95,7 +102,8 @@ module _ (l : TransactionLocator) where
           → anyOf at (pick t (lengthened r o (beginsShare ss) (joinedFrom r (o + 1) ss)) (Option·toList (votedRange s) ++ joinedFrom r (o + 1) ss))
           ≡ anyOf at (pick t (oneRange (locator r o) ∷ []) (Option·toList (votedRange s)) ++ spansFrom r (o + 1) ss)
       go true ih = with-share r o ss ∙ ap (λ (t : Bool). at (newRange r o (o + 1)) || t) ih
-      go false ih = any-append at (Option·toList (votedRange s)) (joinedFrom r (o + 1) ss) ∙ ap (λ (t : Bool). anyOf at (Option·toList (votedRange s)) || t) ih ∙ sym (any-append at (Option·toList (votedRange s)) (spansFrom r (o + 1) ss))
+      go false ih = any-append at (Option·toList (votedRange s)) (joinedFrom r (o + 1) ss) ∙ ap (λ (t : Bool). anyOf at (Option·toList (votedRange s)) || t)
+          ih ∙ sym (any-append at (Option·toList (votedRange s)) (spansFrom r (o + 1) ss))
 
 pub joined-votes : (b : Block) (l : TransactionLocator) → anyOf (λ q. covers q l) (joinedSpans b) ≡ votesFor b l
 unfolding joinedSpans votesFor spans
@@ -123,7 +131,8 @@ module _ (b : Block) (i : ℕ) where
     unfolding joinedAt joinedFrom
     joined-vote e = rw (drop-cons (b .statements) i noStatement h, e, add-one i)
 
-    leading-here : isShare (getD (b .statements) i noStatement) ≡ true → leading true (drop i (b .statements)) ≡ suc (leading true (drop (suc i) (b .statements)))
+    leading-here : isShare (getD (b .statements) i noStatement) ≡ true → leading true (drop i (b .statements)) ≡ suc
+        (leading true (drop (suc i) (b .statements)))
     unfolding leading isOfKind
     leading-here e = rw (drop-cons (b .statements) i noStatement h, e)
 
@@ -133,7 +142,8 @@ module _ (b : Block) (i : ℕ) where
     joined-shares e =
         let n : ℕ = leading true (drop (suc i) (b .statements)) in
         let y : suc i + n ≡ i + suc n = omega arith in
-        let z : drop n (drop (suc i) (b .statements)) ≡ drop (i + suc n) (b .statements) = drop-drop n (suc i) (b .statements) ∙ ap (λ (k : ℕ). drop k (b .statements)) y in
+        let z : drop n (drop (suc i) (b .statements)) ≡ drop (i + suc n) (b .statements) = drop-drop n (suc i) (b .statements) ∙ ap
+        (λ (k : ℕ). drop k (b .statements)) y in
         rw (leading-here e)
         (ap (joinedFrom (b .reference) i) (drop-cons (b .statements) i noStatement h)
         ∙ joined-run (b .reference) i (getD (b .statements) i noStatement) (drop (suc i) (b .statements)) e
@@ -146,13 +156,15 @@ module _ (b : Block) (i : ℕ) where
     leading-inside = omega (arith, leading-most (drop i (b .statements)), length-drop i (b .statements))
 
     -- a run told
-    pub run-told : isShare (getD (b .statements) i noStatement) ≡ true → (r : Bytes) (next : StatementCursor) → next ≡ cursorAt r (i + leading true (drop i (b .statements)))
+    pub run-told : isShare (getD (b .statements) i noStatement) ≡ true → (r : Bytes) (next : StatementCursor) → next ≡ cursorAt r
+        (i + leading true (drop i (b .statements)))
         → (joinedAt b i ≡ newRange (b .reference) i (next .index) ∷ joinedAt b (next .index)) × OnwardIn b r i next
     unfolding OnwardIn cursorAt
     run-told e r next q = rw q (joined-shares e, (omega (arith, leading-some e), (leading-inside, refl)))
 
     -- a vote told, or none
-    pub vote-told : isShare (getD (b .statements) i noStatement) ≡ false → (vote : VotedRange) → votedBy vote ≡ Option·toList (votedRange (getD (b .statements) i noStatement))
+    pub vote-told : isShare (getD (b .statements) i noStatement) ≡ false → (vote : VotedRange) → votedBy vote ≡ Option·toList
+        (votedRange (getD (b .statements) i noStatement))
         → (r : Bytes) (next : StatementCursor) → next ≡ cursorAt r (i + 1) → (joinedAt b i ≡ votedBy vote ++ joinedAt b (next .index)) × OnwardIn b r i next
     unfolding OnwardIn cursorAt
     vote-told e vote v r next q = rw (q, v) (joined-vote e, (omega arith, (omega arith, refl)))

@@ -37,7 +37,8 @@ ranges-end false b i h = joined-end b i h
 
 -- what one statement rejects, or nothing
 pub reject-told : (b : Block) (i : ℕ) → i < length (b .statements) → (vote : VotedRange) → votedBy vote ≡ rejectRanges (getD (b .statements) i noStatement)
-    → (r : Bytes) (next : StatementCursor) → next ≡ cursorAt r (i + 1) → (rangesAt true b i ≡ votedBy vote ++ rangesAt true b (next .index)) × OnwardIn b r i next
+    → (r : Bytes) (next : StatementCursor) → next ≡ cursorAt r (i + 1) → (rangesAt true b i ≡ votedBy vote ++ rangesAt true b (next .index)) × OnwardIn b r i
+    next
 unfolding rangesAt flatten OnwardIn cursorAt
 reject-told b i h vote v r next q = rw (q, v) (rw (drop-cons (b .statements) i noStatement h, add-one i), (omega arith, (omega arith, refl)))
 
@@ -57,8 +58,12 @@ ranges-in b q m =
     let x = flatten-in (map rejectRanges (b .statements)) m in
     let y = map-in rejectRanges (b .statements) (x .2) in
     let z = flatten-in (map rejectedRange (rejectedIn (y .0))) (subst (λ (qs : List TransactionLocatorRange). q ∈ qs) (sym (y .2)) (x .1)) in
-    let w = map-in rejectedRange (rejectedIn (y .0)) (z .2) in
-    (w .0, in-any (sameLocator (w .0)) (in-flatten (w .1) (in-map rejectedIn (y .1))) (same-locator refl), own (w .0) (eqb (w .0 .offset) 18446744073709551615) (subst (λ (qs : List TransactionLocatorRange). q ∈ qs) (sym (w .2)) (z .1)))
+    let w = map-in rejectedRange (rejectedIn (y .0)) (z .2) in (
+      w .0,
+      in-any (sameLocator (w .0)) (in-flatten (w .1) (in-map rejectedIn (y .1))) (same-locator refl),
+      own (w .0)
+          (eqb (w .0 .offset) 18446744073709551615) (subst (λ (qs : List TransactionLocatorRange). q ∈ qs) (sym (w .2)) (z .1)),
+    )
   where
     first : (l : TransactionLocator) → (q ≡ oneRange l) ⊎ (q ∈ []) → oneRange l ≡ q
     first l (inl e) = sym e

@@ -29,7 +29,8 @@ module _ (c : Committee) (s : Bytes) (k : Listing) (out : Bytes) (after : Option
     unfolding listStretches nextFinalChecks checked passes refusal allOf
     bulk-disordered h = rw (b, h)
 
-    pub bulk-asked : storeInOrder c s ≡ true → (a : Answer Given) (bytes : Bytes) → a ≡ answered (givenAfter k after (stretches c (blocksOf s) k (stretchRoom out) after))
+    pub bulk-asked : storeInOrder c s ≡ true → (a : Answer Given) (bytes : Bytes) → a ≡ answered
+        (givenAfter k after (stretches c (blocksOf s) k (stretchRoom out) after))
         → bytes ≡ bytesAfter (stretches c (blocksOf s) k (stretchRoom out) after) out → record { answer = a; out = bytes } ≡ listStretches c s k out after
     unfolding listStretches nextFinalChecks checked passes refusal allOf
     bulk-asked o a bytes e f = rw (b, o, e, f)

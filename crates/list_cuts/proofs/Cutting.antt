@@ -46,7 +46,8 @@ module _ (s : Bytes) (t : List ℕ) (n at : ℕ) (can : Cuttable s t n at) where
   pub cut-up : (low high m : ℕ) → Low s t at m → m < high → Narrowed n (Low s t at) (High s t at) low high → Narrowed n (Low s t at) (High s t at) (m + 1) high
   cut-up low high m l h r = narrowed-up n (Low s t at) (High s t at) low high m (low-down m (omega (arith, r .inside)) l) l h r
 
-  pub cut-down : (low high m : ℕ) → High s t at m → low ≤ m → m < high → Narrowed n (Low s t at) (High s t at) low high → Narrowed n (Low s t at) (High s t at) low m
+  pub cut-down : (low high m : ℕ) → High s t at m → low ≤ m → m < high → Narrowed n (Low s t at) (High s t at) low high → Narrowed n (Low s t at)
+      (High s t at) low m
   cut-down low high m g l h r = narrowed-down n (Low s t at) (High s t at) low high m (high-up m g) g l h r
 
   pub cut-end : (m high : ℕ) → at < m → high ≤ m → Narrowed n (Low s t at) (High s t at) m high → CutAt s t n at m
@@ -68,5 +69,6 @@ module _ (s : Bytes) (t : List ℕ) (n at : ℕ) (can : Cuttable s t n at) where
       kept =
           ap (keep (reached s (keyOf s (rowAt t at)))) (rows-split t m n most)
           ∙ keep-append (reached s (keyOf s (rowAt t at))) (rowsOf t m) (rowsFrom t m (n - m))
-          ∙ ap₂ _++_ (keep-all (reached s (keyOf s (rowAt t at))) (rowsOf t m) first) (keep-none (reached s (keyOf s (rowAt t at))) (rowsFrom t m (n - m)) later)
+          ∙ ap₂ _++_ (keep-all (reached s (keyOf s (rowAt t at))) (rowsOf t m) first)
+          (keep-none (reached s (keyOf s (rowAt t at))) (rowsFrom t m (n - m)) later)
           ∙ append-nil (rowsOf t m)

@@ -42,14 +42,16 @@ keep-both p q (x ∷ xs) = go (q x) (p x) refl (keep-both p q xs)
 -- ---- the smaller window
 
 module _ (s : Bytes) (last : Option TransactionLocator) (key : TransactionLocator) where
-  narrower : (bound : Option TransactionLocator) → isAfterBest bound key ≡ false → (e : Row) → inWindow s last bound e && reached s key e ≡ inWindow s last (some key) e
+  narrower : (bound : Option TransactionLocator) → isAfterBest bound key ≡ false → (e : Row) → inWindow s last bound e && reached s key e ≡ inWindow s last
+      (some key) e
   unfolding inWindow reached isAfterBest isAfter isNone
   narrower none short e = go (isAfter last (keyOf s e))
     where
       go : (a : Bool) → (a && true) && not (locatorBefore key (keyOf s e)) ≡ a && not (locatorBefore key (keyOf s e))
       go true = refl
       go false = refl
-  narrower (some b) short e = go (isAfter last (keyOf s e)) (locatorBefore b (keyOf s e)) (locatorBefore key (keyOf s e)) (λ h. not-before-trans (keyOf s e) key b h short)
+  narrower (some b) short e = go (isAfter last (keyOf s e)) (locatorBefore b (keyOf s e)) (locatorBefore key (keyOf s e))
+      (λ h. not-before-trans (keyOf s e) key b h short)
     where
       go : (a c l : Bool) → (l ≡ false → c ≡ false) → (a && not c) && not l ≡ a && not l
       go false c l h = refl
@@ -57,7 +59,8 @@ module _ (s : Bytes) (last : Option TransactionLocator) (key : TransactionLocato
       go true true true h = refl
       go true true false h = absurd (not-both refl (h refl))
 
-  pub narrowed : (bound : Option TransactionLocator) → isAfterBest bound key ≡ false → (es : List Row) → keep (reached s key) (keep (inWindow s last bound) es) ≡ keep (inWindow s last (some key)) es
+  pub narrowed : (bound : Option TransactionLocator) → isAfterBest bound key ≡ false → (es : List Row) → keep (reached s key)
+      (keep (inWindow s last bound) es) ≡ keep (inWindow s last (some key)) es
   narrowed bound short es = keep-both (reached s key) (inWindow s last bound) es ∙ keep-same _ _ es (λ e m. narrower bound short e)
 
 not-after : (s : Bytes) (last bound : Option TransactionLocator) (e : Row) → inWindow s last bound e ≡ true → isAfterBest bound (keyOf s e) ≡ false
@@ -75,7 +78,8 @@ module _ (s : Bytes) (n at m : ℕ) (u v : List ℕ) (sorted : SortedAs s n u v)
     whole = List·Permᴰ·trans (sorted .permuted) (held .rows)
 
     key-short : isAfterBest bound key ≡ false
-    key-short = not-after s last bound (rowAt v at) (keep-in (inWindow s last bound) es (permuted-in whole (row-in v n at (omega (arith, cut .more, cut .few)))) .1)
+    key-short = not-after s last bound (rowAt v at) (keep-in (inWindow s last bound) es
+        (permuted-in whole (row-in v n at (omega (arith, cut .more, cut .few)))) .1)
 
     pub cut-held : Held s last (some key) v m es
     unfolding Inside
@@ -110,7 +114,19 @@ module _ (s : Bytes) (n at m : ℕ) (u v : List ℕ) (sorted : SortedAs s n u v)
   pub cut-short : (limit : ℕ) → FewAt s u n limit → m ≤ at + limit
   unfolding FewAt rowsAt rowsOf
   cut-short limit few =
-      omega (arith, few key, permuted-length (permuted-keep test (sorted .permuted)), ap length split, ap length later, length-rows v at (m - at), length-append (keep test (rowsOf v at)) (keep test (rowsFrom v at (m - at))), length-append (keep test (rowsOf v m)) (keep test (rowsFrom v m (n - m))), ap length whole, cut .more)
+      omega (
+        arith,
+        few key,
+        permuted-length (permuted-keep test (sorted .permuted)),
+        ap length split,
+        ap length later,
+        length-rows v at (m - at),
+        length-append (keep test (rowsOf v at)) (keep test (rowsFrom v at (m - at))),
+        length-append (keep test (rowsOf v m))
+            (keep test (rowsFrom v m (n - m))),
+        ap length whole,
+        cut .more,
+      )
     where
       test : Row → Bool
       test e = sameLocator (keyOf s e) key

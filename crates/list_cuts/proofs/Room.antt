@@ -30,13 +30,16 @@ module _ (s : Bytes) (u : List ℕ) (w : Window) (more : ℕ) (spare v : List �
 
   module _ (at m : ℕ) (cut : CutAt s v (w .n) at m) where
     -- the table is cut
-    pub room-cut : (l : types.TransactionLocator) → asLocator l ≡ keyOf s (rowAt v at) → 3 * (m + more) ≤ length v → RoomMade s u v w (record { n = m; bound = Locator l }) more
+    pub room-cut : (l : types.TransactionLocator) → asLocator l ≡ keyOf s (rowAt v at) → 3 * (m + more) ≤ length v → RoomMade s u v w
+        (record { n = m; bound = Locator l }) more
     unfolding asMaybe
     room-cut l e fit =
         record {
           long = sorted .long;
-          held = λ last es h. subst (λ (x : TransactionLocator). Held s last (some x) v m es) (sym e) (cut-held s (w .n) at m u v sorted cut last (asMaybe (w .bound)) es h);
-          short = λ last es h. subst (λ (x : TransactionLocator). Shorter (asMaybe (w .bound)) (some x)) (sym e) (cut-shorter s (w .n) at m u v sorted cut last (asMaybe (w .bound)) es h);
+          held = λ last es h. subst (λ (x : TransactionLocator). Held s last (some x) v m es) (sym e)
+              (cut-held s (w .n) at m u v sorted cut last (asMaybe (w .bound)) es h);
+          short = λ last es h. subst (λ (x : TransactionLocator). Shorter (asMaybe (w .bound)) (some x)) (sym e)
+              (cut-shorter s (w .n) at m u v sorted cut last (asMaybe (w .bound)) es h);
           fit = fit;
         }
 

@@ -36,5 +36,6 @@ Shorter bound other = (l : TransactionLocator) → isAfterBest other l ≡ false
 pub record RoomMade (s : Bytes) (u v : List ℕ) (w r : Window) (more : ℕ) : Type 0 where
   pub long : length v ≡ length u
   pub held : (last : Option TransactionLocator) (es : List Row) → Held s last (asMaybe (w .bound)) u (w .n) es → Held s last (asMaybe (r .bound)) v (r .n) es
-  pub short : (last : Option TransactionLocator) (es : List Row) → Held s last (asMaybe (w .bound)) u (w .n) es → Shorter (asMaybe (w .bound)) (asMaybe (r .bound))
+  pub short : (last : Option TransactionLocator) (es : List Row) → Held s last (asMaybe (w .bound)) u (w .n) es → Shorter (asMaybe (w .bound))
+      (asMaybe (r .bound))
   pub fit : 3 * (r .n + more) ≤ length v

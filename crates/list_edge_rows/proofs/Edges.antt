@@ -35,7 +35,8 @@ module _ (k : ℕ) where
   pub edges-own : (rs : List Row) → keep (ofPlace k) (edgesOf k rs) ≡ edgesOf k rs
   unfolding keep edgesOf ofPlace
   edges-own [] = refl
-  edges-own (r ∷ rs) = rw (eq-eqb (placeOf (startEdge k r)) k (start-place r), eq-eqb (placeOf (endEdge k r)) k (end-place r)) (ap (λ (es : List Row). startEdge k r ∷ endEdge k r ∷ es) (edges-own rs))
+  edges-own (r ∷ rs) = rw (eq-eqb (placeOf (startEdge k r)) k (start-place r), eq-eqb (placeOf (endEdge k r)) k (end-place r))
+      (ap (λ (es : List Row). startEdge k r ∷ endEdge k r ∷ es) (edges-own rs))
 
   pub edges-others : (j : ℕ) → (k ≡ j → ⊥) → (rs : List Row) → keep (ofPlace j) (edgesOf k rs) ≡ []
   unfolding keep edgesOf ofPlace

@@ -30,7 +30,8 @@ end-to-start : (s : Bytes) (k : ℕ) (p q : Row) → Apart s p q → rowBefore s
 unfolding Apart endsBefore rowBefore keyOf startEdge endEdge newRow
 end-to-start s k p q e = e
 
-module _ (s : Bytes) (k : ℕ) (rows es : List Row) (proper : Every (Proper s) rows) (apart : Pairs (Apart s) rows) (same : Permuted es (edgesOf k rows)) (sorted : Sorted s es) (l : TransactionLocator) where
+module _ (s : Bytes) (k : ℕ) (rows es : List Row) (proper : Every (Proper s) rows) (apart : Pairs (Apart s) rows) (same : Permuted es (edgesOf k rows))
+    (sorted : Sorted s es) (l : TransactionLocator) where
   abbrev passed : List Row
   passed = keep (reached s l) es
 
@@ -40,16 +41,20 @@ module _ (s : Bytes) (k : ℕ) (rows es : List Row) (proper : Every (Proper s) r
   start-passed {q} m h = in-keep (reached s l) es (in-permuted same (start-in k rows m)) (is-reached _ (covers-start s k q l h))
 
   -- the last of them is a beginning: of a row that ends after the locator
-  last-start : (p : Row) → p ∈ rows → locatorBefore l (keyOf s (startEdge k p)) ≡ false → ((f : Row) → f ∈ passed → rowBefore s (startEdge k p) f ≡ false) → anyCovers s rows l ≡ true
+  last-start : (p : Row) → p ∈ rows → locatorBefore l (keyOf s (startEdge k p)) ≡ false → ((f : Row) → f ∈ passed → rowBefore s (startEdge k p) f ≡ false) →
+      anyCovers s rows l ≡ true
   unfolding anyCovers reached
   last-start p m h last = in-any (rowCovers s l) m (covers-between s k p l h (ends (holds-or-not (locatorBefore l (keyOf s (endEdge k p))))))
     where
-      ends : (locatorBefore l (keyOf s (endEdge k p)) ≡ true) ⊎ (locatorBefore l (keyOf s (endEdge k p)) ≡ false) → locatorBefore l (keyOf s (endEdge k p)) ≡ true
+      ends : (locatorBefore l (keyOf s (endEdge k p)) ≡ true) ⊎ (locatorBefore l (keyOf s (endEdge k p)) ≡ false) → locatorBefore l (keyOf s (endEdge k p)) ≡
+          true
       ends (inl e) = e
-      ends (inr e) = absurd (not-both (start-before s k p (every-in rows p proper m)) (last (endEdge k p) (in-keep (reached s l) es (in-permuted same (end-in k rows m)) (is-reached _ e))))
+      ends (inr e) = absurd (not-both (start-before s k p (every-in rows p proper m))
+          (last (endEdge k p) (in-keep (reached s l) es (in-permuted same (end-in k rows m)) (is-reached _ e))))
 
   -- or an end: then no row that begins at the locator or before it ends after it
-  last-end : (p : Row) → p ∈ rows → locatorBefore l (keyOf s (endEdge k p)) ≡ false → ((f : Row) → f ∈ passed → rowBefore s (endEdge k p) f ≡ false) → anyCovers s rows l ≡ true → ⊥
+  last-end : (p : Row) → p ∈ rows → locatorBefore l (keyOf s (endEdge k p)) ≡ false → ((f : Row) → f ∈ passed → rowBefore s (endEdge k p) f ≡ false) →
+      anyCovers s rows l ≡ true → ⊥
   unfolding anyCovers rowBefore
   last-end p m h last c =
       let x = any-in (rowCovers s l) rows c in
@@ -59,11 +64,14 @@ module _ (s : Bytes) (k : ℕ) (rows es : List Row) (proper : Every (Proper s) r
       go q d n (inl e) = not-both (subst (λ (y : Row). locatorBefore l (keyOf s (endEdge k y)) ≡ true) (sym e) (covers-end s k q l d)) h
       go q d n (inr (inl e)) = not-both (end-to-start s k p q e) n
       go q d n (inr (inr e)) =
-          not-both (locator-trans l (keyOf s (startEdge k p)) (keyOf s (endEdge k p)) (locator-trans l (keyOf s (endEdge k q)) (keyOf s (startEdge k p)) (covers-end s k q l d) (end-to-start s k q p e)) (start-before s k p (every-in rows p proper m))) h
+          not-both (locator-trans l (keyOf s (startEdge k p)) (keyOf s (endEdge k p))
+          (locator-trans l (keyOf s (endEdge k q)) (keyOf s (startEdge k p)) (covers-end s k q l d) (end-to-start s k q p e))
+          (start-before s k p (every-in rows p proper m))) h
 
   told : (xs : List Row) → xs ≡ passed → lastBegins false xs ≡ anyCovers s rows l
   unfolding lastBegins anyCovers reached Sorted
-  told [] e = sym (fails _ (λ c. let x = any-in (rowCovers s l) rows c in in-empty (subst (λ (ys : List Row). startEdge k (x .0) ∈ ys) (sym e) (start-passed (x .1) (x .2)))))
+  told [] e = sym (fails _ (λ c. let x = any-in (rowCovers s l) rows c in in-empty
+      (subst (λ (ys : List Row). startEdge k (x .0) ∈ ys) (sym e) (start-passed (x .1) (x .2)))))
   told (x ∷ xs) e = w .tells ∙ go (edge-in k rows (permuted-in same (of .0))) (not-reached _ (of .1)) (w .last)
     where
       ascending : Pairs (λ r q. rowBefore s q r ≡ false) (x ∷ xs)
@@ -75,7 +83,8 @@ module _ (s : Bytes) (k : ℕ) (rows es : List Row) (proper : Every (Proper s) r
       of : (w .edge ∈ es) × (reached s l (w .edge) ≡ true)
       of = keep-in (reached s l) es (subst (λ (ys : List Row). w .edge ∈ ys) e (w .stands))
 
-      go : {z : Row} → Edge k rows z → locatorBefore l (keyOf s z) ≡ false → ((f : Row) → f ∈ (x ∷ xs) → rowBefore s z f ≡ false) → begins z ≡ anyCovers s rows l
+      go : {z : Row} → Edge k rows z → locatorBefore l (keyOf s z) ≡ false → ((f : Row) → f ∈ (x ∷ xs) → rowBefore s z f ≡ false) → begins z ≡ anyCovers s
+          rows l
       go (start-of p m) h last = start-begins k p ∙ sym (last-start p m h (λ f n. last f (subst (λ (ys : List Row). f ∈ ys) (sym e) n)))
       go (end-of p m) h last = end-ends k p ∙ sym (fails _ (last-end p m h (λ f n. last f (subst (λ (ys : List Row). f ∈ ys) (sym e) n))))
 

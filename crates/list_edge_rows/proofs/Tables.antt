@@ -26,7 +26,8 @@ module _ (t : List ℕ) (n place : ℕ) (r : Row) where
   unfolding putBoth
   both-rows h =
       let e : n + 1 + 1 ≡ n + 2 = omega arith in
-      (rw e at (rows-put (sets t (3 * n) (rowWords (startEdge place r))) (n + 1) (endEdge place r) (omega (arith, length-sets t (3 * n) (rowWords (startEdge place r))))))
+      (rw e at (rows-put (sets t (3 * n) (rowWords (startEdge place r))) (n + 1) (endEdge place r)
+      (omega (arith, length-sets t (3 * n) (rowWords (startEdge place r))))))
       ∙ ap (λ (xs : List Row). xs ++ endEdge place r ∷ []) (rows-put t n (startEdge place r) (omega arith))
       ∙ append-assoc (rowsOf t n) (startEdge place r ∷ []) (endEdge place r ∷ [])
 
@@ -35,7 +36,8 @@ module _ (t u : List ℕ) (place n : ℕ) where
   unfolding rowsOf rowsFrom countFrom edgesOf
   edged-start = record { many = omega arith; long = refl; kept = refl; rows = sym (append-nil (rowsOf u n)) }
 
-  pub edged-more : (v : List ℕ) (i k : ℕ) → Edged t u v i place n k → 3 * (n + 2 * (i + 1)) ≤ length u → Edged t u (putBoth v k place (rowAt t i)) (i + 1) place n (k + 2)
+  pub edged-more : (v : List ℕ) (i k : ℕ) → Edged t u v i place n k → 3 * (n + 2 * (i + 1)) ≤ length u → Edged t u (putBoth v k place (rowAt t i)) (i + 1)
+      place n (k + 2)
   edged-more v i k w h =
       let d : 3 * k + 6 ≡ 3 * (k + 2) = omega arith in
       record {

@@ -24,7 +24,8 @@ unfolding edgesFrom
 from-more i [] rs = let e : i + 0 ≡ i = omega arith in rw e (append-nil (edgesOf i rs))
 from-more i (xs ∷ xss) rs =
     let e : i + 1 + length xss ≡ i + suc (length xss) = omega arith in
-    ap (λ (es : List Row). edgesOf i xs ++ es) (rw e at (from-more (i + 1) xss rs)) ∙ sym (append-assoc (edgesOf i xs) (edgesFrom (i + 1) xss) (edgesOf (i + suc (length xss)) rs))
+    ap (λ (es : List Row). edgesOf i xs ++ es) (rw e at (from-more (i + 1) xss rs)) ∙ sym
+    (append-assoc (edgesOf i xs) (edgesFrom (i + 1) xss) (edgesOf (i + suc (length xss)) rs))
 
 -- places below the first have none
 from-below : (i j : ℕ) (rss : List (List Row)) → j < i → keep (ofPlace j) (edgesFrom i rss) ≡ []
@@ -49,13 +50,15 @@ from-place i (suc k) (rs ∷ rss) h =
     ∙ ap₂ _++_ (edges-others i (i + suc k) (λ f. omega arith) rs) (rw e at (from-place (i + 1) k rss (omega arith)))
 
 -- so those of a place in the whole table say what the rows of that block cover
-pub place-says : (s : Bytes) (rss : List (List Row)) (es : List Row) → Permuted es (edgesFrom 0 rss) → Sorted s es → (k : ℕ) → k < length rss → Every (Proper s) (getD rss k []) → Pairs (Apart s) (getD rss k [])
+pub place-says : (s : Bytes) (rss : List (List Row)) (es : List Row) → Permuted es (edgesFrom 0 rss) → Sorted s es → (k : ℕ) → k < length rss → Every
+    (Proper s) (getD rss k []) → Pairs (Apart s) (getD rss k [])
     → (l : TransactionLocator) → openAt s (keep (ofPlace k) es) l ≡ anyCovers s (getD rss k []) l
 unfolding Sorted
 place-says s rss es d o k h p a l =
     let e : 0 + k ≡ k = omega arith in
     let own = rw e at (from-place 0 k rss h) in
-    edges-say s k (getD rss k []) (keep (ofPlace k) es) p a (subst (λ (ys : List Row). Permuted (keep (ofPlace k) es) ys) own (permuted-keep (ofPlace k) d)) (pairs-keep (ofPlace k) es o) l
+    edges-say s k (getD rss k []) (keep (ofPlace k) es) p a (subst (λ (ys : List Row). Permuted (keep (ofPlace k) es) ys) own (permuted-keep (ofPlace k) d))
+    (pairs-keep (ofPlace k) es o) l
 
 -- ---- a pass over the table
 
@@ -64,7 +67,8 @@ unfolding keep
 keep-keep p q [] = refl
 keep-keep p q (x ∷ xs) = go (p x) (q x) refl refl (keep-keep p q xs)
   where
-    go : (t u : Bool) → p x ≡ t → q x ≡ u → keep p (keep q xs) ≡ keep q (keep p xs) → keep p (pick u (x ∷ keep q xs) (keep q xs)) ≡ keep q (pick t (x ∷ keep p xs) (keep p xs))
+    go : (t u : Bool) → p x ≡ t → q x ≡ u → keep p (keep q xs) ≡ keep q (keep p xs) → keep p (pick u (x ∷ keep q xs) (keep q xs)) ≡ keep q
+        (pick t (x ∷ keep p xs) (keep p xs))
     go true true e f k = rw (e, f) (ap (λ (ys : List Row). x ∷ ys) k)
     go true false e f k = rw f k
     go false true e f k = rw e k
@@ -82,7 +86,8 @@ keep-none p (x ∷ xs) (and h hs) = rw h (keep-none p xs hs)
 
 module _ (s : Bytes) (es : List Row) (p : Row → Bool) where
   -- where the first j edges of the table are at or before the locator, and the others after it, the last of the first j tells
-  pub swept : (j : ℕ) (l : TransactionLocator) → Every (λ e. reached s l e ≡ true) (take j es) → Every (λ e. reached s l e ≡ false) (drop j es) → openAt s (keep p es) l ≡ lastBegins false (keep p (take j es))
+  pub swept : (j : ℕ) (l : TransactionLocator) → Every (λ e. reached s l e ≡ true) (take j es) → Every (λ e. reached s l e ≡ false) (drop j es) → openAt s
+      (keep p es) l ≡ lastBegins false (keep p (take j es))
   unfolding openAt
   swept j l a b = ap (lastBegins false) (keep-keep (reached s l) p es ∙ ap (keep p) front)
     where
@@ -99,7 +104,8 @@ unfolding lastBegins
 last-more t [] e = refl
 last-more t (x ∷ xs) e = last-more (begins x) xs e
 
-pub swept-more : (was : Bool) (p : Row → Bool) (xs : List Row) (e : Row) → lastBegins was (keep p (xs ++ e ∷ [])) ≡ pick (p e) (begins e) (lastBegins was (keep p xs))
+pub swept-more : (was : Bool) (p : Row → Bool) (xs : List Row) (e : Row) → lastBegins was (keep p (xs ++ e ∷ [])) ≡ pick (p e) (begins e)
+    (lastBegins was (keep p xs))
 unfolding keep
 swept-more was p xs e = ap (lastBegins was) (keep-append p xs (e ∷ [])) ∙ go (p e)
   where

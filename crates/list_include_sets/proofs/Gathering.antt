@@ -25,7 +25,8 @@ use Rattle.final_block_votes.proofs.Sorting.{include-lower}
 use Rattle.final_voters.specs.Walk.{spokenAt}
 use Rattle.list_includes_spec.specs.Places.{IsPlace, setAt}
 use Rattle.list_include_sets.specs.Sets.{has, Row, SameBefore, Included, gatheredTo, taken}
-use Rattle.list_include_sets.proofs.Within.{Within, within-nobody, within-left, within-right, within-trans, within-both, within-same, in-unions, unions-in}
+use Rattle.list_include_sets.proofs.Within.{Within, within-nobody, within-left, within-right, within-trans, within-both, within-same, in-unions}
+use Rattle.list_include_sets.proofs.Within.{unions-in}
 use Rattle.list_include_sets.proofs.Noting.{has-same}
 
 -- ---- bit by bit
@@ -59,7 +60,8 @@ module _ (sets memo : List ℕ) (k i : ℕ) where
   rest b zero h e = let n : 64 * i + (b + 0) ≡ 64 * i + b = omega arith in rw n
   rest b (suc d) h e =
       let n : 64 * i + (b + suc d) ≡ suc (64 * i + (b + d)) = omega arith in
-      rw (n, has-bit (b + d) (omega arith), spent (getD sets (17 * k + i) 0) b d e, united-nobody (gatheredTo sets memo k (64 * i + (b + d)))) (rest b d (omega arith) e)
+      rw (n, has-bit (b + d) (omega arith), spent (getD sets (17 * k + i) 0) b d e, united-nobody (gatheredTo sets memo k (64 * i + (b + d))))
+      (rest b d (omega arith) e)
 
   pub gathered-word : (b : ℕ) → b ≤ 64 → getD sets (17 * k + i) 0 / 2 ^ b ≡ 0 → gatheredTo sets memo k (64 * i + b) ≡ gatheredTo sets memo k (64 * i + 64)
   gathered-word b h e = go (64 - b) (omega arith)
@@ -86,9 +88,11 @@ module _ (sets memo : List ℕ) (k : ℕ) where
   in-gathered zero p h e = absurd (omega arith)
   in-gathered (suc n) p h e = go (ℕ-discrete p n) (λ l. in-gathered n p l e)
     where
-      go : Dec (p ≡ n) → (p < n → Within (setAt memo p) (gatheredTo sets memo k n)) → Within (setAt memo p) (united (gatheredTo sets memo k n) (pick (has sets k n) (setAt memo n) nobody))
+      go : Dec (p ≡ n) → (p < n → Within (setAt memo p) (gatheredTo sets memo k n)) → Within (setAt memo p)
+          (united (gatheredTo sets memo k n) (pick (has sets k n) (setAt memo n) nobody))
       go (yes q) f = rw (← q, e) (within-right (gatheredTo sets memo k p) (setAt memo p))
-      go (no q) f = within-trans (setAt memo p) (gatheredTo sets memo k n) _ (f (omega arith)) (within-left (gatheredTo sets memo k n) (pick (has sets k n) (setAt memo n) nobody))
+      go (no q) f = within-trans (setAt memo p) (gatheredTo sets memo k n) _ (f (omega arith))
+          (within-left (gatheredTo sets memo k n) (pick (has sets k n) (setAt memo n) nobody))
 
   gathered-in : (n : ℕ) (w : AuthoritySet) → ((p : ℕ) → p < n → has sets k p ≡ true → Within (setAt memo p) w) → Within (gatheredTo sets memo k n) w
   unfolding gatheredTo
@@ -107,7 +111,8 @@ module _ (s : Bytes) (order sets : List ℕ) (f : BlockReference → AuthoritySe
   unfolding IsPlace
   half-same j k v w g = unions-in _ _ (λ x m. each x (map-in f (blockAtPlace s order j .includes) m))
     where
-      each : (x : AuthoritySet) → ((r : BlockReference) × (r ∈ blockAtPlace s order j .includes) × (f r ≡ x)) → Within x (unions (map f (blockAtPlace s order k .includes)))
+      each : (x : AuthoritySet) → ((r : BlockReference) × (r ∈ blockAtPlace s order j .includes) × (f r ≡ x)) → Within x
+          (unions (map f (blockAtPlace s order k .includes)))
       each x y =
           let a = member-place noReference (blockAtPlace s order j .includes) (y .1) in
           let b = v .whole (a .0) (a .1 .0) in
@@ -134,8 +139,10 @@ module _ (s : Bytes) (order : List ℕ) (o : SortedStore s order) (own : Speech)
   unfolding IsPlace spokenAt
   one-place n p m x = voted p (include-lower s order o k h n m p (x .0) (x .1)) ∙ ap (spoken own (blocksOf s) l) (x .1)
 
-  pub gathered-row : Row s order sets k (length (blockAtPlace s order k .includes)) → gatheredTo sets memo k 1024 ≡ unions (map (spoken own (blocksOf s) l) (blockAtPlace s order k .includes))
-  gathered-row w = within-same _ _ (gathered-in sets memo k 1024 _ up) (unions-in _ _ (λ x m. down x (map-in (spoken own (blocksOf s) l) (blockAtPlace s order k .includes) m)))
+  pub gathered-row : Row s order sets k (length (blockAtPlace s order k .includes)) → gatheredTo sets memo k 1024 ≡ unions
+      (map (spoken own (blocksOf s) l) (blockAtPlace s order k .includes))
+  gathered-row w = within-same _ _ (gathered-in sets memo k 1024 _ up)
+      (unions-in _ _ (λ x m. down x (map-in (spoken own (blocksOf s) l) (blockAtPlace s order k .includes) m)))
     where
       up : (p : ℕ) → p < 1024 → has sets k p ≡ true → Within (setAt memo p) (unions (map (spoken own (blocksOf s) l) (blockAtPlace s order k .includes)))
       up p m e =
@@ -143,7 +150,8 @@ module _ (s : Bytes) (order : List ℕ) (o : SortedStore s order) (own : Speech)
           rw (one-place (y .0) p (y .1 .0) (y .1 .1))
           (in-unions _ (in-map (spoken own (blocksOf s) l) (in-place noReference (blockAtPlace s order k .includes) (y .0) (y .1 .0))))
 
-      down : (x : AuthoritySet) → ((r : BlockReference) × (r ∈ blockAtPlace s order k .includes) × (spoken own (blocksOf s) l r ≡ x)) → Within x (gatheredTo sets memo k 1024)
+      down : (x : AuthoritySet) → ((r : BlockReference) × (r ∈ blockAtPlace s order k .includes) × (spoken own (blocksOf s) l r ≡ x)) → Within x
+          (gatheredTo sets memo k 1024)
       down x y =
           let a = member-place noReference (blockAtPlace s order k .includes) (y .1) in
           let b = w .whole (a .0) (a .1 .0) in
@@ -161,27 +169,33 @@ pub said-next : (own : Speech) (s : Bytes) (order : List ℕ) (l : TransactionLo
 said-next own s order l k v e j q = let i : j ≡ k = omega arith in rw i e
 
 -- who speaks below the block at place k, where it is known of the block before and of all blocks before
-pub below-right : (s : Bytes) (order : List ℕ) → SortedStore s order → (own : Speech) (l : TransactionLocator) (memo sets : List ℕ) → Included s order sets (length order) → (k : ℕ) → k < length order
+pub below-right : (s : Bytes) (order : List ℕ) → SortedStore s order → (own : Speech) (l : TransactionLocator) (memo sets : List ℕ) → Included s order sets
+    (length order) → (k : ℕ) → k < length order
     → ((j : ℕ) → j < k → setAt memo j ≡ spokenAt own s order l j) → (last : AuthoritySet) → SaidBefore own s order l k last
     → taken sets memo k last ≡ unions (map (spoken own (blocksOf s) l) (blockAtPlace s order k .includes))
 unfolding taken SameBefore
 below-right s order o own l memo sets w k h voted last before = go (eqb (getD sets (17 * k + 16) 0) 1) refl
   where
-    go : (t : Bool) → eqb (getD sets (17 * k + 16) 0) 1 ≡ t → pick t last (gatheredTo sets memo k 1024) ≡ unions (map (spoken own (blocksOf s) l) (blockAtPlace s order k .includes))
+    go : (t : Bool) → eqb (getD sets (17 * k + 16) 0) 1 ≡ t → pick t last (gatheredTo sets memo k 1024) ≡ unions
+        (map (spoken own (blocksOf s) l) (blockAtPlace s order k .includes))
     go true e =
         let x = w .same k h (eqb-true (getD sets (17 * k + 16) 0) 1 e) in
-        before (x .0) (x .1 .0) ∙ same-unions s order sets (spoken own (blocksOf s) l) (x .0) k (w .rows (x .0) (omega (arith, x .1 .0))) (w .rows k h) (x .1 .1)
+        before (x .0) (x .1 .0) ∙ same-unions s order sets (spoken own (blocksOf s) l) (x .0) k (w .rows (x .0) (omega (arith, x .1 .0))) (w .rows k h)
+        (x .1 .1)
     go false e = gathered-row s order o own l memo k h voted sets (w .rows k h)
 
 -- where nobody speaks at the places before, nobody does below
-pub quiet-below : (s : Bytes) (order : List ℕ) → SortedStore s order → (own : Speech) (l : TransactionLocator) (sets : List ℕ) → Included s order sets (length order) → (k : ℕ) → k < length order
+pub quiet-below : (s : Bytes) (order : List ℕ) → SortedStore s order → (own : Speech) (l : TransactionLocator) (sets : List ℕ) → Included s order sets
+    (length order) → (k : ℕ) → k < length order
     → ((j : ℕ) → j < k → spokenAt own s order l j ≡ nobody) → nobody ≡ unions (map (spoken own (blocksOf s) l) (blockAtPlace s order k .includes))
 unfolding IsPlace spokenAt
-quiet-below s order o own l sets w k h quiet = within-same _ _ (within-nobody _) (unions-in _ _ (λ x m. each x (map-in (spoken own (blocksOf s) l) (blockAtPlace s order k .includes) m)))
+quiet-below s order o own l sets w k h quiet = within-same _ _ (within-nobody _)
+    (unions-in _ _ (λ x m. each x (map-in (spoken own (blocksOf s) l) (blockAtPlace s order k .includes) m)))
   where
     each : (x : AuthoritySet) → ((r : BlockReference) × (r ∈ blockAtPlace s order k .includes) × (spoken own (blocksOf s) l r ≡ x)) → Within x nobody
     each x y =
         let a = member-place noReference (blockAtPlace s order k .includes) (y .1) in
         let b = w .rows k h .whole (a .0) (a .1 .0) in
-        let q : nobody ≡ x = sym (quiet (b .0) (include-lower s order o k h (a .0) (a .1 .0) (b .0) (b .1 .1 .1 .0) (b .1 .1 .1 .1))) ∙ ap (spoken own (blocksOf s) l) (b .1 .1 .1 .1 ∙ a .1 .1) ∙ y .2 in
+        let q : nobody ≡ x = sym (quiet (b .0) (include-lower s order o k h (a .0) (a .1 .0) (b .0) (b .1 .1 .1 .0) (b .1 .1 .1 .1))) ∙ ap
+        (spoken own (blocksOf s) l) (b .1 .1 .1 .1 ∙ a .1 .1) ∙ y .2 in
         subst (λ (u : AuthoritySet). Within u nobody) q (within-nobody nobody)

@@ -45,9 +45,20 @@ module _ (sets : List ℕ) (k p : ℕ) (low : p < 1024) (room : 17 * k + 16 < le
       go : Dec (q / 64 ≡ p / 64) → bit (getD (set sets (17 * k + p / 64) (bitOr (getD sets (17 * k + p / 64) 0) (2 ^ (p % 64)))) (17 * k + q / 64) 0) (q % 64)
           ≡ bit (getD sets (17 * k + q / 64) 0) (q % 64) || eqb q p
       go (yes e) =
-          rw (e, getD-set-same sets (17 * k + p / 64) (bitOr (getD sets (17 * k + p / 64) 0) (2 ^ (p % 64))) 0 (omega arith), bit-or (getD sets (17 * k + p / 64) 0) (2 ^ (p % 64)) (q % 64), bit-pow (p % 64) (q % 64), here-bit e)
+          rw (
+            e,
+            getD-set-same sets (17 * k + p / 64) (bitOr (getD sets (17 * k + p / 64) 0) (2 ^ (p % 64))) 0 (omega arith),
+            bit-or
+                (getD sets (17 * k + p / 64) 0) (2 ^ (p % 64)) (q % 64),
+            bit-pow (p % 64) (q % 64),
+            here-bit e,
+          )
       go (no e) =
-          rw (getD-set-other sets (17 * k + p / 64) (17 * k + q / 64) (bitOr (getD sets (17 * k + p / 64) 0) (2 ^ (p % 64))) 0 (λ (z : 17 * k + q / 64 ≡ 17 * k + p / 64). e (omega arith)), ne-eqb q p (λ (z : q ≡ p). e (ap (λ (x : ℕ). x / 64) z)))
+          rw (
+            getD-set-other sets (17 * k + p / 64) (17 * k + q / 64) (bitOr (getD sets (17 * k + p / 64) 0) (2 ^ (p % 64))) 0
+                (λ (z : 17 * k + q / 64 ≡ 17 * k + p / 64). e (omega arith)),
+            ne-eqb q p (λ (z : q ≡ p). e (ap (λ (x : ℕ). x / 64) z)),
+          )
           (sym (or-false _))
 
 -- ---- the set of a block
@@ -61,33 +72,44 @@ module _ (s : Bytes) (order : List ℕ) (k : ℕ) where
         whole = λ j h. absurd (omega arith);
       }
 
-  pub row-more : (sets : List ℕ) (n p : ℕ) → Row s order sets k n → p < 1024 → 17 * k + 16 < length sets → IsPlace s order p (getD (blockAtPlace s order k .includes) n noReference)
+  pub row-more : (sets : List ℕ) (n p : ℕ) → Row s order sets k n → p < 1024 → 17 * k + 16 < length sets → IsPlace s order p
+      (getD (blockAtPlace s order k .includes) n noReference)
       → Row s order (withPlace sets k p) k (n + 1)
   row-more sets n p w low room x = record { sound = sound-too; whole = whole-too }
     where
       grown : (q : ℕ) → has (withPlace sets k p) k q ≡ has sets k q || eqb q p
       grown q = with-has sets k p low room q
 
-      sound-too : (q : ℕ) → q < 1024 → has (withPlace sets k p) k q ≡ true → (j : ℕ) × ((j < n + 1) × IsPlace s order q (getD (blockAtPlace s order k .includes) j noReference))
+      sound-too : (q : ℕ) → q < 1024 → has (withPlace sets k p) k q ≡ true → (j : ℕ) ×
+          ((j < n + 1) × IsPlace s order q (getD (blockAtPlace s order k .includes) j noReference))
       sound-too q l h = go (or-cases (has sets k q) (eqb q p) (sym (grown q) ∙ h))
         where
           go : (has sets k q ≡ true) ⊎ (eqb q p ≡ true) → (j : ℕ) × ((j < n + 1) × IsPlace s order q (getD (blockAtPlace s order k .includes) j noReference))
           go (inl e) = let y = w .sound q l e in (y .0, (omega (arith, y .1 .0), y .1 .1))
           go (inr e) = (n, (omega arith, rw (eqb-true q p e) x))
 
-      whole-too : (j : ℕ) → j < n + 1 → (q : ℕ) × ((q < 1024) × ((has (withPlace sets k p) k q ≡ true) × IsPlace s order q (getD (blockAtPlace s order k .includes) j noReference)))
+      whole-too : (j : ℕ) → j < n + 1 → (q : ℕ) × ((q < 1024) × ((has (withPlace sets k p) k q ≡ true) × IsPlace s order q
+          (getD (blockAtPlace s order k .includes) j noReference)))
       whole-too j h = go (ℕ-discrete j n)
         where
-          go : Dec (j ≡ n) → (q : ℕ) × ((q < 1024) × ((has (withPlace sets k p) k q ≡ true) × IsPlace s order q (getD (blockAtPlace s order k .includes) j noReference)))
+          go : Dec (j ≡ n) → (q : ℕ) × ((q < 1024) × ((has (withPlace sets k p) k q ≡ true) × IsPlace s order q
+              (getD (blockAtPlace s order k .includes) j noReference)))
           go (yes e) = (p, (low, (grown p ∙ or-right (has sets k p) (eqb p p) (eq-eqb p p refl), rw e x)))
-          go (no e) = let y = w .whole j (omega arith) in (y .0, (y .1 .0, (grown (y .0) ∙ or-left (has sets k (y .0)) (eqb (y .0) p) (y .1 .1 .0), y .1 .1 .1)))
+          go (no e) = let y = w .whole j (omega arith) in (
+            y .0,
+            (
+              y .1 .0,
+              (grown (y .0) ∙ or-left (has sets k (y .0)) (eqb (y .0) p) (y .1 .1 .0), y .1 .1 .1),
+            ),
+          )
 
 -- the set of a block depends on its 16 words alone
 pub has-same : (as′ bs : List ℕ) (j k p : ℕ) → p < 1024 → ((i : ℕ) → i < 16 → getD as′ (17 * j + i) 0 ≡ getD bs (17 * k + i) 0) → has as′ j p ≡ has bs k p
 unfolding has
 has-same as′ bs j k p h f = rw (f (p / 64) (omega arith))
 
-pub row-kept : (s : Bytes) (order as′ bs : List ℕ) (k n : ℕ) → ((i : ℕ) → i < 16 → getD bs (17 * k + i) 0 ≡ getD as′ (17 * k + i) 0) → Row s order as′ k n → Row s order bs k n
+pub row-kept : (s : Bytes) (order as′ bs : List ℕ) (k n : ℕ) → ((i : ℕ) → i < 16 → getD bs (17 * k + i) 0 ≡ getD as′ (17 * k + i) 0) → Row s order as′ k n →
+    Row s order bs k n
 row-kept s order as′ bs k n f w =
     record {
       sound = λ p l h. w .sound p l (sym (has-same bs as′ k k p l f) ∙ h);
@@ -98,7 +120,8 @@ module _ (s : Bytes) (order : List ℕ) (k : ℕ) (sets₀ : List ℕ) where
   pub noted-start : ((x : ℕ) → 17 * k ≤ x → getD sets₀ x 0 ≡ 0) → NotedRow s order k 0 sets₀ sets₀
   noted-start zeros = record { long = refl; kept = λ x h. refl; past = λ x h. refl; row = row-start s order k sets₀ zeros }
 
-  pub noted-more : (sets : List ℕ) (n p : ℕ) → NotedRow s order k n sets₀ sets → p < 1024 → 17 * k + 16 < length sets → IsPlace s order p (getD (blockAtPlace s order k .includes) n noReference)
+  pub noted-more : (sets : List ℕ) (n p : ℕ) → NotedRow s order k n sets₀ sets → p < 1024 → 17 * k + 16 < length sets → IsPlace s order p
+      (getD (blockAtPlace s order k .includes) n noReference)
       → NotedRow s order k (n + 1) sets₀ (withPlace sets k p)
   noted-more sets n p w low room x =
       record {
@@ -130,7 +153,8 @@ module _ (s : Bytes) (order : List ℕ) where
   unfolding SameBefore
   same-kept as′ bs k f w = (w .0, (w .1 .0, λ i h. f (17 * k + i) (omega arith) ∙ w .1 .1 i h ∙ sym (f (17 * (w .0) + i) (omega (arith, w .1 .0)))))
 
-  pub noting-more : (sets₀ sets ss : List ℕ) (k : ℕ) → Noting s order sets₀ sets k → k < length order → 17 * length order ≤ length sets₀ → NotedRow s order k (length (blockAtPlace s order k .includes)) sets ss → (r : ℕ) → (r ≡ 1 → SameBefore ss k)
+  pub noting-more : (sets₀ sets ss : List ℕ) (k : ℕ) → Noting s order sets₀ sets k → k < length order → 17 * length order ≤ length sets₀ → NotedRow s order k
+      (length (blockAtPlace s order k .includes)) sets ss → (r : ℕ) → (r ≡ 1 → SameBefore ss k)
       → Noting s order sets₀ (set ss (17 * k + 16) r) (k + 1)
   noting-more sets₀ sets ss k w h large x r same =
       record {
@@ -162,7 +186,8 @@ module _ (s : Bytes) (order : List ℕ) where
           go (yes e) q =
               let room : 17 * k + 16 < length ss = omega (arith, x .long, w .long) in
               let one : r ≡ 1 = sym (getD-set-same ss (17 * k + 16) r 0 room) ∙ ap (λ (i : ℕ). getD (set ss (17 * k + 16) r) (17 * i + 16) 0) (sym e) ∙ q in
-              subst (SameBefore (set ss (17 * k + 16) r)) (sym e) (same-kept ss (set ss (17 * k + 16) r) k (λ y m. other y (λ (z : y ≡ 17 * k + 16). omega arith)) (same one))
+              subst (SameBefore (set ss (17 * k + 16) r)) (sym e) (same-kept ss (set ss (17 * k + 16) r) k
+              (λ y m. other y (λ (z : y ≡ 17 * k + 16). omega arith)) (same one))
           go (no e) q =
               same-kept sets (set ss (17 * k + 16) r) j (λ y m. before y (omega arith))
               (w .written .same j (omega arith) (sym (before (17 * j + 16) (omega arith)) ∙ q))

@@ -45,7 +45,8 @@ module _ (r : Bytes) (bytes : AllBytes r) (well : wellFormed r ≡ true) (i : �
     placed : (qs : List TransactionLocatorRange) → votedBy vote ≡ qs → AllStand r (statementStart r i + 1) qs → AllStand r (at + 1) (votedBy vote)
     placed qs e a = rw (e, here) a
 
-    pub reject-next : (kind : RangeKind) → isRejects kind ≡ true → votedBy vote ≡ rejectRanges st → NextIn kind r i (record { vote = vote; at = at + 1; next = next })
+    pub reject-next : (kind : RangeKind) → isRejects kind ≡ true → votedBy vote ≡ rejectRanges st → NextIn kind r i
+        (record { vote = vote; at = at + 1; next = next })
     unfolding isRejects kindRangesAt
     reject-next Votes t v = absurd (true≢false (sym t))
     reject-next Shares t v = absurd (true≢false (sym t))
@@ -53,7 +54,8 @@ module _ (r : Bytes) (bytes : AllBytes r) (well : wellFormed r ≡ true) (i : �
         let told = reject-told (blockIn r) i h vote v r next onward in
         record { are = told .0; onward = told .1; inside = inside; stands = placed _ v (rejects-stand r bytes well i h) }
 
-    pub vote-next : (kind : RangeKind) → isRejects kind ≡ false → isShares kind ≡ false → isShare st ≡ false → votedBy vote ≡ Option·toList (votedRange st) → NextIn kind r i (record { vote = vote; at = at + 1; next = next })
+    pub vote-next : (kind : RangeKind) → isRejects kind ≡ false → isShares kind ≡ false → isShare st ≡ false → votedBy vote ≡ Option·toList (votedRange st) →
+        NextIn kind r i (record { vote = vote; at = at + 1; next = next })
     unfolding isRejects isShares kindRangesAt rangesAt
     vote-next Rejects t u e v = absurd (true≢false t)
     vote-next Shares t u e v = absurd (true≢false u)
@@ -62,17 +64,20 @@ module _ (r : Bytes) (bytes : AllBytes r) (well : wellFormed r ≡ true) (i : �
         record { are = told .0; onward = told .1; inside = inside; stands = placed _ v (votes-stand r bytes well i h) }
 
     -- a statement that is no share, asked for shares
-    pub none-next : (kind : RangeKind) → isShares kind ≡ true → isShare st ≡ false → vote ≡ Nothing → NextIn kind r i (record { vote = vote; at = at + 1; next = next })
+    pub none-next : (kind : RangeKind) → isShares kind ≡ true → isShare st ≡ false → vote ≡ Nothing → NextIn kind r i
+        (record { vote = vote; at = at + 1; next = next })
     unfolding isShares kindRangesAt rangesAt votedBy AllStand sharing
     none-next Votes t e v = absurd (true≢false (sym t))
     none-next Rejects t e v = absurd (true≢false (sym t))
     none-next Shares t e v =
         let b = blockIn r in
         let at-i = sharing-at b i h in
-        let told = vote-told (sharing b) i (omega (arith, long-sharing b)) (ap isShare at-i ∙ silent-share st ∙ e) vote (ap votedBy v ∙ sym (ap (λ (x : Statement). Option·toList (votedRange x)) at-i ∙ silent-none st e)) r next onward in
+        let told = vote-told (sharing b) i (omega (arith, long-sharing b)) (ap isShare at-i ∙ silent-share st ∙ e) vote
+        (ap votedBy v ∙ sym (ap (λ (x : Statement). Option·toList (votedRange x)) at-i ∙ silent-none st e)) r next onward in
         record { are = told .0; onward = own-onward b i r next (told .1); inside = inside; stands = rw v none-of }
 
-  pub shares-next : (kind : RangeKind) → isRejects kind ≡ false → isShare st ≡ true → (q : ranges.TransactionLocatorRange) (next : StatementCursor) → asRange q ≡ newRange (blockIn r .reference) i (next .index)
+  pub shares-next : (kind : RangeKind) → isRejects kind ≡ false → isShare st ≡ true → (q : ranges.TransactionLocatorRange) (next : StatementCursor) → asRange
+      q ≡ newRange (blockIn r .reference) i (next .index)
       → next ≡ cursorAt r (i + leading true (drop i (blockIn r .statements))) → NextIn kind r i (record { vote = Range q; at = 0; next = next })
   unfolding isRejects kindRangesAt rangesAt votedBy AllStand newRange sharing
   shares-next kind t e q next v onward = go kind t
@@ -87,5 +92,6 @@ module _ (r : Bytes) (bytes : AllBytes r) (well : wellFormed r ≡ true) (i : �
           record { are = rw v (told .0); onward = told .1; inside = omega arith; stands = stands }
       go Shares t =
           let b = blockIn r in
-          let told = run-told (sharing b) i (omega (arith, long-sharing b)) (ap isShare (sharing-at b i h) ∙ silent-share st ∙ e) r next (onward ∙ ap (λ (n : ℕ). cursorAt r (i + n)) (sym (leading-sharing b i))) in
+          let told = run-told (sharing b) i (omega (arith, long-sharing b)) (ap isShare (sharing-at b i h) ∙ silent-share st ∙ e) r next
+          (onward ∙ ap (λ (n : ℕ). cursorAt r (i + n)) (sym (leading-sharing b i))) in
           record { are = rw v (told .0); onward = own-onward b i r next (told .1); inside = omega arith; stands = stands }

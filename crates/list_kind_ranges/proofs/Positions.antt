@@ -81,7 +81,8 @@ reference-stands : (s : Bytes) (p : ℕ) (r : BlockReference) (x : List ℕ) →
 unfolding StandsAt
 reference-stands s p r x f e =
     let h : p + 48 ≤ length s = omega (arith, ap length e, length-append (referenceBytes r) x, length-reference r f, length-drop p s) in
-    let read : some (part (fixed-reference .value (drop p s)) (drop (p + 48) s)) ≡ some (part r x) = sym (reads-at readReference 48 fixed-reference s p h) ∙ ap readReference e ∙ reference-reads r f x in
+    let read : some (part (fixed-reference .value (drop p s)) (drop (p + 48) s)) ≡ some (part r x) = sym (reads-at readReference 48 fixed-reference s p h) ∙
+    ap readReference e ∙ reference-reads r f x in
     (h, sym (reference-value s p) ∙ ap (λ (y : Part BlockReference). y .value) (Option·some-injective _ _ read))
 
 -- ---- in a record
@@ -96,17 +97,26 @@ module _ (r : Bytes) (bytes : AllBytes r) (well : wellFormed r ≡ true) where
 
     from-here : drop (statementStart r i) r ≡ statementBytes st ++ flatten (map statementBytes (drop (suc i) (blockIn r .statements)))
     unfolding flatten
-    from-here = statements-place r (record { block = blockIn r; time = timeIn r }) bytes (timed-of r (blockIn r) (block-of r well)) i ∙ rw (drop-cons (blockIn r .statements) i noStatement h)
+    from-here = statements-place r (record { block = blockIn r; time = timeIn r }) bytes (timed-of r (blockIn r) (block-of r well)) i ∙ rw
+        (drop-cons (blockIn r .statements) i noStatement h)
 
     pub kind-inside : statementStart r i + 1 ≤ length r
-    kind-inside = omega (arith, ap length from-here, length-append (statementBytes st) (flatten (map statementBytes (drop (suc i) (blockIn r .statements)))), long-statement st, length-drop (statementStart r i) r)
+    kind-inside = omega (
+      arith,
+      ap length from-here,
+      length-append (statementBytes st) (flatten (map statementBytes (drop (suc i) (blockIn r .statements)))),
+      long-statement st,
+      length-drop (statementStart r i) r,
+    )
 
     named-stands : (q : BlockReference) → Names st q → StandsAt r (statementStart r i + 1) q
     named-stands q n =
         let a = named-bytes n in
         let more = flatten (map statementBytes (drop (suc i) (blockIn r .statements))) in
-        reference-stands r (statementStart r i + 1) q (a .others ++ more) (named-fits n (every-place noStatement (blockIn r .statements) i (fits .statements) h))
-        (sym (drop-drop 1 (statementStart r i) r) ∙ ap (drop 1) (from-here ∙ ap (λ (xs : List ℕ). xs ++ more) (a .are)) ∙ append-assoc (referenceBytes q) (a .others) more)
+        reference-stands r (statementStart r i + 1) q (a .others ++ more)
+        (named-fits n (every-place noStatement (blockIn r .statements) i (fits .statements) h))
+        (sym (drop-drop 1 (statementStart r i) r) ∙ ap (drop 1) (from-here ∙ ap (λ (xs : List ℕ). xs ++ more) (a .are)) ∙ append-assoc (referenceBytes q)
+        (a .others) more)
 
     pub votes-stand : AllStand r (statementStart r i + 1) (Option·toList (votedRange st))
     unfolding AllStand

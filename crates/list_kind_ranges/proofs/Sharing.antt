@@ -92,7 +92,8 @@ module _ (l : TransactionLocator) (r : BlockReference) where
   unfolding there holds
   step o s ss = go (decLe o (l .offset)) (decLe (o + 1) (l .offset))
     where
-      go : Dec (o ≤ l .offset) → Dec (o + 1 ≤ l .offset) → leb o (l .offset) && holds isShare (getElem? (s ∷ ss) (l .offset - o)) ≡ (isShare s && within o (o + 1) (l .offset)) || (leb (o + 1) (l .offset) && holds isShare (getElem? ss (l .offset - (o + 1))))
+      go : Dec (o ≤ l .offset) → Dec (o + 1 ≤ l .offset) → leb o (l .offset) && holds isShare (getElem? (s ∷ ss) (l .offset - o)) ≡
+          (isShare s && within o (o + 1) (l .offset)) || (leb (o + 1) (l .offset) && holds isShare (getElem? ss (l .offset - (o + 1))))
       go (yes h) (yes k) =
           let z : l .offset - o ≡ suc (l .offset - (o + 1)) = omega arith in
           rw (le-leb o (l .offset) h, le-leb (o + 1) (l .offset) k, within-no o (o + 1) (l .offset) (λ u v. omega arith), and-false (isShare s), z)
@@ -103,13 +104,19 @@ module _ (l : TransactionLocator) (r : BlockReference) where
           last : (t : Bool) → t ≡ (t && true) || false
           last true = refl
           last false = refl
-      go (no h) k = rw (lt-leb o (l .offset) (omega arith), lt-leb (o + 1) (l .offset) (omega arith), within-no o (o + 1) (l .offset) (λ u v. omega arith), and-false (isShare s))
+      go (no h) k = rw (
+        lt-leb o (l .offset) (omega arith),
+        lt-leb (o + 1) (l .offset) (omega arith),
+        within-no o (o + 1) (l .offset) (λ u v. omega arith),
+        and-false (isShare s),
+      )
 
   spans-there : (o : ℕ) (ss : List Statement) → anyOf (λ q. covers q l) (spansFrom r o (map silent ss)) ≡ same && there o ss
   unfolding spansFrom anyOf there holds
   spans-there o [] = sym (ap (λ (t : Bool). same && t) (and-false (leb o (l .offset))) ∙ and-false same)
   spans-there o (s ∷ ss) =
-      any-append (λ q. covers q l) (pick (isShare (silent s)) (oneRange (locator r o) ∷ []) (Option·toList (votedRange (silent s)))) (spansFrom r (o + 1) (map silent ss))
+      any-append (λ q. covers q l) (pick (isShare (silent s)) (oneRange (locator r o) ∷ []) (Option·toList (votedRange (silent s))))
+      (spansFrom r (o + 1) (map silent ss))
       ∙ ap₂ {C = Bool} (λ t u. t || u) (first (isShare s) refl) (spans-there (o + 1) ss)
       ∙ both same (isShare s && within o (o + 1) (l .offset)) (there (o + 1) ss)
       ∙ ap (λ (t : Bool). same && t) (sym (step o s ss))
@@ -118,7 +125,8 @@ module _ (l : TransactionLocator) (r : BlockReference) where
       both true u v = refl
       both false u v = refl
 
-      first : (t : Bool) → isShare s ≡ t → anyOf (λ q. covers q l) (pick (isShare (silent s)) (oneRange (locator r o) ∷ []) (Option·toList (votedRange (silent s)))) ≡ same && (t && within o (o + 1) (l .offset))
+      first : (t : Bool) → isShare s ≡ t → anyOf (λ q. covers q l)
+          (pick (isShare (silent s)) (oneRange (locator r o) ∷ []) (Option·toList (votedRange (silent s)))) ≡ same && (t && within o (o + 1) (l .offset))
       first true e = rw (silent-share s, e, at-one o) (alone (same && within o (o + 1) (l .offset)))
         where
           alone : (t : Bool) → t || false ≡ t

@@ -67,7 +67,8 @@ some-noted gone e = lt-ltb 0 (length gone) (omega arith)
 
 -- ---- the authors of those who vote
 
-pub marked-in-more : (s : Bytes) (order marks : List ℕ) (n : ℕ) (v : AuthoritySet) → MarkedIn s order marks n v → MarkedIn s order marks (n + 1) (inserted v (author (blockAtPlace s order n)))
+pub marked-in-more : (s : Bytes) (order marks : List ℕ) (n : ℕ) (v : AuthoritySet) → MarkedIn s order marks n v → MarkedIn s order marks (n + 1)
+    (inserted v (author (blockAtPlace s order n)))
 unfolding MarkedIn
 marked-in-more s order marks n v f k h e = member-inserted v (author (blockAtPlace s order n)) (author (blockAtPlace s order k)) ∙ go (ℕ-discrete k n)
   where
@@ -75,7 +76,8 @@ marked-in-more s order marks n v f k h e = member-inserted v (author (blockAtPla
     go (yes z) = rw (z, eq-eqb (author (blockAtPlace s order n)) (author (blockAtPlace s order n)) refl) (or-true (member v (author (blockAtPlace s order n))))
     go (no z) = rw (f k (omega arith) e)
 
-pub marked-in-none : (s : Bytes) (order marks : List ℕ) (n : ℕ) (v : AuthoritySet) → MarkedIn s order marks n v → eqb (getD marks n 0) 1 ≡ false → MarkedIn s order marks (n + 1) v
+pub marked-in-none : (s : Bytes) (order marks : List ℕ) (n : ℕ) (v : AuthoritySet) → MarkedIn s order marks n v → eqb (getD marks n 0) 1 ≡ false → MarkedIn s
+    order marks (n + 1) v
 unfolding MarkedIn
 marked-in-none s order marks n v f q k h e = go (ℕ-discrete k n)
   where
@@ -84,7 +86,8 @@ marked-in-none s order marks n v f q k h e = go (ℕ-discrete k n)
     go (no z) = f k (omega arith) e
 
 -- a set that has the author of every vote has quorum where the locator is final
-voters-quorum : (c : Committee) (bs : List Block) (l : TransactionLocator) (v : AuthoritySet) → ((d : Block) → d ∈ bs → votesFor d l ≡ true → member v (author d) ≡ true) → isFinal c bs l ≡ true → isQuorum c (stakeOf c v) ≡ true
+voters-quorum : (c : Committee) (bs : List Block) (l : TransactionLocator) (v : AuthoritySet) →
+    ((d : Block) → d ∈ bs → votesFor d l ≡ true → member v (author d) ≡ true) → isFinal c bs l ≡ true → isQuorum c (stakeOf c v) ≡ true
 unfolding isFinal certifiers certifies
 voters-quorum c bs l v f h =
     let all-of : AuthoritySet = setOf (map author (certifiers c bs l)) in
@@ -101,14 +104,17 @@ voters-quorum c bs l v f h =
 
 module _ (w : Wanted) (c : Committee) (s : Bytes) (order marks : List ℕ) (o : SortedStore s order) (few : length order ≤ 1024) where
   -- without quorum of those who vote nothing is final
-  pub few-hidden : (v : AuthoritySet) → MarkedIn s order marks (length order) v → isQuorum c (stakeOf c v) ≡ false → (l : TransactionLocator) → MarksAt (laneRanges w s order) marks l → listFor w c (blocksOf s) .shows l ≡ false
+  pub few-hidden : (v : AuthoritySet) → MarkedIn s order marks (length order) v → isQuorum c (stakeOf c v) ≡ false → (l : TransactionLocator) → MarksAt
+      (laneRanges w s order) marks l → listFor w c (blocksOf s) .shows l ≡ false
   unfolding MarkedIn listing isListed
-  few-hidden v f q l right = not-final (isOrdinary (w .list)) (fails (isFinalIn (asReading (w .reading)) c (blocksOf s) l) (λ t. not-both (voters-quorum c (blocksOf s) l v own (sym (final-is-old c (blocksOf s) l) ∙ final-in-old (asReading (w .reading)) c (blocksOf s) l t)) q))
+  few-hidden v f q l right = not-final (isOrdinary (w .list)) (fails (isFinalIn (asReading (w .reading)) c (blocksOf s) l)
+      (λ t. not-both (voters-quorum c (blocksOf s) l v own (sym (final-is-old c (blocksOf s) l) ∙ final-in-old (asReading (w .reading)) c (blocksOf s) l t)) q))
     where
       own : (d : Block) → d ∈ blocksOf s → votesFor d l ≡ true → member v (author d) ≡ true
       own d m e =
           let p = stored-at s order o d m in
-          subst (λ (x : Block). member v (author x) ≡ true) (p .1 .1) (f (p .0) (p .1 .0) (vote-mark w s order marks few l right (p .0) (p .1 .0) ∙ ap (λ (x : Block). votesFor x l) (p .1 .1) ∙ e))
+          subst (λ (x : Block). member v (author x) ≡ true) (p .1 .1) (f (p .0) (p .1 .0)
+          (vote-mark w s order marks few l right (p .0) (p .1 .0) ∙ ap (λ (x : Block). votesFor x l) (p .1 .1) ∙ e))
 
       not-final : (b : Bool) → isFinalIn (asReading (w .reading)) c (blocksOf s) l ≡ false → isListed b (asReading (w .reading)) c (blocksOf s) l ≡ false
       not-final true h = rw h (and-false (isStoredShare (blocksOf s) l))
@@ -117,27 +123,34 @@ module _ (w : Wanted) (c : Committee) (s : Bytes) (order marks : List ℕ) (o : 
   -- ---- who certifies
 
   module _ (flags : List ℕ) (r : Certifiers) where
-    pub certified-old : wantsRejects (w .reading) ≡ false → (gone : List ℕ) → CertifyMarked false c s order (take 1024 marks) gone flags r → CertifiedAll w c s order marks flags r
+    pub certified-old : wantsRejects (w .reading) ≡ false → (gone : List ℕ) → CertifyMarked false c s order (take 1024 marks) gone flags r → CertifiedAll w c
+        s order marks flags r
     unfolding CertifiedAll CertifyMarked
     certified-old t gone f l right = rw (reading-old (w .reading) t) (f old l (owned-votes w s order marks few l right) (counted-old s order l gone))
 
     module _ (t : wantsRejects (w .reading) ≡ true) (bytes : AllBytes s) where
-      pub certified-none : (gone : List ℕ) → ((k : ℕ) → k < length order → eqb (getD (take 1024 (drop 1024 marks)) k 0) 1 ≡ false) → CertifyMarked false c s order (take 1024 marks) gone flags r → CertifiedAll w c s order marks flags r
+      pub certified-none : (gone : List ℕ) → ((k : ℕ) → k < length order → eqb (getD (take 1024 (drop 1024 marks)) k 0) 1 ≡ false) → CertifyMarked false c s
+          order (take 1024 marks) gone flags r → CertifiedAll w c s order marks flags r
       unfolding CertifiedAll CertifyMarked
-      certified-none gone none f l right = rw (reading-new (w .reading) t) (f withdrawing l (owned-votes w s order marks few l right) (go (ℕ-discrete (l .offset) 18446744073709551615)))
+      certified-none gone none f l right = rw (reading-new (w .reading) t)
+          (f withdrawing l (owned-votes w s order marks few l right) (go (ℕ-discrete (l .offset) 18446744073709551615)))
         where
           go : Dec (l .offset ≡ 18446744073709551615) → CountedRight false withdrawing s order l gone
           go (yes e) = counted-none s order l withdrawing (last-unvoted s order o bytes l e) gone
           go (no e) = counted-same s order l (none-rejects s order o l (take 1024 (drop 1024 marks)) (owned-rejects w s order marks few l right t e) none) gone
 
-      pub certified-new : (gone : List ℕ) → HeardMarked s order (take 1024 (drop 1024 marks)) gone → CertifyMarked true c s order (take 1024 marks) gone flags r → CertifiedAll w c s order marks flags r
+      pub certified-new : (gone : List ℕ) → HeardMarked s order (take 1024 (drop 1024 marks)) gone → CertifyMarked true c s order (take 1024 marks) gone flags
+          r → CertifiedAll w c s order marks flags r
       unfolding CertifiedAll CertifyMarked HeardMarked spokenAt votersIn
-      certified-new gone heard f l right = rw (reading-new (w .reading) t) (f withdrawing l (owned-votes w s order marks few l right) (go (ℕ-discrete (l .offset) 18446744073709551615)))
+      certified-new gone heard f l right = rw (reading-new (w .reading) t)
+          (f withdrawing l (owned-votes w s order marks few l right) (go (ℕ-discrete (l .offset) 18446744073709551615)))
         where
-          unvoted : ((d : Block) → d ∈ blocksOf s → votesFor d l ≡ false) → (k : ℕ) → counted true (spokenAt ownVote s order l k) (setAt gone k) ≡ votersIn withdrawing (blocksOf s) l (blockAtPlace s order k .reference)
+          unvoted : ((d : Block) → d ∈ blocksOf s → votesFor d l ≡ false) → (k : ℕ) → counted true (spokenAt ownVote s order l k) (setAt gone k) ≡ votersIn
+              withdrawing (blocksOf s) l (blockAtPlace s order k .reference)
           unvoted none k =
               let r = blockAtPlace s order k .reference in
-              ap (λ (v : AuthoritySet). counted true v (setAt gone k)) (no-voters old (blocksOf s) l none r) ∙ nobody-counts true (setAt gone k) ∙ sym (no-voters withdrawing (blocksOf s) l none r)
+              ap (λ (v : AuthoritySet). counted true v (setAt gone k)) (no-voters old (blocksOf s) l none r) ∙ nobody-counts true (setAt gone k) ∙ sym
+              (no-voters withdrawing (blocksOf s) l none r)
 
           go : Dec (l .offset ≡ 18446744073709551615) → CountedRight true withdrawing s order l gone
           go (yes e) = λ k h. unvoted (last-unvoted s order o bytes l e) k
@@ -158,7 +171,8 @@ module _ (w : Wanted) (c : Committee) (s : Bytes) (order marks : List ℕ) (o : 
           go true = rw (final-by, h) (and-false (isStoredShare (blocksOf s) l))
           go false = rw (final-by, h)
 
-      pub is-shown : (isOrdinary (w .list) ≡ true → isStoredShare (blocksOf s) l ≡ true) → isQuorum c (stakeOf c (r .authors)) ≡ true → listFor w c (blocksOf s) .shows l ≡ true
+      pub is-shown : (isOrdinary (w .list) ≡ true → isStoredShare (blocksOf s) l ≡ true) → isQuorum c (stakeOf c (r .authors)) ≡ true → listFor w c
+          (blocksOf s) .shows l ≡ true
       unfolding listing isListed
       is-shown f h = go (isOrdinary (w .list)) f
         where
@@ -167,7 +181,8 @@ module _ (w : Wanted) (c : Committee) (s : Bytes) (order marks : List ℕ) (o : 
           go false g = rw final-by h
 
   -- what is no stored share is not on the ordinary list
-  pub unshared-hidden : isOrdinary (w .list) ≡ true → (l : TransactionLocator) → isStoredShare (blocksOf s) l ≡ false → listFor w c (blocksOf s) .shows l ≡ false
+  pub unshared-hidden : isOrdinary (w .list) ≡ true → (l : TransactionLocator) → isStoredShare (blocksOf s) l ≡ false → listFor w c (blocksOf s) .shows l ≡
+      false
   unfolding listing isListed
   unshared-hidden t l h = rw (t, h)
 

@@ -45,7 +45,8 @@ MarkedIn s order marks n v = (k : ℕ) → k < n → eqb (getD marks k 0) 1 ≡ 
 
 -- they certify every locator for which the marks are right
 unfoldable pub CertifiedAll : Wanted → Committee → Bytes → List ℕ → List ℕ → List ℕ → Certifiers → Type 0
-CertifiedAll w c s order marks flags r = (l : TransactionLocator) → MarksAt (laneRanges w s order) marks l → CertifyFlagged (asReading (w .reading)) c s order l flags r
+CertifiedAll w c s order marks flags r = (l : TransactionLocator) → MarksAt (laneRanges w s order) marks l → CertifyFlagged (asReading (w .reading)) c s order
+    l flags r
 
 -- it is marked that the locator is a stored share, where the list asks for one
 pub record MayShow (w : Wanted) (marks : List ℕ) (n : ℕ) (r : Bool) : Type 0 where
@@ -55,5 +56,7 @@ pub record MayShow (w : Wanted) (marks : List ℕ) (n : ℕ) (r : Bool) : Type 0
 -- the list shows every locator for which the marks are right, with these certifying blocks; or none of them
 unfoldable pub ShownAll : Wanted → Committee → Bytes → List ℕ → List ℕ → List ℕ → final.MarkedFinal → Type 0
 ShownAll w c s order marks flags (final.the-variants.Shown f) =
-    (l : TransactionLocator) → MarksAt (laneRanges w s order) marks l → (listFor w c (blocksOf s) .shows l ≡ true) × CertifyFlagged (asReading (w .reading)) c s order l flags f
-ShownAll w c s order marks flags final.the-variants.Hidden = (l : TransactionLocator) → MarksAt (laneRanges w s order) marks l → listFor w c (blocksOf s) .shows l ≡ false
+    (l : TransactionLocator) → MarksAt (laneRanges w s order) marks l → (listFor w c (blocksOf s) .shows l ≡ true) × CertifyFlagged (asReading (w .reading)) c
+    s order l flags f
+ShownAll w c s order marks flags final.the-variants.Hidden = (l : TransactionLocator) → MarksAt (laneRanges w s order) marks l → listFor w c (blocksOf s)
+    .shows l ≡ false

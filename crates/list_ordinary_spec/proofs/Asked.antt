@@ -15,7 +15,8 @@ use Rattle.final_spec.proofs.Candidates.{least-final}
 use Rattle.final_spec.proofs.LeastOf.{one-least}
 use Rattle.final_spec.proofs.Asked.{next-answers, asked-on}
 use Rattle.store_spec.specs.Shares.{isStoredShare}
-use Rattle.list_ordinary_spec.specs.FinalShares.{isFinalShare, LeastFinalShare, leastFinalShare, nextFinalShare, SharesAskedOn, FinalShareList, finalShares}
+use Rattle.list_ordinary_spec.specs.FinalShares.{isFinalShare, LeastFinalShare, leastFinalShare, nextFinalShare, SharesAskedOn, FinalShareList}
+use Rattle.list_ordinary_spec.specs.FinalShares.{finalShares}
 use Rattle.list_ordinary_spec.proofs.Least.{least-final-share, none-wide, share-wide, passed-over}
 
 module _ (c : Committee) (s : Bytes) (b : broken c ≡ false) (h : storeInOrder c s ≡ true) where
@@ -26,7 +27,8 @@ module _ (c : Committee) (s : Bytes) (b : broken c ≡ false) (h : storeInOrder 
 
   answers : (after : Option TransactionLocator) {o : Option TransactionLocator} → LeastFinalShare c (blocksOf s) after o → nextFinalShare c s after ≡ answered o
   answers after {o} k =
-      next-share-answers after ∙ ap {B = Answer (Option TransactionLocator)} answered (one-least (isFinalShare c (blocksOf s)) after (least-final-share c (blocksOf s) after) k)
+      next-share-answers after ∙ ap {B = Answer (Option TransactionLocator)} answered
+      (one-least (isFinalShare c (blocksOf s)) after (least-final-share c (blocksOf s) after) k)
 
   wide-least : (after o : Option TransactionLocator) → nextFinal c s after ≡ answered o → LeastFinal c (blocksOf s) after o
   wide-least after o e =
@@ -35,12 +37,14 @@ module _ (c : Committee) (s : Bytes) (b : broken c ≡ false) (h : storeInOrder 
       subst (LeastFinal c (blocksOf s) after) q (least-final c (blocksOf s) after)
 
   -- two questions with the same answer go on alike
-  asked-from : {after from : Option TransactionLocator} {ls : List TransactionLocator} → nextFinalShare c s after ≡ nextFinalShare c s from → SharesAskedOn c s from ls → SharesAskedOn c s after ls
+  asked-from : {after from : Option TransactionLocator} {ls : List TransactionLocator} → nextFinalShare c s after ≡ nextFinalShare c s from → SharesAskedOn c
+      s from ls → SharesAskedOn c s after ls
   asked-from e (done f) = done (e ∙ f)
   asked-from e (onward f a) = onward (e ∙ f) a
 
   -- of what the wide question gives, the stored shares
-  pub wide-kept : (after : Option TransactionLocator) (ls : List TransactionLocator) → AskedOn c s after ls → SharesAskedOn c s after (keep (isStoredShare (blocksOf s)) ls)
+  pub wide-kept : (after : Option TransactionLocator) (ls : List TransactionLocator) → AskedOn c s after ls → SharesAskedOn c s after
+      (keep (isStoredShare (blocksOf s)) ls)
   unfolding keep
   wide-kept after ls (done e) = done (answers after (none-wide c (blocksOf s) after (wide-least after none e)))
   wide-kept after ls (onward {l = l} {ls = ms} e a) = split (isStoredShare (blocksOf s) l) refl (wide-kept (some l) ms a)
@@ -52,7 +56,8 @@ module _ (c : Committee) (s : Bytes) (b : broken c ≡ false) (h : storeInOrder 
           → SharesAskedOn c s after (pick t (l ∷ keep (isStoredShare (blocksOf s)) ms) (keep (isStoredShare (blocksOf s)) ms))
       split true f k = onward (answers after (share-wide c (blocksOf s) after l first f)) k
       split false f k =
-          asked-from (answers after (passed-over c (blocksOf s) after l first f (least-final-share c (blocksOf s) (some l))) ∙ sym (next-share-answers (some l))) k
+          asked-from (answers after (passed-over c (blocksOf s) after l first f (least-final-share c (blocksOf s) (some l))) ∙ sym
+          (next-share-answers (some l))) k
 
   -- asked on from the start it gives the computed list
   pub shares-asked : FinalShareList c s (finalShares c (blocksOf s))

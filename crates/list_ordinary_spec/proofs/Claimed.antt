@@ -2,7 +2,8 @@
 use Rattle.final_spec.proofs.Claimed.{well-stored}
 use Rattle.final_spec.proofs.Asked.{asked-once}
 use Rattle.list_ordinary_spec.specs.FinalShares.{nextFinalShare}
-use Rattle.list_ordinary_spec.specs.Claims.{ByRuns, SharesAlongChain, LeastFinalShareMeant, WideKept, FinalShareListMeant, ListsFinalShares, AnyOrder, OrdinaryLawful, Claims}
+use Rattle.list_ordinary_spec.specs.Claims.{ByRuns, SharesAlongChain, LeastFinalShareMeant, WideKept, FinalShareListMeant, ListsFinalShares, AnyOrder}
+use Rattle.list_ordinary_spec.specs.Claims.{OrdinaryLawful, Claims}
 use Rattle.list_ordinary_spec.proofs.Least.{least-final-share}
 use Rattle.list_ordinary_spec.proofs.Asked.{wide-kept, shares-asked}
 use Rattle.list_ordinary_spec.proofs.Lists.{all-shares, exactly-finals, same-shares}

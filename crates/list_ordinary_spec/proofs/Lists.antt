@@ -49,7 +49,8 @@ module _ (c : Committee) (bs : List Block) where
   pub final-shares-through : finalShares c bs ≡ keep (isFinal c bs) (storedShares bs)
   final-shares-through =
       ascending-unique final-shares-ascending (keep-ascending (isFinal c bs) (all-ascending bs))
-      (λ l m. let h = final-shares-in l m in in-keep (isFinal c bs) (storedShares bs) (in-all-shares bs l (stored-share bs l (share-of c bs l h))) (final-of c bs l h))
+      (λ l m. let h = final-shares-in l m in in-keep (isFinal c bs) (storedShares bs) (in-all-shares bs l (stored-share bs l (share-of c bs l h)))
+      (final-of c bs l h))
       (λ l m. let k = keep-in (isFinal c bs) (storedShares bs) m in in-final-shares l (final-share c bs l (share-stored bs l (all-in bs l (k .0))) (k .1)))
 
 pub exactly-finals : (c : Committee) {bs : List Block} → WellStored bs → Exactly c bs

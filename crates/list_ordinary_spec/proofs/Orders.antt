@@ -20,16 +20,19 @@ pub ascending-once : {ls : List TransactionLocator} → Ascending ls → Once ls
 ascending-once none-left = empty
 ascending-once (and-then {l = l} h a) = also (λ m. locator-irrefl l (h l m)) (ascending-once a)
 
-pub ascending-append : {xs ys : List TransactionLocator} → Ascending xs → Ascending ys → ((x y : TransactionLocator) → x ∈ xs → y ∈ ys → locatorBefore x y ≡ true) → Ascending (xs ++ ys)
+pub ascending-append : {xs ys : List TransactionLocator} → Ascending xs → Ascending ys →
+    ((x y : TransactionLocator) → x ∈ xs → y ∈ ys → locatorBefore x y ≡ true) → Ascending (xs ++ ys)
 ascending-append none-left b f = b
-ascending-append {ys = ys} (and-then {l = l} {ls = ls} h a) b f = and-then (λ m k. split m (in-append ls k)) (ascending-append a b (λ x y i j. f x y (there i) j))
+ascending-append {ys = ys} (and-then {l = l} {ls = ls} h a) b f = and-then (λ m k. split m (in-append ls k))
+    (ascending-append a b (λ x y i j. f x y (there i) j))
   where
     split : (m : TransactionLocator) → (m ∈ ls) ⊎ (m ∈ ys) → locatorBefore l m ≡ true
     split m (inl k) = h m k
     split m (inr k) = f l m here k
 
 -- what stands after a locator comes after it
-pub ascending-later : (xs : List TransactionLocator) (l : TransactionLocator) (ys : List TransactionLocator) → Ascending (xs ++ l ∷ ys) → (m : TransactionLocator) → m ∈ ys → locatorBefore l m ≡ true
+pub ascending-later : (xs : List TransactionLocator) (l : TransactionLocator) (ys : List TransactionLocator) → Ascending (xs ++ l ∷ ys) →
+    (m : TransactionLocator) → m ∈ ys → locatorBefore l m ≡ true
 ascending-later [] l ys (and-then h a) m k = h m k
 ascending-later (x ∷ xs) l ys (and-then h a) m k = ascending-later xs l ys a m k
 

@@ -52,38 +52,52 @@ around-one b o h =
       shares = λ k (i : 0 + o ≤ k) (j : k < 0 + o + 1). let e : k ≡ o = omega arith in rw e h;
     }
 
-module _ {f : Block → List TransactionLocatorRange} (round : Surrounding f) (bs : List Block) (r : BlockReference) (o : ℕ) (gap : o + 1 ∈ edgesBy f bs r → ⊥) where
-  share-forth : (b : Block) → b ∈ bs → b .reference ≡ r → isShareAt b o ≡ true → isShareAt b (o + 1) ≡ true
-  share-forth b m e h = let x = round b o h in go x (decLt (o + 1) (x .range .end))
-    where
-      go : (x : Around f b o) → Dec (o + 1 < x .range .end) → isShareAt b (o + 1) ≡ true
-      go x (yes k) = x .shares (o + 1) (omega (arith, x .from)) k
-      go x (no k) =
-          let z : x .range .end ≡ o + 1 = omega (arith, x .below) in
-          absurd (gap (subst (λ (n : ℕ). n ∈ edgesBy f bs r) z (edge-end f bs r b (x .range) m (x .stands) (x .of ∙ e))))
+module _ {f : Block → List TransactionLocatorRange} (round : Surrounding f) (bs : List Block) (r : BlockReference) (o : ℕ) (gap : o + 1 ∈ edgesBy f bs r → ⊥)
+  where
+    share-forth : (b : Block) → b ∈ bs → b .reference ≡ r → isShareAt b o ≡ true → isShareAt b (o + 1) ≡ true
+    share-forth b m e h = let x = round b o h in go x (decLt (o + 1) (x .range .end))
+      where
+        go : (x : Around f b o) → Dec (o + 1 < x .range .end) → isShareAt b (o + 1) ≡ true
+        go x (yes k) = x .shares (o + 1) (omega (arith, x .from)) k
+        go x (no k) =
+            let z : x .range .end ≡ o + 1 = omega (arith, x .below) in
+            absurd (gap (subst (λ (n : ℕ). n ∈ edgesBy f bs r) z (edge-end f bs r b (x .range) m (x .stands) (x .of ∙ e))))
 
-  share-back : (b : Block) → b ∈ bs → b .reference ≡ r → isShareAt b (o + 1) ≡ true → isShareAt b o ≡ true
-  share-back b m e h = let x = round b (o + 1) h in go x (decLe (x .range .start) o)
-    where
-      go : (x : Around f b (o + 1)) → Dec (x .range .start ≤ o) → isShareAt b o ≡ true
-      go x (yes k) = x .shares o k (omega (arith, x .below))
-      go x (no k) =
-          let z : x .range .start ≡ o + 1 = omega (arith, x .from) in
-          absurd (gap (subst (λ (n : ℕ). n ∈ edgesBy f bs r) z (edge-start f bs r b (x .range) m (x .stands) (x .of ∙ e))))
+    share-back : (b : Block) → b ∈ bs → b .reference ≡ r → isShareAt b (o + 1) ≡ true → isShareAt b o ≡ true
+    share-back b m e h = let x = round b (o + 1) h in go x (decLe (x .range .start) o)
+      where
+        go : (x : Around f b (o + 1)) → Dec (x .range .start ≤ o) → isShareAt b o ≡ true
+        go x (yes k) = x .shares o k (omega (arith, x .below))
+        go x (no k) =
+            let z : x .range .start ≡ o + 1 = omega (arith, x .from) in
+            absurd (gap (subst (λ (n : ℕ). n ∈ edgesBy f bs r) z (edge-start f bs r b (x .range) m (x .stands) (x .of ∙ e))))
 
-  pub same-share : isStoredShare bs (locator r (o + 1)) ≡ isStoredShare bs (locator r o)
-  unfolding locator
-  same-share =
-      same-test (isStoredShare bs (locator r (o + 1))) (isStoredShare bs (locator r o))
-      (λ h.
-      let x = stored-share bs (locator r (o + 1)) h in
-      share-stored bs (locator r o) (record { block = x .block; stored = x .stored; named = x .named; shared = share-back (x .block) (x .stored) (x .named) (x .shared) }))
-      (λ h.
-      let x = stored-share bs (locator r o) h in
-      share-stored bs (locator r (o + 1)) (record { block = x .block; stored = x .stored; named = x .named; shared = share-forth (x .block) (x .stored) (x .named) (x .shared) }))
+    pub same-share : isStoredShare bs (locator r (o + 1)) ≡ isStoredShare bs (locator r o)
+    unfolding locator
+    same-share =
+        same-test (isStoredShare bs (locator r (o + 1))) (isStoredShare bs (locator r o))
+        (λ h.
+        let x = stored-share bs (locator r (o + 1)) h in
+        share-stored bs (locator r o) (record {
+          block = x .block;
+          stored = x .stored;
+          named = x .named;
+          shared = share-back (x .block) (x .stored) (x .named)
+              (x .shared);
+        }))
+        (λ h.
+        let x = stored-share bs (locator r o) h in
+        share-stored bs (locator r (o + 1)) (record {
+          block = x .block;
+          stored = x .stored;
+          named = x .named;
+          shared = share-forth (x .block) (x .stored)
+              (x .named) (x .shared);
+        }))
 
 -- the edges of any ranges that tell votes and shares are edges of the ordinary list
-pub ordinary-edges : {f : Block → List TransactionLocatorRange} → Telling f → Surrounding f → (c : Committee) (bs : List Block) (r : BlockReference) → Edges bs (ordinary c bs) r (edgesBy f bs r)
+pub ordinary-edges : {f : Block → List TransactionLocatorRange} → Telling f → Surrounding f → (c : Committee) (bs : List Block) (r : BlockReference) → Edges
+    bs (ordinary c bs) r (edgesBy f bs r)
 unfolding isFinalShare
 ordinary-edges told round c bs r o gap =
     let x = wide-edges told c bs r o gap in
@@ -111,8 +125,11 @@ module _ (c : Committee) (bs : List Block) (l : TransactionLocator) where
   pub goes-share : (o : ℕ) → goesOn bs (ordinary c bs) l o ≡ true → (isStoredShare bs (locator (l .block) o) ≡ true) × (goesOn bs (wide c bs) l o ≡ true)
   unfolding goesOn certifiedAlike isFinalShare
   goes-share o h =
-      let s = and-left _ _ h in
-      (and-left _ _ s, and-both _ _ (and-right (isStoredShare bs (locator (l .block) o)) _ s) (and-right (isStoredShare bs (locator (l .block) o) && isFinal c bs (locator (l .block) o)) _ h))
+      let s = and-left _ _ h in (
+        and-left _ _ s,
+        and-both _ _ (and-right (isStoredShare bs (locator (l .block) o)) _ s)
+            (and-right (isStoredShare bs (locator (l .block) o) && isFinal c bs (locator (l .block) o)) _ h),
+      )
 
   pub share-goes : (o : ℕ) → isStoredShare bs (locator (l .block) o) ≡ true → goesOn bs (wide c bs) l o ≡ true → goesOn bs (ordinary c bs) l o ≡ true
   unfolding goesOn certifiedAlike isFinalShare
@@ -125,7 +142,9 @@ module _ (c : Committee) (bs : List Block) (l : TransactionLocator) where
       record {
         inside = inside a b (decLe (stretchEnd bs (ordinary c bs) l) (stretchEnd bs (wide c bs) l));
         shares = λ o i j. goes-share o (a .goes o i j) .0;
-        cut = λ j. fails (isStoredShare bs (locator (l .block) (stretchEnd bs (ordinary c bs) l))) (λ s. not-both (share-goes (stretchEnd bs (ordinary c bs) l) s (b .goes (stretchEnd bs (ordinary c bs) l) (omega (arith, a .longer)) j)) (a .stops));
+        cut = λ j. fails (isStoredShare bs (locator (l .block) (stretchEnd bs (ordinary c bs) l)))
+            (λ s. not-both (share-goes (stretchEnd bs (ordinary c bs) l) s (b .goes (stretchEnd bs (ordinary c bs) l) (omega (arith, a .longer)) j))
+            (a .stops));
       }
     where
       inside : {x y : ℕ} → EndsAt bs (ordinary c bs) l x → EndsAt bs (wide c bs) l y → Dec (x ≤ y) → x ≤ y

@@ -34,7 +34,8 @@ counted-ascending r i (suc n) = and-then later (counted-ascending r (i + 1) n)
     later m k =
         let x = map-in (locator r) (countFrom (i + 1) n) k in
         let q = countFrom-in (i + 1) n (x .1) in
-        subst (λ (y : TransactionLocator). locatorBefore (locator r i) y ≡ true) (x .2) (is-before (locator r i) (locator r (x .0)) (byOffset refl (omega (arith, q .0))))
+        subst (λ (y : TransactionLocator). locatorBefore (locator r i) y ≡ true) (x .2)
+        (is-before (locator r i) (locator r (x .0)) (byOffset refl (omega (arith, q .0))))
 
 pub locators-ascending : (t : TransactionLocatorRange) → Ascending (locators t)
 unfolding locators offsets

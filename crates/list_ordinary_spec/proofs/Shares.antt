@@ -34,7 +34,8 @@ in-shares b l e h =
     let own : locator (b .reference) (l .offset) ≡ l = λ i. record { block = e i; offset = l .offset } in
     let few : l .offset < length (b .statements) = share-index (b .statements) (l .offset) h in
     subst (λ (y : TransactionLocator). y ∈ sharesOf b) own
-    (in-map (locator (b .reference)) (in-keep (isShareAt b) (countFrom 0 (length (b .statements))) (in-countFrom 0 (length (b .statements)) (l .offset) (omega arith) (omega arith)) h))
+    (in-map (locator (b .reference)) (in-keep (isShareAt b) (countFrom 0 (length (b .statements)))
+    (in-countFrom 0 (length (b .statements)) (l .offset) (omega arith) (omega arith)) h))
 
 pub gathered-in : (bs : List Block) (l : TransactionLocator) → l ∈ flatten (map sharesOf bs) → StoredShare bs l
 gathered-in bs l m =

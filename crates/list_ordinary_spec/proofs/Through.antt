@@ -37,7 +37,8 @@ kept-map r p (o ∷ os) = go (p o) (kept-map r p os)
   where
     go : (t : Bool) → map (locator r) (keep p os) ≡ keep (λ (l : TransactionLocator). p (l .offset)) (map (locator r) os)
         → map (locator r) (pick t (o ∷ keep p os) (keep p os))
-        ≡ pick t (locator r o ∷ keep (λ (l : TransactionLocator). p (l .offset)) (map (locator r) os)) (keep (λ (l : TransactionLocator). p (l .offset)) (map (locator r) os))
+        ≡ pick t (locator r o ∷ keep (λ (l : TransactionLocator). p (l .offset)) (map (locator r) os))
+        (keep (λ (l : TransactionLocator). p (l .offset)) (map (locator r) os))
     go true h = ap {B = List TransactionLocator} (λ ls. locator r o ∷ ls) h
     go false h = h
 
@@ -65,7 +66,8 @@ by-shared-ranges b =
         let k = shares-in b l m in
         let x = any-in (λ y. within (y .start) (y .end) (l .offset)) (sharedRanges b) (shared-cover b (l .offset) ∙ k .1) in
         let q = within-true (x .0 .start) (x .0 .end) (l .offset) (x .2) in
-        in-flatten (covered-in (x .0) l (record { of = every-in (sharedRanges b) (x .0) (shared-of b) (x .1) ∙ k .0; from = q .0; below = q .1 })) (in-map locators (x .1))
+        in-flatten (covered-in (x .0) l (record { of = every-in (sharedRanges b) (x .0) (shared-of b) (x .1) ∙ k .0; from = q .0; below = q .1 }))
+        (in-map locators (x .1))
 
     from : (l : TransactionLocator) → l ∈ flatten (map locators (sharedRanges b)) → l ∈ sharesOf b
     from l m =
@@ -96,10 +98,12 @@ entries-ascending (e ∷ es) (with-later h p) = ascending-append (shares-ascendi
         (subst (λ (r : BlockReference). referenceBefore r (m .block) ≡ true) (k .0)
         (subst (λ (r : BlockReference). referenceBefore (referenceOf e) r ≡ true) (q .0) (every-in es (x .0) h (x .1)))))
 
-pub through-entries : (c : Committee) (s : Bytes) → storeInOrder c s ≡ true → storedShares (blocksOf s) ≡ flatten (map (λ e. sharesOf (e .block)) (ascending (entries (recordsOf s))))
+pub through-entries : (c : Committee) (s : Bytes) → storeInOrder c s ≡ true → storedShares (blocksOf s) ≡ flatten
+    (map (λ e. sharesOf (e .block)) (ascending (entries (recordsOf s))))
 unfolding blocksOf
 through-entries c s h =
-    ascending-unique (all-ascending (blocksOf s)) (entries-ascending (ascending es) (chain.ascending-ascends es (chain.distinct c (recordsOf s) (in-order c s h .accepted)))) to from
+    ascending-unique (all-ascending (blocksOf s)) (entries-ascending (ascending es)
+    (chain.ascending-ascends es (chain.distinct c (recordsOf s) (in-order c s h .accepted)))) to from
   where
     es : List Entry
     es = entries (recordsOf s)
@@ -116,7 +120,12 @@ through-entries c s h =
         let y = flatten-in (map sharesAt (ascending es)) m in
         let x = map-in sharesAt (ascending es) (y .2) in
         let k = shares-in (x .0 .block) l (subst (λ (ls : List TransactionLocator). l ∈ ls) (sym (x .2)) (y .1)) in
-        in-all-shares (blocksOf s) l (record { block = x .0 .block; stored = entry-block (recordsOf s) (x .0) (ascending-in es (x .0) (x .1)); named = k .0; shared = k .1 })
+        in-all-shares (blocksOf s) l (record {
+          block = x .0 .block;
+          stored = entry-block (recordsOf s) (x .0) (ascending-in es (x .0) (x .1));
+          named = k .0;
+          shared = k .1;
+        })
 
 -- ---- how many there are
 

@@ -40,7 +40,8 @@ module _ (last bound : Option TransactionLocator) (t : List ℕ) (n at : ℕ) wh
     unfolding rowsAs keep
     far-put h = record { few = omega arith; long = refl; kept = refl; rows = rw h (sym (append-nil (rowsOf t n))) }
 
-    pub range-put : inReach last bound q ≡ true → 3 * n + 3 ≤ length t → RangePut last bound at (q ∷ []) t (sets t (3 * n) (rowWords (newRow at (q .start) (q .end)))) n (n + 1)
+    pub range-put : inReach last bound q ≡ true → 3 * n + 3 ≤ length t → RangePut last bound at (q ∷ []) t
+        (sets t (3 * n) (rowWords (newRow at (q .start) (q .end)))) n (n + 1)
     unfolding rowsAs keep
     range-put h room =
         record {
@@ -73,7 +74,8 @@ module _ (last bound : Option TransactionLocator) (s : Bytes) (at : ℕ) where
         own = rw (h .1)
 
         go : (t : Bool) → inReach last bound q ≡ t → anyCovers s (rowsAs last bound at qs) l ≡ anySpan qs l
-            → anyOf (rowCovers s l) (map (λ x. newRow at (x .start) (x .end)) (pick t (q ∷ keep (inReach last bound) qs) (keep (inReach last bound) qs))) ≡ covers q l || anySpan qs l
+            → anyOf (rowCovers s l) (map (λ x. newRow at (x .start) (x .end)) (pick t (q ∷ keep (inReach last bound) qs) (keep (inReach last bound) qs))) ≡
+            covers q l || anySpan qs l
         go true e k = rw (own, k)
         go false e k = rw (far-covers last bound q l w e) k
 
@@ -89,19 +91,23 @@ module _ (kind : RangeKind) (last bound : Option TransactionLocator) (s : Bytes)
   unfolding rowsOf rowsFrom countFrom kindRanges anyCovers anyOf
   written-start = record { few = omega arith; long = refl; kept = refl; proper = none-of; covering = λ l w. refl }
 
-  pub written-more : (u v : List ℕ) (m i k n at : ℕ) (qs : List TransactionLocatorRange) → Written kind last bound s b t u m i → i < n → kindRangesAt kind b i ≡ qs ++ kindRangesAt kind b n
+  pub written-more : (u v : List ℕ) (m i k n at : ℕ) (qs : List TransactionLocatorRange) → Written kind last bound s b t u m i → i < n → kindRangesAt kind b i
+      ≡ qs ++ kindRangesAt kind b n
       → AllStand s at qs → RangePut last bound at qs u v m k → Written kind last bound s b t v k n
   written-more u v m i k n at qs w h e a p =
       record {
         few = omega (arith, w .few, p .few);
         long = p .long ∙ w .long;
         kept = later-kept u v (m + 1) n (omega (arith, w .few)) (p .kept) ∙ later-kept t u i n (omega arith) (w .kept);
-        proper = subst (λ (xs : List Row). Every (Proper s) xs) (sym (p .rows)) (every-append (rowsOf u m) (rowsAs last bound at qs) (w .proper) (rows-proper last bound s at qs a));
+        proper = subst (λ (xs : List Row). Every (Proper s) xs) (sym (p .rows))
+            (every-append (rowsOf u m) (rowsAs last bound at qs) (w .proper) (rows-proper last bound s at qs a));
         covering = λ l y.
             ap (λ (xs : List Row). anyCovers s xs l || anySpan (kindRangesAt kind b n) l) (p .rows)
-            ∙ ap (λ (x : Bool). x || anySpan (kindRangesAt kind b n) l) (covers-append s (rowsOf u m) (rowsAs last bound at qs) l ∙ ap (λ (x : Bool). anyCovers s (rowsOf u m) l || x) (rows-cover last bound s at l y qs a))
+            ∙ ap (λ (x : Bool). x || anySpan (kindRangesAt kind b n) l) (covers-append s (rowsOf u m) (rowsAs last bound at qs) l ∙ ap
+            (λ (x : Bool). anyCovers s (rowsOf u m) l || x) (rows-cover last bound s at l y qs a))
             ∙ or-assoc (anyCovers s (rowsOf u m) l) (anySpan qs l) (anySpan (kindRangesAt kind b n) l)
-            ∙ ap (λ (x : Bool). anyCovers s (rowsOf u m) l || x) (sym (ap (λ (xs : List TransactionLocatorRange). anySpan xs l) e ∙ any-append (λ q. covers q l) qs (kindRangesAt kind b n)))
+            ∙ ap (λ (x : Bool). anyCovers s (rowsOf u m) l || x) (sym (ap (λ (xs : List TransactionLocatorRange). anySpan xs l) e ∙ any-append
+            (λ q. covers q l) qs (kindRangesAt kind b n)))
             ∙ w .covering l y;
       }
 
@@ -110,12 +116,22 @@ module _ (kind : RangeKind) (last bound : Option TransactionLocator) (s : Bytes)
   module _ (u : List ℕ) (n : ℕ) (w : Written kind last bound s b t u n (length (b .statements))) (room : Roomy b t) where
     pub sortable : (spare : List ℕ) → Roomy b spare → Sortable s u spare n
     unfolding Roomy Inside
-    sortable spare h = record { room = omega (arith, w .few, w .long, room); spared = omega (arith, w .few, h); inside = λ i l. every-row u n (w .proper) i l .inside }
+    sortable spare h = record {
+      room = omega (arith, w .few, w .long, room);
+      spared = omega (arith, w .few, h);
+      inside = λ i l. every-row u n (w .proper) i l
+          .inside;
+    }
 
     module _ (v : List ℕ) (o : SortedAs s n u v) where
       pub joinable : Joinable s n v
       unfolding Roomy
-      joinable = record { room = omega (arith, w .few, w .long, room, o .long); sorted = o .sorted; proper = permuted-every (Permᴰ·symm (o .permuted)) (w .proper) }
+      joinable = record {
+        room = omega (arith, w .few, w .long, room, o .long);
+        sorted = o .sorted;
+        proper = permuted-every (Permᴰ·symm (o .permuted))
+            (w .proper);
+      }
 
       pub own-of : (x : List ℕ) (m : ℕ) → RowsJoined s n v x m → OwnRanges kind last bound s b t x m
       unfolding anyOf

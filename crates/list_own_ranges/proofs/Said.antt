@@ -28,7 +28,8 @@ use Rattle.list_kind_ranges.specs.declared.RangeKind.the-variants.{Votes, Rejec
 use Rattle.list_reach.proofs.Reach.{within-all}
 
 -- the bytes from a position on, n of them or as many as there are
-pub recorded-part : (s : Bytes) (start n : ℕ) → wellFormed (take n (drop start s)) ≡ true → VotesFit (blockIn (take n (drop start s))) → Recorded s start (take n (drop start s))
+pub recorded-part : (s : Bytes) (start n : ℕ) → wellFormed (take n (drop start s)) ≡ true → VotesFit (blockIn (take n (drop start s))) → Recorded s start
+    (take n (drop start s))
 recorded-part s start n w v = record { formed = w; fits = v; stands = go (decLe n (length (drop start s))) }
   where
     go : Dec (n ≤ length (drop start s)) → take (length (take n (drop start s))) (drop start s) ≡ take n (drop start s)
@@ -42,14 +43,17 @@ module _ (s : Bytes) (b : Block) (t u : List ℕ) (m : ℕ) where
   own-votes w l = w .covering l (within-all l) ∙ joined-votes b l
 
   -- or, but for the last offset, which no vote reaches, rejects it
-  pub own-rejects : OwnRanges Rejects none none s b t u m → (l : TransactionLocator) → (l .offset ≡ 18446744073709551615 → ⊥) → anyCovers s (rowsOf u m) l ≡ rejects b l
+  pub own-rejects : OwnRanges Rejects none none s b t u m → (l : TransactionLocator) → (l .offset ≡ 18446744073709551615 → ⊥) → anyCovers s (rowsOf u m) l ≡
+      rejects b l
   unfolding kindRanges kindRangesAt rangesOf
   own-rejects w l h = w .covering l (within-all l) ∙ rejected-covers b l h
 
   -- the same from the edges of the rows, in ascending order: the last one at or before the locator is a beginning
-  pub edges-vote : OwnRanges Votes none none s b t u m → (k : ℕ) (es : List Row) → Permuted es (edgesOf k (rowsOf u m)) → Sorted s es → (l : TransactionLocator) → openAt s es l ≡ votesFor b l
+  pub edges-vote : OwnRanges Votes none none s b t u m → (k : ℕ) (es : List Row) → Permuted es (edgesOf k (rowsOf u m)) → Sorted s es →
+      (l : TransactionLocator) → openAt s es l ≡ votesFor b l
   edges-vote w k es d o l = edges-say s k (rowsOf u m) es (w .proper) (w .apart) d o l ∙ own-votes w l
 
-  pub edges-reject : OwnRanges Rejects none none s b t u m → (k : ℕ) (es : List Row) → Permuted es (edgesOf k (rowsOf u m)) → Sorted s es → (l : TransactionLocator)
+  pub edges-reject : OwnRanges Rejects none none s b t u m → (k : ℕ) (es : List Row) → Permuted es (edgesOf k (rowsOf u m)) → Sorted s es →
+      (l : TransactionLocator)
       → (l .offset ≡ 18446744073709551615 → ⊥) → openAt s es l ≡ rejects b l
   edges-reject w k es d o l h = edges-say s k (rowsOf u m) es (w .proper) (w .apart) d o l ∙ own-rejects w l h

@@ -34,4 +34,5 @@ pub record Written (kind : RangeKind) (last bound : Option TransactionLocator) (
   pub long : length u ≡ length t
   pub kept : drop (3 * i) u ≡ drop (3 * i) t
   pub proper : Every (Proper s) (rowsOf u m)
-  pub covering : (l : TransactionLocator) → Within last bound l → anyCovers s (rowsOf u m) l || anySpan (kindRangesAt kind b i) l ≡ anySpan (kindRanges kind b) l
+  pub covering : (l : TransactionLocator) → Within last bound l → anyCovers s (rowsOf u m) l || anySpan (kindRangesAt kind b i) l ≡ anySpan
+      (kindRanges kind b) l

@@ -38,7 +38,8 @@ module _ (s : Bytes) where
   proper-join qs r h k = every-join r k (wide-proper r) qs h
 
   -- no row that is yet to come is before one of them
-  pub below-join : (x : Row) (qs : List Row) (r : Row) → Every (λ q. rowBefore s x q ≡ false) qs → rowBefore s x r ≡ false → Every (λ q. rowBefore s x q ≡ false) (joinOnto s qs r)
+  pub below-join : (x : Row) (qs : List Row) (r : Row) → Every (λ q. rowBefore s x q ≡ false) qs → rowBefore s x r ≡ false → Every
+      (λ q. rowBefore s x q ≡ false) (joinOnto s qs r)
   unfolding rowBefore keyOf widened newRow
   below-join x qs r h k = every-join {P = λ (q : Row). rowBefore s x q ≡ false} r k (λ q e. e) qs h
 
@@ -55,7 +56,8 @@ module _ (s : Bytes) where
       go : (t : Bool) → endsBefore s q r ≡ t → Pairs (Apart s) (pick t (q ∷ r ∷ []) (widened q r ∷ []))
       go true e = with-later (and e none-of) (with-later none-of no-pairs)
       go false e = with-later none-of no-pairs
-  pairs-in r q (p ∷ ps) (with-later (and h hs) k) (and a (and b bs)) = with-later (apart-in q r p ps (and h hs) (apart-on s q p r h b)) (pairs-in r p ps k (and b bs))
+  pairs-in r q (p ∷ ps) (with-later (and h hs) k) (and a (and b bs)) = with-later (apart-in q r p ps (and h hs) (apart-on s q p r h b))
+      (pairs-in r p ps k (and b bs))
 
   pub pairs-join : (qs : List Row) (r : Row) → Pairs (Apart s) qs → Every (λ x. rowBefore s r x ≡ false) qs → Pairs (Apart s) (joinOnto s qs r)
   unfolding joinOnto
@@ -65,16 +67,19 @@ module _ (s : Bytes) where
   -- ---- the same locators
 
   module _ (l : TransactionLocator) where
-    covers-in : (r q : Row) (qs : List Row) → Every (Proper s) (q ∷ qs) → Every (λ x. rowBefore s r x ≡ false) (q ∷ qs) → anyCovers s (joinIn s q qs r) l ≡ anyCovers s (q ∷ qs) l || rowCovers s l r
+    covers-in : (r q : Row) (qs : List Row) → Every (Proper s) (q ∷ qs) → Every (λ x. rowBefore s r x ≡ false) (q ∷ qs) → anyCovers s (joinIn s q qs r) l ≡
+        anyCovers s (q ∷ qs) l || rowCovers s l r
     unfolding joinIn joinLast anyCovers anyOf
     covers-in r q [] (and p none-of) (and h none-of) = go (endsBefore s q r) refl
       where
         go : (t : Bool) → endsBefore s q r ≡ t → anyOf (rowCovers s l) (pick t (q ∷ r ∷ []) (widened q r ∷ [])) ≡ (rowCovers s l q || false) || rowCovers s l r
         go true e = rw (or-false (rowCovers s l r), or-false (rowCovers s l q))
         go false e = rw (or-false (rowCovers s l (widened q r)), or-false (rowCovers s l q)) (covers-widened s q r p h e l)
-    covers-in r q (p ∷ ps) (and a as′) (and h hs) = ap (λ (t : Bool). rowCovers s l q || t) (covers-in r p ps as′ hs) ∙ sym (or-assoc (rowCovers s l q) (anyOf (rowCovers s l) (p ∷ ps)) (rowCovers s l r))
+    covers-in r q (p ∷ ps) (and a as′) (and h hs) = ap (λ (t : Bool). rowCovers s l q || t) (covers-in r p ps as′ hs) ∙ sym
+        (or-assoc (rowCovers s l q) (anyOf (rowCovers s l) (p ∷ ps)) (rowCovers s l r))
 
-    pub covers-join : (qs : List Row) (r : Row) → Every (Proper s) qs → Every (λ x. rowBefore s r x ≡ false) qs → anyCovers s (joinOnto s qs r) l ≡ anyCovers s qs l || rowCovers s l r
+    pub covers-join : (qs : List Row) (r : Row) → Every (Proper s) qs → Every (λ x. rowBefore s r x ≡ false) qs → anyCovers s (joinOnto s qs r) l ≡ anyCovers
+        s qs l || rowCovers s l r
     unfolding joinOnto anyCovers anyOf
     covers-join [] r h k = or-false (rowCovers s l r)
     covers-join (q ∷ qs) r h k = covers-in r q qs h k

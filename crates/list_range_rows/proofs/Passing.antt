@@ -59,14 +59,17 @@ module _ (s : Bytes) (n : ℕ) (t : List ℕ) where
           few = omega (arith, r .few, j .few);
           long = r .long ∙ j .long;
           kept = r .kept ∙ (rw d at (sym (drop-drop 3 (3 * i) u) ∙ ap (drop 3) (j .kept) ∙ drop-drop 3 (3 * i) t));
-          proper = subst (λ (xs : List Row). Every (Proper s) xs) (sym rows) (proper-join s (rowsOf u m) (rowAt t i) (j .proper) (every-row t n (can .proper) i h));
+          proper = subst (λ (xs : List Row). Every (Proper s) xs) (sym rows)
+              (proper-join s (rowsOf u m) (rowAt t i) (j .proper) (every-row t n (can .proper) i h));
           apart = subst (λ (xs : List Row). Pairs (Apart s) xs) (sym rows) (pairs-join s (rowsOf u m) (rowAt t i) (j .apart) before);
           covering = λ l.
               ap (λ (xs : List Row). anyCovers s xs l) rows
               ∙ covers-join s l (rowsOf u m) (rowAt t i) (j .proper) before
               ∙ ap (λ (x : Bool). x || rowCovers s l (rowAt t i)) (j .covering l)
-              ∙ sym (ap (λ (xs : List Row). anyCovers s xs l) (rows-more t i) ∙ covers-append s (rowsOf t i) (rowAt t i ∷ []) l ∙ ap (λ (x : Bool). anyCovers s (rowsOf t i) l || x) (one l));
+              ∙ sym (ap (λ (xs : List Row). anyCovers s xs l) (rows-more t i) ∙ covers-append s (rowsOf t i) (rowAt t i ∷ []) l ∙ ap
+              (λ (x : Bool). anyCovers s (rowsOf t i) l || x) (one l));
         }
 
     pub below-more : Below s t v n k (i + 1)
-    below-more x o l = subst (λ (xs : List Row). Every (λ q. rowBefore s (rowAt t x) q ≡ false) xs) (sym rows) (below-join s (rowAt t x) (rowsOf u m) (rowAt t i) (b x (omega arith) l) (sorted-at s t n i x (can .sorted) (omega arith) l))
+    below-more x o l = subst (λ (xs : List Row). Every (λ q. rowBefore s (rowAt t x) q ≡ false) xs) (sym rows)
+        (below-join s (rowAt t x) (rowsOf u m) (rowAt t i) (b x (omega arith) l) (sorted-at s t n i x (can .sorted) (omega arith) l))

@@ -109,8 +109,10 @@ module _ (s : Bytes) where
     -- so the row that goes on to the end of both covers what they cover
     pub covers-widened : (l : TransactionLocator) → rowCovers s l (widened q r) ≡ rowCovers s l q || rowCovers s l r
     unfolding rowCovers rowRange widened covers newRange newRow
-    covers-widened l = rw (within-joined (q .offset) (q .mark) (r .offset) (r .mark) (l .offset) starts-later reaches, ← one-block) (go (sameReference (referenceAt s (q .at)) (l .block)))
+    covers-widened l = rw (within-joined (q .offset) (q .mark) (r .offset) (r .mark) (l .offset) starts-later reaches, ← one-block)
+        (go (sameReference (referenceAt s (q .at)) (l .block)))
       where
-        go : (t : Bool) → t && (within (q .offset) (q .mark) (l .offset) || within (r .offset) (r .mark) (l .offset)) ≡ (t && within (q .offset) (q .mark) (l .offset)) || (t && within (r .offset) (r .mark) (l .offset))
+        go : (t : Bool) → t && (within (q .offset) (q .mark) (l .offset) || within (r .offset) (r .mark) (l .offset)) ≡
+            (t && within (q .offset) (q .mark) (l .offset)) || (t && within (r .offset) (r .mark) (l .offset))
         go true = refl
         go false = refl

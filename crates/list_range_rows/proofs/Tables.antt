@@ -18,7 +18,8 @@ use Rattle.list_range_rows.proofs.Joining.{join-last}
 -- a row put among the first k words of rows leaves those past them
 pub put-kept : (t : List ℕ) (j k : ℕ) (r : Row) → j < k → drop (3 * k) (sets t (3 * j) (rowWords r)) ≡ drop (3 * k) t
 unfolding rowWords
-put-kept t j k r h = drop-set-lt (3 * k) _ _ (r .mark) (omega arith) ∙ drop-set-lt (3 * k) _ _ (r .offset) (omega arith) ∙ drop-set-lt (3 * k) t _ (r .at) (omega arith)
+put-kept t j k r h = drop-set-lt (3 * k) _ _ (r .mark) (omega arith) ∙ drop-set-lt (3 * k) _ _ (r .offset) (omega arith) ∙ drop-set-lt (3 * k) t _ (r .at)
+    (omega arith)
 
 rows-zero : (t : List ℕ) → rowsOf t 0 ≡ []
 unfolding rowsOf rowsFrom countFrom

@@ -8,8 +8,10 @@ use lib.Dec.{ltb}
 use borrow.Author.Tests.{lt-ltb, le-ltb, ltb-true}
 use Rattle.base.specs.Lists.{isNone}
 use Rattle.base.proofs.Tests.{and-left, and-right, and-both, fails, not-both}
-use Rattle.record_spec.specs.Reference.{BlockReference, TransactionLocator, TransactionLocatorRange, locator, locatorBefore, sameReference, referenceBefore, covers}
-use Rattle.record_spec.proofs.References.{Precedes, byBlock, byOffset, precedes, is-before, reference-same, reference-irrefl, reference-trans, locator-irrefl, locator-trans, not-before-trans}
+use Rattle.record_spec.specs.Reference.{BlockReference, TransactionLocator, TransactionLocatorRange, locator, locatorBefore, sameReference, referenceBefore}
+use Rattle.record_spec.specs.Reference.{covers}
+use Rattle.record_spec.proofs.References.{Precedes, byBlock, byOffset, precedes, is-before, reference-same, reference-irrefl, reference-trans, locator-irrefl}
+use Rattle.record_spec.proofs.References.{locator-trans, not-before-trans}
 use Rattle.record_spec.proofs.Ranges.{within-true}
 use Rattle.final_spec.specs.NextFinal.{isAfter}
 use Rattle.list_order.specs.Row.{isAfterBest}
@@ -31,7 +33,8 @@ unfolding From isAfterBest isNone isAfter
 within-own l = record { from = not-itself l; short = not-itself l }
 
 -- one that is not after a bound is before, or at, what is not after it
-pub short-before : (bound : Option TransactionLocator) (l m : TransactionLocator) → locatorBefore l m ≡ false → isAfterBest bound l ≡ false → isAfterBest bound m ≡ false
+pub short-before : (bound : Option TransactionLocator) (l m : TransactionLocator) → locatorBefore l m ≡ false → isAfterBest bound l ≡ false → isAfterBest
+    bound m ≡ false
 unfolding isAfterBest isNone isAfter
 short-before none l m h k = refl
 short-before (some b) l m h k = not-before-trans m l b h k
@@ -49,9 +52,14 @@ module _ (bound : Option TransactionLocator) (l : TransactionLocator) (short : i
   within-last m h = record { from = not-itself m; short = short-before bound l m (fails _ (λ k. locator-irrefl m (locator-trans m l m h k))) short }
 
 -- just before one after the last
-pub within-less : (bound last : Option TransactionLocator) (r : BlockReference) (o : ℕ) → isAfterBest bound (locator r (o + 1)) ≡ false → isAfter last (locator r (o + 1)) ≡ true → Within last bound (locator r o)
+pub within-less : (bound last : Option TransactionLocator) (r : BlockReference) (o : ℕ) → isAfterBest bound (locator r (o + 1)) ≡ false → isAfter last
+    (locator r (o + 1)) ≡ true → Within last bound (locator r o)
 unfolding locator From isAfter
-within-less bound last r o short h = record { from = from last h; short = short-before bound (locator r (o + 1)) (locator r o) (fails _ (λ k. never (precedes (locator r (o + 1)) (locator r o) k))) short }
+within-less bound last r o short h = record {
+  from = from last h;
+  short = short-before bound (locator r (o + 1)) (locator r o)
+      (fails _ (λ k. never (precedes (locator r (o + 1)) (locator r o) k))) short;
+}
   where
     never : Precedes (locator r (o + 1)) (locator r o) → ⊥
     never (byBlock e) = reference-irrefl r e
@@ -120,11 +128,13 @@ module _ (last bound : Option TransactionLocator) (q : TransactionLocatorRange) 
   unfolding inReach
   reach-ended h = rw h (and-false (ltb (q .start) (q .end)))
 
-  pub reach-left : q .start < q .end → isAfter last (locator (q .block) (q .end)) ≡ true → inReach last bound q ≡ not (isAfterBest bound (locator (q .block) (q .start)))
+  pub reach-left : q .start < q .end → isAfter last (locator (q .block) (q .end)) ≡ true → inReach last bound q ≡ not
+      (isAfterBest bound (locator (q .block) (q .start)))
   unfolding inReach
   reach-left h k = rw (lt-ltb (q .start) (q .end) h, k)
 
   pub far-covers : (l : TransactionLocator) → Within last bound l → inReach last bound q ≡ false → covers q l ≡ false
   unfolding inReach
   far-covers l w h =
-      fails _ (λ c. let o = offsets q l c in not-both (and-both _ _ (lt-ltb (q .start) (q .end) (omega (arith, o .0, o .1))) (rw (end-after q l c last (w .from), start-short q l c bound (w .short)) refl)) h)
+      fails _ (λ c. let o = offsets q l c in not-both (and-both _ _ (lt-ltb (q .start) (q .end) (omega (arith, o .0, o .1)))
+      (rw (end-after q l c last (w .from), start-short q l c bound (w .short)) refl)) h)

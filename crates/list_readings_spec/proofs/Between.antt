@@ -31,7 +31,8 @@ nobody-less : (w : AuthoritySet) → without nobody w ≡ nobody
 unfolding without
 nobody-less w = refl
 
-pub no-voters : (reading : Reading) (bs : List Block) (l : TransactionLocator) → ((d : Block) → d ∈ bs → votesFor d l ≡ false) → (r : BlockReference) → votersIn reading bs l r ≡ nobody
+pub no-voters : (reading : Reading) (bs : List Block) (l : TransactionLocator) → ((d : Block) → d ∈ bs → votesFor d l ≡ false) → (r : BlockReference) →
+    votersIn reading bs l r ≡ nobody
 unfolding votersIn ownVote
 no-voters old bs l f r = spoken-nobody ownVote l bs (λ d m. rw (f d m)) r
 no-voters withdrawing bs l f r = rw (spoken-nobody ownVote l bs (λ d m. rw (f d m)) r) (nobody-less (rejecters bs l r))
@@ -55,7 +56,8 @@ module _ {f : Block → List TransactionLocatorRange} (told : Telling f) (bs : L
     certifies-same (inl same) b = certifies-in-alike withdrawing c bs (locator r (o + 1)) (locator r o) votes-same same b
     certifies-same (inr none) b =
         ap (λ (v : AuthoritySet). not (b .marked) && isQuorum c (stakeOf c v))
-        (no-voters withdrawing bs (locator r (o + 1)) (λ d m. votes-same d m ∙ none d m) (b .reference) ∙ sym (no-voters withdrawing bs (locator r o) none (b .reference)))
+        (no-voters withdrawing bs (locator r (o + 1)) (λ d m. votes-same d m ∙ none d m) (b .reference) ∙ sym
+        (no-voters withdrawing bs (locator r o) none (b .reference)))
 
     -- what is final, and who certifies
     same-in : (reading : Reading) → NoCut reading bs r o
@@ -73,7 +75,8 @@ module _ {f : Block → List TransactionLocatorRange} (told : Telling f) (bs : L
     listed-same round false reading t = let x = same-in reading t in record { shows = x .0; certifies = x .1 }
 
 -- offsets that hold the edges of any ranges that tell votes and shares, and leave no cut between them, are edges of both lists
-pub edges-told : {f : Block → List TransactionLocatorRange} → Telling f → Surrounding f → (shared : Bool) (reading : Reading) (c : Committee) (bs : List Block) (r : BlockReference) (es : List ℕ)
+pub edges-told : {f : Block → List TransactionLocatorRange} → Telling f → Surrounding f → (shared : Bool) (reading : Reading) (c : Committee)
+    (bs : List Block) (r : BlockReference) (es : List ℕ)
     → ((e : ℕ) → e ∈ edgesBy f bs r → e ∈ es) → ((o : ℕ) → (o + 1 ∈ es → ⊥) → NoCut reading bs r o) → Edges bs (listing shared reading c bs) r es
 edges-told told round shared reading c bs r es more quiet o gap = listed-same told bs r o (λ m. gap (more (o + 1) m)) c round shared reading (quiet o gap)
 
@@ -81,9 +84,11 @@ edges-told told round shared reading c bs r es more quiet o gap = listed-same to
 no-cut : (bs : List Block) (r : BlockReference) (o : ℕ) → (o + 1 ∈ rejectEdges bs r → ⊥) → NoCut withdrawing bs r o
 unfolding locator
 no-cut bs r o gap =
-    inl (λ d m. sym (rejects-between bs (locator r o) (o + 1) (omega arith) (λ e k (i : o < e) (j : e ≤ o + 1). let z : e ≡ o + 1 = omega arith in gap (subst (λ (n : ℕ). n ∈ rejectEdges bs r) z k)) d m))
+    inl (λ d m. sym (rejects-between bs (locator r o) (o + 1) (omega arith)
+    (λ e k (i : o < e) (j : e ≤ o + 1). let z : e ≡ o + 1 = omega arith in gap (subst (λ (n : ℕ). n ∈ rejectEdges bs r) z k)) d m))
 
-pub list-edges : (shared : Bool) (reading : Reading) (c : Committee) (bs : List Block) (r : BlockReference) → Edges bs (listing shared reading c bs) r (listEdges reading bs r)
+pub list-edges : (shared : Bool) (reading : Reading) (c : Committee) (bs : List Block) (r : BlockReference) → Edges bs (listing shared reading c bs) r
+    (listEdges reading bs r)
 unfolding listEdges
 list-edges shared old c bs r = edges-told by-spans around-one shared old c bs r (edgesBy spans bs r) (λ e m. m) (λ o gap. tt)
 list-edges shared withdrawing c bs r =

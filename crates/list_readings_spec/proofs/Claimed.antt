@@ -31,18 +31,22 @@ use Rattle.list_readings_spec.proofs.Whole.{all-ascending, all-in, aske
 use Rattle.list_readings_spec.proofs.Orders.{stretches-same}
 
 -- where two lists show the same locators, they are the same as a whole
-all-same : (shared : Bool) (r q : Reading) (c : Committee) (bs cs : List Block) → ((l : TransactionLocator) → isListed shared r c bs l ≡ isListed shared q c cs l) → allListed shared r c bs ≡ allListed shared q c cs
+all-same : (shared : Bool) (r q : Reading) (c : Committee) (bs cs : List Block) →
+    ((l : TransactionLocator) → isListed shared r c bs l ≡ isListed shared q c cs l) → allListed shared r c bs ≡ allListed shared q c cs
 all-same shared r q c bs cs e =
     ascending-unique (all-ascending shared r c bs) (all-ascending shared q c cs)
     (λ l m. all-in shared q c cs l .1 (sym (e l) ∙ all-in shared r c bs l .0 m))
     (λ l m. all-in shared r c bs l .1 (e l ∙ all-in shared q c cs l .0 m))
 
-least-same : (shared : Bool) (r q : Reading) (c : Committee) (bs cs : List Block) → ((l : TransactionLocator) → isListed shared r c bs l ≡ isListed shared q c cs l)
+least-same : (shared : Bool) (r q : Reading) (c : Committee) (bs cs : List Block) →
+    ((l : TransactionLocator) → isListed shared r c bs l ≡ isListed shared q c cs l)
     → (after : Option TransactionLocator) → leastListed shared r c bs after ≡ leastListed shared q c cs after
-least-same shared r q c bs cs e after = least-once (isListed shared r c bs) (isListed shared q c cs) e after (least-listed shared r c bs after) (least-listed shared q c cs after)
+least-same shared r q c bs cs e after = least-once (isListed shared r c bs) (isListed shared q c cs) e after (least-listed shared r c bs after)
+    (least-listed shared q c cs after)
 
 -- the test follows from being a stored share and being final
-listed-by : (shared : Bool) (r q : Reading) (c : Committee) (bs cs : List Block) (l : TransactionLocator) → isStoredShare bs l ≡ isStoredShare cs l → isFinalIn r c bs l ≡ isFinalIn q c cs l
+listed-by : (shared : Bool) (r q : Reading) (c : Committee) (bs cs : List Block) (l : TransactionLocator) → isStoredShare bs l ≡ isStoredShare cs l →
+    isFinalIn r c bs l ≡ isFinalIn q c cs l
     → isListed shared r c bs l ≡ isListed shared q c cs l
 unfolding isListed
 listed-by true r q c bs cs l s f = ap₂ {C = Bool} (λ t u. t && u) s f
@@ -62,7 +66,8 @@ module _ (bs : List Block) (f : NoRejects bs) where
   unfolding rejectEdges flatten
   no-edges r = go bs (λ b m. none-rejected b m)
     where
-      go : (ds : List Block) → ((b : Block) → b ∈ ds → rejections b ≡ []) → flatten (map (λ b. flatten (map (λ l. pick (sameReference (l .block) r) (l .offset ∷ (l .offset + 1) ∷ []) []) (rejections b))) ds) ≡ []
+      go : (ds : List Block) → ((b : Block) → b ∈ ds → rejections b ≡ []) → flatten
+          (map (λ b. flatten (map (λ l. pick (sameReference (l .block) r) (l .offset ∷ (l .offset + 1) ∷ []) []) (rejections b))) ds) ≡ []
       go [] g = refl
       go (d ∷ ds) g = rw (g d here) (go ds (λ b m. g b (there m)))
 
@@ -102,7 +107,8 @@ in-any-order shared reading c bs cs h k blocks =
     let v = well-stored c bs h in
     let w = well-stored c cs k in
     let same : (l : TransactionLocator) → isListed shared reading c bs l ≡ isListed shared reading c cs l =
-    λ l. listed-by shared reading reading c bs cs l (same-stored blocks l) (final-in-order reading c v w (small-authors c bs h) (small-authors c cs k) blocks l) in
+    λ l. listed-by shared reading reading c bs cs l (same-stored blocks l)
+    (final-in-order reading c v w (small-authors c bs h) (small-authors c cs k) blocks l) in
     record {
       all = all-same shared reading reading c bs cs same;
       next = least-same shared reading reading c bs cs same;
@@ -110,9 +116,11 @@ in-any-order shared reading c bs cs h k blocks =
     }
   where
     bulk : WellStored bs → WellStored cs → ((l : TransactionLocator) → isListed shared reading c bs l ≡ isListed shared reading c cs l)
-        → (n : ℕ) (after : Option TransactionLocator) → stretches c bs (listing shared reading c bs) n after ≡ stretches c cs (listing shared reading c cs) n after
+        → (n : ℕ) (after : Option TransactionLocator) → stretches c bs (listing shared reading c bs) n after ≡ stretches c cs (listing shared reading c cs) n
+        after
     bulk v w same n after =
-        stretches-same c v w blocks (listing shared reading c bs) (listing shared reading c cs) (lists-lawful shared reading c bs) (lists-lawful shared reading c cs) same
+        stretches-same c v w blocks (listing shared reading c bs) (listing shared reading c cs) (lists-lawful shared reading c bs)
+        (lists-lawful shared reading c cs) same
         (λ l b m. certifies-in-kept reading c v w (small-authors c bs h) (small-authors c cs k) (λ x. blocks x .0) l b m) n after
 
 pub claimed : Claims

@@ -24,7 +24,8 @@ use Rattle.list_readings_spec.specs.Lists.{isListed, leastListed, listin
 use Rattle.list_readings_spec.proofs.Between.{list-edges}
 
 -- what a list shows is final, and where it has to be a stored share it is one
-pub listed-final : (shared : Bool) (reading : Reading) (c : Committee) (bs : List Block) (l : TransactionLocator) → isListed shared reading c bs l ≡ true → isFinalIn reading c bs l ≡ true
+pub listed-final : (shared : Bool) (reading : Reading) (c : Committee) (bs : List Block) (l : TransactionLocator) → isListed shared reading c bs l ≡ true →
+    isFinalIn reading c bs l ≡ true
 unfolding isListed
 listed-final true reading c bs l h = and-right (isStoredShare bs l) _ h
 listed-final false reading c bs l h = h
@@ -52,7 +53,8 @@ module _ (reading : Reading) (c : Committee) (bs : List Block) (after : Option T
 
 -- ---- both
 
-pub least-listed : (shared : Bool) (reading : Reading) (c : Committee) (bs : List Block) (after : Option TransactionLocator) → LeastOf (isListed shared reading c bs) after (leastListed shared reading c bs after)
+pub least-listed : (shared : Bool) (reading : Reading) (c : Committee) (bs : List Block) (after : Option TransactionLocator) → LeastOf
+    (isListed shared reading c bs) after (leastListed shared reading c bs after)
 unfolding leastListed isListed passing
 least-listed true reading c bs after = least-share reading c bs after (least-locator (keep (passing reading c bs after) (flatten (map sharesOf bs))))
 least-listed false reading c bs after = least-final-in reading c bs after
@@ -67,5 +69,6 @@ module _ (shared : Bool) (reading : Reading) (c : Committee) (bs : List Block) w
         bound = wide-lawful c bs .bound;
         bounded = λ r o h.
             fails (isListed shared reading c bs (locator r o))
-            (λ t. not-both (sym (final-is-old c bs (locator r o)) ∙ final-in-old reading c bs (locator r o) (listed-final shared reading c bs (locator r o) t)) (wide-lawful c bs .bounded r o h));
+            (λ t. not-both (sym (final-is-old c bs (locator r o)) ∙ final-in-old reading c bs (locator r o)
+            (listed-final shared reading c bs (locator r o) t)) (wide-lawful c bs .bounded r o h));
       }

@@ -55,15 +55,18 @@ module _ (c : Committee) {bs cs : List Block} (v : WellStored bs) (w : WellStore
   unfolding goesOn certifiedAlike
   goes-same l o = ap₂ {C = Bool} (λ t u. t && u) (shows (locator (l .block) o)) (same-test _ _ to from)
     where
-      here-too : (b : Block) → b ∈ bs → agree (k .certifies l b) (k .certifies (locator (l .block) o) b) ≡ agree (q .certifies l b) (q .certifies (locator (l .block) o) b)
+      here-too : (b : Block) → b ∈ bs → agree (k .certifies l b) (k .certifies (locator (l .block) o) b) ≡ agree (q .certifies l b)
+          (q .certifies (locator (l .block) o) b)
       here-too b m = ap₂ agree (certifies l b m) (certifies (locator (l .block) o) b m)
 
-      to : allOf (λ b. agree (k .certifies l b) (k .certifies (locator (l .block) o) b)) bs ≡ true → allOf (λ b. agree (q .certifies l b) (q .certifies (locator (l .block) o) b)) cs ≡ true
+      to : allOf (λ b. agree (k .certifies l b) (k .certifies (locator (l .block) o) b)) bs ≡ true → allOf
+          (λ b. agree (q .certifies l b) (q .certifies (locator (l .block) o) b)) cs ≡ true
       to h =
           in-all (λ b. agree (q .certifies l b) (q .certifies (locator (l .block) o) b)) cs
           (λ b m. let i = blocks b .1 m in sym (here-too b i) ∙ all-in (λ d. agree (k .certifies l d) (k .certifies (locator (l .block) o) d)) bs h i)
 
-      from : allOf (λ b. agree (q .certifies l b) (q .certifies (locator (l .block) o) b)) cs ≡ true → allOf (λ b. agree (k .certifies l b) (k .certifies (locator (l .block) o) b)) bs ≡ true
+      from : allOf (λ b. agree (q .certifies l b) (q .certifies (locator (l .block) o) b)) cs ≡ true → allOf
+          (λ b. agree (k .certifies l b) (k .certifies (locator (l .block) o) b)) bs ≡ true
       from h =
           in-all (λ b. agree (k .certifies l b) (k .certifies (locator (l .block) o) b)) bs
           (λ b m. here-too b m ∙ all-in (λ d. agree (q .certifies l d) (q .certifies (locator (l .block) o) d)) cs h (blocks b .0 m))
@@ -93,7 +96,8 @@ module _ (c : Committee) {bs cs : List Block} (v : WellStored bs) (w : WellStore
         no-more (keep (q .certifies l) cs) (keep (k .certifies l) bs) (once-keep (q .certifies l) (stored-once w)) (in-certified l),
       )
 
-  authors-in : (xs ys : List Block) → ((b : Block) → b ∈ xs → b ∈ ys) → (a : AuthorityIndex) → member (setOf (map author xs)) a ≡ true → member (setOf (map author ys)) a ≡ true
+  authors-in : (xs ys : List Block) → ((b : Block) → b ∈ xs → b ∈ ys) → (a : AuthorityIndex) → member (setOf (map author xs)) a ≡ true → member
+      (setOf (map author ys)) a ≡ true
   authors-in xs ys f a e =
       let x = any-in (eqb a) (map author xs) (sym (member-setOf (map author xs) a) ∙ e) in
       let b = map-in author xs (x .1) in
@@ -102,13 +106,15 @@ module _ (c : Committee) {bs cs : List Block} (v : WellStored bs) (w : WellStore
   stake-alike : (l : TransactionLocator) → stakeOf c (setOf (map author (keep (k .certifies l) bs))) ≡ stakeOf c (setOf (map author (keep (q .certifies l) cs)))
   stake-alike l =
       stake-same c _ _
-      (λ a i. same-test _ _ (authors-in (keep (k .certifies l) bs) (keep (q .certifies l) cs) (certified-in l) a) (authors-in (keep (q .certifies l) cs) (keep (k .certifies l) bs) (in-certified l) a))
+      (λ a i. same-test _ _ (authors-in (keep (k .certifies l) bs) (keep (q .certifies l) cs) (certified-in l) a)
+      (authors-in (keep (q .certifies l) cs) (keep (k .certifies l) bs) (in-certified l) a))
 
   at-same : (l : TransactionLocator) → k .shows l ≡ true → stretchAt c bs k l ≡ stretchAt c cs q l
   unfolding stretchAt
   at-same l h = λ i. record { block = l .block; first = l .offset; end = ends-same l h i; blocks = many-same l i; stake = stake-alike l i }
 
-  first-same : (n : ℕ) → ((from : Option TransactionLocator) → stretches c bs k n from ≡ stretches c cs q n from) → (after : Option TransactionLocator) {o : Option TransactionLocator} → LeastOf (k .shows) after o
+  first-same : (n : ℕ) → ((from : Option TransactionLocator) → stretches c bs k n from ≡ stretches c cs q n from) → (after : Option TransactionLocator)
+      {o : Option TransactionLocator} → LeastOf (k .shows) after o
       → fromFound o (λ l. stretchAt c bs k l ∷ stretches c bs k n (some (lastLocator (stretchAt c bs k l))))
       ≡ fromFound o (λ l. stretchAt c cs q l ∷ stretches c cs q n (some (lastLocator (stretchAt c cs q l))))
   unfolding fromFound
@@ -122,4 +128,5 @@ module _ (c : Committee) {bs cs : List Block} (v : WellStored bs) (w : WellStore
   stretches-same zero after = refl
   stretches-same (suc n) after =
       first-same n (stretches-same n) after (law .next after)
-      ∙ ap (λ (o : Option TransactionLocator). fromFound o (λ l. stretchAt c cs q l ∷ stretches c cs q n (some (lastLocator (stretchAt c cs q l))))) (next-same after)
+      ∙ ap (λ (o : Option TransactionLocator). fromFound o (λ l. stretchAt c cs q l ∷ stretches c cs q n (some (lastLocator (stretchAt c cs q l)))))
+      (next-same after)

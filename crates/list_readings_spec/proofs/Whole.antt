@@ -39,7 +39,8 @@ all-ascending true reading c bs = keep-ascending (isStoredShare bs) (list-ascend
 all-ascending false reading c bs = list-ascending reading c bs
 
 -- it holds the locators that the list shows and no others
-pub all-in : (shared : Bool) (reading : Reading) (c : Committee) (bs : List Block) (l : TransactionLocator) → (l ∈ allListed shared reading c bs) ↔ (isListed shared reading c bs l ≡ true)
+pub all-in : (shared : Bool) (reading : Reading) (c : Committee) (bs : List Block) (l : TransactionLocator) → (l ∈ allListed shared reading c bs) ↔
+    (isListed shared reading c bs l ≡ true)
 unfolding allListed isListed
 all-in true reading c bs l = (
   λ m. let k = keep-in (isStoredShare bs) (finalListIn reading c bs) m in and-both _ _ (k .1) (list-in reading c bs l .0 (k .0)),
@@ -61,7 +62,8 @@ module _ (shared : Bool) (reading : Reading) (c : Committee) (s : Bytes) (b : br
       (λ after. least-listed shared reading c (blocksOf s) after) (all-ascending shared reading c (blocksOf s)) (λ l. all-in shared reading c (blocksOf s) l)
 
   -- the list gives what the question gives
-  pub gives-whole : {after : Option TransactionLocator} {ls : List TransactionLocator} → Gives (listing shared reading c (blocksOf s)) after ls ↔ AskedOf (nextListed shared reading c s) after ls
+  pub gives-whole : {after : Option TransactionLocator} {ls : List TransactionLocator} → Gives (listing shared reading c (blocksOf s)) after ls ↔ AskedOf
+      (nextListed shared reading c s) after ls
   unfolding listing
   gives-whole = gives-asked (listing shared reading c (blocksOf s)) (nextListed shared reading c s) next-answers
 
@@ -71,7 +73,11 @@ module _ (reading : Reading) (c : Committee) {bs : List Block} (w : WellStored b
   exact : (shared : Bool) → (l ∈ allListed shared reading c bs) ↔ ((shared ≡ true → StoredShare bs l) × FinalIn reading c bs l)
   unfolding isListed
   exact true = (
-    λ m. let k = all-in true reading c bs l .0 m in (λ e. stored-share bs l (and-left _ _ k), final-in-iff reading c w l .0 (and-right (isStoredShare bs l) _ k)),
+    λ m. let k = all-in true reading c bs l .0 m in (
+      λ e. stored-share bs l (and-left _ _ k),
+      final-in-iff reading c w l .0
+          (and-right (isStoredShare bs l) _ k),
+    ),
     λ x. all-in true reading c bs l .1 (and-both _ _ (share-stored bs l (x .0 refl)) (final-in-iff reading c w l .1 (x .1))),
   )
   exact false = (

@@ -33,7 +33,8 @@ unfoldable pub ListsLawful : Type 0
 ListsLawful = (shared : Bool) (reading : Reading) (c : Committee) (bs : List Block) → Lawful bs (listing shared reading c bs)
 
 unfoldable pub ListsGive : Type 0
-ListsGive = (shared : Bool) (reading : Reading) (c : Committee) (s : Bytes) → broken c ≡ false → storeInOrder c s ≡ true → (after : Option TransactionLocator) (ls : List TransactionLocator)
+ListsGive = (shared : Bool) (reading : Reading) (c : Committee) (s : Bytes) → broken c ≡ false → storeInOrder c s ≡ true → (after : Option TransactionLocator)
+    (ls : List TransactionLocator)
     → Gives (listing shared reading c (blocksOf s)) after ls ↔ AskedOf (nextListed shared reading c s) after ls
 
 -- the question, asked on from the start until none, gives the whole list
@@ -64,7 +65,8 @@ SameWithoutRejects = (shared : Bool) (c : Committee) (s : Bytes) → NoRejects (
 pub record SameInAnyOrder (shared : Bool) (reading : Reading) (c : Committee) (bs cs : List Block) : Type 0 where
   pub all : allListed shared reading c bs ≡ allListed shared reading c cs
   pub next : (after : Option TransactionLocator) → leastListed shared reading c bs after ≡ leastListed shared reading c cs after
-  pub bulk : (n : ℕ) (after : Option TransactionLocator) → stretches c bs (listing shared reading c bs) n after ≡ stretches c cs (listing shared reading c cs) n after
+  pub bulk : (n : ℕ) (after : Option TransactionLocator) → stretches c bs (listing shared reading c bs) n after ≡ stretches c cs (listing shared reading c cs)
+      n after
 
 unfoldable pub InAnyOrder : Type 0
 InAnyOrder = (shared : Bool) (reading : Reading) (c : Committee) (bs cs : List Block) → Stored c bs → Stored c cs → ((x : Block) → x ∈ bs ↔ x ∈ cs)

@@ -36,7 +36,13 @@ listEdges withdrawing bs r = edgesBy spans bs r ++ rejectEdges bs r
 -- 02: "This second reading is chosen by calls of its own for finality, both lists and slips": the ordinary list or the wide one, in a reading
 unfoldable pub listing : Bool → Reading → Committee → List Block → Listing
 listing ordinary reading c bs =
-    record { shows = isListed ordinary reading c bs; certifies = certifiesIn reading c bs; next = leastListed ordinary reading c bs; edges = listEdges reading bs }
+    record {
+      shows = isListed ordinary reading c bs;
+      certifies = certifiesIn reading c bs;
+      next = leastListed ordinary reading c bs;
+      edges = listEdges reading
+          bs;
+    }
 
 -- every locator that a list shows, ascending
 unfoldable pub allListed : Bool → Reading → Committee → List Block → List TransactionLocator

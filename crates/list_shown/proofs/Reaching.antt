@@ -54,12 +54,15 @@ use Rattle.list_shown.specs.Shown.{Lent, Reaching, AllAlike, FoundHere}
 -- the marks are right where the sweep stands
 pub here-marks : (lanes : Lanes) (s : Bytes) (t marks : List ℕ) (v : sweep.Sweep) → Stands lanes s t marks v → MarksAt lanes marks (asLocator (v .here))
 unfolding From
-here-marks lanes s t marks v st = st .right (asLocator (v .here)) (fails (locatorBefore (asLocator (v .here)) (asLocator (v .here))) (locator-irrefl (asLocator (v .here)))) (st .clear (asLocator (v .here)) refl)
+here-marks lanes s t marks v st = st .right (asLocator (v .here))
+    (fails (locatorBefore (asLocator (v .here)) (asLocator (v .here))) (locator-irrefl (asLocator (v .here)))) (st .clear (asLocator (v .here)) refl)
 
 -- from one locator to a later one fewer follow
-pub fewer-follow : (h q : TransactionLocator) (es : List TransactionLocator) → isAfter (some h) q ≡ true → q ∈ es → length (keep (isAfter (some q)) es) < length (keep (isAfter (some h)) es)
+pub fewer-follow : (h q : TransactionLocator) (es : List TransactionLocator) → isAfter (some h) q ≡ true → q ∈ es → length (keep (isAfter (some q)) es) <
+    length (keep (isAfter (some h)) es)
 unfolding isAfter
-fewer-follow h q es a m = fewer-kept (isAfter (some h)) (isAfter (some q)) (λ x t. locator-trans h q x a t) q a (fails (locatorBefore q q) (locator-irrefl q)) es m
+fewer-follow h q es a m = fewer-kept (isAfter (some h)) (isAfter (some q)) (λ x t. locator-trans h q x a t) q a (fails (locatorBefore q q) (locator-irrefl q))
+    es m
 
 module _ (w : Wanted) (c : Committee) (s : Bytes) (order : List ℕ) where
   abbrev bs : List Block
@@ -77,7 +80,8 @@ module _ (w : Wanted) (c : Committee) (s : Bytes) (order : List ℕ) where
   module _ (last : Option TransactionLocator) (h : TransactionLocator) (r : Reaching w c s last h) where
     -- shown there
     pub found-is : list .shows h ≡ true → list .next last ≡ some h
-    found-is t = one-least (list .shows) last (lawful .next last) (least h t (r .later t) (λ m u a. fails (locatorBefore m h) (λ b. not-both u (r .hidden m a b))))
+    found-is t = one-least (list .shows) last (lawful .next last)
+        (least h t (r .later t) (λ m u a. fails (locatorBefore m h) (λ b. not-both u (r .hidden m a b))))
 
     module _ (marks : List ℕ) (hidden : (l : TransactionLocator) → MarksAt lanes marks l → list .shows l ≡ false) where
       up-to : (m : TransactionLocator) → isAfter last m ≡ true → (From (some h) m → MarksAt lanes marks m) → list .shows m ≡ false
@@ -89,7 +93,8 @@ module _ (w : Wanted) (c : Committee) (s : Bytes) (order : List ℕ) where
           go (inr b) = hidden m (f b)
 
       -- not shown up to the next stop
-      pub reach-on : (q : TransactionLocator) → isAfter (some h) q ≡ true → ((l : TransactionLocator) → From (some h) l → locatorBefore l q ≡ true → MarksAt lanes marks l) → Reaching w c s last q
+      pub reach-on : (q : TransactionLocator) → isAfter (some h) q ≡ true →
+          ((l : TransactionLocator) → From (some h) l → locatorBefore l q ≡ true → MarksAt lanes marks l) → Reaching w c s last q
       unfolding From isAfter
       reach-on q a quiet = record { hidden = λ m b d. up-to m b (λ f. quiet m f d); from = from last (r .from); later = λ t. later last (r .from) }
         where
@@ -116,16 +121,23 @@ module _ (w : Wanted) (c : Committee) (s : Bytes) (order : List ℕ) where
       not-both (v .votes) (subst (λ (d : Block). votesFor d m ≡ false) (p .1 .1) (sym (vote-mark w s order [] few m (λ k h. sym (b k h)) (p .0) (p .1 .0))))
 
   module _ (o : SortedStore s order) (few : length order ≤ 1024) (after : Option TransactionLocator) where
-    pub begun-reaching : (t marks : List ℕ) (v : sweep.Sweep) → BegunAt lanes s t marks after v → ((l : TransactionLocator) → list .shows l ≡ true → l .offset < 18446744073709551615)
+    pub begun-reaching : (t marks : List ℕ) (v : sweep.Sweep) → BegunAt lanes s t marks after v →
+        ((l : TransactionLocator) → list .shows l ≡ true → l .offset < 18446744073709551615)
         → Reaching w c s after (asLocator (v .here))
-    begun-reaching t marks v b last-hidden = record { hidden = λ m a d. bare-hidden o few m (b .bare m a d); from = b .from; later = λ u. b .later (last-hidden (asLocator (v .here)) u) }
+    begun-reaching t marks v b last-hidden = record {
+      hidden = λ m a d. bare-hidden o few m (b .bare m a d);
+      from = b .from;
+      later = λ u. b .later
+          (last-hidden (asLocator (v .here)) u);
+    }
 
     pub begun-none : ((m : TransactionLocator) → isAfter after m ≡ true → Bare lanes m) → list .next after ≡ none
     begun-none b = one-least (list .shows) after (lawful .next after) (nothing (λ m a. bare-hidden o few m (b m a)))
 
 -- ---- what is lent stays so
 
-pub lent-kept : (c : Committee) (total : Stake) (s : Bytes) (order sets t t' marks marks' flags flags' : List ℕ) → Lent c total s order sets t marks flags → length t' ≡ length t → length marks' ≡ length marks
+pub lent-kept : (c : Committee) (total : Stake) (s : Bytes) (order sets t t' marks marks' flags flags' : List ℕ) → Lent c total s order sets t marks flags →
+    length t' ≡ length t → length marks' ≡ length marks
     → length flags' ≡ length flags → Lent c total s order sets t' marks' flags'
 lent-kept c total s order sets t t' marks marks' flags flags' l e g h =
     let w = l .walk in
@@ -135,12 +147,14 @@ lent-kept c total s order sets t t' marks marks' flags flags' l e g h =
       room = record { sorted = r .sorted; wide = e ∙ r .wide; long = g ∙ r .long };
     }
 
-pub lent-for : (c : Committee) (total : Stake) (s : Bytes) (order sets t t' marks marks' : List ℕ) → ((flags : List ℕ) → length flags ≡ 1024 → Lent c total s order sets t marks flags) → length t' ≡ length t
+pub lent-for : (c : Committee) (total : Stake) (s : Bytes) (order sets t t' marks marks' : List ℕ) →
+    ((flags : List ℕ) → length flags ≡ 1024 → Lent c total s order sets t marks flags) → length t' ≡ length t
     → length marks' ≡ length marks → (flags : List ℕ) → length flags ≡ 1024 → Lent c total s order sets t' marks' flags
 lent-for c total s order sets t t' marks marks' l e g flags h = lent-kept c total s order sets t t' marks marks' flags flags (l flags h) e g refl
 
 -- tables of these sizes, and the sets of the includes of a store in order
-pub lent-new : (c : Committee) (total : Stake) (s : Bytes) (order sets : List ℕ) → Ready c (total .0) s order → Included s order sets (length order) → (t marks : List ℕ) → length t ≡ 16386 → length marks ≡ 3072 → (flags : List ℕ) → length flags ≡ 1024
+pub lent-new : (c : Committee) (total : Stake) (s : Bytes) (order sets : List ℕ) → Ready c (total .0) s order → Included s order sets (length order) →
+    (t marks : List ℕ) → length t ≡ 16386 → length marks ≡ 3072 → (flags : List ℕ) → length flags ≡ 1024
     → Lent c total s order sets t marks flags
 lent-new c total s order sets p included t marks wide long flags e =
     record {
@@ -155,7 +169,8 @@ module _ (w : Wanted) (c : Committee) (s : Bytes) (order : List ℕ) (h₀ : Tra
   Reached h = (last : Option TransactionLocator) → Reaching w c s last h₀ → Reaching w c s last h
 
   -- shown
-  pub shown-here : (t marks flags : List ℕ) (at : sweep.Sweep) (f : Certifiers) → Stands (laneRanges w s order) s t marks at → Reached (asLocator (at .here)) → ShownAll w c s order marks flags (Shown f)
+  pub shown-here : (t marks flags : List ℕ) (at : sweep.Sweep) (f : Certifiers) → Stands (laneRanges w s order) s t marks at → Reached (asLocator (at .here))
+      → ShownAll w c s order marks flags (Shown f)
       → FoundHere w c s order h₀ t marks flags (record { sweep = at; found = f })
   unfolding ShownAll AllAlike
   shown-here t marks flags at f st r all =
@@ -168,21 +183,25 @@ module _ (w : Wanted) (c : Committee) (s : Bytes) (order : List ℕ) (h₀ : Tra
       }
 
   module _ (marks flags : List ℕ) (at : sweep.Sweep) (r : Reached (asLocator (at .here))) (hid : ShownAll w c s order marks flags Hidden) where
-    pub hidden-on : (t' marks' : List ℕ) (v : sweep.Sweep) → MovedTo (laneRanges w s order) s marks t' marks' (some (asLocator (at .here))) v → Reached (asLocator (v .here))
+    pub hidden-on : (t' marks' : List ℕ) (v : sweep.Sweep) → MovedTo (laneRanges w s order) s marks t' marks' (some (asLocator (at .here))) v → Reached
+        (asLocator (v .here))
     unfolding ShownAll
     hidden-on t' marks' v m last q = reach-on w c s order last (asLocator (at .here)) (r last q) marks hid (asLocator (v .here)) (m .ahead) (m .quiet)
 
-    pub hidden-end : ((l : TransactionLocator) → From (some (asLocator (at .here))) l → MarksAt (laneRanges w s order) marks l) → (last : Option TransactionLocator) → Reaching w c s last h₀ → listFor w c (blocksOf s) .next last ≡ none
+    pub hidden-end : ((l : TransactionLocator) → From (some (asLocator (at .here))) l → MarksAt (laneRanges w s order) marks l) →
+        (last : Option TransactionLocator) → Reaching w c s last h₀ → listFor w c (blocksOf s) .next last ≡ none
     unfolding ShownAll
     hidden-end quiet last q = none-follows w c s order last (asLocator (at .here)) (r last q) marks hid quiet
 
 -- ---- around a stretch
 
 -- what is shown stands before the last offset
-pub shown-offset : (w : Wanted) (c : Committee) (s : Bytes) → AllBytes s → storeInOrder c s ≡ true → (l : TransactionLocator) → listFor w c (blocksOf s) .shows l ≡ true → l .offset < 18446744073709551615
+pub shown-offset : (w : Wanted) (c : Committee) (s : Bytes) → AllBytes s → storeInOrder c s ≡ true → (l : TransactionLocator) → listFor w c (blocksOf s)
+    .shows l ≡ true → l .offset < 18446744073709551615
 unfolding listing
 shown-offset w c s bytes ordered l t =
-    final-offset c s bytes ordered l (sym (final-is-old c (blocksOf s) l) ∙ final-in-old (asReading (w .reading)) c (blocksOf s) l (listed-final (isOrdinary (w .list)) (asReading (w .reading)) c (blocksOf s) l t))
+    final-offset c s bytes ordered l (sym (final-is-old c (blocksOf s) l) ∙ final-in-old (asReading (w .reading)) c (blocksOf s) l
+    (listed-final (isOrdinary (w .list)) (asReading (w .reading)) c (blocksOf s) l t))
 
 -- the sweep stands just after the last locator that was written
 pub after-stretch : (w : Wanted) (c : Committee) (s : Bytes) (r : BlockReference) (e : ℕ) → 0 < e → Reaching w c s (some (locator r (e - 1))) (locator r e)

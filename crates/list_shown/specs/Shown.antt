@@ -35,10 +35,12 @@ pub record Reaching (w : Wanted) (c : Committee) (s : Bytes) (last : Option Tran
 -- the list shows every locator for which the marks are right, and these words say who certifies it
 unfoldable pub AllAlike : Wanted → Committee → Bytes → List ℕ → List ℕ → List ℕ → Type 0
 AllAlike w c s order marks flags =
-    (l : TransactionLocator) → MarksAt (laneRanges w s order) marks l → (listFor w c (blocksOf s) .shows l ≡ true) × Flags (asReading (w .reading)) c s order l flags
+    (l : TransactionLocator) → MarksAt (laneRanges w s order) marks l → (listFor w c (blocksOf s) .shows l ≡ true) × Flags (asReading (w .reading)) c s order
+    l flags
 
 -- a locator that the list shows, the next one after each from which the sweep reached where it stood
-pub record FoundHere (w : Wanted) (c : Committee) (s : Bytes) (order : List ℕ) (h : TransactionLocator) (t marks flags : List ℕ) (f : found.FoundStretch) : Type 0 where
+pub record FoundHere (w : Wanted) (c : Committee) (s : Bytes) (order : List ℕ) (h : TransactionLocator) (t marks flags : List ℕ) (f : found.FoundStretch) :
+    Type 0 where
   pub stands : Stands (laneRanges w s order) s t marks (f .sweep)
   pub alike : AllAlike w c s order marks flags
   pub right : CertifyFlagged (asReading (w .reading)) c s order (asLocator (f .sweep .here)) flags (f .found)
@@ -46,4 +48,5 @@ pub record FoundHere (w : Wanted) (c : Committee) (s : Bytes) (order : List ℕ)
 
 unfoldable pub NextFound : Wanted → Committee → Bytes → List ℕ → TransactionLocator → List ℕ → List ℕ → List ℕ → next.NextShown → Type 0
 NextFound w c s order h t marks flags (next.the-variants.At f) = FoundHere w c s order h t marks flags f
-NextFound w c s order h t marks flags next.the-variants.Nothing = (last : Option TransactionLocator) → Reaching w c s last h → listFor w c (blocksOf s) .next last ≡ none
+NextFound w c s order h t marks flags next.the-variants.Nothing = (last : Option TransactionLocator) → Reaching w c s last h → listFor w c (blocksOf s) .next
+    last ≡ none

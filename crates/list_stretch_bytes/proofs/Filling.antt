@@ -52,7 +52,8 @@ reached-append after (x ∷ ts) t = reached-append (some (lastLocator x)) ts t
 
 -- ---- the bytes
 
-pub stretch-parts : (c : Committee) (bs : List Block) (k : Listing) (l : TransactionLocator) (end blocks : ℕ) (stake : Stake) → end ≡ stretchEnd bs k l → blocks ≡ length (keep (k .certifies l) bs)
+pub stretch-parts : (c : Committee) (bs : List Block) (k : Listing) (l : TransactionLocator) (end blocks : ℕ) (stake : Stake) → end ≡ stretchEnd bs k l →
+    blocks ≡ length (keep (k .certifies l) bs)
     → stake ≡ stakeOf c (setOf (map author (keep (k .certifies l) bs))) → finalStretch l end blocks stake ≡ stretchAt c bs k l
 unfolding finalStretch stretchAt
 stretch-parts c bs k l end blocks stake e f g = rw (e, f, g)
@@ -109,7 +110,8 @@ module _ (c : Committee) (bs : List Block) (k : Listing) (room : ℕ) (after : O
         many = length-append ts (t ∷ []) ∙ ap (λ (i : ℕ). i + 1) (f .many);
         splits =
             f .splits
-            ∙ ap (λ (x : List FinalStretch). ts ++ x) (stretches-some c bs k (room - n) last l (omega arith) e ∙ ap (λ (i : ℕ). t ∷ stretches c bs k i (some (lastLocator t))) one-less)
+            ∙ ap (λ (x : List FinalStretch). ts ++ x) (stretches-some c bs k (room - n) last l (omega arith) e ∙ ap
+            (λ (i : ℕ). t ∷ stretches c bs k i (some (lastLocator t))) one-less)
             ∙ sym (append-assoc ts (t ∷ []) (stretches c bs k (room - (n + 1)) (some (lastLocator t))));
         reaches = reached-append after ts t;
         bytes =
@@ -121,13 +123,15 @@ module _ (c : Committee) (bs : List Block) (k : Listing) (room : ℕ) (after : O
         long = length-sets out (80 * n) (stretchBytes t) ∙ f .long;
       }
 
-  module _ (out : List ℕ) (last : Option TransactionLocator) (n : ℕ) (f : Filled c bs k room after out₀ out last n) (none-left : stretches c bs k (room - n) last ≡ []) where
+  module _ (out : List ℕ) (last : Option TransactionLocator) (n : ℕ) (f : Filled c bs k room after out₀ out last n)
+      (none-left : stretches c bs k (room - n) last ≡ []) where
     all-written : f .written ≡ stretches c bs k room after
     all-written = sym (f .splits ∙ ap (λ (x : List FinalStretch). f .written ++ x) none-left ∙ append-nil (f .written))
 
     pub fill-bytes : out ≡ bytesAfter (stretches c bs k room after) out₀
     unfolding bytesAfter
-    fill-bytes = f .bytes ∙ ap (λ (i : ℕ). flatten (map stretchBytes (f .written)) ++ drop (80 * i) out₀) (sym (f .many)) ∙ ap (λ (ts : List FinalStretch). flatten (map stretchBytes ts) ++ drop (80 * length ts) out₀) all-written
+    fill-bytes = f .bytes ∙ ap (λ (i : ℕ). flatten (map stretchBytes (f .written)) ++ drop (80 * i) out₀) (sym (f .many)) ∙ ap
+        (λ (ts : List FinalStretch). flatten (map stretchBytes ts) ++ drop (80 * length ts) out₀) all-written
 
     given : record { stretches = n; more = moreFollow k last } ≡ givenAfter k after (stretches c bs k room after)
     unfolding givenAfter

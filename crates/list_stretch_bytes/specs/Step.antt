@@ -15,7 +15,8 @@ unfoldable pub finalStretch : TransactionLocator → ℕ → ℕ → Stake → F
 finalStretch l end blocks stake = record { block = l .block; first = l .offset; end = end; blocks = blocks; stake = stake }
 
 -- what stands in the slice once n stretches of a list are written, the last of which ends with the given locator
-pub record Filled (c : Committee) (bs : List Block) (k : Listing) (room : ℕ) (after : Option TransactionLocator) (out₀ out : List ℕ) (last : Option TransactionLocator) (n : ℕ) : Type 0 where
+pub record Filled (c : Committee) (bs : List Block) (k : Listing) (room : ℕ) (after : Option TransactionLocator) (out₀ out : List ℕ)
+    (last : Option TransactionLocator) (n : ℕ) : Type 0 where
   pub inside : n ≤ room
   pub written : List FinalStretch
   pub many : length written ≡ n

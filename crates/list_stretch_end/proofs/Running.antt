@@ -40,8 +40,10 @@ use Rattle.list_shown.specs.Shown.{AllAlike}
 
 -- ---- the words say whether the certifying blocks are the same
 
-module _ (ordinary : Bool) (reading : Reading) (c : Committee) (s : Bytes) (order : List ℕ) (o : SortedStore s order) (l m : TransactionLocator) (a b : List ℕ) (f : Flags reading c s order l a) (g : Flags reading c s order m b) where
-  same-there : (k : ℕ) → k < length order → getD a k 0 ≡ getD b k 0 → certifiesIn reading c (blocksOf s) m (blockAtPlace s order k) ≡ certifiesIn reading c (blocksOf s) l (blockAtPlace s order k)
+module _ (ordinary : Bool) (reading : Reading) (c : Committee) (s : Bytes) (order : List ℕ) (o : SortedStore s order) (l m : TransactionLocator)
+    (a b : List ℕ) (f : Flags reading c s order l a) (g : Flags reading c s order m b) where
+  same-there : (k : ℕ) → k < length order → getD a k 0 ≡ getD b k 0 → certifiesIn reading c (blocksOf s) m (blockAtPlace s order k) ≡ certifiesIn reading c
+      (blocksOf s) l (blockAtPlace s order k)
   unfolding Flags
   same-there k h e = sym (flag-same _ _ (sym (f k h) ∙ e ∙ g k h))
 
@@ -52,14 +54,16 @@ module _ (ordinary : Bool) (reading : Reading) (c : Committee) (s : Bytes) (orde
       each : (d : Block) → d ∈ blocksOf s → agree (certifiesIn reading c (blocksOf s) l d) (certifiesIn reading c (blocksOf s) m d) ≡ true
       each d i =
           let y = stored-at s order o d i in
-          agree-same _ _ (subst (λ (z : Block). certifiesIn reading c (blocksOf s) m z ≡ certifiesIn reading c (blocksOf s) l z) (y .1 .1) (same-there (y .0) (y .1 .0) (h (y .0) (y .1 .0))))
+          agree-same _ _ (subst (λ (z : Block). certifiesIn reading c (blocksOf s) m z ≡ certifiesIn reading c (blocksOf s) l z) (y .1 .1)
+          (same-there (y .0) (y .1 .0) (h (y .0) (y .1 .0))))
 
   pub words-other : SameWords a b (length order) false → certifiedAlike (blocksOf s) (listing ordinary reading c (blocksOf s)) l m ≡ false
   unfolding SameWords Flags certifiedAlike listing
   words-other h =
       let k : ℕ = h .0 in
       fails (allOf (λ d. agree (certifiesIn reading c (blocksOf s) l d) (certifiesIn reading c (blocksOf s) m d)) (blocksOf s)) λ t.
-      let e = agrees _ _ (all-in (λ d. agree (certifiesIn reading c (blocksOf s) l d) (certifiesIn reading c (blocksOf s) m d)) (blocksOf s) t (place-stored s order o k (h .1 .0))) in
+      let e = agrees _ _ (all-in (λ d. agree (certifiesIn reading c (blocksOf s) l d) (certifiesIn reading c (blocksOf s) m d)) (blocksOf s) t
+      (place-stored s order o k (h .1 .0))) in
       h .1 .1 (f k (h .1 .0) ∙ ap {B = ℕ} (λ (z : Bool). pick z 1 0) (sym e) ∙ sym (g k (h .1 .0)))
 
 -- ---- while it goes on
@@ -93,7 +97,12 @@ module _ (w : Wanted) (c : Committee) (s : Bytes) (order : List ℕ) (l : Transa
 
   pub onto-start : (marks : List ℕ) → Alike marks → MarksAt lanes marks l → Onto l
   unfolding locator
-  onto-start marks a r = record { block = refl; from = omega arith; on = λ x h k. let z : x ≡ l .offset = omega arith in rw z (goes-there marks a (l .offset) r) }
+  onto-start marks a r = record {
+    block = refl;
+    from = omega arith;
+    on = λ x h k. let z : x ≡ l .offset = omega arith in rw z
+        (goes-there marks a (l .offset) r);
+  }
 
   module _ (marks : List ℕ) (a : Alike marks) (h : TransactionLocator) (u : Onto h) where
     -- a later offset of the block is not before
@@ -114,7 +123,8 @@ module _ (w : Wanted) (c : Committee) (s : Bytes) (order : List ℕ) (l : Transa
     pub never-ends : ((m : TransactionLocator) → From (some h) m → MarksAt lanes marks m) → ⊥
     never-ends f = never (λ x k. f (locator (l .block) x) (later-offset x k))
 
-    module _ (q : TransactionLocator) (ahead : isAfter (some h) q ≡ true) (quiet : (m : TransactionLocator) → From (some h) m → locatorBefore m q ≡ true → MarksAt lanes marks m) where
+    module _ (q : TransactionLocator) (ahead : isAfter (some h) q ≡ true)
+        (quiet : (m : TransactionLocator) → From (some h) m → locatorBefore m q ≡ true → MarksAt lanes marks m) where
       pub record Next : Type 0 where
         pub block : q .block ≡ l .block
         pub longer : h .offset < q .offset
@@ -125,19 +135,22 @@ module _ (w : Wanted) (c : Committee) (s : Bytes) (order : List ℕ) (l : Transa
       next-stop = go (precedes h q ahead)
         where
           go : Precedes h q → Next
-          go (byBlock b) = absurd (never (λ x k. quiet (locator (l .block) x) (later-offset x k) (is-before (locator (l .block) x) q (byBlock (subst (λ (r : BlockReference). referenceBefore r (q .block) ≡ true) (u .block) b)))))
+          go (byBlock b) = absurd (never (λ x k. quiet (locator (l .block) x) (later-offset x k)
+              (is-before (locator (l .block) x) q (byBlock (subst (λ (r : BlockReference). referenceBefore r (q .block) ≡ true) (u .block) b)))))
           go (byOffset e o) = record { block = sym e ∙ u .block; longer = o; on = λ x i k. up-to x i k (decLe x (h .offset)) }
             where
               up-to : (x : ℕ) → l .offset ≤ x → x < q .offset → Dec (x ≤ h .offset) → goesOn bs list l x ≡ true
               up-to x i k (yes j) = u .on x i j
-              up-to x i k (no j) = goes-there marks a x (quiet (locator (l .block) x) (later-offset x (omega arith)) (is-before (locator (l .block) x) q (byOffset (sym (u .block) ∙ e) k)))
+              up-to x i k (no j) = goes-there marks a x (quiet (locator (l .block) x) (later-offset x (omega arith))
+                  (is-before (locator (l .block) x) q (byOffset (sym (u .block) ∙ e) k)))
 
       -- it does not go on there: the end
       ended : list .shows l ≡ true → goesOn bs list l (q .offset) ≡ false → q ≡ locator (l .block) (stretchEnd bs list l)
       unfolding locator
       ended t z =
           let n = next-stop in
-          let e = one-end bs list l (q .offset) (stretchEnd bs list l) (record { longer = omega (arith, n .longer, u .from); goes = n .on; stops = z }) (end-meant bs list l lawful t .ends) in
+          let e = one-end bs list l (q .offset) (stretchEnd bs list l) (record { longer = omega (arith, n .longer, u .from); goes = n .on; stops = z })
+          (end-meant bs list l lawful t .ends) in
           let f = n .block in
           λ i. record { block = f i; offset = e i }
 
@@ -151,7 +164,8 @@ module _ (w : Wanted) (c : Committee) (s : Bytes) (order : List ℕ) (l : Transa
 
       pub ends-other : list .shows l ≡ true → certifiedAlike bs list l q ≡ false → q ≡ locator (l .block) (stretchEnd bs list l)
       unfolding goesOn
-      ends-other t z = ended t (rw (subst (λ (m : TransactionLocator). certifiedAlike bs list l m ≡ false) at-q z) (and-false (list .shows (locator (l .block) (q .offset)))))
+      ends-other t z = ended t (rw (subst (λ (m : TransactionLocator). certifiedAlike bs list l m ≡ false) at-q z)
+          (and-false (list .shows (locator (l .block) (q .offset)))))
 
       -- it goes on there
       pub goes-on : (marks' : List ℕ) → Alike marks' → MarksAt lanes marks' q → Onto q
@@ -168,16 +182,22 @@ pub same-self : (a : List ℕ) (n : ℕ) → SameWords a a n true
 unfolding SameWords
 same-self a n k h = refl
 
-module _ (w : Wanted) (c : Committee) (s : Bytes) (order : List ℕ) (o : SortedStore s order) (l : TransactionLocator) (flags : List ℕ) (own : Flags (asReading (w .reading)) c s order l flags) where
+module _ (w : Wanted) (c : Committee) (s : Bytes) (order : List ℕ) (o : SortedStore s order) (l : TransactionLocator) (flags : List ℕ)
+    (own : Flags (asReading (w .reading)) c s order l flags) where
   pub alike-start : (marks : List ℕ) → AllAlike w c s order marks flags → Alike w c s order l marks
   unfolding AllAlike
-  alike-start marks all m r = let y = all m r in (y .0, words-same (isOrdinary (w .list)) (asReading (w .reading)) c s order o l m flags flags own (y .1) (same-self flags (length order)))
+  alike-start marks all m r = let y = all m r in (
+    y .0,
+    words-same (isOrdinary (w .list)) (asReading (w .reading)) c s order o l m flags flags own (y .1)
+        (same-self flags (length order)),
+  )
 
   module _ (marks other : List ℕ) (f : Certifiers) (all : ShownAll w c s order marks other (Shown f)) where
     pub alike-next : SameWords flags other (length order) true → Alike w c s order l marks
     unfolding ShownAll
     alike-next same m r = let y = all m r in (y .0, words-same (isOrdinary (w .list)) (asReading (w .reading)) c s order o l m flags other own (y .1 .1) same)
 
-    pub other-next : SameWords flags other (length order) false → (q : TransactionLocator) → MarksAt (laneRanges w s order) marks q → certifiedAlike (blocksOf s) (listFor w c (blocksOf s)) l q ≡ false
+    pub other-next : SameWords flags other (length order) false → (q : TransactionLocator) → MarksAt (laneRanges w s order) marks q → certifiedAlike
+        (blocksOf s) (listFor w c (blocksOf s)) l q ≡ false
     unfolding ShownAll
     other-next different q r = words-other (isOrdinary (w .list)) (asReading (w .reading)) c s order o l q flags other own (all q r .1 .1) different

@@ -39,11 +39,13 @@ use Rattle.list_shown.specs.Shown.{Reaching}
 use Rattle.list_shown.proofs.Reaching.{after-stretch}
 
 -- as many certifying positions as certifying blocks
-certifying-many : (reading : Reading) (c : Committee) (s : Bytes) (l : TransactionLocator) → length (certifyingPositionsIn reading c s l) ≡ length (certifiersIn reading c (blocksOf s) l)
+certifying-many : (reading : Reading) (c : Committee) (s : Bytes) (l : TransactionLocator) → length (certifyingPositionsIn reading c s l) ≡ length
+    (certifiersIn reading c (blocksOf s) l)
 unfolding certifyingPositionsIn certifiersIn blocksOf
 certifying-many reading c s l =
     let p : (Entry → Bool) = λ e. certifiesIn reading c (blocksOf s) l (e .block) in
-    length-map (keep p (ascending (entries (recordsOf s)))) (λ e. e .position) ∙ ascending-count p (entries (recordsOf s)) ∙ entries-count (certifiesIn reading c (blocksOf s) l) (recordsOf s)
+    length-map (keep p (ascending (entries (recordsOf s)))) (λ e. e .position) ∙ ascending-count p (entries (recordsOf s)) ∙ entries-count
+    (certifiesIn reading c (blocksOf s) l) (recordsOf s)
 
 pub offset-of : (g : types.TransactionLocator) → g .offset ≡ asLocator g .offset
 unfolding asLocator locator
@@ -73,31 +75,43 @@ module _ (w : Wanted) (c : Committee) (s : Bytes) (out₀ : Bytes) where
 
   module _ (h₀ h : TransactionLocator) (out : Bytes) (n : ℕ) (d : Doing h₀ h out n) where
     -- none follows
-    pub done-last : ((last : Option TransactionLocator) → Reaching w c s last h → list .next last ≡ none) → (after : Option TransactionLocator) → Reaching w c s after h₀
-        → (answered (record { stretches = n; more = false }) ≡ answered (givenAfter list after (stretches c bs list room after))) × (out ≡ bytesAfter (stretches c bs list room after) out₀)
+    pub done-last : ((last : Option TransactionLocator) → Reaching w c s last h → list .next last ≡ none) → (after : Option TransactionLocator) → Reaching w c
+        s after h₀
+        → (answered (record { stretches = n; more = false }) ≡ answered (givenAfter list after (stretches c bs list room after))) ×
+        (out ≡ bytesAfter (stretches c bs list room after) out₀)
     done-last none-left after r =
         let x = d after r in
         let e = none-left (x .last) (x .reaching) in
-        let z = stretches-none c bs list (room - n) (x .last) e in
-        (ap {B = Answer Given} answered (given-last c bs list room after out₀ out (x .last) n (x .filled) z e), fill-bytes c bs list room after out₀ out (x .last) n (x .filled) z)
+        let z = stretches-none c bs list (room - n) (x .last) e in (
+          ap {B = Answer Given} answered (given-last c bs list room after out₀ out (x .last) n (x .filled) z e),
+          fill-bytes c bs list room after out₀ out
+              (x .last) n (x .filled) z,
+        )
 
     module _ (l : TransactionLocator) (is : (last : Option TransactionLocator) → Reaching w c s last h → list .next last ≡ some l) where
       -- the slice is full
       pub done-more : n ≡ room → (after : Option TransactionLocator) → Reaching w c s after h₀
-          → (answered (record { stretches = n; more = true }) ≡ answered (givenAfter list after (stretches c bs list room after))) × (out ≡ bytesAfter (stretches c bs list room after) out₀)
+          → (answered (record { stretches = n; more = true }) ≡ answered (givenAfter list after (stretches c bs list room after))) ×
+          (out ≡ bytesAfter (stretches c bs list room after) out₀)
       done-more q after r =
           let x = d after r in
-          let z = stretches-full c bs list (room - n) (x .last) (omega arith) in
-          (ap {B = Answer Given} answered (given-more c bs list room after out₀ out (x .last) n (x .filled) z l (is (x .last) (x .reaching))), fill-bytes c bs list room after out₀ out (x .last) n (x .filled) z)
+          let z = stretches-full c bs list (room - n) (x .last) (omega arith) in (
+            ap {B = Answer Given} answered (given-more c bs list room after out₀ out (x .last) n (x .filled) z l (is (x .last) (x .reaching))),
+            fill-bytes c bs
+                list room after out₀ out (x .last) n (x .filled) z,
+          )
 
       -- one stretch more
-      pub doing-more : list .shows l ≡ true → n < room → (f : Certifiers) → Certify (asReading (w .reading)) c s l f → (h' : TransactionLocator) → h' ≡ locator (l .block) (stretchEnd bs list l)
-          → (end stake : ℕ) → end ≡ h' .offset → stake ≡ stakeOf c (f .authors) → (out' : Bytes) → out' ≡ sets out (80 * n) (stretchBytes (finalStretch l end (f .blocks) stake)) → Doing h₀ h' out' (n + 1)
+      pub doing-more : list .shows l ≡ true → n < room → (f : Certifiers) → Certify (asReading (w .reading)) c s l f → (h' : TransactionLocator) → h' ≡
+          locator (l .block) (stretchEnd bs list l)
+          → (end stake : ℕ) → end ≡ h' .offset → stake ≡ stakeOf c (f .authors) → (out' : Bytes) → out' ≡ sets out (80 * n)
+          (stretchBytes (finalStretch l end (f .blocks) stake)) → Doing h₀ h' out' (n + 1)
       unfolding lastLocator stretchAt Certify certifiersIn listing locator
       doing-more shown less f cert h' e end stake q p out' wr after r =
           let x = d after r in
           let far = shown-ends c bs list (lists-lawful (isOrdinary (w .list)) (asReading (w .reading)) c bs) l shown .longer in
-          let parts = stretch-parts c bs list l end (f .blocks) stake (q ∙ ap (λ (m : TransactionLocator). m .offset) e) (cert .0 ∙ certifying-many (asReading (w .reading)) c s l) (p ∙ ap (stakeOf c) (cert .1)) in
+          let parts = stretch-parts c bs list l end (f .blocks) stake (q ∙ ap (λ (m : TransactionLocator). m .offset) e)
+          (cert .0 ∙ certifying-many (asReading (w .reading)) c s l) (p ∙ ap (stakeOf c) (cert .1)) in
           record {
             last = some (locator (l .block) (stretchEnd bs list l - 1));
             filled = rw (wr, parts) (fill-more c bs list room after out₀ out (x .last) n (x .filled) less (omega arith) l (is (x .last) (x .reaching)));
@@ -106,7 +120,8 @@ module _ (w : Wanted) (c : Committee) (s : Bytes) (out₀ : Bytes) where
 
   -- nothing to write
   pub begun-last : (after : Option TransactionLocator) → list .next after ≡ none
-      → (answered (record { stretches = 0; more = false }) ≡ answered (givenAfter list after (stretches c bs list room after))) × (out₀ ≡ bytesAfter (stretches c bs list room after) out₀)
+      → (answered (record { stretches = 0; more = false }) ≡ answered (givenAfter list after (stretches c bs list room after))) ×
+      (out₀ ≡ bytesAfter (stretches c bs list room after) out₀)
   begun-last after e =
       let f = fill-start c bs list room after out₀ in
       let z = stretches-none c bs list (room - 0) after e in

@@ -6,4 +6,12 @@ use Rattle.list_stretches_spec.proofs.Wide.{wide-lawful, wide-gives, st
 
 pub claimed : Claims
 unfolding WideLawful
-claimed = record { ends = stretch-end-meant; longest = stretches-longest; spread = stretches-spread; wideLawful = wide-lawful; wideGives = wide-gives; alike = stretches-alike }
+claimed = record {
+  ends = stretch-end-meant;
+  longest = stretches-longest;
+  spread = stretches-spread;
+  wideLawful = wide-lawful;
+  wideGives = wide-gives;
+  alike =
+      stretches-alike;
+}

@@ -23,7 +23,8 @@ module _ (p : ℕ → Bool) (es : List ℕ) (same : (o : ℕ) → (o + 1 ∈ es 
   -- it holds as far as it holds at the edges
   pub holds-on : (n : ℕ) → ((e : ℕ) → e ∈ es → a < e → e ≤ a + n → p e ≡ true) → p (a + n) ≡ true
   holds-on zero h = let z : a + 0 ≡ a = omega arith in rw z start
-  holds-on (suc n) h = let z : a + suc n ≡ a + n + 1 = omega arith in rw z (split (holds-or-not (anyOf (eqb (a + n + 1)) es)) (holds-on n (λ e m i k. h e m i (omega arith))))
+  holds-on (suc n) h = let z : a + suc n ≡ a + n + 1 = omega arith in rw z
+      (split (holds-or-not (anyOf (eqb (a + n + 1)) es)) (holds-on n (λ e m i k. h e m i (omega arith))))
     where
       split : (anyOf (eqb (a + n + 1)) es ≡ true) ⊎ (anyOf (eqb (a + n + 1)) es ≡ false) → p (a + n) ≡ true → p (a + n + 1) ≡ true
       split (inl t) ih =
@@ -97,7 +98,8 @@ module _ (bs : List Block) (k : Listing) (l : TransactionLocator) where
   goes-same es f o n =
       let x = f o n in
       ap₂ {C = Bool} (λ t u. t && u) (x .shows)
-      (all-same (λ b. agree (k .certifies l b) (k .certifies (locator (l .block) (o + 1)) b)) (λ b. agree (k .certifies l b) (k .certifies (locator (l .block) o) b)) bs
+      (all-same (λ b. agree (k .certifies l b) (k .certifies (locator (l .block) (o + 1)) b))
+      (λ b. agree (k .certifies l b) (k .certifies (locator (l .block) o) b)) bs
       (λ b m. ap (agree (k .certifies l b)) (x .certifies b m)))
 
   -- past the bound it does not

@@ -53,9 +53,12 @@ step : (o best e : ℕ) → Step o best e (nearer o best e)
 step o best e = go (decLt o e) (ℕ-discrete best 0) (decLt e best)
   where
     go : Dec (o < e) → Dec (best ≡ 0) → Dec (e < best) → Step o best e (nearer o best e)
-    go (yes h) (yes z) k = rw (nearer-first o best e h z) (record { less = λ x. absurd (omega arith); either = inr (h, refl); near = λ x. (omega arith, omega arith) })
-    go (yes h) (no z) (yes k) = rw (nearer-less o best e h k) (record { less = λ x. (omega arith, omega arith); either = inr (h, refl); near = λ x. (omega arith, omega arith) })
-    go (yes h) (no z) (no k) = rw (nearer-more o best e (omega arith) (omega arith)) (record { less = λ x. (omega arith, omega arith); either = inl refl; near = λ x. (omega arith, omega arith) })
+    go (yes h) (yes z) k = rw (nearer-first o best e h z) (record
+        { less = λ x. absurd (omega arith); either = inr (h, refl); near = λ x. (omega arith, omega arith) })
+    go (yes h) (no z) (yes k) = rw (nearer-less o best e h k) (record
+        { less = λ x. (omega arith, omega arith); either = inr (h, refl); near = λ x. (omega arith, omega arith) })
+    go (yes h) (no z) (no k) = rw (nearer-more o best e (omega arith) (omega arith))
+        (record { less = λ x. (omega arith, omega arith); either = inl refl; near = λ x. (omega arith, omega arith) })
     go (no h) z k = rw (nearer-below o best e (omega arith)) (record { less = λ x. (x, omega arith); either = inl refl; near = λ x. absurd (h x) })
 
 pub nearest-is : (o best : ℕ) (es : List ℕ) → Nearest o best es (nearest o best es)
@@ -86,7 +89,8 @@ nearest-is o best (e ∷ es) = on (step o best e) (nearest-is o (nearer o best e
 -- ---- the edges of one vote
 
 -- an edge of a block's vote for locators of the block
-module _ (f : Block → List TransactionLocatorRange) (bs : List Block) (r : BlockReference) (d : Block) (q : TransactionLocatorRange) (m : d ∈ bs) (k : q ∈ f d) (e : q .block ≡ r) where
+module _ (f : Block → List TransactionLocatorRange) (bs : List Block) (r : BlockReference) (d : Block) (q : TransactionLocatorRange) (m : d ∈ bs)
+    (k : q ∈ f d) (e : q .block ≡ r) where
   edge-in : (n : ℕ) → n ∈ (q .start ∷ q .end ∷ []) → n ∈ edgesBy f bs r
   unfolding edgesBy edgesOf
   edge-in n i =

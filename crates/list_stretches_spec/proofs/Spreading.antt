@@ -15,7 +15,8 @@ use Rattle.record_spec.specs.Block.{Block}
 use Rattle.record_spec.proofs.References.{reference-irrefl, reference-asymmetric, Precedes, byBlock, byOffset, precedes, is-before}
 use Rattle.final_spec.specs.NextFinal.{isAfter, LeastOf, least}
 use Rattle.final_spec.proofs.LeastOf.{one-least, least-holds}
-use Rattle.list_stretches_spec.specs.Stretches.{Listing, FinalStretch, stretchLocators, lastLocator, goesOn, EndsAt, stretchEnd, stretchAt, fromFound, stretches, reached, moreFollow}
+use Rattle.list_stretches_spec.specs.Stretches.{Listing, FinalStretch, stretchLocators, lastLocator, goesOn, EndsAt, stretchEnd, stretchAt, fromFound}
+use Rattle.list_stretches_spec.specs.Stretches.{stretches, reached, moreFollow}
 use Rattle.list_stretches_spec.specs.Claims.{Lawful, Longest, StretchesLongest, Gives, done, onward, Spread, StretchesSpread}
 use Rattle.list_stretches_spec.proofs.Ends.{end-meant}
 
@@ -36,9 +37,11 @@ unfolding locator
 follows m = is-before m (locator (m .block) (m .offset + 1)) (byOffset refl (omega arith))
 
 -- the next offset is the least after a locator, where the test holds of it
-pub least-following : (test : TransactionLocator → Bool) (m : TransactionLocator) → test (locator (m .block) (m .offset + 1)) ≡ true → LeastOf test (some m) (some (locator (m .block) (m .offset + 1)))
+pub least-following : (test : TransactionLocator → Bool) (m : TransactionLocator) → test (locator (m .block) (m .offset + 1)) ≡ true → LeastOf test (some m)
+    (some (locator (m .block) (m .offset + 1)))
 unfolding isAfter
-least-following test m h = least (locator (m .block) (m .offset + 1)) h (follows m) (λ y s a. fails (locatorBefore y (locator (m .block) (m .offset + 1))) (between m y a))
+least-following test m h = least (locator (m .block) (m .offset + 1)) h (follows m)
+    (λ y s a. fails (locatorBefore y (locator (m .block) (m .offset + 1))) (between m y a))
 
 module _ (c : Committee) (bs : List Block) (k : Listing) (law : Lawful bs k) where
   pub next-shown : (after : Option TransactionLocator) (l : TransactionLocator) → k .next after ≡ some l → k .shows l ≡ true
@@ -92,7 +95,8 @@ module _ (c : Committee) (bs : List Block) (k : Listing) (law : Lawful bs k) whe
     splits : ls ≡ l ∷ later
     asked : Gives k (some l) later
 
-  first-asked : {after : Option TransactionLocator} {ls : List TransactionLocator} → Gives k after ls → (l : TransactionLocator) → k .next after ≡ some l → Next l ls
+  first-asked : {after : Option TransactionLocator} {ls : List TransactionLocator} → Gives k after ls → (l : TransactionLocator) → k .next after ≡ some l →
+      Next l ls
   first-asked (done e) l f = absurd (Option·none-ne-some l (sym e ∙ f))
   first-asked (onward {l = m} {ls = ms} e a) l f =
       let q : m ≡ l = Option·some-injective m l (sym e ∙ f) in
@@ -121,12 +125,15 @@ module _ (c : Committee) (bs : List Block) (k : Listing) (law : Lawful bs k) whe
     splits : ls ≡ map (locator r) (countFrom (o + 1) n) ++ later
     asked : Gives k (some (locator r (o + n))) later
 
-  through : (r : BlockReference) (n o : ℕ) → ((j : ℕ) → o < j → j ≤ o + n → k .shows (locator r j) ≡ true) → (ls : List TransactionLocator) → Gives k (some (locator r o)) ls → Through r o n ls
+  through : (r : BlockReference) (n o : ℕ) → ((j : ℕ) → o < j → j ≤ o + n → k .shows (locator r j) ≡ true) → (ls : List TransactionLocator) → Gives k
+      (some (locator r o)) ls → Through r o n ls
   unfolding countFrom
   through r zero o f ls a = let e : o + 0 ≡ o = omega arith in record { later = ls; splits = refl; asked = rw e a }
-  through r (suc n) o f ls a = on (first-asked a (locator r (o + 1)) (just-after r o (f (o + 1) (omega arith) (omega arith)))) (λ ms b. through r n (o + 1) (λ j h i. f j (omega arith) (omega arith)) ms b)
+  through r (suc n) o f ls a = on (first-asked a (locator r (o + 1)) (just-after r o (f (o + 1) (omega arith) (omega arith))))
+      (λ ms b. through r n (o + 1) (λ j h i. f j (omega arith) (omega arith)) ms b)
     where
-      on : Next (locator r (o + 1)) ls → ((ms : List TransactionLocator) → Gives k (some (locator r (o + 1))) ms → Through r (o + 1) n ms) → Through r o (suc n) ls
+      on : Next (locator r (o + 1)) ls → ((ms : List TransactionLocator) → Gives k (some (locator r (o + 1))) ms → Through r (o + 1) n ms) → Through r o
+          (suc n) ls
       on x ih =
           let y = ih (x .later) (x .asked) in
           let e : o + 1 + n ≡ o + suc n = omega arith in
@@ -141,14 +148,16 @@ module _ (c : Committee) (bs : List Block) (k : Listing) (law : Lawful bs k) whe
     splits : ls ≡ stretchLocators (stretchAt c bs k l) ++ later
     asked : Gives k (some (lastLocator (stretchAt c bs k l))) later
 
-  passed : (after : Option TransactionLocator) (l : TransactionLocator) → k .next after ≡ some l → (ls : List TransactionLocator) → Gives k after ls → Passed l ls
+  passed : (after : Option TransactionLocator) (l : TransactionLocator) → k .next after ≡ some l → (ls : List TransactionLocator) → Gives k after ls → Passed
+      l ls
   unfolding stretchLocators lastLocator stretchAt locators offsets newRange locator countFrom
   passed after l e ls a =
       let end : ℕ = stretchEnd bs k l in
       let z : EndsAt bs k l end = shown-ends l (next-shown after l e) in
       let n : ℕ = end - l .offset - 1 in
       let x = first-asked a l e in
-      let y = through (l .block) n (l .offset) (λ j (p : l .offset < j) (q : j ≤ l .offset + n). goes-shows l j (z .goes j (omega arith) (omega (arith, z .longer)))) (x .later) (x .asked) in
+      let y = through (l .block) n (l .offset) (λ j (p : l .offset < j) (q : j ≤ l .offset + n). goes-shows l j
+      (z .goes j (omega arith) (omega (arith, z .longer)))) (x .later) (x .asked) in
       let many : suc n ≡ end - l .offset = omega (arith, z .longer) in
       let last : l .offset + n ≡ end - 1 = omega (arith, z .longer) in
       record {
@@ -162,7 +171,8 @@ module _ (c : Committee) (bs : List Block) (k : Listing) (law : Lawful bs k) whe
 
   -- ---- the stretches, then what is left
 
-  nothing-given : (n : ℕ) (after : Option TransactionLocator) (ls : List TransactionLocator) → Gives k after ls → (moreFollow k after ≡ true → 0 ≡ n) → Spread k n after ls []
+  nothing-given : (n : ℕ) (after : Option TransactionLocator) (ls : List TransactionLocator) → Gives k after ls → (moreFollow k after ≡ true → 0 ≡ n) → Spread
+      k n after ls []
   unfolding reached flatten
   nothing-given n after ls a f = record { rest = ls; splits = refl; onward = a; none-left = nothing-left after ls a; full = f }
 
@@ -196,7 +206,8 @@ module _ (c : Committee) (bs : List Block) (k : Listing) (law : Lawful bs k) whe
       go none e ih = nothing-given (suc n) after ls a (λ h. absurd (none-more after e h))
       go (some l) e ih =
           let p = passed after l e ls a in
-          one-given n after l ls (stretches c bs k n (some (lastLocator (stretchAt c bs k l)))) p (ih (some (lastLocator (stretchAt c bs k l))) (p .later) (p .asked))
+          one-given n after l ls (stretches c bs k n (some (lastLocator (stretchAt c bs k l)))) p
+          (ih (some (lastLocator (stretchAt c bs k l))) (p .later) (p .asked))
 
 pub stretches-longest : StretchesLongest
 unfolding StretchesLongest

@@ -58,7 +58,12 @@ module _ {f : Block → List TransactionLocatorRange} (told : Telling f) (bs : L
       let x = told .over d (locator r o) h in
       let k = x .covering in
       told .votes d (locator r (o + 1))
-      (record { range = x .range; stands = x .stands; covering = record { of = k .of; from = omega (arith, k .from); below = up (k .below) (not-edge (edge-end f bs r d (x .range) m (x .stands) (k .of))) } })
+      (record {
+        range = x .range;
+        stands = x .stands;
+        covering = record
+            { of = k .of; from = omega (arith, k .from); below = up (k .below) (not-edge (edge-end f bs r d (x .range) m (x .stands) (k .of))) };
+      })
     where
       up : {e : ℕ} → o < e → (e ≡ o + 1 → ⊥) → o + 1 < e
       up {e} h n = go (ℕ-discrete e (o + 1))
@@ -73,7 +78,12 @@ module _ {f : Block → List TransactionLocatorRange} (told : Telling f) (bs : L
       let x = told .over d (locator r (o + 1)) h in
       let k = x .covering in
       told .votes d (locator r o)
-      (record { range = x .range; stands = x .stands; covering = record { of = k .of; from = down (k .from) (not-edge (edge-start f bs r d (x .range) m (x .stands) (k .of))); below = omega (arith, k .below) } })
+      (record {
+        range = x .range;
+        stands = x .stands;
+        covering = record
+            { of = k .of; from = down (k .from) (not-edge (edge-start f bs r d (x .range) m (x .stands) (k .of))); below = omega (arith, k .below) };
+      })
     where
       down : {e : ℕ} → e ≤ o + 1 → (e ≡ o + 1 → ⊥) → e ≤ o
       down {e} h n = go (ℕ-discrete e (o + 1))
@@ -85,7 +95,8 @@ module _ {f : Block → List TransactionLocatorRange} (told : Telling f) (bs : L
   module _ (c : Committee) where
     certifies-same : (b : Block) → certifies c bs (locator r (o + 1)) b ≡ certifies c bs (locator r o) b
     certifies-same b =
-        same-test _ (certifies c bs (locator r o) b) (certifies-mono c bs (locator r (o + 1)) (locator r o) back b) (certifies-mono c bs (locator r o) (locator r (o + 1)) forth b)
+        same-test _ (certifies c bs (locator r o) b) (certifies-mono c bs (locator r (o + 1)) (locator r o) back b)
+        (certifies-mono c bs (locator r o) (locator r (o + 1)) forth b)
 
     final-same : isFinal c bs (locator r (o + 1)) ≡ isFinal c bs (locator r o)
     unfolding isFinal certifiers
@@ -95,7 +106,8 @@ module _ {f : Block → List TransactionLocatorRange} (told : Telling f) (bs : L
     same-before = record { shows = final-same; certifies = λ b m. certifies-same b }
 
 -- the edges of any ranges that tell the votes are edges of the final list
-pub wide-edges : {f : Block → List TransactionLocatorRange} → Telling f → (c : Committee) (bs : List Block) (r : BlockReference) → Edges bs (wide c bs) r (edgesBy f bs r)
+pub wide-edges : {f : Block → List TransactionLocatorRange} → Telling f → (c : Committee) (bs : List Block) (r : BlockReference) → Edges bs (wide c bs) r
+    (edgesBy f bs r)
 wide-edges told c bs r o gap = same-before told bs r o gap c
 
 -- ---- the final list is lawful
@@ -118,7 +130,12 @@ wide-bounded c bs r o h =
     fails (isFinal c bs (locator r o)) λ t.
     let v = final-votes c bs (locator r o) t in
     let x = spanned (v .block) (locator r o) (v .votes) in
-    omega (arith, x .covering .below, in-sum (x .span .end) (edgesBy spans bs r) (edge-end spans bs r (v .block) (x .span) (v .stands) (x .stands) (x .covering .of)))
+    omega (
+      arith,
+      x .covering .below,
+      in-sum (x .span .end) (edgesBy spans bs r)
+          (edge-end spans bs r (v .block) (x .span) (v .stands) (x .stands) (x .covering .of)),
+    )
 
 pub wide-lawful : (c : Committee) (bs : List Block) → Lawful bs (wide c bs)
 wide-lawful c bs = record { next = least-final c bs; edges = wide-edges by-spans c bs; bound = λ r. sumOf (edgesBy spans bs r); bounded = wide-bounded c bs }
@@ -126,7 +143,8 @@ wide-lawful c bs = record { next = least-final c bs; edges = wide-edges by-spans
 -- ---- what it gives
 
 -- a list gives what a question gives that answers its next locator
-pub gives-asked : (k : Listing) (next : Option TransactionLocator → Answer (Option TransactionLocator)) → ((after : Option TransactionLocator) → next after ≡ answered (k .next after))
+pub gives-asked : (k : Listing) (next : Option TransactionLocator → Answer (Option TransactionLocator)) →
+    ((after : Option TransactionLocator) → next after ≡ answered (k .next after))
     → {after : Option TransactionLocator} {ls : List TransactionLocator} → Gives k after ls ↔ AskedOf next after ls
 gives-asked k next answers = (to, from)
   where
@@ -160,15 +178,18 @@ module _ (c : Committee) (s : Bytes) (l m : TransactionLocator) (h : certifiedAl
   unfolding certifyingPositions blocksOf
   alike-positions =
       ap (map (λ (e : Entry). e .position))
-      (keep-same (λ (e : Entry). certifies c (blocksOf s) m (e .block)) (λ (e : Entry). certifies c (blocksOf s) l (e .block)) (ascending (entries (recordsOf s)))
+      (keep-same (λ (e : Entry). certifies c (blocksOf s) m (e .block)) (λ (e : Entry). certifies c (blocksOf s) l (e .block))
+      (ascending (entries (recordsOf s)))
       (λ e i. alike-block (e .block) (entry-block (recordsOf s) e (ascending-in (entries (recordsOf s)) e i))))
 
 -- as many positions as certifying blocks
-pub positions-many : (c : Committee) (s : Bytes) (l : TransactionLocator) → storeInOrder c s ≡ true → length (certifyingPositions c s l) ≡ length (certifiers c (blocksOf s) l)
+pub positions-many : (c : Committee) (s : Bytes) (l : TransactionLocator) → storeInOrder c s ≡ true → length (certifyingPositions c s l) ≡ length
+    (certifiers c (blocksOf s) l)
 positions-many c s l h = let x = certifying-meant c s l h in ap length (x .positions) ∙ length-map (x .found) (λ e. e .position) ∙ x .many
 
 -- the locators of a stretch
-pub stretch-in : (t : FinalStretch) (m : TransactionLocator) → m ∈ stretchLocators t → t .first ≤ t .end → (o : ℕ) × ((t .first ≤ o) × ((o < t .end) × (locator (t .block) o ≡ m)))
+pub stretch-in : (t : FinalStretch) (m : TransactionLocator) → m ∈ stretchLocators t → t .first ≤ t .end → (o : ℕ) ×
+    ((t .first ≤ o) × ((o < t .end) × (locator (t .block) o ≡ m)))
 unfolding stretchLocators locators offsets newRange
 stretch-in t m i h =
     let x = map-in (locator (t .block)) (countFrom (t .first) (t .end - t .first)) i in

@@ -16,7 +16,8 @@ use Rattle.store_spec.specs.Store.{storeInOrder}
 use Rattle.final_spec.specs.Voters.{certifiers, isFinal}
 use Rattle.final_spec.specs.Finality.{blocksOf, certifyingPositions}
 use Rattle.final_spec.specs.NextFinal.{LeastOf, AskedOn}
-use Rattle.list_stretches_spec.specs.Stretches.{Listing, wide, FinalStretch, stretchLocators, EndsAt, endAmong, stretchEnd, stretches, reached, moreFollow}
+use Rattle.list_stretches_spec.specs.Stretches.{Listing, wide, FinalStretch, stretchLocators, EndsAt, endAmong, stretchEnd, stretches, reached}
+use Rattle.list_stretches_spec.specs.Stretches.{moreFollow}
 
 -- ---- what is asked of a list
 
@@ -61,7 +62,8 @@ StretchesLongest = (c : Committee) (bs : List Block) (k : Listing) → Lawful bs
 -- what a list gives, asked on after a locator
 pub data Gives (k : Listing) : Option TransactionLocator → List TransactionLocator → Type 0 where
   done : {after : Option TransactionLocator} → k .next after ≡ none → Gives k after []
-  onward : {after : Option TransactionLocator} {l : TransactionLocator} {ls : List TransactionLocator} → k .next after ≡ some l → Gives k (some l) ls → Gives k after (l ∷ ls)
+  onward : {after : Option TransactionLocator} {l : TransactionLocator} {ls : List TransactionLocator} → k .next after ≡ some l → Gives k (some l) ls → Gives
+      k after (l ∷ ls)
 
 -- what the single questions, asked on, give: first the locators of the stretches, then what they give after the last one; none is left
 -- exactly where the answer says that none follow, and while more follow as many stretches are given as were asked for

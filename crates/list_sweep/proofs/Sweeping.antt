@@ -60,7 +60,8 @@ after-on none q l h f = refl
 after-on (some m) q l h f = lt-le m q l h f
 
 -- what is before a locator up to which a window is whole is so too
-short-below : (bound : Option TransactionLocator) (q l : TransactionLocator) → isAfterBest bound q ≡ false → locatorBefore l q ≡ true → isAfterBest bound l ≡ false
+short-below : (bound : Option TransactionLocator) (q l : TransactionLocator) → isAfterBest bound q ≡ false → locatorBefore l q ≡ true → isAfterBest bound l ≡
+    false
 unfolding isAfterBest isAfter isNone
 short-below none q l h f = refl
 short-below (some b) q l h f = fails (locatorBefore b l) (λ t. not-both (locator-trans b l q t f) h)
@@ -70,15 +71,21 @@ short-below (some b) q l h f = fails (locatorBefore b l) (λ t. not-both (locato
 pub swept-on : (was : ℕ → Bool) (t marks : List ℕ) (i : ℕ) → Swept was t marks i → length marks ≡ 3072 → placeOf (rowAt t i) < 3072
     → Swept was t (set marks (rowAt t i .mark / 2) (rowAt t i .mark % 2)) (i + 1)
 unfolding Swept ofPlace begins placeOf
-swept-on was t marks i w long h k l = go (ℕ-discrete (rowAt t i .mark / 2) k) ∙ sym (ap (λ (xs : List Row). lastBegins (was k) (keep (ofPlace k) xs)) (rows-more t i) ∙ swept-more (was k) (ofPlace k) (rowsOf t i) (rowAt t i))
+swept-on was t marks i w long h k l = go (ℕ-discrete (rowAt t i .mark / 2) k) ∙ sym
+    (ap (λ (xs : List Row). lastBegins (was k) (keep (ofPlace k) xs)) (rows-more t i) ∙ swept-more (was k) (ofPlace k) (rowsOf t i) (rowAt t i))
   where
     go : Dec (rowAt t i .mark / 2 ≡ k)
-        → eqb (getD (set marks (rowAt t i .mark / 2) (rowAt t i .mark % 2)) k 0) 1 ≡ pick (ofPlace k (rowAt t i)) (begins (rowAt t i)) (lastBegins (was k) (keep (ofPlace k) (rowsOf t i)))
-    go (yes e) = rw (eq-eqb (rowAt t i .mark / 2) k e) (ap (λ (x : ℕ). eqb x 1) (ap (λ (j : ℕ). getD (set marks (rowAt t i .mark / 2) (rowAt t i .mark % 2)) j 0) (sym e) ∙ getD-set-same marks (rowAt t i .mark / 2) (rowAt t i .mark % 2) 0 (omega (arith, long))))
-    go (no e) = rw (ne-eqb (rowAt t i .mark / 2) k e) (ap (λ (x : ℕ). eqb x 1) (getD-set-other marks (rowAt t i .mark / 2) k (rowAt t i .mark % 2) 0 (λ f. e (sym f))) ∙ w k l)
+        → eqb (getD (set marks (rowAt t i .mark / 2) (rowAt t i .mark % 2)) k 0) 1 ≡ pick (ofPlace k (rowAt t i)) (begins (rowAt t i))
+        (lastBegins (was k) (keep (ofPlace k) (rowsOf t i)))
+    go (yes e) = rw (eq-eqb (rowAt t i .mark / 2) k e) (ap (λ (x : ℕ). eqb x 1)
+        (ap (λ (j : ℕ). getD (set marks (rowAt t i .mark / 2) (rowAt t i .mark % 2)) j 0) (sym e) ∙ getD-set-same marks (rowAt t i .mark / 2)
+        (rowAt t i .mark % 2) 0 (omega (arith, long))))
+    go (no e) = rw (ne-eqb (rowAt t i .mark / 2) k e) (ap (λ (x : ℕ). eqb x 1)
+        (getD-set-other marks (rowAt t i .mark / 2) k (rowAt t i .mark % 2) 0 (λ f. e (sym f))) ∙ w k l)
 
 -- one row more that is not after the first
-pub low-more : (s : Bytes) (t : List ℕ) (at i : ℕ) → ((j : ℕ) → at ≤ j → j < i → rowBefore s (rowAt t at) (rowAt t j) ≡ false) → rowBefore s (rowAt t at) (rowAt t i) ≡ false
+pub low-more : (s : Bytes) (t : List ℕ) (at i : ℕ) → ((j : ℕ) → at ≤ j → j < i → rowBefore s (rowAt t at) (rowAt t j) ≡ false) → rowBefore s (rowAt t at)
+    (rowAt t i) ≡ false
     → (j : ℕ) → at ≤ j → j < i + 1 → rowBefore s (rowAt t at) (rowAt t j) ≡ false
 low-more s t at i f h j u v = go (ℕ-discrete j i)
   where
@@ -90,7 +97,8 @@ low-more s t at i f h j u v = go (ℕ-discrete j i)
 
 module _ (lanes : Lanes) (s : Bytes) (last bound : Option TransactionLocator) (t : List ℕ) (n : ℕ) (g : Gathered lanes s last bound t n) where
   -- the rows that the locator reached are the first ones
-  front : (at : ℕ) → at ≤ n → (l : TransactionLocator) → ((j : ℕ) → j < at → locatorBefore l (keyOf s (rowAt t j)) ≡ false) → ((j : ℕ) → at ≤ j → j < n → locatorBefore l (keyOf s (rowAt t j)) ≡ true)
+  front : (at : ℕ) → at ≤ n → (l : TransactionLocator) → ((j : ℕ) → j < at → locatorBefore l (keyOf s (rowAt t j)) ≡ false) →
+      ((j : ℕ) → at ≤ j → j < n → locatorBefore l (keyOf s (rowAt t j)) ≡ true)
       → keep (reached s l) (rowsOf t n) ≡ rowsOf t at
   unfolding reached
   front at h l low high =
@@ -164,7 +172,8 @@ module _ (lanes : Lanes) (s : Bytes) (last bound : Option TransactionLocator) (t
 -- where a range of a lane begins or ends
 edge-listed : (lanes : Lanes) (l : TransactionLocator) (k : ℕ) → k < 3072 → OfRange (lanes k) l → l ∈ edgeLocators lanes
 unfolding edgeLocators
-edge-listed lanes l k h o = in-flatten (in-flatten (own (o .edge)) (in-map ends (o .stands))) (in-map (λ j. flatten (map ends (lanes j))) (in-countFrom 0 3072 k (omega arith) (omega arith)))
+edge-listed lanes l k h o = in-flatten (in-flatten (own (o .edge)) (in-map ends (o .stands)))
+    (in-map (λ j. flatten (map ends (lanes j))) (in-countFrom 0 3072 k (omega arith) (omega arith)))
   where
     ends : TransactionLocatorRange → List TransactionLocator
     ends q = locator (q .block) (q .start) ∷ locator (q .block) (q .end) ∷ []
@@ -173,7 +182,8 @@ edge-listed lanes l k h o = in-flatten (in-flatten (own (o .edge)) (in-map ends 
     own (inl e) = subst (λ (m : TransactionLocator). m ∈ ends (o .range)) (sym e) here
     own (inr e) = subst (λ (m : TransactionLocator). m ∈ ends (o .range)) (sym e) (there here)
 
-module _ (lanes : Lanes) (s : Bytes) (t marks : List ℕ) (w : Window) (at : ℕ) (gone : Option TransactionLocator) (st : Standing lanes s t marks (w .n) (asMaybe (w .bound)) at gone) where
+module _ (lanes : Lanes) (s : Bytes) (t marks : List ℕ) (w : Window) (at : ℕ) (gone : Option TransactionLocator)
+    (st : Standing lanes s t marks (w .n) (asMaybe (w .bound)) at gone) where
   pub stop-ready : length marks ≡ 3072 → at < w .n → Passable s t marks (w .n) at
   stop-ready long h =
       record {
@@ -190,7 +200,8 @@ module _ (lanes : Lanes) (s : Bytes) (t marks : List ℕ) (w : Window) (at : ℕ
   stop-moved h marks' r p =
       record {
         long = p .passed .long;
-        stands = rw (p .many, p .bound, p .here) (stop-standing lanes s (st .last) (asMaybe (w .bound)) t (w .n) (st .gathered) at h marks marks' (r .at) (p .passed) (st .swept));
+        stands = rw (p .many, p .bound, p .here) (stop-standing lanes s (st .last) (asMaybe (w .bound)) t (w .n) (st .gathered) at h marks marks' (r .at)
+            (p .passed) (st .swept));
         ahead = rw (p .here) (after gone (st .clear));
         edge = rw (p .here) (edge-listed lanes q (known' .0 .lane) (known' .0 .below) (known' .0 .ranged));
         quiet = rw (p .here) (λ l f b. st .right l f (record {
@@ -236,7 +247,8 @@ module _ (lanes : Lanes) (s : Bytes) (t marks : List ℕ) (w : Window) (at : ℕ
 
       later-row : (j : ℕ) → j < v .n → locatorBefore b (keyOf s (rowAt t' j)) ≡ true
       unfolding isAfter
-      later-row j k = subst (λ (x : Option TransactionLocator). isAfter x (keyOf s (rowAt t' j)) ≡ true) e (row-ahead lanes s (asMaybe (w .bound)) (asMaybe (v .bound)) t' (v .n) g (rowAt t' j) (row-in t' (v .n) j k) .0 .later)
+      later-row j k = subst (λ (x : Option TransactionLocator). isAfter x (keyOf s (rowAt t' j)) ≡ true) e
+          (row-ahead lanes s (asMaybe (w .bound)) (asMaybe (v .bound)) t' (v .n) g (rowAt t' j) (row-in t' (v .n) j k) .0 .later)
 
       -- a locator that is not after the last bound
       ahead-clear : (y : TransactionLocator) → locatorBefore b y ≡ false → Clear s t' (v .n) (asMaybe (v .bound)) 0 y
@@ -246,7 +258,8 @@ module _ (lanes : Lanes) (s : Bytes) (t marks : List ℕ) (w : Window) (at : ℕ
           go : (x : Option TransactionLocator) → asMaybe (v .bound) ≡ x → isAfterBest x y ≡ false
           go none q = refl
           go (some d) q =
-              let after = subst (λ (x : Option TransactionLocator). isAfter x d ≡ true) e (bound-ahead lanes s (asMaybe (w .bound)) (asMaybe (v .bound)) t' (v .n) g d q .later) in
+              let after = subst (λ (x : Option TransactionLocator). isAfter x d ≡ true) e
+              (bound-ahead lanes s (asMaybe (w .bound)) (asMaybe (v .bound)) t' (v .n) g d q .later) in
               fails (locatorBefore d y) (λ u. locator-irrefl d (locator-trans d y d u (le-lt y b d f after)))
 
       pub renewed : Standing lanes s t' marks (v .n) (asMaybe (v .bound)) 0 gone
@@ -261,8 +274,10 @@ module _ (lanes : Lanes) (s : Bytes) (t marks : List ℕ) (w : Window) (at : ℕ
             right = λ l f c. go l f c (holds-or-not (locatorBefore b l));
           }
         where
-          go : (l : TransactionLocator) → From gone l → Clear s t' (v .n) (asMaybe (v .bound)) 0 l → (locatorBefore b l ≡ true) ⊎ (locatorBefore b l ≡ false) → MarksAt lanes marks l
-          go l f c (inl x) = marks-right lanes s (asMaybe (w .bound)) (asMaybe (v .bound)) t' (v .n) g marks 0 (omega arith) carried l (rw e x) (λ j k. absurd (omega arith)) c
+          go : (l : TransactionLocator) → From gone l → Clear s t' (v .n) (asMaybe (v .bound)) 0 l → (locatorBefore b l ≡ true) ⊎ (locatorBefore b l ≡ false)
+              → MarksAt lanes marks l
+          go l f c (inl x) = marks-right lanes s (asMaybe (w .bound)) (asMaybe (v .bound)) t' (v .n) g marks 0 (omega arith) carried l (rw e x)
+              (λ j k. absurd (omega arith)) c
           go l f c (inr x) = st .right l f (none-left l x)
 
       -- a window without rows is whole

@@ -66,4 +66,5 @@ Moved lanes s marks t' marks' here (onward.the-variants.At r) = MovedTo lanes s 
 Moved lanes s marks t' marks' here onward.the-variants.End = (l : TransactionLocator) → From here l → MarksAt lanes marks l
 
 unfoldable pub Gone : Lanes → Bytes → List ℕ → List ℕ → List ℕ → List ℕ → Window → ℕ → onward.Onward → Type 0
-Gone lanes s t marks t' marks' w at r = (here : Option TransactionLocator) → Standing lanes s t marks (w .n) (asMaybe (w .bound)) at here → Moved lanes s marks t' marks' here r
+Gone lanes s t marks t' marks' w at r = (here : Option TransactionLocator) → Standing lanes s t marks (w .n) (asMaybe (w .bound)) at here → Moved lanes s
+    marks t' marks' here r

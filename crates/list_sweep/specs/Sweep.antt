@@ -35,7 +35,8 @@ unfoldable pub Swept : (ℕ → Bool) → List ℕ → List ℕ → ℕ → Type
 Swept was t marks at = (k : ℕ) → k < 3072 → eqb (getD marks k 0) 1 ≡ lastBegins (was k) (keep (ofPlace k) (rowsOf t at))
 
 -- a window of which the first rows are passed; the marks are right from a locator on up to the next edge
-pub record Standing (lanes : Lanes) (s : Bytes) (t marks : List ℕ) (n : ℕ) (bound : Option TransactionLocator) (at : ℕ) (here : Option TransactionLocator) : Type 0 where
+pub record Standing (lanes : Lanes) (s : Bytes) (t marks : List ℕ) (n : ℕ) (bound : Option TransactionLocator) (at : ℕ) (here : Option TransactionLocator) :
+    Type 0 where
   pub last : Option TransactionLocator
   pub gathered : Gathered lanes s last bound t n
   pub inside : at ≤ n

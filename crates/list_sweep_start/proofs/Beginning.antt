@@ -13,7 +13,8 @@ use Rattle.base.specs.Lists.{keep, isNone, countFrom}
 use Rattle.base.specs.Le.{Bytes}
 use Rattle.base.proofs.Tests.{not-both, holds-or-not, fails}
 use Rattle.record_spec.specs.Reference.{BlockReference, TransactionLocator, locator, locatorBefore, referenceBefore}
-use Rattle.record_spec.proofs.References.{Precedes, byBlock, byOffset, precedes, is-before, reference-irrefl, reference-trans, locator-irrefl, locator-trans, locator-total, not-before-trans}
+use Rattle.record_spec.proofs.References.{Precedes, byBlock, byOffset, precedes, is-before, reference-irrefl, reference-trans, locator-irrefl, locator-trans}
+use Rattle.record_spec.proofs.References.{locator-total, not-before-trans}
 use Rattle.types.specs.Values.{asLocator}
 use Rattle.types.specs.declared.TransactionLocator as types
 use Rattle.final_spec.specs.NextFinal.{isAfter}
@@ -59,13 +60,15 @@ unfolding asLocator locator
 offset-same g = refl
 
 module _ (lanes : Lanes) (s : Bytes) (t marks : List ℕ) (w : Window) where
-  swept-none : (last : Option TransactionLocator) → ((k : ℕ) → k < 3072 → eqb (getD marks k 0) 1 ≡ saidAt (lanes k) last) → Swept (λ k. saidAt (lanes k) last) t marks 0
+  swept-none : (last : Option TransactionLocator) → ((k : ℕ) → k < 3072 → eqb (getD marks k 0) 1 ≡ saidAt (lanes k) last) → Swept (λ k. saidAt (lanes k) last)
+      t marks 0
   unfolding Swept rowsOf rowsFrom countFrom keep lastBegins
   swept-none last f k m = f k m
 
   -- ---- before all edges
 
-  pub start-standing : Gathered lanes s none (asMaybe (w .bound)) t (w .n) → ((k : ℕ) → getD marks k 0 ≡ 0) → Standing lanes s t marks (w .n) (asMaybe (w .bound)) 0 none
+  pub start-standing : Gathered lanes s none (asMaybe (w .bound)) t (w .n) → ((k : ℕ) → getD marks k 0 ≡ 0) → Standing lanes s t marks (w .n)
+      (asMaybe (w .bound)) 0 none
   unfolding saidAt isAfter
   start-standing g z =
       let zero-marks : ((k : ℕ) → k < 3072 → eqb (getD marks k 0) 1 ≡ saidAt (lanes k) none) = λ k m. rw (z k) in
@@ -75,13 +78,15 @@ module _ (lanes : Lanes) (s : Bytes) (t marks : List ℕ) (w : Window) where
         inside = omega arith;
         swept = swept-none none zero-marks;
         clear = λ h e. absurd (none-some h e);
-        right = λ l f c. marks-right lanes s none (asMaybe (w .bound)) t (w .n) g marks 0 (omega arith) (swept-none none zero-marks) l refl (λ j h. absurd (omega arith)) c;
+        right = λ l f c. marks-right lanes s none (asMaybe (w .bound)) t (w .n) g marks 0 (omega arith) (swept-none none zero-marks) l refl
+            (λ j h. absurd (omega arith)) c;
       }
     where
       none-some : (h : TransactionLocator) → _≡_ {A = Option TransactionLocator} none (some h) → ⊥
       none-some h e = Option·none-ne-some h e
 
-  pub start-begun : ((k : ℕ) → getD marks k 0 ≡ 0) → (t' marks' : List ℕ) (r : Onward) → length marks ≡ 3072 → Moved lanes s marks t' marks' none r → Begun lanes s t' marks' none r
+  pub start-begun : ((k : ℕ) → getD marks k 0 ≡ 0) → (t' marks' : List ℕ) (r : Onward) → length marks ≡ 3072 → Moved lanes s marks t' marks' none r → Begun
+      lanes s t' marks' none r
   unfolding Moved Begun MarksAt From isAfter
   start-begun z t' marks' (At r) long m =
       record {
@@ -95,7 +100,8 @@ module _ (lanes : Lanes) (s : Bytes) (t marks : List ℕ) (w : Window) where
 
   -- ---- after a given locator
 
-  module _ (given : types.TransactionLocator) (g : Gathered lanes s (some (asLocator given)) (asMaybe (w .bound)) t (w .n)) (right : MarksAt lanes marks (asLocator given)) where
+  module _ (given : types.TransactionLocator) (g : Gathered lanes s (some (asLocator given)) (asMaybe (w .bound)) t (w .n))
+      (right : MarksAt lanes marks (asLocator given)) where
     abbrev gl : TransactionLocator
     gl = asLocator given
 
@@ -108,7 +114,8 @@ module _ (lanes : Lanes) (s : Bytes) (t marks : List ℕ) (w : Window) where
     later-row j h = row-ahead lanes s (some gl) (asMaybe (w .bound)) t (w .n) g (rowAt t j) (row-in t (w .n) j h) .0 .later
 
     -- a locator that is at the given one or just after it is not past the bound
-    bound-far : (y : TransactionLocator) → ((x : TransactionLocator) → locatorBefore gl x ≡ true → locatorBefore x y ≡ false) → isAfterBest (asMaybe (w .bound)) y ≡ false
+    bound-far : (y : TransactionLocator) → ((x : TransactionLocator) → locatorBefore gl x ≡ true → locatorBefore x y ≡ false) → isAfterBest
+        (asMaybe (w .bound)) y ≡ false
     unfolding isAfterBest isAfter isNone
     bound-far y f = go (asMaybe (w .bound)) refl
       where
@@ -130,9 +137,14 @@ module _ (lanes : Lanes) (s : Bytes) (t marks : List ℕ) (w : Window) where
         }
       where
         here-clear : Clear s t (w .n) (asMaybe (w .bound)) 0 gl
-        here-clear = record { rows = λ j h k. later-row j k; short = bound-far gl (λ x h. fails (locatorBefore x gl) (λ u. locator-irrefl gl (locator-trans gl x gl h u))) }
+        here-clear = record {
+          rows = λ j h k. later-row j k;
+          short = bound-far gl
+              (λ x h. fails (locatorBefore x gl) (λ u. locator-irrefl gl (locator-trans gl x gl h u)));
+        }
 
-        at-or-after : (l : TransactionLocator) → locatorBefore l gl ≡ false → Clear s t (w .n) (asMaybe (w .bound)) 0 l → (locatorBefore gl l ≡ true) ⊎ (locatorBefore gl l ≡ false) → MarksAt lanes marks l
+        at-or-after : (l : TransactionLocator) → locatorBefore l gl ≡ false → Clear s t (w .n) (asMaybe (w .bound)) 0 l → (locatorBefore gl l ≡ true) ⊎
+            (locatorBefore gl l ≡ false) → MarksAt lanes marks l
         at-or-after l f c (inl x) = marks-right lanes s (some gl) (asMaybe (w .bound)) t (w .n) g marks 0 (omega arith) read l x (λ j h. absurd (omega arith)) c
         at-or-after l f c (inr x) = subst (MarksAt lanes marks) (locator-total gl l x f) right
 
@@ -140,7 +152,8 @@ module _ (lanes : Lanes) (s : Bytes) (t marks : List ℕ) (w : Window) where
     abbrev next : TransactionLocator
     next = justAfter given
 
-    beyond : (marks' : List ℕ) (at : ℕ) → at ≤ w .n → Swept (λ k. saidAt (lanes k) (some gl)) t marks' at → ((j : ℕ) → j < at → locatorBefore next (keyOf s (rowAt t j)) ≡ false)
+    beyond : (marks' : List ℕ) (at : ℕ) → at ≤ w .n → Swept (λ k. saidAt (lanes k) (some gl)) t marks' at →
+        ((j : ℕ) → j < at → locatorBefore next (keyOf s (rowAt t j)) ≡ false)
         → ((j : ℕ) → at ≤ j → j < w .n → locatorBefore next (keyOf s (rowAt t j)) ≡ true) → Standing lanes s t marks' (w .n) (asMaybe (w .bound)) at (some next)
     unfolding From isAfter
     beyond marks' at most swept low high =
@@ -149,11 +162,14 @@ module _ (lanes : Lanes) (s : Bytes) (t marks : List ℕ) (w : Window) where
           gathered = g;
           inside = most;
           swept = swept;
-          clear = λ h e. subst (Clear s t (w .n) (asMaybe (w .bound)) at) (Option·some-injective _ _ e) (record { rows = high; short = bound-far next (λ x h. next-least gl x h) });
-          right = λ l f c. marks-right lanes s (some gl) (asMaybe (w .bound)) t (w .n) g marks' at most swept l (lt-le gl next l (next-before gl) f) (λ j h. not-before-trans (keyOf s (rowAt t j)) next l (low j h) f) c;
+          clear = λ h e. subst (Clear s t (w .n) (asMaybe (w .bound)) at) (Option·some-injective _ _ e)
+              (record { rows = high; short = bound-far next (λ x h. next-least gl x h) });
+          right = λ l f c. marks-right lanes s (some gl) (asMaybe (w .bound)) t (w .n) g marks' at most swept l (lt-le gl next l (next-before gl) f)
+              (λ j h. not-before-trans (keyOf s (rowAt t j)) next l (low j h) f) c;
         }
 
-    behind : (i j : ℕ) → i ≤ j → j < w .n → (x : TransactionLocator) → locatorBefore x (keyOf s (rowAt t i)) ≡ true → locatorBefore x (keyOf s (rowAt t j)) ≡ true
+    behind : (i j : ℕ) → i ≤ j → j < w .n → (x : TransactionLocator) → locatorBefore x (keyOf s (rowAt t i)) ≡ true → locatorBefore x (keyOf s (rowAt t j)) ≡
+        true
     unfolding rowBefore
     behind i j h k x b = go (ℕ-discrete i j)
       where
@@ -161,14 +177,19 @@ module _ (lanes : Lanes) (s : Bytes) (t marks : List ℕ) (w : Window) where
         go (yes e) = subst (λ (y : ℕ). locatorBefore x (keyOf s (rowAt t y)) ≡ true) e b
         go (no e) = lt-le x (keyOf s (rowAt t i)) (keyOf s (rowAt t j)) b (sorted-at s t (w .n) i j (g .sorted) (omega arith) k)
 
-    pub next-standing : (marks' : List ℕ) (at : ℕ) → Stood s t marks (w .n) next marks' at → Standing lanes s t marks' (w .n) (asMaybe (w .bound)) at (some next)
+    pub next-standing : (marks' : List ℕ) (at : ℕ) → Stood s t marks (w .n) next marks' at → Standing lanes s t marks' (w .n) (asMaybe (w .bound)) at
+        (some next)
     unfolding rowBefore
-    next-standing marks' at (none-there e z f) = rw (z, e) (beyond marks 0 (omega arith) read (λ j h. absurd (omega arith)) (λ j h k. behind 0 j (omega arith) k next (f (omega arith))))
+    next-standing marks' at (none-there e z f) = rw (z, e) (beyond marks 0 (omega arith) read (λ j h. absurd (omega arith))
+        (λ j h k. behind 0 j (omega arith) k next (f (omega arith))))
     next-standing marks' at (some-there h f p) =
-        beyond marks' at (p .most) (p .swept (λ k. saidAt (lanes k) (some gl)) read) (λ j k. not-before-trans (keyOf s (rowAt t j)) (keyOf s (rowAt t 0)) next (p .low j (omega arith) k) f)
-        (λ j k i. le-lt next (keyOf s (rowAt t 0)) (keyOf s (rowAt t j)) (next-least gl (keyOf s (rowAt t 0)) (later-row 0 h)) (behind at j k i (keyOf s (rowAt t 0)) (p .high (omega arith))))
+        beyond marks' at (p .most) (p .swept (λ k. saidAt (lanes k) (some gl)) read)
+        (λ j k. not-before-trans (keyOf s (rowAt t j)) (keyOf s (rowAt t 0)) next (p .low j (omega arith) k) f)
+        (λ j k i. le-lt next (keyOf s (rowAt t 0)) (keyOf s (rowAt t j)) (next-least gl (keyOf s (rowAt t 0)) (later-row 0 h))
+        (behind at j k i (keyOf s (rowAt t 0)) (p .high (omega arith))))
 
-    pub given-begun : length marks ≡ 3072 → given .offset ≡ 18446744073709551615 → BegunAt lanes s t marks (some gl) (record { n = w .n; bound = w .bound; at = 0; here = given })
+    pub given-begun : length marks ≡ 3072 → given .offset ≡ 18446744073709551615 → BegunAt lanes s t marks (some gl)
+        (record { n = w .n; bound = w .bound; at = 0; here = given })
     unfolding isAfter From
     given-begun long e =
         record {

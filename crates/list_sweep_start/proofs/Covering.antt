@@ -36,14 +36,17 @@ module _ (s : Bytes) (t : List ℕ) (l : TransactionLocator) where
   one-more i h k = ap (λ (xs : List Row). anyOf (rowCovers s l) xs) (rows-more t i) ∙ covers-append s (rowsOf t i) (rowAt t i ∷ []) l ∙ rw (h, k)
 
   -- it begins after the locator
-  pub later-row : (i : ℕ) → anyCovers s (rowsOf t i) l ≡ false → locatorBefore l (keyOf s (startEdge 0 (rowAt t i))) ≡ true → anyCovers s (rowsOf t (i + 1)) l ≡ false
+  pub later-row : (i : ℕ) → anyCovers s (rowsOf t i) l ≡ false → locatorBefore l (keyOf s (startEdge 0 (rowAt t i))) ≡ true → anyCovers s (rowsOf t (i + 1)) l
+      ≡ false
   later-row i h k = one-more i h (fails (rowCovers s l (rowAt t i)) (λ c. not-both k (covers-start s 0 (rowAt t i) l c)))
 
   -- or ends there or before
-  pub earlier-row : (i : ℕ) → anyCovers s (rowsOf t i) l ≡ false → locatorBefore l (keyOf s (endEdge 0 (rowAt t i))) ≡ false → anyCovers s (rowsOf t (i + 1)) l ≡ false
+  pub earlier-row : (i : ℕ) → anyCovers s (rowsOf t i) l ≡ false → locatorBefore l (keyOf s (endEdge 0 (rowAt t i))) ≡ false → anyCovers s (rowsOf t (i + 1))
+      l ≡ false
   earlier-row i h k = one-more i h (fails (rowCovers s l (rowAt t i)) (λ c. not-both (covers-end s 0 (rowAt t i) l c) k))
 
-  pub covering-row : (m i : ℕ) → i < m → locatorBefore l (keyOf s (startEdge 0 (rowAt t i))) ≡ false → locatorBefore l (keyOf s (endEdge 0 (rowAt t i))) ≡ true → anyCovers s (rowsOf t m) l ≡ true
+  pub covering-row : (m i : ℕ) → i < m → locatorBefore l (keyOf s (startEdge 0 (rowAt t i))) ≡ false → locatorBefore l (keyOf s (endEdge 0 (rowAt t i))) ≡
+      true → anyCovers s (rowsOf t m) l ≡ true
   unfolding anyCovers
   covering-row m i h a b = in-any (rowCovers s l) (row-in t m i h) (covers-between s 0 (rowAt t i) l a b)
 
@@ -56,7 +59,8 @@ flag-is : (t : Bool) → eqb (pick t 1 0) 1 ≡ t
 flag-is true = refl
 flag-is false = refl
 
-pub marked-more : (lanes : Lanes) (marks : List ℕ) (l : TransactionLocator) (n f : ℕ) (t : Bool) → n < length marks → MarkedBelow lanes marks l n → t ≡ anySpan (lanes n) l → f ≡ pick t 1 0
+pub marked-more : (lanes : Lanes) (marks : List ℕ) (l : TransactionLocator) (n f : ℕ) (t : Bool) → n < length marks → MarkedBelow lanes marks l n → t ≡
+    anySpan (lanes n) l → f ≡ pick t 1 0
     → MarkedBelow lanes (set marks n f) l (n + 1)
 marked-more lanes marks l n f t h w e q k m = go (ℕ-discrete k n)
   where

@@ -39,9 +39,16 @@ use Rattle.list_walk.proofs.Walking.{Walking}
 pub skipped-start : (own : List ℕ) (n : ℕ) (f : List ℕ) → Skipped own n f f 0
 skipped-start own n f = record { inside = omega arith; long = refl; unmarked = λ k h. absurd (omega arith); zeros = λ k h. absurd (omega arith) }
 
-pub skipped-more : (own : List ℕ) (n : ℕ) (f₀ f : List ℕ) (r : ℕ) → Skipped own n f₀ f r → r < n → n ≤ length f₀ → eqb (getD own r 0) 1 ≡ false → Skipped own n f₀ (set f r 0) (r + 1)
+pub skipped-more : (own : List ℕ) (n : ℕ) (f₀ f : List ℕ) (r : ℕ) → Skipped own n f₀ f r → r < n → n ≤ length f₀ → eqb (getD own r 0) 1 ≡ false → Skipped own
+    n f₀ (set f r 0) (r + 1)
 skipped-more own n f₀ f r w h room e =
-    record { inside = omega arith; long = length-set f r 0 ∙ w .long; unmarked = λ k l. unmarked-too k l (ℕ-discrete k r); zeros = λ k l. zeros-too k l (ℕ-discrete k r) }
+    record {
+      inside = omega arith;
+      long = length-set f r 0 ∙ w .long;
+      unmarked = λ k l. unmarked-too k l (ℕ-discrete k r);
+      zeros = λ k l. zeros-too k l
+          (ℕ-discrete k r);
+    }
   where
     unmarked-too : (k : ℕ) → k < r + 1 → Dec (k ≡ r) → eqb (getD own k 0) 1 ≡ false
     unmarked-too k l (yes q) = rw q e
@@ -68,14 +75,16 @@ none-set j =
     let f = zeros-at 2048 (2 * j + 1) in
     λ i. record { low = e i; high = f i }
 
-module _ (s : Bytes) (order : List ℕ) (o : SortedStore s order) (l : TransactionLocator) (own : List ℕ) (w : Owned false s order l own) (sets : List ℕ) (x : Included s order sets (length order)) where
+module _ (s : Bytes) (order : List ℕ) (o : SortedStore s order) (l : TransactionLocator) (own : List ℕ) (w : Owned false s order l own) (sets : List ℕ)
+    (x : Included s order sets (length order)) where
   quiet-voters : (n : ℕ) → n ≤ length order → ((k : ℕ) → k < n → eqb (getD own k 0) 1 ≡ false) → (k : ℕ) → k < n → spokenAt ownVote s order l k ≡ nobody
   quiet-voters zero h f k m = absurd (omega arith)
   quiet-voters (suc n) h f k m = go (ℕ-discrete k n) (quiet-voters n (omega arith) (λ j q. f j (omega arith)))
     where
       go : Dec (k ≡ n) → ((j : ℕ) → j < n → spokenAt ownVote s order l j ≡ nobody) → spokenAt ownVote s order l k ≡ nobody
       go (yes q) g =
-          rw q (sym (all-heard false s order o l n (omega arith) own w nobody (quiet-below s order o ownVote l sets x n (omega arith) g)) ∙ rw (f n (omega arith)) (united-nobody nobody))
+          rw q (sym (all-heard false s order o l n (omega arith) own w nobody (quiet-below s order o ownVote l sets x n (omega arith) g)) ∙ rw
+          (f n (omega arith)) (united-nobody nobody))
       go (no q) g = g k (omega arith)
 
   module _ (n : ℕ) (h : n ≤ length order) (f : (k : ℕ) → k < n → eqb (getD own k 0) 1 ≡ false) where
@@ -90,7 +99,8 @@ module _ (s : Bytes) (order : List ℕ) (o : SortedStore s order) (l : Transacti
       none-holds : (k : ℕ) → k < n → holdsAt (certifiesIn reading c (blocksOf s) l) s (getD order k 0) ≡ false
       unfolding certifiesIn blockAtPlace isQuorum stakeOf
       none-holds k m =
-          let e : votersIn reading (blocksOf s) l (blockAtPlace s order k .reference) ≡ nobody = sym (right k (omega arith)) ∙ ap (λ (v : AuthoritySet). counted rejected v (setAt rejecters k)) (quiet-voters n h f k m) ∙ nobody-counts rejected (setAt rejecters k) in
+          let e : votersIn reading (blocksOf s) l (blockAtPlace s order k .reference) ≡ nobody = sym (right k (omega arith)) ∙ ap
+          (λ (v : AuthoritySet). counted rejected v (setAt rejecters k)) (quiet-voters n h f k m) ∙ nobody-counts rejected (setAt rejecters k) in
           rw (e, stake-nobody c 0, le-ltb (2 * totalStake c) 0 (omega arith)) (and-false (not (blockAt s (getD order k 0) .marked)))
 
       none-found : (k : ℕ) → k ≤ n → [] ≡ found (certifiesIn reading c (blocksOf s) l) s order k

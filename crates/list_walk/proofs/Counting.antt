@@ -48,10 +48,12 @@ module _ (s : Bytes) (order : List ℕ) (l : TransactionLocator) where
   -- where nobody votes, too
   pub counted-none : (reading : Reading) → ((d : Block) → d ∈ blocksOf s → votesFor d l ≡ false) → (gone : List ℕ) → CountedRight false reading s order l gone
   unfolding counted spokenAt votersIn
-  counted-none reading none gone k h = no-voters old (blocksOf s) l none (blockAtPlace s order k .reference) ∙ sym (no-voters reading (blocksOf s) l none (blockAtPlace s order k .reference))
+  counted-none reading none gone k h = no-voters old (blocksOf s) l none (blockAtPlace s order k .reference) ∙ sym
+      (no-voters reading (blocksOf s) l none (blockAtPlace s order k .reference))
 
 -- no place is marked, so nobody rejects
-pub none-rejects : (s : Bytes) (order : List ℕ) → SortedStore s order → (l : TransactionLocator) (own : List ℕ) → Owned true s order l own → ((k : ℕ) → k < length order → eqb (getD own k 0) 1 ≡ false)
+pub none-rejects : (s : Bytes) (order : List ℕ) → SortedStore s order → (l : TransactionLocator) (own : List ℕ) → Owned true s order l own →
+    ((k : ℕ) → k < length order → eqb (getD own k 0) 1 ≡ false)
     → (r : BlockReference) → rejecters (blocksOf s) l r ≡ nobody
 unfolding Owned ownReject SortedStore blockAtPlace
 none-rejects s order o l own w f r = spoken-nobody ownReject l (blocksOf s) (λ d m. rw (quiet d m)) r
@@ -63,6 +65,7 @@ none-rejects s order o l own w f r = spoken-nobody ownReject l (blocksOf s) (λ 
         subst (λ (x : Block). rejects x l ≡ false) (ap (blockAt s) (y .1 .1) ∙ p .2) (sym (w (y .0) (y .1 .0)) ∙ f (y .0) (y .1 .0))
 
 -- no vote reaches the last offset
-pub last-unvoted : (s : Bytes) (order : List ℕ) → SortedStore s order → AllBytes s → (l : TransactionLocator) → l .offset ≡ 18446744073709551615 → (d : Block) → d ∈ blocksOf s → votesFor d l ≡ false
+pub last-unvoted : (s : Bytes) (order : List ℕ) → SortedStore s order → AllBytes s → (l : TransactionLocator) → l .offset ≡ 18446744073709551615 → (d : Block)
+    → d ∈ blocksOf s → votesFor d l ≡ false
 unfolding SortedStore
 last-unvoted s order o bytes l e d m = fails (votesFor d l) (λ h. let x = vote-offset (o .0) s bytes (o .1 .inOrder) d m l h in omega arith)

@@ -32,19 +32,23 @@ pub record Going (c : Committee) (order memo flags : List ℕ) (n : ℕ) (last :
   pub wide : length flags ≡ 1024
   pub sure : Sure c last
 
-pub record Walking (reading : Reading) (c : Committee) (s : Bytes) (l : TransactionLocator) (order flags : List ℕ) (authors : AuthoritySet) (n k : ℕ) : Type 0 where
-  pub many : n ≡ length (found (certifiesIn reading c (blocksOf s) l) s order k)
-  pub authored : Authors s (found (certifiesIn reading c (blocksOf s) l) s order k) authors
-  pub flagged : (j : ℕ) → j < k → getD flags j 0 ≡ pick (holdsAt (certifiesIn reading c (blocksOf s) l) s (getD order j 0)) 1 0
+pub record Walking (reading : Reading) (c : Committee) (s : Bytes) (l : TransactionLocator) (order flags : List ℕ) (authors : AuthoritySet) (n k : ℕ) : Type 0
+  where
+    pub many : n ≡ length (found (certifiesIn reading c (blocksOf s) l) s order k)
+    pub authored : Authors s (found (certifiesIn reading c (blocksOf s) l) s order k) authors
+    pub flagged : (j : ℕ) → j < k → getD flags j 0 ≡ pick (holdsAt (certifiesIn reading c (blocksOf s) l) s (getD order j 0)) 1 0
 
-pub going-more : (c : Committee) (order memo flags : List ℕ) (n : ℕ) (last : Checked) (k : ℕ) → Going c order memo flags n last k → k < length order → (v : AuthoritySet) (next : Checked) → Sure c next
+pub going-more : (c : Committee) (order memo flags : List ℕ) (n : ℕ) (last : Checked) (k : ℕ) → Going c order memo flags n last k → k < length order →
+    (v : AuthoritySet) (next : Checked) → Sure c next
     → (m : ℕ) → m ≤ k + 1 → (x : ℕ) → Going c order (withSet memo k v) (set flags k x) m next (k + 1)
 going-more c order memo flags n last k w h v next z m few x =
     record { inside = omega arith; few = few; long = with-length memo k v ∙ w .long; wide = length-set flags k x ∙ w .wide; sure = z }
 
 module _ (reading : Reading) (c : Committee) (s : Bytes) (l : TransactionLocator) (order : List ℕ) where
-  module _ (flags : List ℕ) (authors : AuthoritySet) (n k : ℕ) (w : Walking reading c s l order flags authors n k) (h : k < length order) (fit : k < length flags)
-      (v : AuthoritySet) (e : v ≡ votersIn reading (blocksOf s) l (blockAtPlace s order k .reference)) (next : Checked) (f : next .voters ≡ v) (z : Sure c next) where
+  module _ (flags : List ℕ) (authors : AuthoritySet) (n k : ℕ) (w : Walking reading c s l order flags authors n k) (h : k < length order)
+      (fit : k < length flags)
+      (v : AuthoritySet) (e : v ≡ votersIn reading (blocksOf s) l (blockAtPlace s order k .reference)) (next : Checked) (f : next .voters ≡ v)
+      (z : Sure c next) where
     -- the voters of the block decide
     decides : holdsAt (certifiesIn reading c (blocksOf s) l) s (getD order k 0) ≡ not (blockAt s (getD order k 0) .marked) && next .quorum
     unfolding certifiesIn blockAtPlace Sure
@@ -61,7 +65,12 @@ module _ (reading : Reading) (c : Committee) (s : Bytes) (l : TransactionLocator
     pub walking-no : not (blockAt s (getD order k 0) .marked) && next .quorum ≡ false → Walking reading c s l order (set flags k 0) authors n (k + 1)
     walking-no q =
         let x = found-no (certifiesIn reading c (blocksOf s) l) s order k h (decides ∙ q) in
-        record { many = w .many ∙ ap length (sym x); authored = subst (λ (qs : List ℕ). Authors s qs authors) (sym x) (w .authored); flagged = flagged-more false (decides ∙ q) }
+        record {
+          many = w .many ∙ ap length (sym x);
+          authored = subst (λ (qs : List ℕ). Authors s qs authors) (sym x) (w .authored);
+          flagged = flagged-more
+              false (decides ∙ q);
+        }
 
     pub walking-yes : not (blockAt s (getD order k 0) .marked) && next .quorum ≡ true → author (blockAt s (getD order k 0)) < 128
         → Walking reading c s l order (set flags k 1) (inserted authors (author (blockAt s (getD order k 0)))) (n + 1) (k + 1)

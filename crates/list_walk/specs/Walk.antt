@@ -37,7 +37,8 @@ counted false voters rejecters = voters
 -- what counts is the voters of a reading
 abbrev pub CountedRight : Bool → Reading → Bytes → List ℕ → TransactionLocator → List ℕ → Type 0
 CountedRight rejected reading s order l rejecters =
-    (k : ℕ) → k < length order → counted rejected (spokenAt ownVote s order l k) (setAt rejecters k) ≡ votersIn reading (blocksOf s) l (blockAtPlace s order k .reference)
+    (k : ℕ) → k < length order → counted rejected (spokenAt ownVote s order l k) (setAt rejecters k) ≡ votersIn reading (blocksOf s) l
+    (blockAtPlace s order k .reference)
 
 -- the number of certifying blocks, and their authors
 unfoldable pub Certify : Reading → Committee → Bytes → TransactionLocator → found.Certifiers → Type 0
@@ -54,7 +55,8 @@ CertifyFlagged reading c s order l f r = Certify reading c s l r × Flags readin
 -- the same of whatever reading and locator the marks and the rejects are of
 unfoldable pub CertifyMarked : Bool → Committee → Bytes → List ℕ → List ℕ → List ℕ → List ℕ → found.Certifiers → Type 0
 CertifyMarked rejected c s order own rejecters f r =
-    (reading : Reading) (l : TransactionLocator) → Owned false s order l own → CountedRight rejected reading s order l rejecters → CertifyFlagged reading c s order l f r
+    (reading : Reading) (l : TransactionLocator) → Owned false s order l own → CountedRight rejected reading s order l rejecters → CertifyFlagged reading c s
+    order l f r
 
 -- no place before the r-th of the first n is marked, and 0 is written for each of them
 pub record Skipped (own : List ℕ) (n : ℕ) (f₀ f : List ℕ) (r : ℕ) : Type 0 where

@@ -66,7 +66,8 @@ apart-offsets s p r h e = go (precedes (locator (referenceAt s (p .at)) (p .mark
     go (byBlock b) = absurd (reference-irrefl (referenceAt s (r .at)) (subst (λ (x : BlockReference). referenceBefore x (referenceAt s (r .at)) ≡ true) e b))
     go (byOffset b o) = o
 
-module _ (s : Bytes) (rs : List Row) (proper : Every (Proper s) rs) (apart : Pairs (Apart s) rs) (qs : List TransactionLocatorRange) (last bound : Option TransactionLocator)
+module _ (s : Bytes) (rs : List Row) (proper : Every (Proper s) rs) (apart : Pairs (Apart s) rs) (qs : List TransactionLocatorRange)
+    (last bound : Option TransactionLocator)
     (same : (l : TransactionLocator) → Within last bound l → anyCovers s rs l ≡ anySpan qs l) where
   -- a range that covers what a row covers
   record Found (r : BlockReference) (o : ℕ) : Type 0 where
@@ -83,9 +84,11 @@ module _ (s : Bytes) (rs : List Row) (proper : Every (Proper s) rs) (apart : Pai
       record { range = x .0; stands = x .1; covering = covers-of (x .0) (referenceAt s (p .at)) o (x .2) }
 
   -- what a range covers beside a row is not there
-  beside : (p : Row) → p ∈ rs → (q : TransactionLocatorRange) → q ∈ qs → (o : ℕ) → Within last bound (locator (referenceAt s (p .at)) o) → Covering q (referenceAt s (p .at)) o → (o + 1 ≡ p .offset) ⊎ (o ≡ p .mark) → ⊥
+  beside : (p : Row) → p ∈ rs → (q : TransactionLocatorRange) → q ∈ qs → (o : ℕ) → Within last bound (locator (referenceAt s (p .at)) o) → Covering q
+      (referenceAt s (p .at)) o → (o + 1 ≡ p .offset) ⊎ (o ≡ p .mark) → ⊥
   unfolding anyCovers rowCovers rowRange newRange
-  beside p m q n o w c side = go side (x .0) (covers-of (newRange (referenceAt s (x .0 .at)) (x .0 .offset) (x .0 .mark)) (referenceAt s (p .at)) o (x .2)) (in-pairs rs apart m (x .1))
+  beside p m q n o w c side = go side (x .0) (covers-of (newRange (referenceAt s (x .0 .at)) (x .0 .offset) (x .0 .mark)) (referenceAt s (p .at)) o (x .2))
+      (in-pairs rs apart m (x .1))
     where
       l : TransactionLocator
       l = locator (referenceAt s (p .at)) o
@@ -96,7 +99,8 @@ module _ (s : Bytes) (rs : List Row) (proper : Every (Proper s) rs) (apart : Pai
       filled : p .offset < p .mark
       filled = every-in rs p proper m .filled
 
-      go : (o + 1 ≡ p .offset) ⊎ (o ≡ p .mark) → (r : Row) → Covering (newRange (referenceAt s (r .at)) (r .offset) (r .mark)) (referenceAt s (p .at)) o → (p ≡ r) ⊎ (Apart s p r ⊎ Apart s r p) → ⊥
+      go : (o + 1 ≡ p .offset) ⊎ (o ≡ p .mark) → (r : Row) → Covering (newRange (referenceAt s (r .at)) (r .offset) (r .mark)) (referenceAt s (p .at)) o →
+          (p ≡ r) ⊎ (Apart s p r ⊎ Apart s r p) → ⊥
       go (inl e) r d (inl f) = let g = subst (λ (y : Row). y .offset ≤ o) (sym f) (d .from) in omega arith
       go (inr e) r d (inl f) = let g = subst (λ (y : Row). o < y .mark) (sym f) (d .below) in omega arith
       go (inl e) r d (inr (inl f)) = omega (arith, apart-offsets s p r f (sym (d .block)), d .from, filled)
@@ -130,7 +134,8 @@ module _ (s : Bytes) (rs : List Row) (proper : Every (Proper s) rs) (apart : Pai
       go (yes e) = record { range = f .range; stands = f .stands; edge = inl (ap₂ locator (sym (f .covering .block)) e) }
       go (no e) =
           let h : f .range .start < p .offset = omega (arith, f .covering .from, e) in
-          absurd (beside p m (f .range) (f .stands) (p .offset - 1) (before-edge _ (p .offset - 1) (p .offset) (omega arith) i) (record { block = f .covering .block; from = omega arith; below = omega (arith, f .covering .below) }) (inl (omega arith)))
+          absurd (beside p m (f .range) (f .stands) (p .offset - 1) (before-edge _ (p .offset - 1) (p .offset) (omega arith) i)
+          (record { block = f .covering .block; from = omega arith; below = omega (arith, f .covering .below) }) (inl (omega arith)))
 
   end-ranged : (p : Row) → p ∈ rs → In (locator (referenceAt s (p .at)) (p .mark)) → OfRange qs (locator (referenceAt s (p .at)) (p .mark))
   end-ranged p m i = go (ℕ-discrete (p .mark) (f .range .end))
@@ -145,7 +150,8 @@ module _ (s : Bytes) (rs : List Row) (proper : Every (Proper s) rs) (apart : Pai
       go (yes e) = record { range = f .range; stands = f .stands; edge = inr (ap₂ locator (sym (f .covering .block)) e) }
       go (no e) =
           let h : p .mark < f .range .end = omega (arith, f .covering .below, e, filled) in
-          absurd (beside p m (f .range) (f .stands) (p .mark) (at-edge _ i) (record { block = f .covering .block; from = omega (arith, f .covering .from, filled); below = h }) (inr refl))
+          absurd (beside p m (f .range) (f .stands) (p .mark) (at-edge _ i)
+          (record { block = f .covering .block; from = omega (arith, f .covering .from, filled); below = h }) (inr refl))
 
   edge-ranged : (k : ℕ) {e : Row} → Edge k rs e → In (keyOf s e) → OfRange qs (keyOf s e)
   unfolding keyOf startEdge endEdge newRow
@@ -159,7 +165,8 @@ unfolding edgesFrom
 in-from i [] m = absurd (in-empty m)
 in-from i (rs ∷ rss) {e} m = go (in-append (edgesOf i rs) m) (λ n. in-from (i + 1) rss n)
   where
-    go : (e ∈ edgesOf i rs) ⊎ (e ∈ edgesFrom (i + 1) rss) → (e ∈ edgesFrom (i + 1) rss → (k : ℕ) × ((k < length rss) × (e ∈ edgesOf (i + 1 + k) (getD rss k []))))
+    go : (e ∈ edgesOf i rs) ⊎ (e ∈ edgesFrom (i + 1) rss) → (e ∈ edgesFrom (i + 1) rss → (k : ℕ) ×
+        ((k < length rss) × (e ∈ edgesOf (i + 1 + k) (getD rss k []))))
         → (k : ℕ) × ((k < suc (length rss)) × (e ∈ edgesOf (i + k) (getD (rs ∷ rss) k [])))
     go (inl n) f = let z : i + 0 ≡ i = omega arith in (0, (omega arith, rw z n))
     go (inr n) f =

@@ -29,7 +29,8 @@ use Rattle.list_window.specs.Step.{NextTaken}
 use Rattle.list_cuts.specs.declared.Window.{Window}
 use Rattle.list_block_edges.proofs.Growing.{held-more}
 
-pub recorded : (s : Bytes) (p end : ℕ) → isEntry s p ≡ true → VotesFit (blockAt s p) → end ≡ p + 8 + leAt 4 s (p + 4) → Recorded s (p + 8) (take (end - (p + 8)) (drop (p + 8) s))
+pub recorded : (s : Bytes) (p end : ℕ) → isEntry s p ≡ true → VotesFit (blockAt s p) → end ≡ p + 8 + leAt 4 s (p + 4) → Recorded s (p + 8)
+    (take (end - (p + 8)) (drop (p + 8) s))
 unfolding blockAt
 recorded s p end h v e =
     let room = entry-room s p h in
@@ -40,7 +41,8 @@ recorded s p end h v e =
       stands = ap (λ (k : ℕ). take k (drop (p + 8) s)) size;
     }
 
-pub next-more : (kind : RangeKind) (s : Bytes) (b : Block) (last : Option TransactionLocator) (u v x : List ℕ) (w r : Window) (place more k : ℕ) → RoomMade s u v w r more → more ≡ 2 * length (b .statements)
+pub next-more : (kind : RangeKind) (s : Bytes) (b : Block) (last : Option TransactionLocator) (u v x : List ℕ) (w r : Window) (place more k : ℕ) → RoomMade s
+    u v w r more → more ≡ 2 * length (b .statements)
     → BlockTaken kind s b last (asMaybe (r .bound)) v x place (r .n) k → NextTaken s (kindRanges kind b) last u x w (record { n = k; bound = r .bound }) place
 next-more kind s b last u v x w r place more k room size t =
     record {

@@ -60,7 +60,8 @@ module _ (s : Bytes) where
         others : sameLocator (keyOf s r) l ≡ true → Every (λ e. sameLocator (keyOf s e) l ≡ false) rs
         others e =
             every
-            (λ q b. fails (sameLocator (keyOf s q) l) (λ f. locator-irrefl (keyOf s q) (subst (λ (m : TransactionLocator). locatorBefore m (keyOf s q) ≡ true) (locator-same _ _ e ∙ sym (locator-same _ _ f)) b)))
+            (λ q b. fails (sameLocator (keyOf s q) l) (λ f. locator-irrefl (keyOf s q)
+            (subst (λ (m : TransactionLocator). locatorBefore m (keyOf s q) ≡ true) (locator-same _ _ e ∙ sym (locator-same _ _ f)) b)))
             rs h
 
         go : (t : Bool) → sameLocator (keyOf s r) l ≡ t → length (keep (λ e. sameLocator (keyOf s e) l) rs) ≤ 1
@@ -69,7 +70,8 @@ module _ (s : Bytes) where
         go false e k = k
 
     -- of several blocks
-    pub few-at : (i : ℕ) (rss : List (List Row)) → Every (λ rs. Every (Proper s) rs × Pairs (Apart s) rs) rss → length (rowsAt s l (edgesFrom i rss)) ≤ length rss
+    pub few-at : (i : ℕ) (rss : List (List Row)) → Every (λ rs. Every (Proper s) rs × Pairs (Apart s) rs) rss → length (rowsAt s l (edgesFrom i rss)) ≤ length
+        rss
     unfolding rowsAt edgesFrom keep
     few-at i [] none-of = omega arith
     few-at i (rs ∷ rss) (and h hs) =

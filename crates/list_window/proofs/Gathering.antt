@@ -35,9 +35,15 @@ use Rattle.list_cuts.specs.declared.Window.{Window}
 use Rattle.list_window.proofs.Few.{few-at}
 
 -- rows that are right up to a bound are so up to one that is not after it
-rows-shorter : (s : Bytes) (last bound other : Option TransactionLocator) (qs : List TransactionLocatorRange) (rs : List Row) → Shorter bound other → OwnRows s last bound qs rs → OwnRows s last other qs rs
+rows-shorter : (s : Bytes) (last bound other : Option TransactionLocator) (qs : List TransactionLocatorRange) (rs : List Row) → Shorter bound other → OwnRows
+    s last bound qs rs → OwnRows s last other qs rs
 unfolding Shorter
-rows-shorter s last bound other qs rs h r = record { proper = r .proper; apart = r .apart; covering = λ l w. r .covering l (record { from = w .from; short = h l (w .short) }) }
+rows-shorter s last bound other qs rs h r = record {
+  proper = r .proper;
+  apart = r .apart;
+  covering = λ l w. r .covering l
+      (record { from = w .from; short = h l (w .short) });
+}
 
 module _ (lanes : Lanes) (s : Bytes) (last : Option TransactionLocator) where
   pub gathering-start : (t : List ℕ) → Gathering lanes s last none t 0 0
@@ -73,7 +79,8 @@ module _ (lanes : Lanes) (s : Bytes) (last : Option TransactionLocator) where
       last-own = rw (g .many) at (getD-append-seam (g .rss) own [] [])
 
       at : (j : ℕ) → j < k + 1 → Dec (j < k) → OwnRows s last (asMaybe (r .bound)) (lanes j) (getD (g .rss ++ own ∷ []) j [])
-      at j h (yes l) = rw (List·getD-append (g .rss) (own ∷ []) [] j (omega (arith, g .many))) (rows-shorter s last _ _ (lanes j) _ (t .short (edgesFrom 0 (g .rss)) (g .held)) (g .right j l))
+      at j h (yes l) = rw (List·getD-append (g .rss) (own ∷ []) [] j (omega (arith, g .many)))
+          (rows-shorter s last _ _ (lanes j) _ (t .short (edgesFrom 0 (g .rss)) (g .held)) (g .right j l))
       at j h (no l) = let e : j ≡ k = omega arith in rw (e, last-own) (t .held (edgesFrom 0 (g .rss)) (g .held) .right)
 
   module _ (bound : Option TransactionLocator) (t : List ℕ) (n : ℕ) where
@@ -97,7 +104,8 @@ module _ (lanes : Lanes) (s : Bytes) (last : Option TransactionLocator) where
         right j h = (g .right j h .proper, g .right j h .apart)
 
     -- so the next block can be taken
-    pub enterable : (order : List ℕ) → SortedStore s order → AllBytes s → (spare : List ℕ) → 16386 ≤ length t → length t ≤ length spare → (k : ℕ) → k < 3072 → Gathering lanes s last bound t n k
+    pub enterable : (order : List ℕ) → SortedStore s order → AllBytes s → (spare : List ℕ) → 16386 ≤ length t → length t ≤ length spare → (k : ℕ) → k < 3072 →
+        Gathering lanes s last bound t n k
         → k % 1024 < length order → Enterable s (getD order (k % 1024) 0) k t spare n
     unfolding SortedStore blockAtPlace FewAt
     enterable order (c, o) bytes spare wide spared k few g h =

@@ -61,7 +61,8 @@ module _ (s : Bytes) where
       go (inr (inr e)) = absurd (not-both e (b .last (a .edge) (permuted-in d (a .stands))))
 
   -- rows up to a locator are those up to an earlier one and those after that
-  up-to : (m l : TransactionLocator) → locatorBefore m l ≡ true → (xs : List Row) → Strict s xs → keep (reached s l) xs ≡ keep (reached s m) xs ++ keep (inWindow s (some m) (some l)) xs
+  up-to : (m l : TransactionLocator) → locatorBefore m l ≡ true → (xs : List Row) → Strict s xs → keep (reached s l) xs ≡ keep (reached s m) xs ++ keep
+      (inWindow s (some m) (some l)) xs
   unfolding keep reached inWindow isAfter isAfterBest isNone rowBefore
   up-to m l h [] no-pairs = refl
   up-to m l h (x ∷ xs) (with-later k ks) = go (locatorBefore m (keyOf s x)) refl (up-to m l h xs ks)
@@ -90,7 +91,8 @@ module _ (s : Bytes) where
     unfolding openAt inWindow isAfter isAfterBest isNone reached
     from-start = own-say l
 
-    from-last : (m : TransactionLocator) → locatorBefore m l ≡ true → lastBegins (anyCovers s rs m) (keep (inWindow s (some m) (some l)) (edgesOf k rs)) ≡ anyCovers s rs l
+    from-last : (m : TransactionLocator) → locatorBefore m l ≡ true → lastBegins (anyCovers s rs m) (keep (inWindow s (some m) (some l)) (edgesOf k rs)) ≡
+        anyCovers s rs l
     unfolding openAt
     from-last m h =
         ap (λ (t : Bool). lastBegins t (keep (inWindow s (some m) (some l)) (edgesOf k rs))) (sym (own-say m))
@@ -103,18 +105,22 @@ module _ (s : Bytes) where
 pairs-strict : (s : Bytes) (p : Row → Bool) (xs : List Row) → Strict s xs → Strict s (keep p xs)
 pairs-strict s p xs h = pairs-keep p xs h
 
-module _ (lanes : Lanes) (s : Bytes) (bound : Option TransactionLocator) (t : List ℕ) (n k : ℕ) (h : k < 3072) (l : TransactionLocator) (short : isAfterBest bound l ≡ false) where
+module _ (lanes : Lanes) (s : Bytes) (bound : Option TransactionLocator) (t : List ℕ) (n k : ℕ) (h : k < 3072) (l : TransactionLocator)
+    (short : isAfterBest bound l ≡ false) where
   module _ (last : Option TransactionLocator) (g : Gathered lanes s last bound t n) where
     abbrev own : List Row
     own = getD (g .all .rss) k []
 
-    of-place : keep (reached s l) (keep (ofPlace k) (keep (inWindow s last bound) (edgesFrom 0 (g .all .rss)))) ≡ keep (inWindow s last (some l)) (edgesOf k own)
+    of-place : keep (reached s l) (keep (ofPlace k) (keep (inWindow s last bound) (edgesFrom 0 (g .all .rss)))) ≡ keep (inWindow s last (some l))
+        (edgesOf k own)
     of-place =
         let e : 0 + k ≡ k = omega arith in
-        ap (keep (reached s l)) (keep-keep (ofPlace k) (inWindow s last bound) (edgesFrom 0 (g .all .rss)) ∙ ap (keep (inWindow s last bound)) (rw e at (from-place 0 k (g .all .rss) (omega (arith, g .all .many)))))
+        ap (keep (reached s l)) (keep-keep (ofPlace k) (inWindow s last bound) (edgesFrom 0 (g .all .rss)) ∙ ap (keep (inWindow s last bound))
+        (rw e at (from-place 0 k (g .all .rss) (omega (arith, g .all .many)))))
         ∙ narrowed s last l bound short (edgesOf k own)
 
-    same-last : (was : Bool) → lastBegins was (keep (reached s l) (keep (ofPlace k) (rowsOf t n))) ≡ lastBegins was (keep (inWindow s last (some l)) (edgesOf k own))
+    same-last : (was : Bool) → lastBegins was (keep (reached s l) (keep (ofPlace k) (rowsOf t n))) ≡ lastBegins was
+        (keep (inWindow s last (some l)) (edgesOf k own))
     unfolding Sorted
     same-last was =
         last-same s was _ _

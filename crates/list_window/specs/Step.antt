@@ -18,7 +18,8 @@ use Rattle.list_cuts.specs.declared.Window.{Window}
 use Rattle.list_cuts.specs.Room.{FewAt, Shorter}
 
 -- what is held with the edges of one lane more
-pub record HeldMore (s : Bytes) (qs : List TransactionLocatorRange) (last bound : Option TransactionLocator) (t : List ℕ) (n place : ℕ) (es : List Row) : Type 0 where
+pub record HeldMore (s : Bytes) (qs : List TransactionLocatorRange) (last bound : Option TransactionLocator) (t : List ℕ) (n place : ℕ) (es : List Row) : Type
+    0 where
   pub own : List Row
   pub right : OwnRows s last bound qs own
   pub held : Held s last bound t n (es ++ edgesOf place own)

@@ -41,7 +41,8 @@ unfolding eventName
 name-short kind = go (eqb kind 1) (eqb kind 2)
   where
     go : (a b : Bool)
-        → length {A = ℕ} (pick a (112 ∷ 114 ∷ 111 ∷ 99 ∷ 101 ∷ 115 ∷ 115 ∷ 101 ∷ 100 ∷ []) (pick b (108 ∷ 97 ∷ 116 ∷ 101 ∷ []) (117 ∷ 110 ∷ 107 ∷ 110 ∷ 111 ∷ 119 ∷ 110 ∷ []))) ≤ 9
+        → length {A = ℕ} (pick a (112 ∷ 114 ∷ 111 ∷ 99 ∷ 101 ∷ 115 ∷ 115 ∷ 101 ∷ 100 ∷ [])
+        (pick b (108 ∷ 97 ∷ 116 ∷ 101 ∷ []) (117 ∷ 110 ∷ 107 ∷ 110 ∷ 111 ∷ 119 ∷ 110 ∷ []))) ≤ 9
     go true b = omega arith
     go false true = omega arith
     go false false = omega arith
@@ -55,7 +56,8 @@ lines-short : (k n : ℕ) (w : List ℕ) → length (eventLines k n w) ≤ 128 *
 unfolding eventLines
 lines-short k zero w = omega arith
 lines-short k (suc n) w =
-    rw (length-append (lineAt k w 0) (eventLines k n (drop 3 w))) (omega (arith, lines-short k n (drop 3 w), line-short (getD w 0 0) k (getD w 1 0) (getD w 2 0)))
+    rw (length-append (lineAt k w 0) (eventLines k n (drop 3 w)))
+    (omega (arith, lines-short k n (drop 3 w), line-short (getD w 0 0) k (getD w 1 0) (getD w 2 0)))
 
 -- ---- those that are processed ones
 
@@ -89,7 +91,8 @@ pub record Put (k : ℕ) (w : List ℕ) (before after : Bytes) (at processed j :
   pub few : processed ≤ j
   pub long : length after ≡ length before
 
-put-of : {k : ℕ} {w : List ℕ} {before after : Bytes} {at processed j : ℕ} → Wrote before after 0 at (eventLines k j w) → processed ≡ processedIn j w → Put k w before after at processed j
+put-of : {k : ℕ} {w : List ℕ} {before after : Bytes} {at processed j : ℕ} → Wrote before after 0 at (eventLines k j w) → processed ≡ processedIn j w → Put k w
+    before after at processed j
 put-of {k} {w} {j = j} v e =
     record { lines = v; counted = e; room = omega (arith, v .end, lines-short k j w); few = omega (arith, processed-few j w); long = length-wrote v }
 
@@ -104,5 +107,6 @@ put-next {k} {w} {j = j} {d = d} v x e =
     (ap (λ (i : ℕ). i + d) (v .counted) ∙ ap (λ (i : ℕ). processedIn j w + i) e ∙ sym (processed-next j w) ∙ ap (λ (i : ℕ). processedIn i w) (sym (add-one j)))
 
 -- all of them
-pub put-all : {k : ℕ} {w : List ℕ} {l m : Bytes} {at processed j n : ℕ} → Put k w l m at processed j → j ≡ n → Wrote l m 0 at (eventLines k n w) × (processed ≡ processedIn n w)
+pub put-all : {k : ℕ} {w : List ℕ} {l m : Bytes} {at processed j n : ℕ} → Put k w l m at processed j → j ≡ n → Wrote l m 0 at (eventLines k n w) ×
+    (processed ≡ processedIn n w)
 put-all {k} {w} v e = (wrote-same (ap (λ (i : ℕ). eventLines k i w) e) (v .lines), v .counted ∙ ap (λ (i : ℕ). processedIn i w) e)

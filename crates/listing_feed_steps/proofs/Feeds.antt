@@ -67,6 +67,7 @@ fresh-state c n m h k =
 pub fed-holds : {c : Committee} {s : Bytes} {t : List ℕ} → FedFrom c start s t → HoldsItems t
 unfolding start
 fed-holds {c} {s} {t} a =
-    let state : State c (run c start (a .feeds) .store) (run c start (a .feeds) .table) = run-state c start (a .feeds) (fresh-state c 65520 6145 (omega arith) (omega arith)) in
+    let state : State c (run c start (a .feeds) .store) (run c start (a .feeds) .table) = run-state c start (a .feeds)
+    (fresh-state c 65520 6145 (omega arith) (omega arith)) in
     let ended : State c s t = rw (a .leaves) at state in
     order-holds c _ t (ended .table)

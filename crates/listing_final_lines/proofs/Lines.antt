@@ -34,7 +34,8 @@ lines-next : (t : Stretch) (d e : ℕ) → d ≤ e → linesOf t d (e + 1 - d) �
 lines-next t d e h =
     let more : e + 1 - d ≡ e - d + 1 = omega arith in
     let same : d + (e - d) ≡ e = omega arith in
-    ap (λ (k : ℕ). linesOf t d k) more ∙ lines-on t d (e - d) 1 ∙ ap (λ (l : Bytes). linesOf t d (e - d) ++ l) (one t (d + (e - d)) ∙ ap (λ (k : ℕ). lineOf t k) same)
+    ap (λ (k : ℕ). linesOf t d k) more ∙ lines-on t d (e - d) 1 ∙ ap (λ (l : Bytes). linesOf t d (e - d) ++ l)
+    (one t (d + (e - d)) ∙ ap (λ (k : ℕ). lineOf t k) same)
 
 -- ---- as the loop goes
 

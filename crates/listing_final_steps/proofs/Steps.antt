@@ -28,11 +28,13 @@ few-stretches c bs k (suc n) after = go (few-stretches c bs k n) (k .next after)
     go others none = omega arith
     go others (some l) = omega (arith, others (some (lastLocator (stretchAt c bs k l))))
 
-pub few-given : (c : Committee) (s : Bytes) (k : Listing) (out : Bytes) (after : Option TransactionLocator) → 80 * givenBy (listStretches c s k out after .answer) .stretches ≤ length out
+pub few-given : (c : Committee) (s : Bytes) (k : Listing) (out : Bytes) (after : Option TransactionLocator) → 80 * givenBy
+    (listStretches c s k out after .answer) .stretches ≤ length out
 unfolding listStretches givenAfter givenBy checked
 few-given c s k out after = go (passes (nextFinalChecks c s))
   where
     go : (t : Bool)
-        → 80 * givenBy (pick t (answered (givenAfter k after (stretches c (blocksOf s) k (stretchRoom out) after))) (refused (refusal (nextFinalChecks c s)))) .stretches ≤ length out
+        → 80 * givenBy (pick t (answered (givenAfter k after (stretches c (blocksOf s) k (stretchRoom out) after))) (refused (refusal (nextFinalChecks c s))))
+        .stretches ≤ length out
     go true = omega (arith, few-stretches c (blocksOf s) k (stretchRoom out) after)
     go false = omega arith

@@ -76,7 +76,14 @@ unfoldable pub refusedWith : Feeding → ℕ → Bool → Told
 refusedWith m n ended =
     record {
       lines = refusedLine (m .number) n;
-      left = record { number = m .number + 1; store = m .store; table = m .table; accepted = m .accepted; refusals = m .refusals + 1; processed = m .processed };
+      left = record {
+        number = m .number + 1;
+        store = m .store;
+        table = m .table;
+        accepted = m .accepted;
+        refusals = m .refusals + 1;
+        processed = m .processed;
+      };
       ended = ended;
     }
 

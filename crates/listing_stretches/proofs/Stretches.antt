@@ -24,7 +24,8 @@ head-word d h =
     let few : d .0 / 256 / 256 / 256 / 256 < 4294967296 = omega arith in
     sym high ∙ sym (leNumber-leBytes 4 (d .0 / 256 / 256 / 256 / 256) few)
 
-pub last-some : (b : Bytes) (n : ℕ) (after : Option TransactionLocator) (l : code.TransactionLocator) → (n ≡ 0 → ⊥) → asReference (l .block) ≡ referenceAt b (80 * (n - 1))
+pub last-some : (b : Bytes) (n : ℕ) (after : Option TransactionLocator) (l : code.TransactionLocator) → (n ≡ 0 → ⊥) → asReference (l .block) ≡ referenceAt b
+    (80 * (n - 1))
     → l .offset ≡ leAt 8 b (80 * (n - 1) + 56) - 1 → asMaybe (Locator l) ≡ lastOf b n after
 unfolding asMaybe asLocator locator lastOf
 last-some b zero after l h e f = absurd (h refl)

@@ -142,7 +142,8 @@ two a b f ns =
     ∙ ap (λ (l : List ℕ). 32 ∷ decimal a ++ (l ++ (32 ∷ f ++ numbers ns))) (append-nil (32 ∷ decimal b))
 
 -- a line with a field among its numbers that is no number
-around : (name front f rest : List ℕ) → ((name ++ (front ++ (32 ∷ []))) ++ f) ++ ([] ++ (rest ++ (10 ∷ []))) ≡ name ++ ((front ++ (32 ∷ f ++ rest)) ++ (10 ∷ []))
+around : (name front f rest : List ℕ) → ((name ++ (front ++ (32 ∷ []))) ++ f) ++ ([] ++ (rest ++ (10 ∷ []))) ≡ name ++
+    ((front ++ (32 ∷ f ++ rest)) ++ (10 ∷ []))
 around name front f rest =
     append-assoc (name ++ (front ++ (32 ∷ []))) f (rest ++ (10 ∷ []))
     ∙ append-assoc name (front ++ (32 ∷ [])) (f ++ (rest ++ (10 ∷ [])))

@@ -25,7 +25,8 @@ use Rattle.listing_input.specs.declared.Size.{Size}
 use Rattle.listing_input.specs.declared.Size.the-variants.{End, Broken, Of}
 use Rattle.listing_input.specs.Input.{sizeOf}
 use Rattle.listing_feed_steps.proofs.Feeds.{fresh-state}
-use Rattle.listing_spec.specs.Output.{Frame, nothing, broken, framed, frameOf, frameAt, afterRecord, Feeding, start, fedTo, refusedWith, acceptedWith, leftBy, toldBy, told}
+use Rattle.listing_spec.specs.Output.{Frame, nothing, broken, framed, frameOf, frameAt, afterRecord, Feeding, start, fedTo, refusedWith, acceptedWith, leftBy}
+use Rattle.listing_spec.specs.Output.{toldBy, told}
 use Rattle.listing_theorems.specs.Whole.{Records, ends, goes}
 
 -- ---- a store of bytes stays one

@@ -58,7 +58,8 @@ lines-are c s t r d (suc n) f =
     ap (λ (l : Bytes). lineOf t d ++ l) others
     ∙ ap (λ (l : Bytes). l ++ linesFor c s (map (locator r) (countFrom (t .first + d + 1) n))) (sym line)
 
-module _ {c : Committee} {s : Bytes} (b : Bytes) (p : ℕ) (x : FinalStretch) (rest : Bytes) (e : drop p b ≡ stretchBytes x ++ rest) (k : Sound c s x) (t : Stretch)
+module _ {c : Committee} {s : Bytes} (b : Bytes) (p : ℕ) (x : FinalStretch) (rest : Bytes) (e : drop p b ≡ stretchBytes x ++ rest) (k : Sound c s x)
+    (t : Stretch)
     (r : ReadStretch b p t) where
   first : t .first ≡ x .first
   first = r .first ∙ read-first b p x rest e k
@@ -175,7 +176,8 @@ module _ (c : Committee) (s : Bytes) (b : broken c ≡ false) (h : storeInOrder 
   listed {after} (onward {others} {k} out e on next) ls g =
       let a = through out after ls g in
       let x = put-held out after on in
-      let y = listed next (a .rest) (subst (λ (o : Option TransactionLocator). Gives (shareList old c s) o (a .rest)) (sym (last-held out after)) (a .onward)) in (
+      let y = listed next (a .rest) (subst (λ (o : Option TransactionLocator). Gives (shareList old c s) o (a .rest)) (sym (last-held out after)) (a .onward))
+      in (
         ap (λ (l : Bytes). l ++ others) (x .0)
             ∙ ap (λ (l : Bytes). linesFor c s (spreadOut (held out after)) ++ l) (y .0)
             ∙ sym (lines-append c s (spreadOut (held out after)) (a .rest))

@@ -157,7 +157,13 @@ module _ {c : Committee} {s : Bytes} (b : Bytes) (p : ℕ) (x : FinalStretch) (r
   long : length (a ++ leBytes 8 (x .end)) ≡ 64
   unfolding a
   long =
-      omega (arith, length-append (locatorBytes (locator (x .block) (x .first))) (leBytes 8 (x .end)), locator-length x (k .block .size), length-leBytes 8 (x .end))
+      omega (
+        arith,
+        length-append (locatorBytes (locator (x .block) (x .first))) (leBytes 8 (x .end)),
+        locator-length x (k .block .size),
+        length-leBytes 8
+            (x .end),
+      )
 
   pub read-blocks : leAt 8 b (p + 64) ≡ x .blocks
   unfolding n

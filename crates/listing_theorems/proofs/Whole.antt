@@ -35,7 +35,8 @@ use Rattle.load_along.specs.Along.{shareList}
 use Rattle.load_along.proofs.Going.{gives-all}
 use Rattle.listing_input.specs.Input.{stakeBytes, StakesFile, absent, holding, unreadable, fileStakes, listedStakes, sizeOf}
 use Rattle.listing_counts.specs.Pending.{pendingOffsets}
-use Rattle.listing_spec.specs.Output.{frameOf, frameAt, afterRecord, Feeding, Told, told, onward, toldUpTo, toldAll, finalLines, endOf, outputOf, memberCount, committeeOf, listingOutput}
+use Rattle.listing_spec.specs.Output.{frameOf, frameAt, afterRecord, Feeding, Told, told, onward, toldUpTo, toldAll, finalLines, endOf, outputOf, memberCount}
+use Rattle.listing_spec.specs.Output.{committeeOf, listingOutput}
 use Rattle.listing_theorems.specs.Whole.{Records, ends, goes, Listed, afterCommittee, Printed, noCommittee, counted, Whole}
 use Rattle.listing_theorems.proofs.Parts.{parts}
 use Rattle.listing_theorems.proofs.Listing.{listed}

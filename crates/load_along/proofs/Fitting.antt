@@ -47,11 +47,13 @@ module _ (reading : Reading) (c : Committee) (s : Bytes) where
       let y = stored-share (blocksOf s) l (and-left (isStoredShare (blocksOf s) l) (isFinalIn reading c (blocksOf s) l) h) in
       omega (arith, share-inside (y .block .statements) (l .offset) (y .shared), block-fits s bytes (y .block) (y .stored) .fewStatements)
 
-  pub stretch-small : AllBytes s → (n : ℕ) (after : Option TransactionLocator) (t : FinalStretch) → t ∈ ahead reading c s n after → (t .first < 256 ^ 8) × (t .end < 256 ^ 8)
+  pub stretch-small : AllBytes s → (n : ℕ) (after : Option TransactionLocator) (t : FinalStretch) → t ∈ ahead reading c s n after → (t .first < 256 ^ 8) ×
+      (t .end < 256 ^ 8)
   unfolding locator goesOn
   stretch-small bytes n after t m =
       let x = longest c (blocksOf s) (shareList reading c s) (lists-lawful true reading c (blocksOf s)) n after t m in
       let far : t .first < t .end = x .ends .longer in
       let goes = x .ends .goes (t .end - 1) (omega (arith, far)) (omega (arith, far)) in
-      let last : t .end - 1 < 1024 = shown-small bytes (locator (t .block) (t .end - 1)) (and-left (shareList reading c s .shows (locator (t .block) (t .end - 1))) _ goes) in
+      let last : t .end - 1 < 1024 = shown-small bytes (locator (t .block) (t .end - 1))
+      (and-left (shareList reading c s .shows (locator (t .block) (t .end - 1))) _ goes) in
       (omega (arith, far, last), omega (arith, far, last))

@@ -36,18 +36,21 @@ unfolding keep
 keep-fewer p q [] f = omega arith
 keep-fewer p q (x ∷ xs) f = go (p x) refl (q x) refl (keep-fewer p q xs f)
   where
-    go : (s : Bool) → p x ≡ s → (t : Bool) → q x ≡ t → length (keep q xs) ≤ length (keep p xs) → length (pick t (x ∷ keep q xs) (keep q xs)) ≤ length (pick s (x ∷ keep p xs) (keep p xs))
+    go : (s : Bool) → p x ≡ s → (t : Bool) → q x ≡ t → length (keep q xs) ≤ length (keep p xs) → length (pick t (x ∷ keep q xs) (keep q xs)) ≤ length
+        (pick s (x ∷ keep p xs) (keep p xs))
     go true d true e h = omega arith
     go true d false e h = omega arith
     go false d true e h = absurd (not-both (f x e) d)
     go false d false e h = h
 
-keep-less : {A : Type 0} (p q : A → Bool) (xs : List A) → ((x : A) → q x ≡ true → p x ≡ true) → {x : A} → x ∈ xs → p x ≡ true → q x ≡ false → length (keep q xs) < length (keep p xs)
+keep-less : {A : Type 0} (p q : A → Bool) (xs : List A) → ((x : A) → q x ≡ true → p x ≡ true) → {x : A} → x ∈ xs → p x ≡ true → q x ≡ false → length
+    (keep q xs) < length (keep p xs)
 unfolding keep
 keep-less p q (x ∷ xs) f here h k = rw (h, k) (let e = keep-fewer p q xs f in omega arith)
 keep-less p q (y ∷ xs) f (there m) h k = go (p y) refl (q y) refl (keep-less p q xs f m h k)
   where
-    go : (s : Bool) → p y ≡ s → (t : Bool) → q y ≡ t → length (keep q xs) < length (keep p xs) → length (pick t (y ∷ keep q xs) (keep q xs)) < length (pick s (y ∷ keep p xs) (keep p xs))
+    go : (s : Bool) → p y ≡ s → (t : Bool) → q y ≡ t → length (keep q xs) < length (keep p xs) → length (pick t (y ∷ keep q xs) (keep q xs)) < length
+        (pick s (y ∷ keep p xs) (keep p xs))
     go true d true e h = omega arith
     go true d false e h = omega arith
     go false d true e h = absurd (not-both (f y e) d)
@@ -82,7 +85,12 @@ module _ (reading : Reading) (c : Committee) (s : Bytes) where
     unfolding flatten reached
     stretch-next t e =
         let x : Spread (shareList reading c s) 1 after rest (t ∷ []) = subst (Spread (shareList reading c s) 1 after rest) e spread-one in
-        record { later = x .rest; splits = x .splits ∙ ap (λ (ls : List TransactionLocator). ls ++ x .rest) (append-nil (stretchLocators t)); gives = x .onward }
+        record {
+          later = x .rest;
+          splits = x .splits ∙ ap (λ (ls : List TransactionLocator). ls ++ x .rest) (append-nil (stretchLocators t));
+          gives = x
+              .onward;
+        }
 
   pub stretch-longer : (n : ℕ) (after : Option TransactionLocator) (t : FinalStretch) → t ∈ ahead reading c s n after → t .first < t .end
   unfolding locator
@@ -94,27 +102,33 @@ module _ (reading : Reading) (c : Committee) (s : Bytes) where
   unfoldable pub leftAfter : Option TransactionLocator → ℕ
   leftAfter after = length (keep (isAfter after) finals)
 
-  first-at : (after : Option TransactionLocator) (t : FinalStretch) → ahead reading c s 1 after ≡ t ∷ [] → (isListed true reading c (blocksOf s) (locator (t .block) (t .first)) ≡ true) × (isAfter after (locator (t .block) (t .first)) ≡ true)
+  first-at : (after : Option TransactionLocator) (t : FinalStretch) → ahead reading c s 1 after ≡ t ∷ [] →
+      (isListed true reading c (blocksOf s) (locator (t .block) (t .first)) ≡ true) × (isAfter after (locator (t .block) (t .first)) ≡ true)
   unfolding stretches fromFound listing stretchAt locator
   first-at after t e = go (shareList reading c s .next after) refl (least-listed true reading c (blocksOf s) after)
     where
-      found : (l : TransactionLocator) → shareList reading c s .next after ≡ some l → LeastOf (isListed true reading c (blocksOf s)) after (some l) → (isListed true reading c (blocksOf s) l ≡ true) × (isAfter after l ≡ true)
+      found : (l : TransactionLocator) → shareList reading c s .next after ≡ some l → LeastOf (isListed true reading c (blocksOf s)) after (some l) →
+          (isListed true reading c (blocksOf s) l ≡ true) × (isAfter after l ≡ true)
       found l k (least x f h g) = (f, h)
 
-      go : (o : Option TransactionLocator) → shareList reading c s .next after ≡ o → LeastOf (isListed true reading c (blocksOf s)) after (shareList reading c s .next after)
+      go : (o : Option TransactionLocator) → shareList reading c s .next after ≡ o → LeastOf (isListed true reading c (blocksOf s)) after
+          (shareList reading c s .next after)
           → (isListed true reading c (blocksOf s) (locator (t .block) (t .first)) ≡ true) × (isAfter after (locator (t .block) (t .first)) ≡ true)
       go none k m = absurd (let q : [] ≡ t ∷ [] = rw k at e in let z : _≡_ {A = ℕ} 0 1 = ap length q in omega arith)
       go (some l) k m =
           let q : stretchAt c (blocksOf s) (shareList reading c s) l ∷ [] ≡ t ∷ [] = rw k at e in
           let same : stretchAt c (blocksOf s) (shareList reading c s) l ≡ t = cc in
           let at : l ≡ locator (t .block) (t .first) = λ i. record { block = same i .block; offset = same i .first } in
-          subst (λ (x : TransactionLocator). (isListed true reading c (blocksOf s) x ≡ true) × (isAfter after x ≡ true)) at (found l k (subst (LeastOf (isListed true reading c (blocksOf s)) after) k m))
+          subst (λ (x : TransactionLocator). (isListed true reading c (blocksOf s) x ≡ true) × (isAfter after x ≡ true)) at
+          (found l k (subst (LeastOf (isListed true reading c (blocksOf s)) after) k m))
 
-  pub left-less : (after : Option TransactionLocator) (t : FinalStretch) → ahead reading c s 1 after ≡ t ∷ [] → leftAfter (some (lastLocator t)) < leftAfter after
+  pub left-less : (after : Option TransactionLocator) (t : FinalStretch) → ahead reading c s 1 after ≡ t ∷ [] → leftAfter (some (lastLocator t)) < leftAfter
+      after
   unfolding leftAfter isAfter lastLocator locator
   left-less after t e =
       let x = first-at after t e in
-      keep-less (isAfter after) (locatorBefore (lastLocator t)) finals (λ y h. later-after after l y (x .1) (beyond y h)) (all-in true reading c (blocksOf s) l .1 (x .0)) (x .1) (fails _ (λ h. locator-irrefl l (beyond l h)))
+      keep-less (isAfter after) (locatorBefore (lastLocator t)) finals (λ y h. later-after after l y (x .1) (beyond y h))
+      (all-in true reading c (blocksOf s) l .1 (x .0)) (x .1) (fails _ (λ h. locator-irrefl l (beyond l h)))
     where
       l : TransactionLocator
       l = locator (t .block) (t .first)
@@ -146,7 +160,8 @@ module _ (reading : Reading) (c : Committee) (s : Bytes) where
     pub held : Held reading c s tables along
     pub sized : Sized tables
 
-  pub passing-start : broken c ≡ false → storeInOrder c s ≡ true → (tables : Tables) (along : Along) → asMaybe (along .after) ≡ none → Held reading c s tables along → Sized tables → Passing tables along []
+  pub passing-start : broken c ≡ false → storeInOrder c s ≡ true → (tables : Tables) (along : Along) → asMaybe (along .after) ≡ none → Held reading c s tables
+      along → Sized tables → Passing tables along []
   passing-start b h tables along e held sized =
       record {
         rest = finals reading c s;
@@ -161,7 +176,8 @@ module _ (reading : Reading) (c : Committee) (s : Bytes) where
     pub passing-end : (last : Option TransactionLocator) → Found reading c s (asMaybe (along .after)) last Ended → gone ≡ finals reading c s
     unfolding Found
     passing-end last e =
-        sym (w .splits ∙ ap (λ (ls : List TransactionLocator). gone ++ ls) (none-left reading c s (asMaybe (along .after)) (w .rest) (w .gives) e) ∙ append-nil gone)
+        sym (w .splits ∙ ap (λ (ls : List TransactionLocator). gone ++ ls) (none-left reading c s (asMaybe (along .after)) (w .rest) (w .gives) e) ∙
+        append-nil gone)
 
     module _ (q : ranges.TransactionLocatorRange) (last : Option TransactionLocator) (f : Found reading c s (asMaybe (along .after)) last (Stretch q)) where
       record Next : Type 0 where
@@ -184,15 +200,18 @@ module _ (reading : Reading) (c : Committee) (s : Bytes) where
       unfolding stretchLocators later
       passing-splits =
           w .splits
-          ∙ ap (λ (ls : List TransactionLocator). gone ++ ls) (on .splits ∙ ap (λ (ls : List TransactionLocator). ls ++ on .later) (ap locators (sym (next .range))))
+          ∙ ap (λ (ls : List TransactionLocator). gone ++ ls) (on .splits ∙ ap (λ (ls : List TransactionLocator). ls ++ on .later)
+          (ap locators (sym (next .range))))
 
       pub passing-longer : asRange q .start < asRange q .end
       unfolding newRange
       passing-longer =
           subst (λ (x : TransactionLocatorRange). x .start < x .end) (sym (next .range))
-          (stretch-longer reading c s 1 (asMaybe (along .after)) (next .stretch) (subst (λ (ts : List FinalStretch). next .stretch ∈ ts) (sym (next .comes)) here))
+          (stretch-longer reading c s 1 (asMaybe (along .after)) (next .stretch)
+          (subst (λ (ts : List FinalStretch). next .stretch ∈ ts) (sym (next .comes)) here))
 
-      pub passing-next : (tables' : Tables) (along' : Along) → asMaybe (along' .after) ≡ last → Held reading c s tables' along' → Sized tables' → Passing tables' along' (gone ++ locators (asRange q))
+      pub passing-next : (tables' : Tables) (along' : Along) → asMaybe (along' .after) ≡ last → Held reading c s tables' along' → Sized tables' → Passing
+          tables' along' (gone ++ locators (asRange q))
       unfolding later
       passing-next tables' along' e held sized =
           record {
@@ -203,7 +222,8 @@ module _ (reading : Reading) (c : Committee) (s : Bytes) where
             sized = sized;
           }
 
-      pub passing-less : (along' : Along) → asMaybe (along' .after) ≡ last → leftAfter reading c s (asMaybe (along' .after)) < leftAfter reading c s (asMaybe (along .after))
+      pub passing-less : (along' : Along) → asMaybe (along' .after) ≡ last → leftAfter reading c s (asMaybe (along' .after)) < leftAfter reading c s
+          (asMaybe (along .after))
       passing-less along' e =
           subst (λ (o : Option TransactionLocator). leftAfter reading c s o < leftAfter reading c s (asMaybe (along .after))) (sym (e ∙ next .after))
           (left-less reading c s (asMaybe (along .after)) (next .stretch) (next .comes))

@@ -38,11 +38,15 @@ use Rattle.load_along.specs.declared.Ahead.the-variants.{Stretch, Ended}
 
 -- where the sweep begins
 pub begun-held : (w : Wanted) (c : Committee) (total : Stake) (s : Bytes) (t : Tables) → AllBytes s
-    → ((flags : List ℕ) → length flags ≡ 1024 → Lent c total s (t .order) (t .sets) (t .edges) (t .marks) flags) → (o : onward.Onward) → Begun (laneRanges w s (t .order)) s (t .edges) (t .marks) none o → HeldAt w c s t none o
+    → ((flags : List ℕ) → length flags ≡ 1024 → Lent c total s (t .order) (t .sets) (t .edges) (t .marks) flags) → (o : onward.Onward) → Begun
+    (laneRanges w s (t .order)) s (t .edges) (t .marks) none o → HeldAt w c s t none o
 unfolding HeldAt Begun
 begun-held w c total s t bytes lent (onward.the-variants.At v) b =
-    let l = lent (replicate {A = ℕ} 1024 0) (length-replicate {A = ℕ} 1024 0) in
-    (b .stands, begun-reaching w c s (t .order) (l .room .sorted) (l .walk .few) none (t .edges) (t .marks) v b (shown-offset w c s bytes (l .walk .sorted .inOrder)))
+    let l = lent (replicate {A = ℕ} 1024 0) (length-replicate {A = ℕ} 1024 0) in (
+      b .stands,
+      begun-reaching w c s (t .order) (l .room .sorted) (l .walk .few) none (t .edges) (t .marks) v b
+          (shown-offset w c s bytes (l .walk .sorted .inOrder)),
+    )
 begun-held w c total s t bytes lent onward.the-variants.End b =
     let l = lent (replicate {A = ℕ} 1024 0) (length-replicate {A = ℕ} 1024 0) in
     begun-none w c s (t .order) (l .room .sorted) (l .walk .few) none b
@@ -55,7 +59,8 @@ module _ (c : Committee) (s : Bytes) (t : Tables) (a : Along) where
   list-is reading h = let p = h .shares in let q = h .reads in λ i. listing (p i) (q i) c (blocksOf s)
 
   -- where the sweep stands
-  pub held-at : (v : sweep.Sweep) → a .at ≡ onward.the-variants.At v → (reading : Reading) → Held reading c s t a → Stands (laneRanges (a .wanted) s (t .order)) s (t .edges) (t .marks) v × Reaching (a .wanted) c s (asMaybe (a .after)) (asLocator (v .here))
+  pub held-at : (v : sweep.Sweep) → a .at ≡ onward.the-variants.At v → (reading : Reading) → Held reading c s t a → Stands
+      (laneRanges (a .wanted) s (t .order)) s (t .edges) (t .marks) v × Reaching (a .wanted) c s (asMaybe (a .after)) (asLocator (v .here))
   unfolding HeldAt
   held-at v e reading h = subst (HeldAt (a .wanted) c s t (asMaybe (a .after))) e (h .stands)
 
@@ -64,12 +69,15 @@ module _ (c : Committee) (s : Bytes) (t : Tables) (a : Along) where
   held-end e reading h = subst (HeldAt (a .wanted) c s t (asMaybe (a .after))) e (h .stands)
 
   -- nothing is shown any more
-  pub found-ended : (reading : Reading) → Held reading c s t a → list .next (asMaybe (a .after)) ≡ none → (last : Option TransactionLocator) → Found reading c s (asMaybe (a .after)) last Ended
+  pub found-ended : (reading : Reading) → Held reading c s t a → list .next (asMaybe (a .after)) ≡ none → (last : Option TransactionLocator) → Found reading c
+      s (asMaybe (a .after)) last Ended
   unfolding Found
-  found-ended reading h e last = stretches-none c (blocksOf s) (shareList reading c s) 1 (asMaybe (a .after)) (subst (λ (k : Listing). k .next (asMaybe (a .after)) ≡ none) (list-is reading h) e)
+  found-ended reading h e last = stretches-none c (blocksOf s) (shareList reading c s) 1 (asMaybe (a .after))
+      (subst (λ (k : Listing). k .next (asMaybe (a .after)) ≡ none) (list-is reading h) e)
 
   -- a locator is shown, and the sweep stands at the end of its stretch
-  module _ (l : TransactionLocator) (shown : list .shows l ≡ true) (is : list .next (asMaybe (a .after)) ≡ some l) (h : TransactionLocator) (e : h ≡ locator (l .block) (stretchEnd (blocksOf s) list l)) where
+  module _ (l : TransactionLocator) (shown : list .shows l ≡ true) (is : list .next (asMaybe (a .after)) ≡ some l) (h : TransactionLocator)
+      (e : h ≡ locator (l .block) (stretchEnd (blocksOf s) list l)) where
     far : l .offset < stretchEnd (blocksOf s) list l
     far = shown-ends c (blocksOf s) list (lists-lawful (isOrdinary (a .wanted .list)) (asReading (a .wanted .reading)) c (blocksOf s)) l shown .longer
 
@@ -96,8 +104,14 @@ module _ (c : Committee) (s : Bytes) (t : Tables) (a : Along) where
       unfolding stretches fromFound
       one-ahead = rw (subst (λ (k : Listing). k .next (asMaybe (a .after)) ≡ some l) (list-is reading g) is)
 
-      pub found-stretch : (q : ranges.TransactionLocatorRange) → asRange q ≡ newRange (l .block) (l .offset) (h .offset) → (m : TransactionLocator) → m ≡ locator (l .block) (h .offset - 1)
+      pub found-stretch : (q : ranges.TransactionLocatorRange) → asRange q ≡ newRange (l .block) (l .offset) (h .offset) → (m : TransactionLocator) → m ≡
+          locator (l .block) (h .offset - 1)
           → Found reading c s (asMaybe (a .after)) (some m) (Stretch q)
       unfolding Found stretchAt lastLocator
-      found-stretch q range m p =
-          (stretchAt c (blocksOf s) (shareList reading c s) l, one-ahead, range ∙ ap (newRange (l .block) (l .offset)) end-there, ap {B = Option TransactionLocator} some (p ∙ ap (λ (n : ℕ). locator (l .block) (n - 1)) end-there))
+      found-stretch q range m p = (
+        stretchAt c (blocksOf s) (shareList reading c s) l,
+        one-ahead,
+        range ∙ ap (newRange (l .block) (l .offset)) end-there,
+        ap
+            {B = Option TransactionLocator} some (p ∙ ap (λ (n : ℕ). locator (l .block) (n - 1)) end-there),
+      )

@@ -25,7 +25,8 @@ unfoldable pub rangeFrom : Bytes → ℕ → TransactionLocatorRange
 rangeFrom b p = newRange (referenceAt b p) (leAt 8 b (p + 48)) (leAt 8 b (p + 56))
 
 -- a locator is read where its bytes stand
-locator-stands : (b : Bytes) (p : ℕ) (l : TransactionLocator) (x : Bytes) → LocatorFits l → p + 56 ≤ length b → drop p b ≡ locatorBytes l ++ x → locatorAt b p ≡ l
+locator-stands : (b : Bytes) (p : ℕ) (l : TransactionLocator) (x : Bytes) → LocatorFits l → p + 56 ≤ length b → drop p b ≡ locatorBytes l ++ x → locatorAt b p
+    ≡ l
 locator-stands b p l x f h e =
     let read : some (part (fixed-locator .value (drop p b)) (drop (p + 56) b)) ≡ some (part l x) =
     sym (reads-at readLocator 56 fixed-locator b p h) ∙ ap readLocator e ∙ locator-reads l f x in
@@ -63,7 +64,8 @@ module _ (b : Bytes) (p : ℕ) (t : FinalStretch) (rest : Bytes) (e : drop p b �
       let after : drop (p + 56) b ≡ leBytes 8 (t .end) ++ (more ++ rest) =
       sym (drop-drop 56 p b) ∙ ap (λ (x : Bytes). drop 56 x) laid ∙ drop-at (locatorBytes l) ((leBytes 8 (t .end) ++ more) ++ rest) 56 long
       ∙ append-assoc (leBytes 8 (t .end)) more rest in
-      ap (λ (x : Bytes). leNumber (take 8 x)) after ∙ ap leNumber (take-at (leBytes 8 (t .end)) (more ++ rest) 8 (length-leBytes 8 (t .end))) ∙ leNumber-leBytes 8 (t .end) end
+      ap (λ (x : Bytes). leNumber (take 8 x)) after ∙ ap leNumber (take-at (leBytes 8 (t .end)) (more ++ rest) 8 (length-leBytes 8 (t .end))) ∙
+      leNumber-leBytes 8 (t .end) end
 
   pub range-back : rangeFrom b p ≡ newRange (t .block) (t .first) (t .end)
   unfolding rangeFrom locatorAt locator newRange l

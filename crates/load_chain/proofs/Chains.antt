@@ -62,7 +62,8 @@ module _ (s : Bytes) (order marks : List ℕ) (fits : length order ≤ length ma
       go (inr e) = others j o i e
 
   -- and the other way, where no mark is of that place
-  module _ (free : (o : ℕ) → getD marks k 0 ≡ suc o → ⊥) (P : TransactionLocator → Type 0) (all : (j o : ℕ) → j < length order → getD marked j 0 ≡ suc o → P (shareIn s order j o)) where
+  module _ (free : (o : ℕ) → getD marks k 0 ≡ suc o → ⊥) (P : TransactionLocator → Type 0)
+      (all : (j o : ℕ) → j < length order → getD marked j 0 ≡ suc o → P (shareIn s order j o)) where
     all-own : P l
     all-own = subst P itself (all k (l .offset) (p .inside) at-place)
 
@@ -81,7 +82,8 @@ pub record Collecting (s : Bytes) (order : List ℕ) (l : TransactionLocator) (m
   pub means : (reading : Reading) (c : Committee) → storeInOrder c s ≡ true
       → (isLoadableIn reading c (blocksOf s) l ≡ true) ↔ (AllFinal reading c s order marks × (isLoadableIn reading c (blocksOf s) change ≡ true))
 
-pub collecting-start : (s : Bytes) (order : List ℕ) (l : TransactionLocator) (marks : List ℕ) → length order ≤ length marks → ((k : ℕ) → getD marks k 0 ≡ 0) → Collecting s order l marks l
+pub collecting-start : (s : Bytes) (order : List ℕ) (l : TransactionLocator) (marks : List ℕ) → length order ≤ length marks → ((k : ℕ) → getD marks k 0 ≡ 0) →
+    Collecting s order l marks l
 unfolding AllFinal
 collecting-start s order l marks fits clear =
     record {
@@ -109,7 +111,8 @@ module _ (s : Bytes) (order : List ℕ) (l : TransactionLocator) (marks : List �
     still-shares : (j o : ℕ) → j < length order → getD (set marks k (change .offset + 1)) j 0 ≡ suc o → isStoredShare (blocksOf s) (shareIn s order j o) ≡ true
     still-shares = marked-all s order marks (w .fits) change k p (λ x. isStoredShare (blocksOf s) x ≡ true) (p .stored) (w .shares)
 
-    pub collected : ((reading : Reading) (c : Committee) → storeInOrder c s ≡ true → isLoadableIn reading c (blocksOf s) change ≡ isFinalIn reading c (blocksOf s) change)
+    pub collected : ((reading : Reading) (c : Committee) → storeInOrder c s ≡ true → isLoadableIn reading c (blocksOf s) change ≡ isFinalIn reading c
+        (blocksOf s) change)
         → Chain s order l (set marks k (change .offset + 1))
     unfolding AllFinal
     collected e =
@@ -127,7 +130,8 @@ module _ (s : Bytes) (order : List ℕ) (l : TransactionLocator) (marks : List �
         }
 
     pub collecting-on : (m : TransactionLocator) → m .block .round < change .block .round
-        → ((reading : Reading) (c : Committee) → storeInOrder c s ≡ true → isLoadableIn reading c (blocksOf s) change ≡ isFinalIn reading c (blocksOf s) change && isLoadableIn reading c (blocksOf s) m)
+        → ((reading : Reading) (c : Committee) → storeInOrder c s ≡ true → isLoadableIn reading c (blocksOf s) change ≡ isFinalIn reading c (blocksOf s)
+        change && isLoadableIn reading c (blocksOf s) m)
         → length (set marks k (change .offset + 1)) ≡ length marks → Collecting s order l (set marks k (change .offset + 1)) m
     unfolding AllFinal locator
     collecting-on m low e long =

@@ -47,7 +47,8 @@ module _ (s : Bytes) (bytes : AllBytes s) (l : TransactionLocator) where
     pub looked-stored : (c : Committee) → storeInOrder c s ≡ true → isStoredShare (blocksOf s) l ≡ true
     looked-stored c x = share-stored (blocksOf s) l (shared-stored (payload-shared (blocksOf s) l held (has c x)))
 
-    pub looked-placed : (c : Committee) → storeInOrder c s ≡ true → (order : List ℕ) (k : ℕ) → k < length order → blockAtPlace s order k .reference ≡ l .block → Placed s order l k
+    pub looked-placed : (c : Committee) → storeInOrder c s ≡ true → (order : List ℕ) (k : ℕ) → k < length order → blockAtPlace s order k .reference ≡ l .block
+        → Placed s order l k
     unfolding isShareAt
     looked-placed c x order k inside block =
         let y = stored-share (blocksOf s) l (looked-stored c x) in
@@ -59,7 +60,8 @@ module _ (s : Bytes) (bytes : AllBytes s) (l : TransactionLocator) where
           small = omega (arith, element-below (y .block .statements) (l .offset) (z .0) (z .1), block-fits s bytes (y .block) (y .stored) .fewStatements);
         }
 
-    pub looked-alone : neededBy held ≡ none → (reading : Reading) (c : Committee) → storeInOrder c s ≡ true → isLoadableIn reading c (blocksOf s) l ≡ isFinalIn reading c (blocksOf s) l
+    pub looked-alone : neededBy held ≡ none → (reading : Reading) (c : Committee) → storeInOrder c s ≡ true → isLoadableIn reading c (blocksOf s) l ≡
+        isFinalIn reading c (blocksOf s) l
     looked-alone k reading c x = go (isFinalIn reading c (blocksOf s) l) refl
       where
         go : (f : Bool) → isFinalIn reading c (blocksOf s) l ≡ f → isLoadableIn reading c (blocksOf s) l ≡ f

@@ -45,7 +45,8 @@ left-stays : (ls : List TransactionLocator) (r : BlockReference) (m : ℕ) → (
 unfolding markLeft
 left-stays ls r zero f = refl
 left-stays ls r (suc o) f =
-    rw (fails (anyOf (sameLocator (locator r o)) ls) (λ h. let x = any-in (sameLocator (locator r o)) ls h in f o refl (subst (λ (l : TransactionLocator). l ∈ ls) (sym (locator-same (locator r o) (x .0) (x .2))) (x .1))))
+    rw (fails (anyOf (sameLocator (locator r o)) ls) (λ h. let x = any-in (sameLocator (locator r o)) ls h in f o refl
+    (subst (λ (l : TransactionLocator). l ∈ ls) (sym (locator-same (locator r o) (x .0) (x .2))) (x .1))))
 
 -- a mark that is left is of no locator among them, and a mark that is not is of one
 pub left-some : (ls : List TransactionLocator) (r : BlockReference) (m : ℕ) → (markLeft ls r m ≡ 0 → ⊥) → (o : ℕ) × (m ≡ suc o) × (locator r o ∈ ls → ⊥)
@@ -58,12 +59,14 @@ unfolding markLeft
 left-zero ls r o h = go (anyOf (sameLocator (locator r o)) ls) refl
   where
     go : (t : Bool) → anyOf (sameLocator (locator r o)) ls ≡ t → locator r o ∈ ls
-    go true e = let x = any-in (sameLocator (locator r o)) ls e in subst (λ (l : TransactionLocator). l ∈ ls) (sym (locator-same (locator r o) (x .0) (x .2))) (x .1)
+    go true e = let x = any-in (sameLocator (locator r o)) ls e in subst (λ (l : TransactionLocator). l ∈ ls) (sym (locator-same (locator r o) (x .0) (x .2)))
+        (x .1)
     go false e = absurd (let z : suc o ≡ 0 = rw e at h in omega arith)
 
 -- ---- the marks of a stretch
 
-module _ (s : Bytes) (order : List ℕ) (w : SortedStore s order) (q : TransactionLocatorRange) (marks : List ℕ) (place : ℕ) (inside : place < length order) (fits : length order ≤ length marks)
+module _ (s : Bytes) (order : List ℕ) (w : SortedStore s order) (q : TransactionLocatorRange) (marks : List ℕ) (place : ℕ) (inside : place < length order)
+    (fits : length order ≤ length marks)
     (block : blockAtPlace s order place .reference ≡ q .block) where
   -- another block has another reference
   only-place : (j : ℕ) → j < length order → blockAtPlace s order j .reference ≡ q .block → j ≡ place
@@ -80,7 +83,8 @@ module _ (s : Bytes) (order : List ℕ) (w : SortedStore s order) (q : Transacti
 
   stays-other : (j : ℕ) → j < length order → (j ≡ place → ⊥) → getD marks j 0 ≡ markLeft (locators q) (blockAtPlace s order j .reference) (getD marks j 0)
   unfolding locator
-  stays-other j h d = left-stays (locators q) (blockAtPlace s order j .reference) (getD marks j 0) (λ o e m. d (only-place j h (sym (locators-in q (locator (blockAtPlace s order j .reference) o) m .of))))
+  stays-other j h d = left-stays (locators q) (blockAtPlace s order j .reference) (getD marks j 0)
+      (λ o e m. d (only-place j h (sym (locators-in q (locator (blockAtPlace s order j .reference) o) m .of))))
 
   pub stretch-past : ((o : ℕ) → getD marks place 0 ≡ suc o → q .start ≤ o → o < q .end → ⊥) → Cleared s order (locators q) marks marks
   unfolding locator
@@ -94,7 +98,8 @@ module _ (s : Bytes) (order : List ℕ) (w : SortedStore s order) (q : Transacti
       go j h (no d) = stays-other j h d
       go j h (yes e) =
           left-stays (locators q) (blockAtPlace s order j .reference) (getD marks j 0)
-          (λ o k m. let x = locators-in q (locator (blockAtPlace s order j .reference) o) m in f o (ap (λ (i : ℕ). getD marks i 0) (sym e) ∙ k) (x .from) (x .below))
+          (λ o k m. let x = locators-in q (locator (blockAtPlace s order j .reference) o) m in f o (ap (λ (i : ℕ). getD marks i 0) (sym e) ∙ k) (x .from)
+          (x .below))
 
   pub stretch-cleared : (o : ℕ) → getD marks place 0 ≡ suc o → q .start ≤ o → o < q .end → Cleared s order (locators q) marks (set marks place 0)
   unfolding locator
@@ -107,11 +112,13 @@ module _ (s : Bytes) (order : List ℕ) (w : SortedStore s order) (q : Transacti
       covered : locator (blockAtPlace s order place .reference) o ∈ locators q
       covered = covered-in q (locator (blockAtPlace s order place .reference) o) (record { of = sym block; from = a; below = b })
 
-      go : (j : ℕ) → j < length order → Dec (j ≡ place) → getD (set marks place 0) j 0 ≡ markLeft (locators q) (blockAtPlace s order j .reference) (getD marks j 0)
+      go : (j : ℕ) → j < length order → Dec (j ≡ place) → getD (set marks place 0) j 0 ≡ markLeft (locators q) (blockAtPlace s order j .reference)
+          (getD marks j 0)
       go j h (no d) = getD-set-other marks place j 0 0 d ∙ stays-other j h d
       go j h (yes e) =
           subst (λ (i : ℕ). getD (set marks place 0) i 0 ≡ markLeft (locators q) (blockAtPlace s order i .reference) (getD marks i 0)) (sym e)
-          (getD-set-same marks place 0 0 (omega arith) ∙ left-gone (locators q) (blockAtPlace s order place .reference) o covered ∙ ap (markLeft (locators q) (blockAtPlace s order place .reference)) (sym k))
+          (getD-set-same marks place 0 0 (omega arith) ∙ left-gone (locators q) (blockAtPlace s order place .reference) o covered ∙ ap
+          (markLeft (locators q) (blockAtPlace s order place .reference)) (sym k))
 
   pub stretch-taken : q .start < getD marks place 0 → getD marks place 0 ≤ q .end → Cleared s order (locators q) marks (set marks place 0)
   stretch-taken a b = go (getD marks place 0) refl
@@ -135,7 +142,8 @@ module _ (s : Bytes) (order : List ℕ) where
   pub cleared-none : (marks : List ℕ) → Cleared s order [] marks marks
   cleared-none marks = record { long = refl; each = λ k h. left-none (blockAtPlace s order k .reference) (getD marks k 0) }
 
-  pub cleared-more : (xs ys : List TransactionLocator) (marks between after : List ℕ) → Cleared s order xs marks between → Cleared s order ys between after → Cleared s order (xs ++ ys) marks after
+  pub cleared-more : (xs ys : List TransactionLocator) (marks between after : List ℕ) → Cleared s order xs marks between → Cleared s order ys between after →
+      Cleared s order (xs ++ ys) marks after
   cleared-more xs ys marks between after f g =
       record {
         long = g .long ∙ f .long;

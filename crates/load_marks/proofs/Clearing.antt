@@ -30,13 +30,16 @@ use Rattle.load_chain.proofs.Chains.{share-block}
 use Rattle.load_mark_words.specs.Marks.{Cleared}
 
 -- the block of the next stretch is stored
-pub stretch-stored : (reading : Reading) (c : Committee) (s : Bytes) (tables : Tables) (along : Along) (gone : List TransactionLocator) (w : Passing reading c s tables along gone) (q : ranges.TransactionLocatorRange)
+pub stretch-stored : (reading : Reading) (c : Committee) (s : Bytes) (tables : Tables) (along : Along) (gone : List TransactionLocator)
+    (w : Passing reading c s tables along gone) (q : ranges.TransactionLocatorRange)
     (last : Option TransactionLocator) (f : Found reading c s (asMaybe (along .after)) last (Stretch q)) → isStored (recordsOf s) (asRange q .block) ≡ true
 unfolding locator isListed
 stretch-stored reading c s tables along gone w q last f =
     let l : TransactionLocator = locator (asRange q .block) (asRange q .start) in
-    let m : l ∈ locators (asRange q) = covered-in (asRange q) l (record { of = refl; from = omega arith; below = passing-longer reading c s tables along gone w q last f }) in
-    let i = subst (λ (ls : List TransactionLocator). l ∈ ls) (sym (passing-splits reading c s tables along gone w q last f)) (in-right gone (in-left (later reading c s tables along gone w q last f) m)) in
+    let m : l ∈ locators (asRange q) = covered-in (asRange q) l (record
+    { of = refl; from = omega arith; below = passing-longer reading c s tables along gone w q last f }) in
+    let i = subst (λ (ls : List TransactionLocator). l ∈ ls) (sym (passing-splits reading c s tables along gone w q last f))
+    (in-right gone (in-left (later reading c s tables along gone w q last f) m)) in
     share-block s l (and-left (isStoredShare (blocksOf s) l) _ (all-in true reading c (blocksOf s) l .0 i))
 
 -- the marks of what was passed are taken away
@@ -45,7 +48,9 @@ pub record Clearing (reading : Reading) (c : Committee) (s : Bytes) (order : Lis
   pub passing : Passing reading c s tables along gone
   pub cleared : Cleared s order gone marks₀ marks
 
-pub clearing-end : (reading : Reading) (c : Committee) (s : Bytes) (order marks₀ marks : List ℕ) (tables : Tables) (along : Along) → Clearing reading c s order marks₀ marks tables along
-    → (last : Option TransactionLocator) → Found reading c s (asMaybe (along .after)) last Ended → Cleared s order (allListed true reading c (blocksOf s)) marks₀ marks
+pub clearing-end : (reading : Reading) (c : Committee) (s : Bytes) (order marks₀ marks : List ℕ) (tables : Tables) (along : Along) → Clearing reading c s
+    order marks₀ marks tables along
+    → (last : Option TransactionLocator) → Found reading c s (asMaybe (along .after)) last Ended → Cleared s order (allListed true reading c (blocksOf s))
+    marks₀ marks
 clearing-end reading c s order marks₀ marks tables along w last e =
     subst (λ (ls : List TransactionLocator). Cleared s order ls marks₀ marks) (passing-end reading c s tables along (w .gone) (w .passing) last e) (w .cleared)

@@ -91,21 +91,26 @@ module _ (ps : List ℕ) (n at o : ℕ) (fits : 2 * n + 2 ≤ length ps) where
 -- ---- what the places hold
 
 -- before any share
-pub holding-start : (reading : Reading) (c : Committee) (s : Bytes) (ps : List ℕ) → 2 * length (allListed true reading c (blocksOf s)) ≤ length ps → Holding reading c s [] ps 0
+pub holding-start : (reading : Reading) (c : Committee) (s : Bytes) (ps : List ℕ) → 2 * length (allListed true reading c (blocksOf s)) ≤ length ps → Holding
+    reading c s [] ps 0
 unfolding keep flatten
 holding-start reading c s ps h = record { rest = allListed true reading c (blocksOf s); splits = refl; many = refl; words = refl; room = h }
 
 -- after the last one
-pub holding-all : (reading : Reading) (c : Committee) (s : Bytes) → storeInOrder c s ≡ true → (ps qs : List ℕ) (n : ℕ) → Holding reading c s (allListed true reading c (blocksOf s)) qs n → Past ps qs n
+pub holding-all : (reading : Reading) (c : Committee) (s : Bytes) → storeInOrder c s ≡ true → (ps qs : List ℕ) (n : ℕ) → Holding reading c s
+    (allListed true reading c (blocksOf s)) qs n → Past ps qs n
     → (n ≡ length (loadableListIn reading c (blocksOf s)))
-    × (qs ≡ flatten (map (placeWords (entries (recordsOf s))) (loadableListIn reading c (blocksOf s))) ++ drop (2 * length (loadableListIn reading c (blocksOf s))) ps)
+    × (qs ≡ flatten (map (placeWords (entries (recordsOf s))) (loadableListIn reading c (blocksOf s))) ++ drop
+    (2 * length (loadableListIn reading c (blocksOf s))) ps)
 holding-all reading c s o ps qs n g p =
     let found : List TransactionLocator = loadableListIn reading c (blocksOf s) in
-    let all : keep (isLoadableIn reading c (blocksOf s)) (allListed true reading c (blocksOf s)) ≡ found = walked-finals reading c (in-order-stored c s o) .kept in
+    let all : keep (isLoadableIn reading c (blocksOf s)) (allListed true reading c (blocksOf s)) ≡ found = walked-finals reading c (in-order-stored c s o)
+    .kept in
     let many : n ≡ length found = g .many ∙ ap length all in (
       many,
       sym (take-append-drop (2 * n) qs)
-          ∙ ap₂ (λ (ws rest : List ℕ). ws ++ rest) (g .words ∙ ap (λ (ls : List TransactionLocator). flatten (map (placeWords (entries (recordsOf s))) ls)) all) (p .same)
+          ∙ ap₂ (λ (ws rest : List ℕ). ws ++ rest) (g .words ∙ ap (λ (ls : List TransactionLocator). flatten (map (placeWords (entries (recordsOf s))) ls))
+          all) (p .same)
           ∙ ap (λ (m : ℕ). flatten (map (placeWords (entries (recordsOf s))) found) ++ drop (2 * m) ps) many,
     )
 
@@ -114,24 +119,30 @@ finals-kept : (reading : Reading) (c : Committee) (bs : List Block) → allListe
 unfolding isListed
 finals-kept reading c bs =
     ascending-unique (all-ascending true reading c bs) (keep-ascending (isFinalIn reading c bs) (shares-ascending bs))
-    (λ l m. let k = all-in true reading c bs l .0 m in in-keep (isFinalIn reading c bs) (storedShares bs) (in-all-shares bs l (stored-share bs l (and-left _ _ k))) (and-right (isStoredShare bs l) _ k))
-    (λ l m. let k = keep-in (isFinalIn reading c bs) (storedShares bs) m in all-in true reading c bs l .1 (and-both _ _ (share-stored bs l (shares-in bs l (k .0))) (k .1)))
+    (λ l m. let k = all-in true reading c bs l .0 m in in-keep (isFinalIn reading c bs) (storedShares bs)
+    (in-all-shares bs l (stored-share bs l (and-left _ _ k))) (and-right (isStoredShare bs l) _ k))
+    (λ l m. let k = keep-in (isFinalIn reading c bs) (storedShares bs) m in all-in true reading c bs l .1
+    (and-both _ _ (share-stored bs l (shares-in bs l (k .0))) (k .1)))
 
 pub few-finals : (reading : Reading) (c : Committee) (bs : List Block) → length (allListed true reading c bs) ≤ length (storedShares bs)
 few-finals reading c bs = omega (arith, ap length (finals-kept reading c bs), length-keep (isFinalIn reading c bs) (storedShares bs))
 
-module _ (reading : Reading) (c : Committee) (s : Bytes) (order : storeInOrder c s ≡ true) (xs : List TransactionLocator) (ps : List ℕ) (n : ℕ) (g : Holding reading c s xs ps n) where
+module _ (reading : Reading) (c : Committee) (s : Bytes) (order : storeInOrder c s ≡ true) (xs : List TransactionLocator) (ps : List ℕ) (n : ℕ)
+    (g : Holding reading c s xs ps n) where
   abbrev found : List TransactionLocator
   found = keep (isLoadableIn reading c (blocksOf s)) xs
 
   pub final-stored : (l : TransactionLocator) → l ∈ allListed true reading c (blocksOf s) → l ∈ storedShares (blocksOf s)
-  final-stored l m = keep-in (isFinalIn reading c (blocksOf s)) (storedShares (blocksOf s)) (subst (λ (ls : List TransactionLocator). l ∈ ls) (finals-kept reading c (blocksOf s)) m) .0
+  final-stored l m = keep-in (isFinalIn reading c (blocksOf s)) (storedShares (blocksOf s))
+      (subst (λ (ls : List TransactionLocator). l ∈ ls) (finals-kept reading c (blocksOf s)) m) .0
 
   found-stored : (l : TransactionLocator) → l ∈ found → l ∈ storedShares (blocksOf s)
-  found-stored l m = final-stored l (subst (λ (ls : List TransactionLocator). l ∈ ls) (sym (g .splits)) (in-left (g .rest) (keep-in (isLoadableIn reading c (blocksOf s)) xs m .0)))
+  found-stored l m = final-stored l (subst (λ (ls : List TransactionLocator). l ∈ ls) (sym (g .splits))
+      (in-left (g .rest) (keep-in (isLoadableIn reading c (blocksOf s)) xs m .0)))
 
   found-ascends : Ascending found
-  found-ascends = keep-ascending (isLoadableIn reading c (blocksOf s)) (ascending-left xs (g .rest) (subst Ascending (g .splits) (all-ascending true reading c (blocksOf s))))
+  found-ascends = keep-ascending (isLoadableIn reading c (blocksOf s))
+      (ascending-left xs (g .rest) (subst Ascending (g .splits) (all-ascending true reading c (blocksOf s))))
 
   pub whole : ps ≡ flatten (map (placeWords (entries (recordsOf s))) found) ++ drop (2 * n) ps
   whole = sym (take-append-drop (2 * n) ps) ∙ ap (λ (ws : List ℕ). ws ++ drop (2 * n) ps) (g .words)
@@ -153,7 +164,8 @@ module _ (reading : Reading) (c : Committee) (s : Bytes) (order : storeInOrder c
 
     final-here : isFinalIn reading c (blocksOf s) l ≡ true
     unfolding isListed
-    final-here = and-right (isStoredShare (blocksOf s) l) _ (all-in true reading c (blocksOf s) l .0 (subst (λ (ls : List TransactionLocator). l ∈ ls) (sym e) (in-right xs here)))
+    final-here = and-right (isStoredShare (blocksOf s) l) _ (all-in true reading c (blocksOf s) l .0
+        (subst (λ (ls : List TransactionLocator). l ∈ ls) (sym e) (in-right xs here)))
 
     -- it is loadable exactly if what it needs is at one of the places
     pub by-places : (p : Bytes) → payloadIn (blocksOf s) l ≡ some p → isLoadableIn reading c (blocksOf s) l ≡ metBy s n ps l p
@@ -181,7 +193,8 @@ module _ (reading : Reading) (c : Committee) (s : Bytes) (order : storeInOrder c
         }
 
     module _ (at : ℕ) (place : at ≡ positionOf (lookup (entries (recordsOf s)) (l .block))) where
-      words-on : flatten (map (placeWords (entries (recordsOf s))) (found ++ l ∷ [])) ≡ flatten (map (placeWords (entries (recordsOf s))) found) ++ at ∷ l .offset ∷ []
+      words-on : flatten (map (placeWords (entries (recordsOf s))) (found ++ l ∷ [])) ≡ flatten (map (placeWords (entries (recordsOf s))) found) ++ at ∷ l
+          .offset ∷ []
       unfolding flatten placeWords
       words-on =
           ap flatten (map-append (placeWords (entries (recordsOf s))) found (l ∷ []))

@@ -34,7 +34,8 @@ module _ (reading : Reading) (c : Committee) (s : Bytes) where
     pub past : Past ps₀ ps n
     pub reads : Read s read
 
-  pub walking-start : broken c ≡ false → storeInOrder c s ≡ true → (ps : List ℕ) (tables : Tables) (along : Along) (read : ReadUp) → asMaybe (along .after) ≡ none → Held reading c s tables along
+  pub walking-start : broken c ≡ false → storeInOrder c s ≡ true → (ps : List ℕ) (tables : Tables) (along : Along) (read : ReadUp) → asMaybe (along .after) ≡
+      none → Held reading c s tables along
       → Sized tables → read .at ≡ 0 → 2 * length (allListed true reading c (blocksOf s)) ≤ length ps → Walking ps ps tables along read 0
   unfolding Read
   walking-start sound order ps tables along read e held sized z room =
@@ -47,8 +48,10 @@ module _ (reading : Reading) (c : Committee) (s : Bytes) where
       }
 
   module _ (ps₀ ps : List ℕ) (tables : Tables) (along : Along) (read : ReadUp) (n : ℕ) (w : Walking ps₀ ps tables along read n) where
-    pub walking-end : (last : Option TransactionLocator) → Found reading c s (asMaybe (along .after)) last Ended → Holding reading c s (allListed true reading c (blocksOf s)) ps n
-    walking-end last e = subst (λ (ls : List TransactionLocator). Holding reading c s ls ps n) (passing-end reading c s tables along (w .gone) (w .passing) last e) (w .holding)
+    pub walking-end : (last : Option TransactionLocator) → Found reading c s (asMaybe (along .after)) last Ended → Holding reading c s
+        (allListed true reading c (blocksOf s)) ps n
+    walking-end last e = subst (λ (ls : List TransactionLocator). Holding reading c s ls ps n)
+        (passing-end reading c s tables along (w .gone) (w .passing) last e) (w .holding)
 
     module _ (q : ranges.TransactionLocatorRange) (last : Option TransactionLocator) (f : Found reading c s (asMaybe (along .after)) last (Stretch q)) where
       pub walking-coming : storeInOrder c s ≡ true → Coming s (asRange q) ps n
@@ -64,7 +67,8 @@ module _ (reading : Reading) (c : Committee) (s : Bytes) where
             holding = w .holding;
           }
 
-      pub walking-next : storeInOrder c s ≡ true → (qs : List ℕ) (tables' : Tables) (along' : Along) (read' : ReadUp) (m : ℕ) → asMaybe (along' .after) ≡ last → Held reading c s tables' along'
+      pub walking-next : storeInOrder c s ≡ true → (qs : List ℕ) (tables' : Tables) (along' : Along) (read' : ReadUp) (m : ℕ) → asMaybe (along' .after) ≡ last
+          → Held reading c s tables' along'
           → Sized tables' → Listed s (asRange q) ps n qs m → Read s read' → Walking ps₀ qs tables' along' read' m
       unfolding walking-coming
       walking-next order qs tables' along' read' m e held sized listed reads =

@@ -57,7 +57,8 @@ unfolding upTo locators offsets
 upto-all q i e = ap (λ (k : ℕ). map (locator (q .block)) (countFrom (q .start) (k - q .start))) e
 
 -- what is below an offset, the locator there, and what is above it
-upto-splits : (q : TransactionLocatorRange) (i : ℕ) → q .start ≤ i → i < q .end → locators q ≡ upTo q i ++ locator (q .block) i ∷ map (locator (q .block)) (countFrom (i + 1) (q .end - i - 1))
+upto-splits : (q : TransactionLocatorRange) (i : ℕ) → q .start ≤ i → i < q .end → locators q ≡ upTo q i ++ locator (q .block) i ∷ map (locator (q .block))
+    (countFrom (i + 1) (q .end - i - 1))
 unfolding upTo locators offsets countFrom
 upto-splits q i h k =
     let n : q .end - q .start ≡ (i - q .start) + suc (q .end - i - 1) = omega arith in
@@ -104,7 +105,8 @@ module _ (s : Bytes) (q : TransactionLocatorRange) (ps₀ : List ℕ) (n : ℕ) 
     stands = place ∙ ap (λ (o : Option Entry). positionOf o) (first-entry .1)
 
     pub coming-entry : isEntry s p ≡ true
-    coming-entry = rw stands (is-entry s (first-entry .0) (laid-out s (order-laid (g .committee) s (g .inOrder)) .tested) (lookup-in (entries (recordsOf s)) (q .block) (first-entry .0) (first-entry .1) .0))
+    coming-entry = rw stands (is-entry s (first-entry .0) (laid-out s (order-laid (g .committee) s (g .inOrder)) .tested)
+        (lookup-in (entries (recordsOf s)) (q .block) (first-entry .0) (first-entry .1) .0))
 
     pub coming-formed : wellFormed (recordAt s p) ≡ true
     coming-formed = entry-room s p coming-entry .formed
@@ -113,7 +115,8 @@ module _ (s : Bytes) (q : TransactionLocatorRange) (ps₀ : List ℕ) (n : ℕ) 
     unfolding blockAt
     coming-block =
         ap (λ (j : ℕ). blockAt s j) stands
-        ∙ block-of-entry s (laid-out s (order-laid (g .committee) s (g .inOrder)) .reads) (first-entry .0) (lookup-in (entries (recordsOf s)) (q .block) (first-entry .0) (first-entry .1) .0)
+        ∙ block-of-entry s (laid-out s (order-laid (g .committee) s (g .inOrder)) .reads) (first-entry .0)
+        (lookup-in (entries (recordsOf s)) (q .block) (first-entry .0) (first-entry .1) .0)
 
     -- the statement of an offset of the range is a share
     pub coming-share : (i : ℕ) → q .start ≤ i → i < q .end → isShareAt (blockIn (recordAt s p)) i ≡ true
@@ -132,7 +135,8 @@ module _ (s : Bytes) (q : TransactionLocatorRange) (ps₀ : List ℕ) (n : ℕ) 
     pub coming-below : (i : ℕ) → i < q .end → i < length (blockIn (recordAt s p) .statements)
     coming-below i k = let z = g .longer in omega (arith, coming-few (q .end - 1) (omega arith) (omega arith))
 
-    pub coming-payload : (i : ℕ) (b : Bytes) → getElem? (blockIn (recordAt s p) .statements) i ≡ some (share b) → payloadIn (blocksOf s) (locator (q .block) i) ≡ some b
+    pub coming-payload : (i : ℕ) (b : Bytes) → getElem? (blockIn (recordAt s p) .statements) i ≡ some (share b) → payloadIn (blocksOf s)
+        (locator (q .block) i) ≡ some b
     unfolding locator blocksOf
     coming-payload i b e =
         let l = lookup-in (entries (recordsOf s)) (q .block) (first-entry .0) (first-entry .1) in
@@ -153,7 +157,8 @@ module _ (s : Bytes) (q : TransactionLocatorRange) (ps₀ : List ℕ) (n : ℕ) 
     pub past : Past ps₀ ps found
     pub onward : n ≤ found
 
-  pub going-start : Coming s q ps₀ n → (rec : Bytes) (cursor : StatementCursor) → cursor ≡ cursorAt rec (cursor .index) → cursor .index ≤ q .start → Going rec ps₀ cursor n
+  pub going-start : Coming s q ps₀ n → (rec : Bytes) (cursor : StatementCursor) → cursor ≡ cursorAt rec (cursor .index) → cursor .index ≤ q .start → Going rec
+      ps₀ cursor n
   going-start g rec cursor e h =
       record {
         there = e;
@@ -171,7 +176,8 @@ module _ (s : Bytes) (q : TransactionLocatorRange) (ps₀ : List ℕ) (n : ℕ) 
       unfolding cursorAt
       index-next = ap (λ (x : StatementCursor). x .index) e
 
-      moved : (qs : List ℕ) (m : ℕ) → ((g : Coming s q ps₀ n) → Holding (g .reading) (g .committee) s (g .gone ++ upTo q (cursor .index + 1)) qs m) → Past ps₀ qs m → n ≤ m → Going rec qs next m
+      moved : (qs : List ℕ) (m : ℕ) → ((g : Coming s q ps₀ n) → Holding (g .reading) (g .committee) s (g .gone ++ upTo q (cursor .index + 1)) qs m) → Past ps₀
+          qs m → n ≤ m → Going rec qs next m
       moved qs m f past onward =
           record {
             there = e ∙ ap (cursorAt rec) (sym index-next);
@@ -183,8 +189,10 @@ module _ (s : Bytes) (q : TransactionLocatorRange) (ps₀ : List ℕ) (n : ℕ) 
 
       pub going-before : cursor .index < q .start → Going rec ps next found
       going-before h =
-          let same : upTo q (cursor .index) ≡ upTo q (cursor .index + 1) = upto-none q (cursor .index) (omega arith) ∙ sym (upto-none q (cursor .index + 1) (omega arith)) in
-          moved ps found (λ g. subst (λ (ls : List TransactionLocator). Holding (g .reading) (g .committee) s (g .gone ++ ls) ps found) same (w .holding g)) (w .past) (w .onward)
+          let same : upTo q (cursor .index) ≡ upTo q (cursor .index + 1) = upto-none q (cursor .index) (omega arith) ∙ sym
+          (upto-none q (cursor .index + 1) (omega arith)) in
+          moved ps found (λ g. subst (λ (ls : List TransactionLocator). Holding (g .reading) (g .committee) s (g .gone ++ ls) ps found) same (w .holding g))
+          (w .past) (w .onward)
 
       module _ (h : q .start ≤ cursor .index) (g₀ : Coming s q ps₀ n) where
         pub going-looked : Looked s ps found
@@ -195,7 +203,8 @@ module _ (s : Bytes) (q : TransactionLocatorRange) (ps₀ : List ℕ) (n : ℕ) 
             holding-room (g₀ .reading) (g₀ .committee) s (g₀ .inOrder) (g₀ .gone ++ upTo q (cursor .index)) ps found (w .holding g₀)
             (at g₀ (cursor .index) h k) (above g₀ (cursor .index) h k) (coming-splits g₀ (cursor .index) h k)
 
-        module _ (p : ℕ) (place : p ≡ positionOf (lookup (entries (recordsOf s)) (q .block))) (b : Bytes) (payload : payloadIn (blocksOf s) (locator (q .block) (cursor .index)) ≡ some b) where
+        module _ (p : ℕ) (place : p ≡ positionOf (lookup (entries (recordsOf s)) (q .block))) (b : Bytes)
+            (payload : payloadIn (blocksOf s) (locator (q .block) (cursor .index)) ≡ some b) where
           abbrev t : Bool
           t = metBy s found ps (locator (q .block) (cursor .index)) b
 
@@ -204,12 +213,16 @@ module _ (s : Bytes) (q : TransactionLocatorRange) (ps₀ : List ℕ) (n : ℕ) 
           place-there = place
 
           one-listed : (g : Coming s q ps₀ n)
-              → Listing (g .reading) (g .committee) s (g .inOrder) (g .gone ++ upTo q (cursor .index)) ps found (w .holding g) (locator (q .block) (cursor .index)) (above g (cursor .index) h k) (coming-splits g (cursor .index) h k) p place-there t
+              → Listing (g .reading) (g .committee) s (g .inOrder) (g .gone ++ upTo q (cursor .index)) ps found (w .holding g)
+              (locator (q .block) (cursor .index)) (above g (cursor .index) h k) (coming-splits g (cursor .index) h k) p place-there t
           one-listed g =
-              listing (g .reading) (g .committee) s (g .inOrder) (g .gone ++ upTo q (cursor .index)) ps found (w .holding g) (locator (q .block) (cursor .index)) (above g (cursor .index) h k) (coming-splits g (cursor .index) h k) p place-there t
-              (by-places (g .reading) (g .committee) s (g .inOrder) (g .gone ++ upTo q (cursor .index)) ps found (w .holding g) (locator (q .block) (cursor .index)) (above g (cursor .index) h k) (coming-splits g (cursor .index) h k) b payload)
+              listing (g .reading) (g .committee) s (g .inOrder) (g .gone ++ upTo q (cursor .index)) ps found (w .holding g)
+              (locator (q .block) (cursor .index)) (above g (cursor .index) h k) (coming-splits g (cursor .index) h k) p place-there t
+              (by-places (g .reading) (g .committee) s (g .inOrder) (g .gone ++ upTo q (cursor .index)) ps found (w .holding g)
+              (locator (q .block) (cursor .index)) (above g (cursor .index) h k) (coming-splits g (cursor .index) h k) b payload)
 
-          pub going-listed : (qs : List ℕ) (m : ℕ) → m ≡ pick t (found + 1) found → qs ≡ pick t (sets ps (2 * found) (p ∷ cursor .index ∷ [])) ps → Going rec qs next m
+          pub going-listed : (qs : List ℕ) (m : ℕ) → m ≡ pick t (found + 1) found → qs ≡ pick t (sets ps (2 * found) (p ∷ cursor .index ∷ [])) ps → Going rec
+              qs next m
           unfolding locator
           going-listed qs m em eq =
               let qs' : List ℕ = pick t (sets ps (2 * found) (p ∷ cursor .index ∷ [])) ps in
@@ -220,7 +233,8 @@ module _ (s : Bytes) (q : TransactionLocatorRange) (ps₀ : List ℕ) (n : ℕ) 
               (moved qs' m'
               (λ g.
               subst (λ (ls : List TransactionLocator). Holding (g .reading) (g .committee) s ls qs' m')
-              (append-assoc (g .gone) (upTo q (cursor .index)) (locator (q .block) (cursor .index) ∷ []) ∙ ap (λ (ls : List TransactionLocator). g .gone ++ ls) (upto-next q (cursor .index) h))
+              (append-assoc (g .gone) (upTo q (cursor .index)) (locator (q .block) (cursor .index) ∷ []) ∙ ap
+              (λ (ls : List TransactionLocator). g .gone ++ ls) (upto-next q (cursor .index) h))
               (one-listed g .holds-on))
               (past-on ps₀ ps qs' found m' (l₀ .onward) (w .past) (l₀ .past))
               (let y = l₀ .onward in let z = w .onward in omega arith)))
@@ -229,7 +243,8 @@ module _ (s : Bytes) (q : TransactionLocatorRange) (ps₀ : List ℕ) (n : ℕ) 
     going-end h =
         record {
           holding = λ g.
-              subst (λ (ls : List TransactionLocator). Holding (g .reading) (g .committee) s (g .gone ++ ls) ps found) (upto-all q (cursor .index) (omega (arith, w .inside))) (w .holding g);
+              subst (λ (ls : List TransactionLocator). Holding (g .reading) (g .committee) s (g .gone ++ ls) ps found)
+              (upto-all q (cursor .index) (omega (arith, w .inside))) (w .holding g);
           past = w .past;
           onward = w .onward;
         }

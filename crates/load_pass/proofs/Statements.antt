@@ -21,7 +21,8 @@ use Rattle.store_payload.specs.Answers.{sharedBy}
 use Rattle.store_payload.specs.declared.SharePlace.the-variants.{Payload, NoShare}
 use Rattle.base.proofs.Lists.{element-at}
 
-pub payload-here : (b : Block) (i : ℕ) (p : List ℕ) → i < length (b .statements) → share p ≡ getD (b .statements) i noStatement → getElem? (b .statements) i ≡ some (share p)
+pub payload-here : (b : Block) (i : ℕ) (p : List ℕ) → i < length (b .statements) → share p ≡ getD (b .statements) i noStatement → getElem? (b .statements) i ≡
+    some (share p)
 payload-here b i p h e = element-at (b .statements) i noStatement h ∙ ap some (sym e)
 
 -- ---- what the code tells of a statement
@@ -43,7 +44,8 @@ told-share (RejectFor l other) start len h = absurd (let z : _≡_ {A = ℕ} 0 1
 told-share (VoteRange r) start len h = absurd (let z : _≡_ {A = ℕ} 0 1 = cc in omega arith)
 
 -- a share's payload lies in the record
-pub payload-inside : (rec : List ℕ) → AllBytes rec → wellFormed rec ≡ true → (i at next start len : ℕ) → payloadBetween at next (Share start len) ≡ true → next ≡ statementStart rec (i + 1)
+pub payload-inside : (rec : List ℕ) → AllBytes rec → wellFormed rec ≡ true → (i at next start len : ℕ) → payloadBetween at next (Share start len) ≡ true →
+    next ≡ statementStart rec (i + 1)
     → start + len ≤ length rec
 unfolding payloadBetween
 payload-inside rec a w i at next start len p e =

@@ -53,7 +53,8 @@ pub named-in : (s : Bytes) (n : ℕ) (ps : List ℕ) (i : ℕ) → i < n → pla
 unfolding namedBy placeAt
 named-in s zero ps i h = absurd (omega arith)
 named-in s (suc n) ps zero h = here
-named-in s (suc n) ps (suc i) h = there (subst (λ (l : TransactionLocator). l ∈ namedBy s n (drop 2 ps)) (next-place s ps i) (named-in s n (drop 2 ps) i (omega arith)))
+named-in s (suc n) ps (suc i) h = there (subst (λ (l : TransactionLocator). l ∈ namedBy s n (drop 2 ps)) (next-place s ps i)
+    (named-in s n (drop 2 ps) i (omega arith)))
 
 pub in-named : (s : Bytes) (n : ℕ) (ps : List ℕ) (l : TransactionLocator) → l ∈ namedBy s n ps → (i : ℕ) × (i < n) × (placeAt s ps i ≡ l)
 unfolding namedBy placeAt

@@ -38,7 +38,8 @@ position-at es (l ∷ ls) rest (suc i) h =
     let two : 2 * suc i ≡ 2 + 2 * i = omega arith in
     (x .0, there (x .1), ap (λ (n : ℕ). getD ps n 0) two ∙ sym (getD-drop 2 ps (2 * i) 0) ∙ x .2)
 
-named-rises : (s : Bytes) (n : ℕ) (ps : List ℕ) → Ascending (namedBy s n ps) → (i j : ℕ) → i < j → j < n → locatorBefore (placeAt s ps i) (placeAt s ps j) ≡ true
+named-rises : (s : Bytes) (n : ℕ) (ps : List ℕ) → Ascending (namedBy s n ps) → (i j : ℕ) → i < j → j < n → locatorBefore (placeAt s ps i) (placeAt s ps j) ≡
+    true
 unfolding namedBy placeAt
 named-rises s zero ps a i j h k = absurd (omega arith)
 named-rises s (suc n) ps a i zero h k = absurd (omega arith)

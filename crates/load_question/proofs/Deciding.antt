@@ -21,7 +21,8 @@ use Rattle.load_chain.specs.Chain.{shareIn, AllFinal, Chain}
 use Rattle.load_mark_words.specs.Marks.{markLeft, Cleared, NoneLeft}
 use Rattle.load_mark_words.proofs.Left.{left-some, left-zero}
 
-module _ (reading : Reading) (c : Committee) (s : Bytes) (x : storeInOrder c s ≡ true) (order : List ℕ) (l : TransactionLocator) (marks after : List ℕ) (chain : Chain s order l marks)
+module _ (reading : Reading) (c : Committee) (s : Bytes) (x : storeInOrder c s ≡ true) (order : List ℕ) (l : TransactionLocator) (marks after : List ℕ)
+    (chain : Chain s order l marks)
     (cleared : Cleared s order (allListed true reading c (blocksOf s)) marks after) where
   abbrev finals : List TransactionLocator
   finals = allListed true reading c (blocksOf s)
@@ -30,7 +31,8 @@ module _ (reading : Reading) (c : Committee) (s : Bytes) (x : storeInOrder c s �
   unfolding isListed
   listed-final k o m = and-right (isStoredShare (blocksOf s) (shareIn s order k o)) _ (all-in true reading c (blocksOf s) (shareIn s order k o) .0 m)
 
-  final-listed : (k o : ℕ) → isStoredShare (blocksOf s) (shareIn s order k o) ≡ true → isFinalIn reading c (blocksOf s) (shareIn s order k o) ≡ true → shareIn s order k o ∈ finals
+  final-listed : (k o : ℕ) → isStoredShare (blocksOf s) (shareIn s order k o) ≡ true → isFinalIn reading c (blocksOf s) (shareIn s order k o) ≡ true → shareIn
+      s order k o ∈ finals
   unfolding isListed
   final-listed k o h f = all-in true reading c (blocksOf s) (shareIn s order k o) .1 (and-both _ _ h f)
 

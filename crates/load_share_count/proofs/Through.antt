@@ -50,7 +50,8 @@ module _ (c : Committee) (s : Bytes) (order : List ℕ) (o : Sorted c s order) w
   through-all =
       let es : List Entry = ascending (entries (recordsOf s)) in
       through-entries c s (o .inOrder)
-      ∙ ap flatten (map-through (λ e. sharesOf (e .block)) sharesAt (λ e. e .position) es (λ e m. ap sharesOf (sym (block-of-entry s (laid-out s (o .laid) .reads) e (ascending-in (entries (recordsOf s)) e m)))))
+      ∙ ap flatten (map-through (λ e. sharesOf (e .block)) sharesAt (λ e. e .position) es
+      (λ e m. ap sharesOf (sym (block-of-entry s (laid-out s (o .laid) .reads) e (ascending-in (entries (recordsOf s)) e m)))))
       ∙ ap (λ (ps : List ℕ). flatten (map sharesAt ps)) (sym (o .places) ∙ sym (take-length order))
 
   module _ (k : ℕ) (h : k < length order) where

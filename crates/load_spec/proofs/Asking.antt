@@ -30,7 +30,8 @@ module _ (reading : Reading) (c : Committee) (s : Bytes) (l : TransactionLocator
   unfolding loadableQuestionIn nextFinalChecks checked passes refusal allOf
   question-disordered h k = rw (h, k)
 
-  pub question-asked : broken c ≡ false → storeInOrder c s ≡ true → (t : Bool) → t ≡ isLoadableIn reading c (blocksOf s) l → answered t ≡ loadableQuestionIn reading c s l
+  pub question-asked : broken c ≡ false → storeInOrder c s ≡ true → (t : Bool) → t ≡ isLoadableIn reading c (blocksOf s) l → answered t ≡ loadableQuestionIn
+      reading c s l
   unfolding loadableQuestionIn nextFinalChecks checked passes refusal allOf
   question-asked h k t e = rw (h, k, e)
 
@@ -52,7 +53,8 @@ module _ (reading : Reading) (c : Committee) (s : Bytes) (ps : List ℕ) where
       list-short h = rw (b, o, lt-ltb (length ps / 2) (length (storedShares (blocksOf s))) h)
 
       pub list-asked : length (storedShares (blocksOf s)) ≤ length ps / 2 → (n : ℕ) (qs : List ℕ) → n ≡ length (loadableListIn reading c (blocksOf s))
-          → qs ≡ flatten (map (placeWords (entries (recordsOf s))) (loadableListIn reading c (blocksOf s))) ++ drop (2 * length (loadableListIn reading c (blocksOf s))) ps
+          → qs ≡ flatten (map (placeWords (entries (recordsOf s))) (loadableListIn reading c (blocksOf s))) ++ drop
+          (2 * length (loadableListIn reading c (blocksOf s))) ps
           → record { answer = answered n; places = qs } ≡ loadableQuestionsIn reading c s ps
       unfolding loadableQuestionsIn listChecks checked passes refusal allOf
       list-asked h n qs e f = rw (b, o, le-ltb (length ps / 2) (length (storedShares (blocksOf s))) h, e, f)

@@ -25,7 +25,8 @@ found-block bs r b h =
     let p : Block → Bool = λ d. sameReference (d .reference) r in
     (find-in p bs b h, reference-same (b .reference) r (find-passes p bs b h))
 
-pub of-stored-block : {bs : List Block} → WellStored bs → (l : TransactionLocator) → holds (λ b. isShareAt b (l .offset)) (storedBlock bs (l .block)) ≡ isStoredShare bs l
+pub of-stored-block : {bs : List Block} → WellStored bs → (l : TransactionLocator) → holds (λ b. isShareAt b (l .offset)) (storedBlock bs (l .block)) ≡
+    isStoredShare bs l
 unfolding holds
 of-stored-block {bs} w l =
     same-test _ (isStoredShare bs l)

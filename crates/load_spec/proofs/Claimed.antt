@@ -1,6 +1,7 @@
 -- The claims, each from its law. Assumes nothing.
 use Rattle.final_spec.proofs.Claimed.{well-stored, small-authors}
-use Rattle.load_spec.specs.Claims.{NeedsWhatIsWritten, LoadableMeant, OldLoading, ListsLoadable, AnyOrder, LoadableInBoth, SameWithoutRejects, WalkedShares, WalkedFinals, PayloadsUnseen, StaysLoadable, PlacesName, PlacesFit, PlacesRead, PayloadGiven, Claims}
+use Rattle.load_spec.specs.Claims.{NeedsWhatIsWritten, LoadableMeant, OldLoading, ListsLoadable, AnyOrder, LoadableInBoth, SameWithoutRejects}
+use Rattle.load_spec.specs.Claims.{WalkedShares, WalkedFinals, PayloadsUnseen, StaysLoadable, PlacesName, PlacesFit, PlacesRead, PayloadGiven, Claims}
 use Rattle.load_spec.proofs.Payloads.{payload-shared, shared-payload, payload-stored, payload-given}
 use Rattle.load_spec.proofs.Meaning.{old-loading, loadable-in-both, loadable-stays, loadable-is, is-loadable}
 use Rattle.load_spec.proofs.Lists.{list-meant, same-loadable}
@@ -74,7 +75,11 @@ pub claimed : Claims
 claimed =
     record {
       needs = needs-meant;
-      payload = λ c bs h l. record { exactly = λ p. (payload-shared bs l p, shared-payload (well-stored c bs h)); stored = payload-stored (well-stored c bs h) l };
+      payload = λ c bs h l. record {
+        exactly = λ p. (payload-shared bs l p, shared-payload (well-stored c bs h));
+        stored = payload-stored (well-stored c bs h)
+            l;
+      };
       loadable = loadable-meant;
       old = old-meant;
       list = lists-loadable;

@@ -33,7 +33,8 @@ use Rattle.load_spec.proofs.Payloads.{one-payload}
 use Rattle.load_spec.proofs.Meaning.{loadable-stored, loadable-final, loadable-carried, loadable-is, is-loadable}
 
 -- what a loadable share needs is loadable, of a lower round
-needed-loadable : {final : TransactionLocator → Type 0} {bs : List Block} → WellStored bs → {l : TransactionLocator} → LoadableGiven final bs l → {p : Bytes} → SharedAs bs l p → (m : TransactionLocator) → neededBy p ≡ some m
+needed-loadable : {final : TransactionLocator → Type 0} {bs : List Block} → WellStored bs → {l : TransactionLocator} → LoadableGiven final bs l → {p : Bytes}
+    → SharedAs bs l p → (m : TransactionLocator) → neededBy p ≡ some m
     → (m .block .round < l .block .round) × LoadableGiven final bs m
 needed-loadable w (alone {p = q} s f e) {p} t m k =
     let same : p ≡ q = one-payload w t s in
@@ -61,7 +62,8 @@ module _ (reading : Reading) (c : Committee) {bs : List Block} (w : WellStored b
   needed-first xs l ys e p m s k =
       let own : l ∈ loadableListIn reading c bs = subst (λ (ls : List TransactionLocator). l ∈ ls) (sym e) (in-right xs here) in
       let x = needed-loadable w (list-in l own) s m k in
-      stands-before xs l ys (subst Ascending e list-ascending) m (subst (λ (ls : List TransactionLocator). m ∈ ls) e (in-list m (x .1))) (lower-round m l (x .0))
+      stands-before xs l ys (subst Ascending e list-ascending) m (subst (λ (ls : List TransactionLocator). m ∈ ls) e (in-list m (x .1)))
+      (lower-round m l (x .0))
 
   agrees : (l : TransactionLocator) → isLoadableIn reading c bs l ≡ anyOf (sameLocator l) (loadableListIn reading c bs)
   agrees l =
@@ -110,7 +112,8 @@ module _ (reading other : Reading) (c : Committee) {bs cs : List Block} (v : Wel
   same-lists = ap₂ (λ (p : TransactionLocator → Bool) (ls : List TransactionLocator). keep p ls) (λ i l. same-answer l i) (same-all-shares e)
 
 -- the same for every order of arrival
-pub same-loadable : (reading : Reading) (c : Committee) {bs cs : List Block} → WellStored bs → WellStored cs → ((x : Block) → x ∈ bs → author x < 128) → ((x : Block) → x ∈ cs → author x < 128)
+pub same-loadable : (reading : Reading) (c : Committee) {bs cs : List Block} → WellStored bs → WellStored cs → ((x : Block) → x ∈ bs → author x < 128) →
+    ((x : Block) → x ∈ cs → author x < 128)
     → SameBlocks bs cs → SameLoadable reading c bs cs
 same-loadable reading c v w f g e =
     let finals = final-in-order reading c v w f g e in

@@ -37,6 +37,7 @@ module _ (reading : Reading) (c : Committee) {bs : List Block} (w : WellStored b
     unfolding loadableBy holds met
     needs-late m k h = by-own ∙ rw (e, k, le-ltb (m .block .round) (l .block .round) h) (and-false (isFinalIn reading c bs l))
 
-    pub needs-earlier : (m : TransactionLocator) → isFinalIn reading c bs l ≡ true → neededBy p ≡ some m → m .block .round < l .block .round → isLoadableIn reading c bs l ≡ isLoadableIn reading c bs m
+    pub needs-earlier : (m : TransactionLocator) → isFinalIn reading c bs l ≡ true → neededBy p ≡ some m → m .block .round < l .block .round → isLoadableIn
+        reading c bs l ≡ isLoadableIn reading c bs m
     unfolding loadableBy holds met
     needs-earlier m f k h = by-own ∙ rw (f, e, k, lt-ltb (m .block .round) (l .block .round) h)

@@ -37,7 +37,8 @@ loadable-final (alone s f e) = f
 loadable-final (following s f e r x) = f
 
 -- where more blocks are stored and what is final here is final there, what is loadable here is loadable there
-pub loadable-carried : {final final' : TransactionLocator → Type 0} {bs cs : List Block} → ((b : Block) → b ∈ bs → b ∈ cs) → ((l : TransactionLocator) → final l → final' l)
+pub loadable-carried : {final final' : TransactionLocator → Type 0} {bs cs : List Block} → ((b : Block) → b ∈ bs → b ∈ cs) →
+    ((l : TransactionLocator) → final l → final' l)
     → {l : TransactionLocator} → LoadableGiven final bs l → LoadableGiven final' cs l
 loadable-carried f g (alone {l = l} s q e) = alone (shared-moved f s) (g l q) e
 loadable-carried f g (following {l = l} s q e r x) = following (shared-moved f s) (g l q) e r (loadable-carried f g x)
@@ -66,7 +67,8 @@ module _ (reading : Reading) (c : Committee) {bs : List Block} (w : WellStored b
       → LoadableIn reading c bs l → loadableBy loaded reading c bs l ≡ true
   unfolding loadableBy met holds
   loaded-by loaded l f (alone s q e) = and-both _ _ (final-in-iff reading c w l .1 q) (rw (shared-payload w s, e))
-  loaded-by loaded l f (following {m = m} s q e r x) = and-both _ _ (final-in-iff reading c w l .1 q) (rw (shared-payload w s, e) (and-both _ _ (lt-ltb _ _ r) (f m r x)))
+  loaded-by loaded l f (following {m = m} s q e r x) = and-both _ _ (final-in-iff reading c w l .1 q)
+      (rw (shared-payload w s, e) (and-both _ _ (lt-ltb _ _ r) (f m r x)))
 
   sound : (n : ℕ) (l : TransactionLocator) → loadableWithin n reading c bs l ≡ true → LoadableIn reading c bs l
   unfolding loadableWithin
@@ -87,7 +89,8 @@ module _ (reading : Reading) (c : Committee) {bs : List Block} (w : WellStored b
   is-loadable l x = complete (suc (l .block .round)) l (omega arith) x
 
   -- a test that says of each of a lower round whether it is loadable
-  pub by-test : (loaded : TransactionLocator → Bool) (l : TransactionLocator) → ((m : TransactionLocator) → m .block .round < l .block .round → loaded m ≡ isLoadableIn reading c bs m)
+  pub by-test : (loaded : TransactionLocator → Bool) (l : TransactionLocator) →
+      ((m : TransactionLocator) → m .block .round < l .block .round → loaded m ≡ isLoadableIn reading c bs m)
       → isLoadableIn reading c bs l ≡ loadableBy loaded reading c bs l
   by-test loaded l f =
       same-test (isLoadableIn reading c bs l) (loadableBy loaded reading c bs l)
@@ -107,10 +110,12 @@ pub old-loading : (c : Committee) (bs : List Block) (l : TransactionLocator) →
 old-loading c bs l = (loadable-carried (λ b m. m) (λ m. old-final c bs m .0), loadable-carried (λ b m. m) (λ m. old-final c bs m .1))
 
 pub loadable-in-both : (c : Committee) {bs : List Block} → WellStored bs → (l : TransactionLocator) → LoadableIn withdrawing c bs l → LoadableIn old c bs l
-loadable-in-both c {bs} w l = loadable-carried (λ b m. m) (λ m q. final-in-iff old c w m .0 (final-in-old withdrawing c bs m (final-in-iff withdrawing c w m .1 q)))
+loadable-in-both c {bs} w l = loadable-carried (λ b m. m) (λ m q. final-in-iff old c w m .0
+    (final-in-old withdrawing c bs m (final-in-iff withdrawing c w m .1 q)))
 
 -- what is loadable stays loadable when blocks are added
-pub loadable-stays : (reading : Reading) (c : Committee) {bs cs : List Block} → WellStored bs → WellStored cs → ((x : Block) → x ∈ bs → author x < 128) → ((x : Block) → x ∈ cs → author x < 128)
+pub loadable-stays : (reading : Reading) (c : Committee) {bs cs : List Block} → WellStored bs → WellStored cs → ((x : Block) → x ∈ bs → author x < 128) →
+    ((x : Block) → x ∈ cs → author x < 128)
     → ((b : Block) → b ∈ bs → b ∈ cs) → {l : TransactionLocator} → LoadableIn reading c bs l → LoadableIn reading c cs l
 loadable-stays reading c v w f g more =
     loadable-carried more (λ m q. final-in-iff reading c w m .0 (final-in-stays reading c v w f g more m (final-in-iff reading c v m .1 q)))

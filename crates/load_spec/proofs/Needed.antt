@@ -41,7 +41,13 @@ needs-found p h e = rw (le-leb 57 (length p) h, eq-eqb (getD p 0 0) 1 e)
 
 length-locator : (l : TransactionLocator) → LocatorFits l → length (locatorBytes l) ≡ 56
 unfolding locatorBytes
-length-locator l h = omega (arith, length-append (referenceBytes (l .block)) (leBytes 8 (l .offset)), length-reference (l .block) (h .block), length-leBytes 8 (l .offset))
+length-locator l h = omega (
+  arith,
+  length-append (referenceBytes (l .block)) (leBytes 8 (l .offset)),
+  length-reference (l .block) (h .block),
+  length-leBytes 8
+      (l .offset),
+)
 
 value-of : {A : Type 0} → A → Option (Part A) → A
 value-of d none = d

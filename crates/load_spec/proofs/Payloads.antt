@@ -44,7 +44,8 @@ payload-shared bs l p h = go (storedBlock bs (l .block)) refl h
   where
     go : (o : Option Block) → storedBlock bs (l .block) ≡ o → payloadOf o (l .offset) ≡ some p → SharedAs bs l p
     go none e k = absurd (Option·none-ne-some p k)
-    go (some b) e k = let y = found-block bs (l .block) b e in record { block = b; stored = y .0; named = y .1; stands = shared-some (getElem? (b .statements) (l .offset)) p k }
+    go (some b) e k = let y = found-block bs (l .block) b e in record
+        { block = b; stored = y .0; named = y .1; stands = shared-some (getElem? (b .statements) (l .offset)) p k }
 
 pub shared-payload : {bs : List Block} → WellStored bs → {l : TransactionLocator} {p : Bytes} → SharedAs bs l p → payloadIn bs l ≡ some p
 unfolding payloadIn payloadOf sharedPayload
@@ -87,8 +88,10 @@ module _ (c : Committee) (s : Bytes) (a : AllBytes s) (h : storeInOrder c s ≡ 
   payload-stretch p e =
       let x = payload-shared (blocksOf s) l p e in
       let y = block-entry (recordsOf s) (x .block) (x .stored) in
-      let found = lookup-hit (entries (recordsOf s)) (distinct c (recordsOf s) (in-order c s h .accepted)) (y .0) (y .1) (l .block) (ap (λ (d : Block). d .reference) (y .2) ∙ x .named) in
-      let stands : getElem? (y .0 .block .statements) (l .offset) ≡ some (share p) = ap (λ (d : Block). getElem? (d .statements) (l .offset)) (y .2) ∙ x .stands in
+      let found = lookup-hit (entries (recordsOf s)) (distinct c (recordsOf s) (in-order c s h .accepted)) (y .0) (y .1) (l .block)
+      (ap (λ (d : Block). d .reference) (y .2) ∙ x .named) in
+      let stands : getElem? (y .0 .block .statements) (l .offset) ≡ some (share p) = ap (λ (d : Block). getElem? (d .statements) (l .offset)) (y .2) ∙ x
+      .stands in
       payload-is c s a h l (y .0) p found stands
 
   there-too : not (isNone (payloadIn (blocksOf s) l)) ≡ not (isNone (payloadAt s l))

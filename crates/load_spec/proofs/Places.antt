@@ -65,7 +65,8 @@ place-block c s h l m =
     ∙ ap (λ (b : Block). b .reference) (block-of-entry s (laid-out s (order-laid c s h) .reads) (x .0) (y .0))
     ∙ y .1
 
-pub read-back : (c : Committee) (s : Bytes) → storeInOrder c s ≡ true → (ls : List TransactionLocator) → ((l : TransactionLocator) → l ∈ ls → l ∈ storedShares (blocksOf s))
+pub read-back : (c : Committee) (s : Bytes) → storeInOrder c s ≡ true → (ls : List TransactionLocator) →
+    ((l : TransactionLocator) → l ∈ ls → l ∈ storedShares (blocksOf s))
     → (rest : List ℕ) → namedBy s (length ls) (flatten (map (placeWords (entries (recordsOf s))) ls) ++ rest) ≡ ls
 unfolding namedBy flatten placeWords locator
 read-back c s h [] f rest = refl
@@ -78,7 +79,8 @@ pub places-read : (reading : Reading) (c : Committee) (s : Bytes) (ps : List ℕ
 unfolding loadableQuestionsIn
 places-read reading c s ps h =
     rw h
-    (read-back c s (in-order-too h) (loadableListIn reading c (blocksOf s)) (λ l m. unfold loadableListIn in keep-in (isLoadableIn reading c (blocksOf s)) (storedShares (blocksOf s)) m .0)
+    (read-back c s (in-order-too h) (loadableListIn reading c (blocksOf s))
+    (λ l m. unfold loadableListIn in keep-in (isLoadableIn reading c (blocksOf s)) (storedShares (blocksOf s)) m .0)
     (drop (2 * length (loadableListIn reading c (blocksOf s))) ps))
   where
     in-order-too : passes (listChecks c s ps) ≡ true → storeInOrder c s ≡ true
@@ -91,7 +93,8 @@ unfolding flatten placeWords
 length-places es [] = omega arith
 length-places es (l ∷ ls) = omega (arith, length-places es ls)
 
-enough : (reading : Reading) (c : Committee) (s : Bytes) (ps : List ℕ) → passes (listChecks c s ps) ≡ true → 2 * length (loadableListIn reading c (blocksOf s)) ≤ length ps
+enough : (reading : Reading) (c : Committee) (s : Bytes) (ps : List ℕ) → passes (listChecks c s ps) ≡ true → 2 * length
+    (loadableListIn reading c (blocksOf s)) ≤ length ps
 unfolding listChecks loadableListIn
 enough reading c s ps h =
     let k = ltb-false (length ps / 2) (length (storedShares (blocksOf s))) (passes-first _ _ (passes-others _ _ (passes-others _ _ h))) in

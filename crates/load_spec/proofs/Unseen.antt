@@ -6,7 +6,8 @@ use Prim.Native.Nat.{ℕ, _+_}
 use Rattle.base.specs.Lists.{pick, anyOf, keep}
 use Rattle.committee.specs.Committee.{AuthorityIndex, Committee, isQuorum}
 use Rattle.committee_set.specs.AuthoritySet.{AuthoritySet, nobody, inserted, united, setOf, stakeOf, without}
-use Rattle.record_spec.specs.Reference.{BlockReference, TransactionLocator, TransactionLocatorRange, locator, oneRange, sameReference, sameLocator, covers, locators}
+use Rattle.record_spec.specs.Reference.{BlockReference, TransactionLocator, TransactionLocatorRange, locator, oneRange, sameReference, sameLocator, covers}
+use Rattle.record_spec.specs.Reference.{locators}
 use Rattle.record_spec.specs.Block.{Statement, share, accept, reject, voteRange, Block, author, isShare, votedRange, spansFrom, spans}
 use Rattle.final_spec.specs.Voters.{Speech, votesFor, ownVote, unions, spoken}
 use Rattle.final_spec.specs.NextFinal.{ascendingLocators}
@@ -57,7 +58,8 @@ module _ (l : TransactionLocator) where
   same-reject b = ap (λ (ls : List TransactionLocator). pick (anyOf (sameLocator l) ls) (inserted nobody (author b)) nobody) (rejected-all (b .statements))
 
   -- who speaks without payloads speaks with them
-  same-spoken : (own : Speech) → ((b : Block) → own (withoutPayloads b) l ≡ own b l) → (bs : List Block) (r : BlockReference) → spoken own (map withoutPayloads bs) l r ≡ spoken own bs l r
+  same-spoken : (own : Speech) → ((b : Block) → own (withoutPayloads b) l ≡ own b l) → (bs : List Block) (r : BlockReference) → spoken own
+      (map withoutPayloads bs) l r ≡ spoken own bs l r
   unfolding spoken withoutPayloads
   same-spoken own same-own [] r = refl
   same-spoken own same-own (b ∷ bs) r =
@@ -80,8 +82,10 @@ module _ (l : TransactionLocator) where
     kept-authors [] = refl
     kept-authors (d ∷ ds) = rw (same-certifies d) (go (certifiesIn reading c bs l d) (kept-authors ds))
       where
-        go : (t : Bool) → map author (keep (certifiesIn reading c (map withoutPayloads bs) l) (map withoutPayloads ds)) ≡ map author (keep (certifiesIn reading c bs l) ds)
-            → map author (pick t (withoutPayloads d ∷ keep (certifiesIn reading c (map withoutPayloads bs) l) (map withoutPayloads ds)) (keep (certifiesIn reading c (map withoutPayloads bs) l) (map withoutPayloads ds)))
+        go : (t : Bool) → map author (keep (certifiesIn reading c (map withoutPayloads bs) l) (map withoutPayloads ds)) ≡ map author
+            (keep (certifiesIn reading c bs l) ds)
+            → map author (pick t (withoutPayloads d ∷ keep (certifiesIn reading c (map withoutPayloads bs) l) (map withoutPayloads ds))
+            (keep (certifiesIn reading c (map withoutPayloads bs) l) (map withoutPayloads ds)))
             ≡ map author (pick t (d ∷ keep (certifiesIn reading c bs l) ds) (keep (certifiesIn reading c bs l) ds))
         go true h = unfold withoutPayloads in ap {B = List AuthorityIndex} (λ xs. author d ∷ xs) h
         go false h = h
@@ -90,7 +94,8 @@ module _ (l : TransactionLocator) where
     unfolding isFinalIn certifiersIn
     same-final = ap (λ (xs : List AuthorityIndex). isQuorum c (stakeOf c (setOf xs))) (kept-authors bs)
 
-same-voted : (bs : List Block) → flatten (map (λ b. flatten (map locators (spans b))) (map withoutPayloads bs)) ≡ flatten (map (λ b. flatten (map locators (spans b))) bs)
+same-voted : (bs : List Block) → flatten (map (λ b. flatten (map locators (spans b))) (map withoutPayloads bs)) ≡ flatten
+    (map (λ b. flatten (map locators (spans b))) bs)
 unfolding flatten
 same-voted [] = refl
 same-voted (b ∷ bs) = ap₂ (λ (qs : List TransactionLocatorRange) (ls : List TransactionLocator). flatten (map locators qs) ++ ls) (same-spans b) (same-voted bs)

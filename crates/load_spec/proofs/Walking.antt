@@ -51,12 +51,14 @@ module _ (reading : Reading) (c : Committee) {bs : List Block} (w : WellStored b
   one-more xs l true e = sym (keep-append (isLoadableIn reading c bs) xs (l ∷ []) ∙ rw e)
   one-more xs l false e = sym (keep-append (isLoadableIn reading c bs) xs (l ∷ []) ∙ rw e (append-nil (keep (isLoadableIn reading c bs) xs)))
 
-  found-from : (ys xs : List TransactionLocator) → zs ≡ xs ++ ys → foundOn reading c bs (keep (isLoadableIn reading c bs) xs) ys ≡ keep (isLoadableIn reading c bs) (xs ++ ys)
+  found-from : (ys xs : List TransactionLocator) → zs ≡ xs ++ ys → foundOn reading c bs (keep (isLoadableIn reading c bs) xs) ys ≡ keep
+      (isLoadableIn reading c bs) (xs ++ ys)
   unfolding foundOn
   found-from [] xs e = ap (λ (ls : List TransactionLocator). keep (isLoadableIn reading c bs) ls) (sym (append-nil xs))
   found-from (l ∷ ys) xs e =
       let same : xs ++ l ∷ ys ≡ (xs ++ l ∷ []) ++ ys = sym (append-assoc xs (l ∷ []) ys) in
-      let next : pick (loadableAfter reading c bs (keep (isLoadableIn reading c bs) xs) l) (keep (isLoadableIn reading c bs) xs ++ l ∷ []) (keep (isLoadableIn reading c bs) xs) ≡ keep (isLoadableIn reading c bs) (xs ++ l ∷ []) =
+      let next : pick (loadableAfter reading c bs (keep (isLoadableIn reading c bs) xs) l) (keep (isLoadableIn reading c bs) xs ++ l ∷ [])
+      (keep (isLoadableIn reading c bs) xs) ≡ keep (isLoadableIn reading c bs) (xs ++ l ∷ []) =
       one-more xs l (loadableAfter reading c bs (keep (isLoadableIn reading c bs) xs) l) (stepwise xs l ys e) in
       ap (λ (found : List TransactionLocator). foundOn reading c bs found ys) next
       ∙ found-from ys (xs ++ l ∷ []) (e ∙ same)
@@ -81,4 +83,5 @@ module _ (reading : Reading) (c : Committee) {bs : List Block} (w : WellStored b
   walked-shares = walked reading c w (storedShares bs) (all-ascending bs) (λ m x. in-all-shares bs m (loadable-stored x))
 
   pub walked-finals : Walked reading c bs (allListed true reading c bs)
-  walked-finals = walked reading c w (allListed true reading c bs) (listed-ascending true reading c bs) (λ m x. list-meant reading c w .final m (in-list reading c w m x))
+  walked-finals = walked reading c w (allListed true reading c bs) (listed-ascending true reading c bs)
+      (λ m x. list-meant reading c w .final m (in-list reading c w m x))

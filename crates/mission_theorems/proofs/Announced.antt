@@ -41,15 +41,23 @@ entry-accepted (a ∷ as′) e here = (a, here, refl)
 entry-accepted (a ∷ as′) e (there m) = let r = entry-accepted as′ e m in (r .0, there (r .1), r .2)
 
 -- a share of a stored entry is a stored share
-entry-share : (as′ : List Accepted) (l : TransactionLocator) → Shared (entries (map asRecord as′)) (l .block) (l .offset) → isStoredShare (storedBlocks as′) l ≡ true
+entry-share : (as′ : List Accepted) (l : TransactionLocator) → Shared (entries (map asRecord as′)) (l .block) (l .offset) → isStoredShare (storedBlocks as′) l
+    ≡ true
 unfolding storedBlocks
 entry-share as′ l h =
     let r = entry-accepted as′ (h .entry) (h .stands) in
     share-stored (storedBlocks as′) l
-    (record { block = r .0 .block; stored = in-map (λ (a : Accepted). a .block) (r .1); named = ap (λ (b : Block). b .reference) (r .2) ∙ h .same; shared = rw (r .2) (h .share) })
+    (record {
+      block = r .0 .block;
+      stored = in-map (λ (a : Accepted). a .block) (r .1);
+      named = ap (λ (b : Block). b .reference) (r .2) ∙ h .same;
+      shared = rw
+          (r .2) (h .share);
+    })
 
 -- an event that announces a locator came of a vote under its reference
-announced-share : (es : List Entry) (b : Block) (l : TransactionLocator) (v : Event) → Source es 0 (b .statements) v → announces b l v ≡ true → Shared es (l .block) (l .offset)
+announced-share : (es : List Entry) (b : Block) (l : TransactionLocator) (v : Event) → Source es 0 (b .statements) v → announces b l v ≡ true → Shared es
+    (l .block) (l .offset)
 unfolding announces votesUnder holds
 announced-share es b l v u h =
     let h₁ = and-right (eqb (v .kind) 1) _ h in
@@ -79,15 +87,18 @@ module _ (c : Committee) (l : TransactionLocator) where
           unannounced : (v : Event) → v ∈ processed c m r .events → announces (r .block) l v ≡ false
           unannounced v n =
               fails (announces (r .block) l v) (λ t. not-both
-              (entry-share (taken c m r ∷ as′) l (subst (λ (rs : List Record). Shared (entries (r ∷ rs)) (l .block) (l .offset)) (h .records) (announced-share _ (r .block) l v (processed-source c m r p v n) t)))
+              (entry-share (taken c m r ∷ as′) l (subst (λ (rs : List Record). Shared (entries (r ∷ rs)) (l .block) (l .offset)) (h .records)
+              (announced-share _ (r .block) l v (processed-source c m r p v n) t)))
               f)
 
   pub quiet-run : (g : Engine) (fs : List Feed) → StoreOf c (g .store) [] → Quiet (accepted c g fs)
   unfolding run accepted outcome left announcements
   quiet-run g [] h = λ f. refl
   quiet-run g (f ∷ fs) h =
-      quiet-feed (record { store = run c g fs .store; table = run c g fs .table; work = f .work; events = f .events }) (f .bytes) (accepted c g fs) (run-holds c g fs h) (quiet-run g fs h)
+      quiet-feed (record { store = run c g fs .store; table = run c g fs .table; work = f .work; events = f .events }) (f .bytes) (accepted c g fs)
+      (run-holds c g fs h) (quiet-run g fs h)
 
-pub others-quiet : (c : Committee) (t : Start) (l : TransactionLocator) → isStoredShare (storedBlocks (acceptedOf c t)) l ≡ false → announcements (acceptedOf c t) l ≡ []
+pub others-quiet : (c : Committee) (t : Start) (l : TransactionLocator) → isStoredShare (storedBlocks (acceptedOf c t)) l ≡ false → announcements
+    (acceptedOf c t) l ≡ []
 unfolding acceptedOf fresh
 others-quiet c t l = quiet-run c l (fresh (t .past) (t .words)) (t .feeds) (fresh-holds c (t .past) (t .allowed))

@@ -6,5 +6,6 @@ use Rattle.mission_theorems.specs.Shares.{isVoteFor, votesFrom, countedV
 use Rattle.mission_theorems.specs.ThirdStatement.{engineOf, acceptedOf}
 
 unfoldable pub computing : Unit {0}
-unfolding computing-feeds computing-finality fresh outcome left run eventsIn acceptedIn accepted storedBlocks storedRecords isVoteFor votesFrom countedVotes countedVoters votesUnder announces announcedBy announcements engineOf acceptedOf
+unfolding computing-feeds computing-finality fresh outcome left run eventsIn acceptedIn accepted storedBlocks storedRecords isVoteFor votesFrom countedVotes
+    countedVoters votesUnder announces announcedBy announcements engineOf acceptedOf
 computing = tt

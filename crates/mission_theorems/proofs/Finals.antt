@@ -48,7 +48,8 @@ pub blocks-are : (c : Committee) (s : Bytes) (as′ : List Accepted) → StoreOf
 unfolding blocksOf storedBlocks
 blocks-are c s as′ h = ap (λ (rs : List Record). map (λ (r : Record). r .block) rs) (h .records) ∙ blocks-in as′
 
-final-exactly : (c : Committee) (s : Bytes) (as′ : List Accepted) → broken c ≡ false → StoreOf c s as′ → (l : TransactionLocator) → (isFinal c (blocksOf s) l ≡ true) ↔ Final c (storedBlocks as′) l
+final-exactly : (c : Committee) (s : Bytes) (as′ : List Accepted) → broken c ≡ false → StoreOf c s as′ → (l : TransactionLocator) →
+    (isFinal c (blocksOf s) l ≡ true) ↔ Final c (storedBlocks as′) l
 unfolding FinalMeant blocksOf
 final-exactly c s as′ b h l =
     subst (λ (bs : List Block). (isFinal c (blocksOf s) l ≡ true) ↔ Final c bs l) (blocks-are c s as′ h)
@@ -117,7 +118,8 @@ block-carried c d s t xs ys h k f b m =
     let there-too : q ∈ recordsOf t = subst (λ (rs : List Record). q ∈ rs) (sym (k .records)) (in-map asRecord (z .1)) in
     let one-block : q .block ≡ r .block =
     Option·some-injective _ _
-    (sym (right-block q (every-in (recordsOf t) q (recordsOf-right t) there-too)) ∙ ap blockOf (z .2) ∙ right-block r (every-in (recordsOf s) r (recordsOf-right s) (y .1))) in
+    (sym (right-block q (every-in (recordsOf t) q (recordsOf-right t) there-too)) ∙ ap blockOf (z .2) ∙ right-block r
+    (every-in (recordsOf s) r (recordsOf-right s) (y .1))) in
     subst (λ (e : Block). e ∈ map (λ (w : Record). w .block) (recordsOf t)) (one-block ∙ y .2) (in-map (λ (w : Record). w .block) there-too)
 
 -- ---- the parts of the third statement

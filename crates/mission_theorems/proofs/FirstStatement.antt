@@ -34,7 +34,8 @@ unfolding passes allOf refusal
 first-applies [] h = absurd (not-both refl h)
 first-applies (k ∷ ks) h = go (k .applies) refl h (first-applies ks)
   where
-    go : (t : Bool) → k .applies ≡ t → not t && passes ks ≡ false → (passes ks ≡ false → FirstApplies (refusal ks) ks) → FirstApplies (pick t (k .number) (refusal ks)) (k ∷ ks)
+    go : (t : Bool) → k .applies ≡ t → not t && passes ks ≡ false → (passes ks ≡ false → FirstApplies (refusal ks) ks) → FirstApplies
+        (pick t (k .number) (refusal ks)) (k ∷ ks)
     go true e h ih = here e
     go false e h ih = later e (ih h)
 
@@ -57,7 +58,8 @@ accept-passes c m r b e =
     passes-append (blockChecks c (recordsOf (m .store)) (r .block)) _
     ∙ rw (b, le-ltb (length (m .events)) (eventRoom (r .block)) (e .events), e .bytes)
 
-all-pass : (c : Committee) (m : Lent) (r : Record) → passes (blockChecks c (recordsOf (m .store)) (r .block)) ≡ true → EnoughMemory c m r → passes (feedChecks c m (some r)) ≡ true
+all-pass : (c : Committee) (m : Lent) (r : Record) → passes (blockChecks c (recordsOf (m .store)) (r .block)) ≡ true → EnoughMemory c m r → passes
+    (feedChecks c m (some r)) ≡ true
 unfolding feedChecks recordChecks passes allOf
 all-pass c m r b e =
     let ks = acceptChecks c (m .store) (length (m .events)) (some r) in
@@ -105,7 +107,15 @@ others c m bytes n = unfold feed in go (readRecord bytes) refl
     refuses : passes (feedChecks c m (readRecord bytes)) ≡ false → Refused c m bytes (refusedFeed m (refusal (feedChecks c m (readRecord bytes))))
     refuses f =
         unfold refusedFeed in
-        record { number = refusal (feedChecks c m (readRecord bytes)); answer = refl; first = first-applies (feedChecks c m (readRecord bytes)) f; store = refl; table = refl; events = refl }
+        record {
+          number = refusal (feedChecks c m (readRecord bytes));
+          answer = refl;
+          first = first-applies (feedChecks c m (readRecord bytes)) f;
+          store =
+              refl;
+          table = refl;
+          events = refl;
+        }
 
     never : passes (feedChecks c m none) ≡ false
     never =

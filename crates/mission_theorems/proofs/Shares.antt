@@ -51,7 +51,8 @@ use Rattle.mission_theorems.proofs.Statements.{stands-statements}
 -- ---- stored shares
 
 -- the block of a stored share is found
-stored-found : (as′ : List Accepted) (l : TransactionLocator) → isStoredShare (storedBlocks as′) l ≡ true → (e : Entry) × (lookup (entries (map asRecord as′)) (l .block) ≡ some e)
+stored-found : (as′ : List Accepted) (l : TransactionLocator) → isStoredShare (storedBlocks as′) l ≡ true → (e : Entry) ×
+    (lookup (entries (map asRecord as′)) (l .block) ≡ some e)
 unfolding isStoredShare isShareOf storedBlocks anyOf entries lookup find
 stored-found [] l h = absurd (not-both h refl)
 stored-found (a ∷ as′) l h = go (sameReference (a .block .reference) (l .block)) h (stored-found as′ l)
@@ -66,13 +67,15 @@ stored-found (a ∷ as′) l h = go (sameReference (a .block .reference) (l .blo
     go false k ih = ih k
 
 -- a new block's share was not stored before it
-not-before : (as′ : List Accepted) (b : Block) (l : TransactionLocator) → isStored (map asRecord as′) (b .reference) ≡ false → b .reference ≡ l .block → isStoredShare (storedBlocks as′) l ≡ false
+not-before : (as′ : List Accepted) (b : Block) (l : TransactionLocator) → isStored (map asRecord as′) (b .reference) ≡ false → b .reference ≡ l .block →
+    isStoredShare (storedBlocks as′) l ≡ false
 unfolding isStored storedBlocks
 not-before as′ b l new e =
     fails (isStoredShare (storedBlocks as′) l) (λ h.
     let x : StoredShare (storedBlocks as′) l = stored-share (storedBlocks as′) l h in
     let a = map-in (λ (d : Accepted). d .block) as′ (x .stored) in
-    not-both (in-any (λ r. sameReference (r .block .reference) (b .reference)) (in-map asRecord (a .1)) (same-reference (ap (λ (d : Block). d .reference) (a .2) ∙ x .named ∙ sym e))) new)
+    not-both (in-any (λ r. sameReference (r .block .reference) (b .reference)) (in-map asRecord (a .1))
+    (same-reference (ap (λ (d : Block). d .reference) (a .2) ∙ x .named ∙ sym e))) new)
 
 -- what is no stored share has no counted votes
 none-counted : (as′ : List Accepted) (l : TransactionLocator) → isStoredShare (storedBlocks as′) l ≡ false → countedVotes as′ l ≡ []
@@ -118,7 +121,12 @@ module _ (c : Committee) (l : TransactionLocator) where
       split : (sameReference (r .block .reference) (l .block) ≡ true) ⊎ (sameReference (r .block .reference) (l .block) ≡ false)
           → Registered (r ∷ rs) (registering c (entries (r ∷ rs)) (r .block) xs) as′
       split (inl e) =
-          record { entry = own; found = unfold entries in rw (← same) (lookup-new (entries rs) own); stands = rw (none-counted as′ l before) (machine.stays (counted c noVotes (author (r .block))) (held-own c rs r xs items l same (share parts)) (q before) counts (none-left-first c l)) }
+          record {
+            entry = own;
+            found = unfold entries in rw (← same) (lookup-new (entries rs) own);
+            stands = rw (none-counted as′ l before)
+                (machine.stays (counted c noVotes (author (r .block))) (held-own c rs r xs items l same (share parts)) (q before) counts (none-left-first c l));
+          }
         where
           own : Entry
           own = record { position = usedBy rs; bytes = r .bytes; block = r .block }
@@ -136,7 +144,12 @@ module _ (c : Committee) (l : TransactionLocator) where
           counts : Counting c (countedVoters l []) (counted c noVotes (author (r .block)))
           counts = unfold countedVoters in rw (← same) (counts-first c (author (r .block)) (known-author c rs (r .block) (passed c m r p .block)))
       split (inr e) =
-          record { entry = there .0; found = found-still rs r (l .block) e ∙ there .1; stands = rw (held-other c rs r xs items l (there .0) (there .1) e) (ih (was parts) .stands) }
+          record {
+            entry = there .0;
+            found = found-still rs r (l .block) e ∙ there .1;
+            stands = rw (held-other c rs r xs items l (there .0) (there .1) e)
+                (ih (was parts) .stands);
+          }
         where
           was : (isShareOf (r .block) l ≡ true) ⊎ (isStoredShare (storedBlocks as′) l ≡ true) → isStoredShare (storedBlocks as′) l ≡ true
           was (inl k) = unfold isShareOf in absurd (not-both (and-left (sameReference (r .block .reference) (l .block)) _ k) e)
@@ -146,24 +159,28 @@ module _ (c : Committee) (l : TransactionLocator) where
           there = subst (λ (ys : List Record). (d : Entry) × (lookup (entries ys) (l .block) ≡ some d)) (sym (h .records)) (stored-found as′ l (was parts))
 
   -- one feed: an accepted record's votes are counted, a refused one changes nothing
-  share-feed : (m : Lent) (bytes : Bytes) (as′ : List Accepted) → StoreOf c (m .store) as′ → Quiet c l as′ → (isStoredShare (storedBlocks as′) l ≡ true → Follows (m .store) (m .table) as′)
+  share-feed : (m : Lent) (bytes : Bytes) (as′ : List Accepted) → StoreOf c (m .store) as′ → Quiet c l as′ →
+      (isStoredShare (storedBlocks as′) l ≡ true → Follows (m .store) (m .table) as′)
       → isStoredShare (storedBlocks (acceptedIn (readRecord bytes) (feed c m bytes .answer) (feed c m bytes .events) ++ as′)) l ≡ true
       → Follows (feed c m bytes .store) (feed c m bytes .table) (acceptedIn (readRecord bytes) (feed c m bytes .answer) (feed c m bytes .events) ++ as′)
   unfolding refusedFeed acceptedFeed countedVotes announcements
-  share-feed m bytes as′ h q ih = feed-cases c m bytes (λ o as″. isStoredShare (storedBlocks (as″ ++ as′)) l ≡ true → Follows (o .store) (o .table) (as″ ++ as′)) (λ n. ih) after
+  share-feed m bytes as′ h q ih = feed-cases c m bytes (λ o as″. isStoredShare (storedBlocks (as″ ++ as′)) l ≡ true → Follows (o .store) (o .table)
+      (as″ ++ as′)) (λ n. ih) after
     where
       rs : List Record
       rs = recordsOf (m .store)
 
       voted : (r : Record) → passes (feedChecks c m (some r)) ≡ true → isStoredShare (storedBlocks (taken c m r ∷ as′)) l ≡ true
           → Stands c l (countedVotes as′ l ++ votesFrom (length as′) (author (r .block)) 0 (r .block .statements) l)
-          (heldAt (processed c m r .items) (positionIn (entries (r ∷ rs)) (l .block)) (l .offset)) (announcements as′ l ++ announcedBy (length as′) (r .block) (processed c m r .events) l)
+          (heldAt (processed c m r .items) (positionIn (entries (r ∷ rs)) (l .block)) (l .offset))
+          (announcements as′ l ++ announcedBy (length as′) (r .block) (processed c m r .events) l)
       voted r p stored =
           let z : Processing = registering c (entries (r ∷ rs)) (r .block) (itemsOf (m .table)) in
           let ok : Passed c m r = passed c m r p in
           let g : Registered (r ∷ rs) z as′ = share-registered m r as′ p h q ih stored in
           unfold processed processBlock in
-          stands-statements c (r ∷ rs) l (g .entry) (g .found) (length as′) (r .block) (author (r .block)) (known-author c rs (r .block) (ok .block)) (countedVotes as′ l)
+          stands-statements c (r ∷ rs) l (g .entry) (g .found) (length as′) (r .block) (author (r .block)) (known-author c rs (r .block) (ok .block))
+          (countedVotes as′ l)
           (announcements as′ l) 0 (r .block .statements) (λ j. let n : 0 + j ≡ j = omega arith in rw n) z (sound-registering c m r (lent-state c m r p) ok)
           (unfold registering announcedBy in rw (append-nil (announcements as′ l)) (g .stands))
 
@@ -177,7 +194,8 @@ module _ (c : Committee) (l : TransactionLocator) where
           record { state = kept .state; stands = rw (stored, itemsOf-tableOf (length (m .table)) (processed c m r .items), held .records) (voted r p stored) }
 
   -- a list of feeds
-  share-run : (g : Engine) (fs : List Feed) → StoreOf c (g .store) [] → isStoredShare (storedBlocks (accepted c g fs)) l ≡ true → Follows (run c g fs .store) (run c g fs .table) (accepted c g fs)
+  share-run : (g : Engine) (fs : List Feed) → StoreOf c (g .store) [] → isStoredShare (storedBlocks (accepted c g fs)) l ≡ true → Follows (run c g fs .store)
+      (run c g fs .table) (accepted c g fs)
   unfolding run accepted outcome left isStoredShare storedBlocks anyOf
   share-run g [] h stored = absurd (not-both stored refl)
   share-run g (f ∷ fs) h stored =
@@ -185,7 +203,8 @@ module _ (c : Committee) (l : TransactionLocator) where
       (run-holds c g fs h) (quiet-run c l g fs h) (share-run g fs h) stored
 
 -- "A stored share is pending, with the stake and number of its counted voters, exactly when ..; else the first that did, and no other, announced it"
-pub share-stands : (c : Committee) → broken c ≡ false → (t : Start) (l : TransactionLocator) → isStoredShare (storedBlocks (acceptedOf c t)) l ≡ true → ShareStands c (engineOf c t) (acceptedOf c t) l
+pub share-stands : (c : Committee) → broken c ≡ false → (t : Start) (l : TransactionLocator) → isStoredShare (storedBlocks (acceptedOf c t)) l ≡ true →
+    ShareStands c (engineOf c t) (acceptedOf c t) l
 unfolding engineOf acceptedOf fresh
 share-stands c b t l stored = go (f .stands)
   where
@@ -209,6 +228,7 @@ share-stands c b t l stored = go (f .stands)
 
     go : Stands c l (countedVotes as′ l) (heldAt xs p (l .offset)) (announcements as′ l) → ShareStands c g as′ l
     go (machine.stays v e quiet n none-left) =
-        stays (record { stake = v .stake; voters = numberOfVoters (v .votes) }) none-left (tallied c (countedVoters l (countedVotes as′ l)) v b n) (asked ∙ standing-held xs p (l .offset) v e) quiet
+        stays (record { stake = v .stake; voters = numberOfVoters (v .votes) }) none-left (tallied c (countedVoters l (countedVotes as′ l)) v b n)
+        (asked ∙ standing-held xs p (l .offset) v e) quiet
     go (machine.gone e earlier v later whole none-left quorum told) =
         gone earlier v later whole none-left quorum (asked ∙ standing-none xs p (l .offset) e) told

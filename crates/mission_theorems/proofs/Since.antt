@@ -35,7 +35,8 @@ abbrev voters : List Vote → List AuthorityIndex
 voters vs = map (λ v. v .voter) vs
 
 -- a statement that votes is counted
-voted-from : (k : ℕ) (a : AuthorityIndex) (i : ℕ) (ss : List Statement) (l : TransactionLocator) (s : Statement) → s ∈ ss → isVoteFor l s ≡ true → a ∈ voters (votesFrom k a i ss l)
+voted-from : (k : ℕ) (a : AuthorityIndex) (i : ℕ) (ss : List Statement) (l : TransactionLocator) (s : Statement) → s ∈ ss → isVoteFor l s ≡ true → a ∈ voters
+    (votesFrom k a i ss l)
 unfolding votesFrom
 voted-from k a i (s ∷ ss) l s′ here h = rw h here
 voted-from k a i (x ∷ ss) l s (there m) h = go (isVoteFor l x) (voted-from k a (i + 1) ss l s m h)
@@ -66,14 +67,17 @@ block-voted k i b l v =
     let x = any-in (isVoteFor l) (b .statements) (vote-meant b l .0 v) in
     voted-from k (author b) i (b .statements) l (x .0) (x .1) (x .2)
 
-module _ (l : TransactionLocator) (own : Accepted) (earlier : List Accepted) (its : own .block .reference ≡ l .block) (share : isShareAt (own .block) (l .offset) ≡ true) where
+module _ (l : TransactionLocator) (own : Accepted) (earlier : List Accepted) (its : own .block .reference ≡ l .block)
+    (share : isShareAt (own .block) (l .offset) ≡ true) where
   share-since : (since : List Accepted) → isStoredShare (storedBlocks (since ++ own ∷ earlier)) l ≡ true
   unfolding storedBlocks
   share-since since =
-      share-stored (storedBlocks (since ++ own ∷ earlier)) l (record { block = own .block; stored = in-map (λ (a : Accepted). a .block) (in-right since here); named = its; shared = share })
+      share-stored (storedBlocks (since ++ own ∷ earlier)) l (record
+      { block = own .block; stored = in-map (λ (a : Accepted). a .block) (in-right since here); named = its; shared = share })
 
   -- a vote in the share's own block or a later one is counted
-  since-counted : (since : List Accepted) (b : Block) → VoteIn b l → (b ∈ storedBlocks since) ⊎ (b ≡ own .block) → author b ∈ voters (countedVotes (since ++ own ∷ earlier) l)
+  since-counted : (since : List Accepted) (b : Block) → VoteIn b l → (b ∈ storedBlocks since) ⊎ (b ≡ own .block) → author b ∈ voters
+      (countedVotes (since ++ own ∷ earlier) l)
   unfolding countedVotes storedBlocks
   since-counted [] b v (inl m) = absurd (in-empty m)
   since-counted [] b v (inr e) =
@@ -90,13 +94,15 @@ module _ (l : TransactionLocator) (own : Accepted) (earlier : List Accepted) (it
       first ih (inl e) = in-right (voters before) (rw (← e) (block-voted (length (since ++ own ∷ earlier)) 0 b l v))
       first ih (inr m) = in-left (voters new) (ih m)
 
-      go : ((b ∈ storedBlocks since) ⊎ (b ≡ own .block) → author b ∈ voters before) → (b ∈ storedBlocks (a ∷ since)) ⊎ (b ≡ own .block) → author b ∈ (voters before ++ voters new)
+      go : ((b ∈ storedBlocks since) ⊎ (b ≡ own .block) → author b ∈ voters before) → (b ∈ storedBlocks (a ∷ since)) ⊎ (b ≡ own .block) → author b ∈
+          (voters before ++ voters new)
       go ih (inl m) = first (λ k. ih (inl k)) (in-cases m)
       go ih (inr e) = in-left (voters new) (ih (inr e))
 
 -- ---- voters of a final share
 
-module _ (as′ : List Accepted) (l : TransactionLocator) (w : WellStored (storedBlocks as′)) (stored : isStoredShare (storedBlocks as′) l ≡ true) (s : VotedOnlySince as′ l) where
+module _ (as′ : List Accepted) (l : TransactionLocator) (w : WellStored (storedBlocks as′)) (stored : isStoredShare (storedBlocks as′) l ≡ true)
+    (s : VotedOnlySince as′ l) where
   -- the block that has the share is its own
   own-share : isShareAt (s .own .block) (l .offset) ≡ true
   unfolding storedBlocks
@@ -139,7 +145,8 @@ module _ (as′ : List Accepted) (l : TransactionLocator) (w : WellStored (store
 -- ---- announced
 
 -- once the counted voters hold quorum stake and there is a counted vote, some vote left quorum
-some-left : (c : Committee) (l : TransactionLocator) (vs : List Vote) (a : AuthorityIndex) → a ∈ voters vs → HoldQuorum c (λ b. b ∈ countedVoters l vs) → NoneLeft c l vs → ⊥
+some-left : (c : Committee) (l : TransactionLocator) (vs : List Vote) (a : AuthorityIndex) → a ∈ voters vs → HoldQuorum c (λ b. b ∈ countedVoters l vs) →
+    NoneLeft c l vs → ⊥
 some-left c l vs a m q n = go (eq-nil-or-concat vs)
   where
     go : (vs ≡ []) ⊎ ((front : List Vote) × (last : Vote) × (vs ≡ concat front last)) → ⊥
@@ -149,7 +156,8 @@ some-left c l vs a m q n = go (eq-nil-or-concat vs)
         n (r .0) (r .1) [] e (subst (λ (us : List Vote). HoldQuorum c (λ b. b ∈ countedVoters l us)) e q)
 
 -- "A final stored share that got a vote, and none in a block stored before its own, was announced so."
-pub final-announced : (c : Committee) → broken c ≡ false → (t : Start) (l : TransactionLocator) → isStoredShare (storedBlocks (acceptedOf c t)) l ≡ true → Final c (storedBlocks (acceptedOf c t)) l
+pub final-announced : (c : Committee) → broken c ≡ false → (t : Start) (l : TransactionLocator) → isStoredShare (storedBlocks (acceptedOf c t)) l ≡ true →
+    Final c (storedBlocks (acceptedOf c t)) l
     → VotedOnlySince (acceptedOf c t) l → Announced (acceptedOf c t) l
 final-announced c b t l stored f s = go (share-stands c b t l stored)
   where
@@ -165,4 +173,5 @@ final-announced c b t l stored f s = go (share-stands c b t l stored)
     go (gone earlier v later e n q p told) = (v .place, rw told here)
     go (stays st n y p told) =
         let v = s .voted in
-        absurd (some-left c l (countedVotes as′ l) (author (v .0)) (vote-counted as′ l well stored s (v .0) (v .1) (v .2)) (final-counted as′ l well stored s c f) n)
+        absurd (some-left c l (countedVotes as′ l) (author (v .0)) (vote-counted as′ l well stored s (v .0) (v .1) (v .2))
+        (final-counted as′ l well stored s c f) n)

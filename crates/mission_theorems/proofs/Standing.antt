@@ -26,7 +26,11 @@ tallied c voters g b n =
     record {
       owners = members (g .votes);
       once = members-once (g .votes);
-      exactly = λ a. (λ m. n .only a (members-in (g .votes) a m), λ m. in-members (g .votes) a (omega (arith, few-members c b, known-below c a (n .allKnown a m))) (n .voted a m));
+      exactly = λ a. (
+        λ m. n .only a (members-in (g .votes) a m),
+        λ m. in-members (g .votes) a
+            (omega (arith, few-members c b, known-below c a (n .allKnown a m))) (n .voted a m),
+      );
       stake = stake-right c g (n .inOrder) ∙ stake-members c (g .votes) (few-members c b) (λ a h. known-below c a (n .allKnown a (n .only a h)));
       number = refl;
     }
@@ -48,7 +52,8 @@ pub data Stands (c : Committee) (l : TransactionLocator) (vs : List Vote) (h : O
   gone : h ≡ none → (earlier : List Vote) (v : Vote) (later : List Vote) → vs ≡ earlier ++ v ∷ later → NoneLeft c l earlier → LeftQuorum c l earlier v
       → ps ≡ v .place ∷ [] → Stands c l vs h ps
 
-none-left-more : (c : Committee) (l : TransactionLocator) (vs : List Vote) (v : Vote) → NoneLeft c l vs → (LeftQuorum c l vs v → ⊥) → NoneLeft c l (vs ++ v ∷ [])
+none-left-more : (c : Committee) (l : TransactionLocator) (vs : List Vote) (v : Vote) → NoneLeft c l vs → (LeftQuorum c l vs v → ⊥) → NoneLeft c l
+    (vs ++ v ∷ [])
 none-left-more c l vs v n f earlier w later e q = go (ended vs earlier v w later e)
   where
     go : ((vs ≡ earlier) × (v ≡ w)) ⊎ ((rest : List Vote) × (vs ≡ earlier ++ w ∷ rest)) → ⊥
@@ -59,7 +64,8 @@ pub none-left-first : (c : Committee) (l : TransactionLocator) → NoneLeft c l 
 none-left-first c l earlier v later e q = split-not-empty earlier v later e
 
 -- one more vote
-pub stands-vote : (c : Committee) (l : TransactionLocator) (vs : List Vote) (h : Option StakeAggregator) (ps : List Place) (v : Vote) → known c (v .voter) ≡ true → Stands c l vs h ps
+pub stands-vote : (c : Committee) (l : TransactionLocator) (vs : List Vote) (h : Option StakeAggregator) (ps : List Place) (v : Vote) → known c (v .voter) ≡
+    true → Stands c l vs h ps
     → Stands c l (vs ++ v ∷ []) (afterVote c (v .voter) h) (ps ++ tells c (v .place) (Option·map (λ g. counted c g (v .voter)) h))
 unfolding unless tells countedVoters
 stands-vote c l vs h ps v k (stays g e f n left) = rw (e, f) (go (hasQuorum c next) refl)

@@ -49,7 +49,8 @@ told-place c k i o (some g) = go (hasQuorum c g)
 -- ---- one statement
 
 -- a statement that votes over a range votes under its reference
-under-range : (b : Block) (i : ℕ) (s : Statement) (r : TransactionLocatorRange) (q : BlockReference) → getElem? (b .statements) i ≡ some s → votedRange s ≡ some r
+under-range : (b : Block) (i : ℕ) (s : Statement) (r : TransactionLocatorRange) (q : BlockReference) → getElem? (b .statements) i ≡ some s → votedRange s ≡
+    some r
     → votesUnder b i q ≡ sameReference (r .block) q
 unfolding votesUnder holds
 under-range b i s r q e f = rw (e, f)
@@ -82,16 +83,23 @@ module _ (c : Committee) (rs : List Record) (l : TransactionLocator) (e : Entry)
       go true = told-place c k i (l .offset) (Option·map (λ g. counted c g a) (held z))
       go false = refl
 
-  stands-statement : (vs : List Vote) (ps : List Place) (i : ℕ) (s : Statement) → getElem? (b .statements) i ≡ some s → (o : Option TransactionLocatorRange) → votedRange s ≡ o
+  stands-statement : (vs : List Vote) (ps : List Place) (i : ℕ) (s : Statement) → getElem? (b .statements) i ≡ some s → (o : Option TransactionLocatorRange) →
+      votedRange s ≡ o
       → (z : Processing) → Sound c (entries rs) z → Stands c l vs (held z) (ps ++ told z)
       → Stands c l (vs ++ pick (holds (λ r. covers r l) o) (voteAt i ∷ []) []) (held (vote c (entries rs) a i o z)) (ps ++ told (vote c (entries rs) a i o z))
   unfolding vote holds
   stands-statement vs ps i s at none f z w h = rw append-nil h
   stands-statement vs ps i s at (some r) f z w h =
-      rw (held-vote c rs l e stored a i r z (w .ordered), told-by i s r at f z, ← append-assoc ps (told z) (pick (covers r l) (tells c (voteAt i .place) (Option·map (λ g. counted c g a) (held z))) []))
+      rw (
+        held-vote c rs l e stored a i r z (w .ordered),
+        told-by i s r at f z,
+        ← append-assoc ps (told z)
+            (pick (covers r l) (tells c (voteAt i .place) (Option·map (λ g. counted c g a) (held z))) []),
+      )
       (go (covers r l))
     where
-      go : (t : Bool) → Stands c l (vs ++ pick t (voteAt i ∷ []) []) (pick t (afterVote c a (held z)) (held z)) (ps ++ told z ++ pick t (tells c (voteAt i .place) (Option·map (λ g. counted c g a) (held z))) [])
+      go : (t : Bool) → Stands c l (vs ++ pick t (voteAt i ∷ []) []) (pick t (afterVote c a (held z)) (held z))
+          (ps ++ told z ++ pick t (tells c (voteAt i .place) (Option·map (λ g. counted c g a) (held z))) [])
       go true = stands-vote c l vs (held z) (ps ++ told z) (voteAt i) author-known h
       go false = rw (append-nil vs, append-nil (ps ++ told z)) h
 
@@ -104,7 +112,8 @@ module _ (c : Committee) (rs : List Record) (l : TransactionLocator) (e : Entry)
   unfolding votes votesFrom isVoteFor
   stands-statements vs ps i [] at z w h = rw append-nil h
   stands-statements vs ps i (s ∷ ss) at z w h =
-      subst (λ (us : List Vote). Stands c l us (held last) (ps ++ told last)) (append-assoc vs (pick t (voteAt i ∷ []) []) (votesFrom k a (i + 1) ss l) ∙ ap (λ (us : List Vote). vs ++ us) (join t))
+      subst (λ (us : List Vote). Stands c l us (held last) (ps ++ told last))
+      (append-assoc vs (pick t (voteAt i ∷ []) []) (votesFrom k a (i + 1) ss l) ∙ ap (λ (us : List Vote). vs ++ us) (join t))
       (stands-statements (vs ++ pick t (voteAt i ∷ []) []) ps (i + 1) ss later next (sound-vote c (entries rs) a author-known i (votedRange s) z w)
       (stands-statement vs ps i s first (votedRange s) refl z w h))
     where

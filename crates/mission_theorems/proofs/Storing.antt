@@ -59,4 +59,5 @@ pub run-holds : (c : Committee) (g : Engine) (fs : List Feed) → StoreOf c (g .
 unfolding run accepted outcome left
 run-holds c g [] h = h
 run-holds c g (f ∷ fs) h =
-    feed-holds c (record { store = run c g fs .store; table = run c g fs .table; work = f .work; events = f .events }) (f .bytes) (accepted c g fs) (run-holds c g fs h)
+    feed-holds c (record { store = run c g fs .store; table = run c g fs .table; work = f .work; events = f .events }) (f .bytes) (accepted c g fs)
+    (run-holds c g fs h)

@@ -23,7 +23,8 @@ use Rattle.load_spec.specs.Needs.{withoutPayloads}
 use Rattle.mission_theorems.specs.Feeds.{Feed, Engine, fresh, outcome, left, run}
 use Rattle.mission_theorems.specs.ThirdStatement.{Start}
 use Rattle.mission_theorems.proofs.Storing.{fresh-holds}
-use Rattle.payload_theorems.specs.Apart.{Shape, shape, Apart, HeldApart, LentApart, FeedApart, EachApart, no-feeds, and-feed, StartApart, Told, tell, told}
+use Rattle.payload_theorems.specs.Apart.{Shape, shape, Apart, HeldApart, LentApart, FeedApart, EachApart, no-feeds, and-feed, StartApart, Told, tell}
+use Rattle.payload_theorems.specs.Apart.{told}
 use Rattle.payload_theorems.specs.Claims.{FeedingUnseen, SameFed, FeedUnseen}
 use Rattle.payload_theorems.proofs.Blocks.{feeding-unseen}
 use Rattle.payload_theorems.proofs.Checks.{room-same, checks-same, used-same, length-same, entries-same, table-same}

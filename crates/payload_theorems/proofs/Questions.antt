@@ -18,7 +18,8 @@ use Rattle.store_spec.specs.Store.{recordsOf}
 use Rattle.feed_spec.specs.Pending.{standingAt, pending}
 use Rattle.final_spec.specs.Finality.{blocksOf, finalityChecks}
 use Rattle.final_spec.specs.NextFinal.{isAfter, justAfter, candidates, leastLocator, nextFinalChecks}
-use Rattle.list_stretches_spec.specs.Stretches.{Listing, FinalStretch, edgesOf, edgesBy, certifiedAlike, goesOn, nearest, endAmong, stretchEnd, stretchAt, fromFound, stretches, lastLocator}
+use Rattle.list_stretches_spec.specs.Stretches.{Listing, FinalStretch, edgesOf, edgesBy, certifiedAlike, goesOn, nearest, endAmong, stretchEnd, stretchAt}
+use Rattle.list_stretches_spec.specs.Stretches.{fromFound, stretches, lastLocator}
 use Rattle.list_stretches_spec.specs.Bulk.{stretchRoom, bytesAfter, givenAfter, listNext, listStretches}
 use Rattle.final_readings_spec.specs.Rejecting.{rejections}
 use Rattle.final_readings_spec.specs.Readings.{Reading, old, withdrawing, certifiesIn, isFinalIn}

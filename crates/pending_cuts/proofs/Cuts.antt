@@ -34,7 +34,8 @@ module _ (xs : List Item) (i o : ℕ) (h : i < length xs) where
   unfolding inTwo
   split-below j k = List·getD-append (take i xs) _ noItem j (omega (arith, before)) ∙ getD-take i xs j noItem k
 
-  split-right : (j k : ℕ) → j ≡ i + k → getD (inTwo xs i o) j noItem ≡ getD (frontOf (getD xs i noItem) o ∷ backOf (getD xs i noItem) o ∷ drop (i + 1) xs) k noItem
+  split-right : (j k : ℕ) → j ≡ i + k → getD (inTwo xs i o) j noItem ≡ getD (frontOf (getD xs i noItem) o ∷ backOf (getD xs i noItem) o ∷ drop (i + 1) xs) k
+      noItem
   unfolding inTwo
   split-right j k e =
       let d : j - length (take i xs) ≡ k = omega (arith, before) in
@@ -49,7 +50,8 @@ module _ (xs : List Item) (i o : ℕ) (h : i < length xs) where
   pub split-table : (t u : List ℕ) → Holding t xs → MovedUp t i (length xs) u → 6 * length xs + 6 < length t → (x y : Item)
       → x ≡ frontOf (getD xs i noItem) o → y ≡ backOf (getD xs i noItem) o
       → set (sets (sets u (6 * i + 1) (itemWords x)) (6 * (i + 1) + 1) (itemWords y)) 0 (length xs + 1) ≡ tableOf (length t) (inTwo xs i o)
-  split-table t u hold m f x y a b = rw (sym same) at (holding-table w (inTwo xs i o) record { count = counts; fits = omega (arith, same, length-split); items = items })
+  split-table t u hold m f x y a b = rw (sym same) at (holding-table w (inTwo xs i o) record
+      { count = counts; fits = omega (arith, same, length-split); items = items })
     where
       v : List ℕ
       v = sets u (6 * i + 1) (itemWords x)
@@ -58,10 +60,12 @@ module _ (xs : List Item) (i o : ℕ) (h : i < length xs) where
       w = set (sets v (6 * (i + 1) + 1) (itemWords y)) 0 (length xs + 1)
 
       same : length t ≡ length w
-      same = sym (length-set (sets v (6 * (i + 1) + 1) (itemWords y)) 0 (length xs + 1) ∙ length-sets v (6 * (i + 1) + 1) (itemWords y) ∙ length-sets u (6 * i + 1) (itemWords x) ∙ m .long)
+      same = sym (length-set (sets v (6 * (i + 1) + 1) (itemWords y)) 0 (length xs + 1) ∙ length-sets v (6 * (i + 1) + 1) (itemWords y) ∙ length-sets u
+          (6 * i + 1) (itemWords x) ∙ m .long)
 
       counts : getD w 0 0 ≡ length (inTwo xs i o)
-      counts = getD-set-same (sets v (6 * (i + 1) + 1) (itemWords y)) 0 (length xs + 1) 0 (omega (arith, length-sets v (6 * (i + 1) + 1) (itemWords y), length-sets u (6 * i + 1) (itemWords x), m .long)) ∙ sym length-split
+      counts = getD-set-same (sets v (6 * (i + 1) + 1) (itemWords y)) 0 (length xs + 1) 0
+          (omega (arith, length-sets v (6 * (i + 1) + 1) (itemWords y), length-sets u (6 * i + 1) (itemWords x), m .long)) ∙ sym length-split
 
       first : (j : ℕ) → Dec (j < i) → Dec (j ≡ i) → Dec (j ≡ i + 1) → slot w j ≡ getD (inTwo xs i o) j noItem
       first j (yes c) d e =
@@ -76,7 +80,8 @@ module _ (xs : List Item) (i o : ℕ) (h : i < length xs) where
           (counted-slot _ (length xs + 1) (i + 1) ∙ put-same v (i + 1) y (omega (arith, m .long, length-sets u (6 * i + 1) (itemWords x)))
           ∙ b ∙ sym (split-right (i + 1) 1 (omega arith)))
       first j (no c) (no d) (no e) =
-          counted-slot _ (length xs + 1) j ∙ put-other v (i + 1) y j e ∙ put-other u i x j d ∙ high j (omega arith) (decLt (length xs) j) ∙ sym (split-above j (omega arith))
+          counted-slot _ (length xs + 1) j ∙ put-other v (i + 1) y j e ∙ put-other u i x j d ∙ high j (omega arith) (decLt (length xs) j) ∙ sym
+          (split-above j (omega arith))
         where
           high : (k : ℕ) → i + 1 < k → Dec (length xs < k) → slot u k ≡ getD xs (k - 1) noItem
           high k l (yes n) =
@@ -103,7 +108,12 @@ cut-one p o [] i h e f = absurd (omega arith)
 cut-one p o (x ∷ xs) zero h e f = rw (e, cut-none p o xs (λ j (k : j < length xs). f (suc j) (omega arith) (λ (d : suc j ≡ 0). omega arith)))
 cut-one p o (x ∷ xs) (suc i) h e f =
     let s : suc i + 1 ≡ suc (i + 1) = omega arith in
-    rw (s, f 0 (omega arith) (λ (d : 0 ≡ suc i). omega arith), cut-one p o xs i (omega arith) e (λ j (k : j < length xs) g. f (suc j) (omega arith) (λ (d : suc j ≡ suc i). g (omega arith))))
+    rw (
+      s,
+      f 0 (omega arith) (λ (d : 0 ≡ suc i). omega arith),
+      cut-one p o xs i (omega arith) e
+          (λ j (k : j < length xs) g. f (suc j) (omega arith) (λ (d : suc j ≡ suc i). g (omega arith))),
+    )
 
 inside-holds : (p o : ℕ) (x : Item) → fallsInside p o x ≡ true → itemHolds p o x ≡ true
 inside-holds p o x h = let k = inside-facts p o x h in holds-from p o x (k .0) (omega (arith, k .1)) (k .2)

@@ -90,7 +90,11 @@ all-zero t n h i l = go (decLt i (length t))
     go (yes k) =
         let e : n + (i - n) ≡ i = omega arith in
         let d : getD (drop n t) (i - n) 0 ≡ getD t i 0 = getD-drop n t (i - n) 0 ∙ rw e in
-        omega (arith, ltb-false 0 (getD t i 0) (fails (ltb 0 (getD t i 0)) (λ a. not-both (any-at 0 (ltb 0) (drop n t) (i - n) (omega (arith, length-drop n t)) (rw d a)) h)))
+        omega (
+          arith,
+          ltb-false 0 (getD t i 0) (fails (ltb 0 (getD t i 0))
+              (λ a. not-both (any-at 0 (ltb 0) (drop n t) (i - n) (omega (arith, length-drop n t)) (rw d a)) h)),
+        )
 
 pub zero-all : (t : List ℕ) (n : ℕ) → ((i : ℕ) → n ≤ i → getD t i 0 ≡ 0) → anyOf (ltb 0) (drop n t) ≡ false
 zero-all t n f = any-no 0 (ltb 0) (drop n t) (λ i h. rw (getD-drop n t i 0, f (n + i) (omega arith)))
@@ -110,20 +114,26 @@ laid-no t h = fails (same t (tableOf (length t) (itemsOf t))) (λ k. omega (arit
 
 -- ---- order
 
-stands-facts : (xs : List Item) (k : ℕ) → standsAt xs k ≡ true → (getD xs k noItem .start < getD xs k noItem .end) × ((k ≡ 0) ⊎ (itemBefore (getD xs (k - 1) noItem) (getD xs k noItem) ≡ true))
+stands-facts : (xs : List Item) (k : ℕ) → standsAt xs k ≡ true → (getD xs k noItem .start < getD xs k noItem .end) ×
+    ((k ≡ 0) ⊎ (itemBefore (getD xs (k - 1) noItem) (getD xs k noItem) ≡ true))
 unfolding standsAt itemFull
 stands-facts xs k h =
-    let x = getD xs k noItem in
-    (ltb-true _ _ (and-left (ltb (x .start) (x .end)) _ h), go (or-cases (eqb k 0) (itemBefore (getD xs (k - 1) noItem) x) (and-right (ltb (x .start) (x .end)) _ h)))
+    let x = getD xs k noItem in (
+      ltb-true _ _ (and-left (ltb (x .start) (x .end)) _ h),
+      go (or-cases (eqb k 0) (itemBefore (getD xs (k - 1) noItem) x)
+          (and-right (ltb (x .start) (x .end)) _ h)),
+    )
   where
-    go : (eqb k 0 ≡ true) ⊎ (itemBefore (getD xs (k - 1) noItem) (getD xs k noItem) ≡ true) → (k ≡ 0) ⊎ (itemBefore (getD xs (k - 1) noItem) (getD xs k noItem) ≡ true)
+    go : (eqb k 0 ≡ true) ⊎ (itemBefore (getD xs (k - 1) noItem) (getD xs k noItem) ≡ true) → (k ≡ 0) ⊎
+        (itemBefore (getD xs (k - 1) noItem) (getD xs k noItem) ≡ true)
     go (inl e) = inl (eqb-true k 0 e)
     go (inr e) = inr e
 
 item-before-trans : (x y z : Item) → itemBefore x y ≡ true → y .start < y .end → itemBefore y z ≡ true → itemBefore x z ≡ true
 item-before-trans x y z a f b = before-from x z (go (before-facts x y a) (before-facts y z b))
   where
-    go : (x .position < y .position) ⊎ ((x .position ≡ y .position) × (x .end ≤ y .start)) → (y .position < z .position) ⊎ ((y .position ≡ z .position) × (y .end ≤ z .start))
+    go : (x .position < y .position) ⊎ ((x .position ≡ y .position) × (x .end ≤ y .start)) → (y .position < z .position) ⊎
+        ((y .position ≡ z .position) × (y .end ≤ z .start))
         → (x .position < z .position) ⊎ ((x .position ≡ z .position) × (x .end ≤ z .start))
     go (inl h) (inl k) = inl (omega arith)
     go (inl h) (inr k) = inl (omega (arith, k .0))
@@ -134,7 +144,8 @@ module _ (xs : List Item) (f : (k : ℕ) → k < length xs → standsAt xs k ≡
   before-later : (i d : ℕ) → i + 1 + d < length xs → itemBefore (getD xs i noItem) (getD xs (i + 1 + d) noItem) ≡ true
   before-later i zero h = last (stands-facts xs (i + 1) (f (i + 1) (omega arith)) .1)
     where
-      last : (i + 1 ≡ 0) ⊎ (itemBefore (getD xs (i + 1 - 1) noItem) (getD xs (i + 1) noItem) ≡ true) → itemBefore (getD xs i noItem) (getD xs (i + 1 + 0) noItem) ≡ true
+      last : (i + 1 ≡ 0) ⊎ (itemBefore (getD xs (i + 1 - 1) noItem) (getD xs (i + 1) noItem) ≡ true) → itemBefore (getD xs i noItem)
+          (getD xs (i + 1 + 0) noItem) ≡ true
       last (inl e) = absurd (omega arith)
       last (inr e) =
           let a : i + 1 - 1 ≡ i = omega arith in
@@ -148,11 +159,16 @@ module _ (xs : List Item) (f : (k : ℕ) → k < length xs → standsAt xs k ≡
       step a (inl e) = absurd (omega arith)
       step a (inr e) =
           let b : i + 1 + suc d - 1 ≡ i + 1 + d = omega arith in
-          item-before-trans (getD xs i noItem) (getD xs (i + 1 + d) noItem) (getD xs (i + 1 + suc d) noItem) a (stands-facts xs (i + 1 + d) (f (i + 1 + d) (omega arith)) .0) (rw b at e)
+          item-before-trans (getD xs i noItem) (getD xs (i + 1 + d) noItem) (getD xs (i + 1 + suc d) noItem) a
+          (stands-facts xs (i + 1 + d) (f (i + 1 + d) (omega arith)) .0) (rw b at e)
 
   pub stand-all : pairwise itemBefore xs && allOf itemFull xs ≡ true
   unfolding itemFull
-  stand-all = rw (pairs-pairwise itemBefore xs (at-pairs noItem xs (λ i j h k. pair i j h k)), all-yes noItem itemFull xs (λ i h. lt-ltb _ _ (stands-facts xs i (f i h) .0)))
+  stand-all = rw (
+    pairs-pairwise itemBefore xs (at-pairs noItem xs (λ i j h k. pair i j h k)),
+    all-yes noItem itemFull xs
+        (λ i h. lt-ltb _ _ (stands-facts xs i (f i h) .0)),
+  )
     where
       pair : (i j : ℕ) → i < j → j < length xs → itemBefore (getD xs i noItem) (getD xs j noItem) ≡ true
       pair i j h k = let e : i + 1 + (j - i - 1) ≡ j = omega arith in rw e at (before-later i (j - i - 1) (omega arith))
@@ -161,7 +177,8 @@ pub stands-not : (xs : List Item) (k : ℕ) → k < length xs → standsAt xs k 
 unfolding standsAt
 stands-not xs k h e = fails (pairwise itemBefore xs && allOf itemFull xs) (λ a. not-both (stands a (ℕ-discrete k 0)) e)
   where
-    stands : pairwise itemBefore xs && allOf itemFull xs ≡ true → Dec (k ≡ 0) → itemFull (getD xs k noItem) && (eqb k 0 || itemBefore (getD xs (k - 1) noItem) (getD xs k noItem)) ≡ true
+    stands : pairwise itemBefore xs && allOf itemFull xs ≡ true → Dec (k ≡ 0) → itemFull (getD xs k noItem) &&
+        (eqb k 0 || itemBefore (getD xs (k - 1) noItem) (getD xs k noItem)) ≡ true
     stands a (yes z) = rw (all-at noItem itemFull xs (and-right (pairwise itemBefore xs) _ a) k h, eq-eqb k 0 z)
     stands a (no z) =
         rw (
@@ -175,8 +192,13 @@ stands-not xs k h e = fails (pairwise itemBefore xs && allOf itemFull xs) (λ a.
 pub order-parts : (c : Committee) (es : List Entry) (t : List ℕ) → tableInOrder c es t ≡ tableFormed c t && tableStored es t
 unfolding tableInOrder tableFormed tableStored itemInOrder
 order-parts c es t =
-    rw (all-and itemFull (λ x. itemStored es x && aggregatorInOrder c (x .aggregator)) (itemsOf t), all-and (itemStored es) (λ x. aggregatorInOrder c (x .aggregator)) (itemsOf t))
-    (go (same t (tableOf (length t) (itemsOf t))) (pairwise itemBefore (itemsOf t)) (allOf itemFull (itemsOf t)) (allOf (itemStored es) (itemsOf t)) (allOf (λ x. aggregatorInOrder c (x .aggregator)) (itemsOf t)))
+    rw (
+      all-and itemFull (λ x. itemStored es x && aggregatorInOrder c (x .aggregator)) (itemsOf t),
+      all-and (itemStored es)
+          (λ x. aggregatorInOrder c (x .aggregator)) (itemsOf t),
+    )
+    (go (same t (tableOf (length t) (itemsOf t))) (pairwise itemBefore (itemsOf t)) (allOf itemFull (itemsOf t)) (allOf (itemStored es) (itemsOf t))
+    (allOf (λ x. aggregatorInOrder c (x .aggregator)) (itemsOf t)))
   where
     go : (l o f s v : Bool) → l && (o && (f && (s && v))) ≡ (l && (o && (f && v))) && s
     go false o f s v = refl
@@ -188,7 +210,8 @@ order-parts c es t =
     go true true true true true = refl
 
 -- in the order in which the code tests
-pub formed-tests : (c : Committee) (t : List ℕ) (l o v : Bool) → l ≡ same t (tableOf (length t) (itemsOf t)) → (l ≡ true → o ≡ pairwise itemBefore (itemsOf t) && allOf itemFull (itemsOf t))
+pub formed-tests : (c : Committee) (t : List ℕ) (l o v : Bool) → l ≡ same t (tableOf (length t) (itemsOf t)) →
+    (l ≡ true → o ≡ pairwise itemBefore (itemsOf t) && allOf itemFull (itemsOf t))
     → (l ≡ true → o ≡ true → v ≡ allOf (λ x. aggregatorInOrder c (x .aggregator)) (itemsOf t)) → l && (o && v) ≡ tableFormed c t
 unfolding tableFormed
 formed-tests c t false o v e f g = rw (← e)

@@ -53,7 +53,8 @@ module _ (s : Bytes) (x : Item) where
   not-there at f h = no-entry λ e m q. by-reached e m q (f .reached)
     where
       by-reached : (e : Entry) → e ∈ entries (recordsOf s) → e .position ≡ x .position → (at ≡ usedBy (recordsOf s)) ⊎ (x .position ≤ at) → ⊥
-      by-reached e m q (inl u) = let k : e .position < at = omega (arith, every-in (entries (recordsOf s)) e (entries-below (recordsOf s)) m) in omega (arith, f .passed e m k)
+      by-reached e m q (inl u) = let k : e .position < at = omega (arith, every-in (entries (recordsOf s)) e (entries-below (recordsOf s)) m) in omega
+          (arith, f .passed e m k)
       by-reached e m q (inr l) = below (decLt (x .position) at)
         where
           below : Dec (x .position < at) → ⊥
@@ -70,7 +71,8 @@ module _ (s : Bytes) (x : Item) where
   is-there h =
       let k : EntryAt s (x .position) = entry-at s (x .position) h in
       let f = find-some at-position _ (k .stored) (eq-eqb (k .entry .position) (x .position) (k .place)) in
-      let d : f .0 ≡ k .entry = one-position (recordsOf s) (f .0) (k .entry) (find-in at-position _ (f .0) (f .1)) (k .stored) (eqb-true _ _ (find-passes at-position (entries (recordsOf s)) (f .0) (f .1)) ∙ sym (k .place)) in
+      let d : f .0 ≡ k .entry = one-position (recordsOf s) (f .0) (k .entry) (find-in at-position _ (f .0) (f .1)) (k .stored)
+      (eqb-true _ _ (find-passes at-position (entries (recordsOf s)) (f .0) (f .1)) ∙ sym (k .place)) in
       let b : blockAt s (x .position) ≡ k .entry .block = block-at s (x .position) (record { bytes = k .entry .bytes; block = k .entry .block }) (k .stands) in
       rw (f .1, d, b)
 
@@ -115,7 +117,11 @@ module _ (s : Bytes) (x : Item) where
       go (inl l) =
           record { passed = λ e m (k : e .position < w .at). omega (arith, r .at); placed = λ h (q : w .last ≡ y .position). absurd (omega (arith, r .last)) }
       go (inr l) =
-          record { passed = λ e m (k : e .position < w .at). omega (arith, r .at, l .0); placed = λ h q. placed-later _ (x .end) (y .start) (w .cursor) (l .1) (rw (l .0) at (r .placed)) }
+          record {
+            passed = λ e m (k : e .position < w .at). omega (arith, r .at, l .0);
+            placed = λ h q. placed-later _ (x .end) (y .start) (w .cursor) (l .1)
+                (rw (l .0) at (r .placed));
+          }
 
 -- a walk that begins is ahead of nothing
 pub begun-ahead : (s : Bytes) (w : Walk) (x : Item) → w .at ≡ 16 → w .last ≡ 0 → Ahead s w x
@@ -146,7 +152,13 @@ pub record Checking (s : Bytes) (xs : List Item) (w : Walk) (k : ℕ) : Type 0 w
 module _ (s : Bytes) (xs : List Item) where
   pub checking-start : (w : Walk) → readable s ≡ true → w .at ≡ 16 → w .last ≡ 0 → Checking s xs w 0
   checking-start w r a l =
-      record { most = omega arith; on = rw a (begun-on s r); stored = λ j (h : j < 0). absurd (omega arith); ahead = λ j h k. begun-ahead s w (getD xs j noItem) a l }
+      record {
+        most = omega arith;
+        on = rw a (begun-on s r);
+        stored = λ j (h : j < 0). absurd (omega arith);
+        ahead = λ j h k. begun-ahead s w
+            (getD xs j noItem) a l;
+      }
 
   pub checking-on : (w v : Walk) (k : ℕ) (x : Item) → Ordered xs → Checking s xs w k → k < length xs → x ≡ getD xs k noItem
       → itemStored (entries (recordsOf s)) x ≡ true → WalkedTo s x v → Checking s xs v (k + 1)
@@ -171,4 +183,5 @@ module _ (s : Bytes) (t : List ℕ) where
 
   pub checking-all : (w : Walk) (k : ℕ) → Checking s (itemsOf t) w k → length (itemsOf t) ≤ k → tableStored (entries (recordsOf s)) t ≡ true
   unfolding tableStored
-  checking-all w k h l = every-all (itemStored (entries (recordsOf s))) (itemsOf t) (places-every noItem (itemsOf t) (λ j (u : j < length (itemsOf t)). h .stored j (omega arith)))
+  checking-all w k h l = every-all (itemStored (entries (recordsOf s))) (itemsOf t)
+      (places-every noItem (itemsOf t) (λ j (u : j < length (itemsOf t)). h .stored j (omega arith)))

@@ -19,7 +19,8 @@ use Rattle.store_spec.proofs.Lookups.{Split, split-at-entry, used-more}
 use Rattle.pending_question.specs.Step.{OnEntry, Passed}
 
 -- what stands where older records end
-pub stands-next : (newer older : List Record) → ((d : Entry) × (d ∈ entries (newer ++ older)) × (d .position ≡ usedBy older)) ⊎ (usedBy older ≡ usedBy (newer ++ older))
+pub stands-next : (newer older : List Record) → ((d : Entry) × (d ∈ entries (newer ++ older)) × (d .position ≡ usedBy older)) ⊎
+    (usedBy older ≡ usedBy (newer ++ older))
 unfolding entries
 stands-next [] older = inr refl
 stands-next (r ∷ newer) older = go (stands-next newer older)
@@ -29,7 +30,8 @@ stands-next (r ∷ newer) older = go (stands-next newer older)
     go (inl x) = inl (x .0, there (x .1), x .2)
     go (inr e) = inl (record { position = usedBy (newer ++ older); bytes = r .bytes; block = r .block }, here, sym e)
 
-nothing-between : (newer older : List Record) (own : Record) (d : Entry) → d ∈ entries (newer ++ own ∷ older) → d .position < usedBy (own ∷ older) → d .position ≤ usedBy older
+nothing-between : (newer older : List Record) (own : Record) (d : Entry) → d ∈ entries (newer ++ own ∷ older) → d .position < usedBy (own ∷ older) → d
+    .position ≤ usedBy older
 unfolding entries
 nothing-between [] older own d here h = omega arith
 nothing-between [] older own d (there m) h = omega (arith, every-in (entries older) d (entries-below older) m)

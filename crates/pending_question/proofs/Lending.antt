@@ -111,7 +111,8 @@ module _ (xs : List Item) (o : Ordered xs) (p q : ℕ) (r : Found) (f : FoundBy 
   unfolding foundItem
   at-some i e = found-item xs o p q r f ∙ rw e
 
-module _ (s : Bytes) (t : List ℕ) (l : TransactionLocator) (p : ℕ) (r : Found) (h : HoldsItems t) (e : p ≡ positionOf (lookup (entries (recordsOf s)) (l .block)))
+module _ (s : Bytes) (t : List ℕ) (l : TransactionLocator) (p : ℕ) (r : Found) (h : HoldsItems t)
+    (e : p ≡ positionOf (lookup (entries (recordsOf s)) (l .block)))
     (f : FoundBy (itemHolds p (l .offset)) (itemsOf t) r) where
   stands : standingAt s t l ≡ standingOf (foundItem (itemsOf t) r)
   unfolding standingAt

@@ -61,7 +61,8 @@ module _ (r : Bytes) where
   placed-first o c e = let i = placed-index r c 0 e in record { right = placed r c 0 e; inside = omega (arith, i); before = omega (arith, i) }
 
   -- the place after one before the offset
-  pub placed-next : (o : ℕ) (c d : StatementCursor) → NotPast r o c → c .index < o → c .index < length (blockIn r .statements) → d ≡ cursorAt r (c .index + 1) → NotPast r o d
+  pub placed-next : (o : ℕ) (c d : StatementCursor) → NotPast r o c → c .index < o → c .index < length (blockIn r .statements) → d ≡ cursorAt r (c .index + 1)
+      → NotPast r o d
   placed-next o c d p h k e =
       let i = placed-index r d (c .index + 1) e in
       record { right = placed r d (c .index + 1) e; inside = omega (arith, i); before = omega (arith, i) }
@@ -79,7 +80,8 @@ module _ (r : Bytes) (start end : ℕ) where
   pub sharing-start : (c : StatementCursor) → start ≤ end → NotPast r start c → Sharing r start end start c
   sharing-start c h p = record { from = omega arith; most = h; shares = λ q (l : start ≤ q) (u : q < start). absurd (omega arith); place = p }
 
-  pub sharing-on : (o : ℕ) (c d : StatementCursor) → Sharing r start end o c → o < end → isShareAt (blockIn r) o ≡ true → NotPast r o d → Sharing r start end (o + 1) d
+  pub sharing-on : (o : ℕ) (c d : StatementCursor) → Sharing r start end o c → o < end → isShareAt (blockIn r) o ≡ true → NotPast r o d → Sharing r start end
+      (o + 1) d
   sharing-on o c d s h e p =
       record { from = omega (arith, s .from); most = omega arith; shares = λ q l u. go q l u (decLt q o); place = placed-later r o (o + 1) d (omega arith) p }
     where
@@ -90,7 +92,8 @@ module _ (r : Bytes) (start end : ℕ) where
   pub sharing-no : (o : ℕ) (c : StatementCursor) → Sharing r start end o c → o < end → isShareAt (blockIn r) o ≡ false → sharesIn (blockIn r) start end ≡ false
   sharing-no o c s h e = one-missing (blockIn r) start end o (s .from) h e
 
-  pub sharing-all : (o : ℕ) (c : StatementCursor) → Sharing r start end o c → end ≤ o → (true ≡ sharesIn (blockIn r) start end) × (true ≡ true → NotPast r end c)
+  pub sharing-all : (o : ℕ) (c : StatementCursor) → Sharing r start end o c → end ≤ o → (true ≡ sharesIn (blockIn r) start end) ×
+      (true ≡ true → NotPast r end c)
   sharing-all o c s h =
       let z : o ≡ end = omega (arith, s .most) in
       (sym (shares-from (blockIn r) start end (λ q l (u : q < end). s .shares q l (omega arith))), λ _. rw (← z) (s .place))

@@ -50,7 +50,8 @@ one-holds xs ord p o i j h k a b = go (decLt i j) (decLt j i)
         g : (getD xs n noItem .position ≡ p) × (getD xs n noItem .start ≤ o) × (o < getD xs n noItem .end)
         g = holds-facts p o (getD xs n noItem) d
 
-        by : (getD xs m noItem .position < getD xs n noItem .position) ⊎ ((getD xs m noItem .position ≡ getD xs n noItem .position) × (getD xs m noItem .end ≤ getD xs n noItem .start)) → ⊥
+        by : (getD xs m noItem .position < getD xs n noItem .position) ⊎
+            ((getD xs m noItem .position ≡ getD xs n noItem .position) × (getD xs m noItem .end ≤ getD xs n noItem .start)) → ⊥
         by (inl e) = omega (arith, f .0, g .0)
         by (inr e) = omega (arith, f .2, g .1, e .1)
 
@@ -100,7 +101,8 @@ module _ (p o : ℕ) (xs : List Item) (i : ℕ) (part : Parted p o xs i) (ord : 
       go (no m) (yes e) = at e (f (rw (← e) l))
       go (no m) (no e) =
           let n : i < length xs = omega arith in
-          later (omega arith) (f n) (ahead-facts p o here (part .above i (omega arith) n)) (before-facts here x (pairs-places noItem xs i j ord (omega arith) l))
+          later (omega arith) (f n) (ahead-facts p o here (part .above i (omega arith) n))
+          (before-facts here x (pairs-places noItem xs i j ord (omega arith) l))
 
   -- the next item goes past o
   pub past : i < length xs → here .position ≡ p → o < here .end
@@ -117,15 +119,18 @@ module _ (p o : ℕ) (xs : List Item) (i : ℕ) (part : Parted p o xs i) (ord : 
   inside-here h e k = atIndex i h (inside-from p o here e k (past h e))
 
   pub not-held : (q : ℕ) → o ≤ q → (i < length xs → (here .position ≡ p → ⊥) ⊎ (q < here .start)) → FoundBy (itemHolds p q) xs Nothing
-  not-held q h f = nowhere (λ j l. fails (itemHolds p q (getD xs j noItem)) (λ e. let k = holds-facts p q (getD xs j noItem) e in no-touch q (suc q) h f j l (k .0) (omega (arith, k .1)) (k .2)))
+  not-held q h f = nowhere (λ j l. fails (itemHolds p q (getD xs j noItem))
+      (λ e. let k = holds-facts p q (getD xs j noItem) e in no-touch q (suc q) h f j l (k .0) (omega (arith, k .1)) (k .2)))
 
   pub not-inside : (i < length xs → (here .position ≡ p → ⊥) ⊎ (o ≤ here .start)) → FoundBy (fallsInside p o) xs Nothing
-  not-inside f = nowhere (λ j l. fails (fallsInside p o (getD xs j noItem)) (λ e. let k = inside-facts p o (getD xs j noItem) e in no-touch o o (omega arith) f j l (k .0) (k .1) (k .2)))
+  not-inside f = nowhere (λ j l. fails (fallsInside p o (getD xs j noItem))
+      (λ e. let k = inside-facts p o (getD xs j noItem) e in no-touch o o (omega arith) f j l (k .0) (k .1) (k .2)))
 
   -- nothing stands from o up to s
   pub gap-same : (s : ℕ) → o < s → (i < length xs → (here .position ≡ p → ⊥) ⊎ (s ≤ here .start)) → (q : ℕ) → o ≤ q → q < s → itemAt xs p q ≡ itemAt xs p o
   unfolding foundItem
-  gap-same s h f q k l = found-item xs ord p q Nothing (not-held q k (λ m. later q (omega arith) (f m))) ∙ sym (found-item xs ord p o Nothing (not-held o (omega arith) (λ m. later o h (f m))))
+  gap-same s h f q k l = found-item xs ord p q Nothing (not-held q k (λ m. later q (omega arith) (f m))) ∙ sym
+      (found-item xs ord p o Nothing (not-held o (omega arith) (λ m. later o h (f m))))
     where
       later : (r : ℕ) → r < s → (here .position ≡ p → ⊥) ⊎ (s ≤ here .start) → (here .position ≡ p → ⊥) ⊎ (r < here .start)
       later r a (inl g) = inl g
@@ -138,7 +143,8 @@ module _ (p o : ℕ) (xs : List Item) (i : ℕ) (part : Parted p o xs i) (ord : 
       found-item xs ord p q (At i) (atIndex i h (holds-from p q here e (omega arith) b)) ∙ sym (found-item xs ord p o (At i) (held-here h e k))
 
   -- so what was found goes for a stretch
-  pub gap-constant : (s end : ℕ) → o < s → s ≤ end → (i < length xs → (here .position ≡ p → ⊥) ⊎ (s ≤ here .start)) → Constant xs p o end (record { found = Nothing; end = s })
+  pub gap-constant : (s end : ℕ) → o < s → s ≤ end → (i < length xs → (here .position ≡ p → ⊥) ⊎ (s ≤ here .start)) → Constant xs p o end
+      (record { found = Nothing; end = s })
   gap-constant s end h k f = record { found = not-held o (omega arith) (λ m. later (f m)); onward = h; most = k; same = gap-same s h f }
     where
       later : (here .position ≡ p → ⊥) ⊎ (s ≤ here .start) → (here .position ≡ p → ⊥) ⊎ (o < here .start)

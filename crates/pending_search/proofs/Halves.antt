@@ -35,7 +35,8 @@ pub ahead-facts : (p o : ℕ) (x : Item) → endsBefore p o x ≡ false → (p <
 unfolding endsBefore
 ahead-facts p o x h = go (ltb (x .position) p) (eqb (x .position) p) (leb (x .end) o) refl refl refl h
   where
-    go : (t u v : Bool) → ltb (x .position) p ≡ t → eqb (x .position) p ≡ u → leb (x .end) o ≡ v → t || (u && v) ≡ false → (p < x .position) ⊎ ((x .position ≡ p) × (o < x .end))
+    go : (t u v : Bool) → ltb (x .position) p ≡ t → eqb (x .position) p ≡ u → leb (x .end) o ≡ v → t || (u && v) ≡ false → (p < x .position) ⊎
+        ((x .position ≡ p) × (o < x .end))
     go true u v a b c k = absurd (not-both refl k)
     go false true true a b c k = absurd (not-both refl k)
     go false true false a b c k = inr (eqb-true _ _ b, leb-false (x .end) o c)
@@ -47,7 +48,8 @@ ahead-facts p o x h = go (ltb (x .position) p) (eqb (x .position) p) (leb (x .en
 earlier-ends : (p o : ℕ) (x y : Item) → itemBefore x y ≡ true → y .start < y .end → endsBefore p o y ≡ true → endsBefore p o x ≡ true
 earlier-ends p o x y b f e = ends-from p o x (go (before-facts x y b) (ends-facts p o y e))
   where
-    go : (x .position < y .position) ⊎ ((x .position ≡ y .position) × (x .end ≤ y .start)) → (y .position < p) ⊎ ((y .position ≡ p) × (y .end ≤ o)) → (x .position < p) ⊎ ((x .position ≡ p) × (x .end ≤ o))
+    go : (x .position < y .position) ⊎ ((x .position ≡ y .position) × (x .end ≤ y .start)) → (y .position < p) ⊎ ((y .position ≡ p) × (y .end ≤ o)) →
+        (x .position < p) ⊎ ((x .position ≡ p) × (x .end ≤ o))
     go (inl h) (inl k) = inl (omega arith)
     go (inl h) (inr k) = inl (omega (arith, k .0))
     go (inr h) (inl k) = inl (omega (arith, h .0))

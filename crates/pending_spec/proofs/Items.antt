@@ -12,14 +12,16 @@ use lib.Dec.{ltb, leb, eqb}
 use borrow.Author.Tests.{lt-ltb, le-ltb, le-leb, lt-leb, ltb-true, ltb-false, leb-true, eqb-true, eqb-false, eq-eqb, ne-eqb}
 use Rattle.base.specs.Lists.{pick, anyOf, find, keep}
 use Rattle.base.proofs.Tests.{and-left, and-right}
-use Rattle.base.proofs.Lists.{Every, none-of, and, every, every-one, every-keep, every-map, every-flatten, Pairs, no-pairs, with-later, pairs-keep, pairs-map, pairs-flatten}
+use Rattle.base.proofs.Lists.{Every, none-of, and, every, every-one, every-keep, every-map, every-flatten, Pairs, no-pairs, with-later, pairs-keep, pairs-map}
+use Rattle.base.proofs.Lists.{pairs-flatten}
 use Rattle.committee.specs.Committee.{AuthorityIndex, Committee, totalStake, isQuorum}
 use Rattle.committee_aggregator.specs.StakeAggregator.{StakeAggregator, noVotes, counted, hasQuorum}
 use Rattle.record_spec.specs.Reference.{TransactionLocatorRange, within}
 use Rattle.record_spec.specs.Block.{Block, isShareAt, sharedRanges}
 use Rattle.record_spec.proofs.Ranges.{within-yes, within-no, within-true, within-parts}
 use Rattle.record_spec.proofs.Runs.{shared-cover}
-use Rattle.pending_spec.specs.Items.{Item, itemBefore, itemHolds, itemAt, fallsInside, frontOf, backOf, cutItem, cutAt, bothCuts, itemWithin, votedItem, voteOver, stays, afterLeaving, firstVote, registered, register}
+use Rattle.pending_spec.specs.Items.{Item, itemBefore, itemHolds, itemAt, fallsInside, frontOf, backOf, cutItem, cutAt, bothCuts, itemWithin, votedItem}
+use Rattle.pending_spec.specs.Items.{voteOver, stays, afterLeaving, firstVote, registered, register}
 
 -- ---- the view by locator
 
@@ -31,7 +33,8 @@ held-cons : (x : Item) (xs : List Item) (p o : ℕ) → heldAt (x ∷ xs) p o �
 unfolding heldAt itemAt find
 held-cons x xs p o = go (itemHolds p o x)
   where
-    go : (t : Bool) → Option·map (λ y. y .aggregator) (pick t (some x) (find (itemHolds p o) xs)) ≡ pick t (some (x .aggregator)) (Option·map (λ y. y .aggregator) (find (itemHolds p o) xs))
+    go : (t : Bool) → Option·map (λ y. y .aggregator) (pick t (some x) (find (itemHolds p o) xs)) ≡ pick t (some (x .aggregator))
+        (Option·map (λ y. y .aggregator) (find (itemHolds p o) xs))
     go true = refl
     go false = refl
 
@@ -44,7 +47,8 @@ either-part true false w v r = refl
 
 -- an item in two parts says of each offset what it said
 two-parts : (x : Item) (c p o : ℕ) (r : Option StakeAggregator) → x .start ≤ c → c ≤ x .end
-    → pick (itemHolds p o (frontOf x c)) (some (x .aggregator)) (pick (itemHolds p o (backOf x c)) (some (x .aggregator)) r) ≡ pick (itemHolds p o x) (some (x .aggregator)) r
+    → pick (itemHolds p o (frontOf x c)) (some (x .aggregator)) (pick (itemHolds p o (backOf x c)) (some (x .aggregator)) r) ≡ pick (itemHolds p o x)
+    (some (x .aggregator)) r
 unfolding itemHolds
 two-parts x c p o r h k =
     rw (within-parts (x .start) c (x .end) o h k) (either-part (eqb (x .position) p) (within (x .start) c o) (within c (x .end) o) (some (x .aggregator)) r)
@@ -252,7 +256,12 @@ before-facts x y h = go (ltb (x .position) (y .position)) refl h
 pub before-from : (x y : Item) → (x .position < y .position) ⊎ ((x .position ≡ y .position) × (x .end ≤ y .start)) → itemBefore x y ≡ true
 unfolding itemBefore
 before-from x y (inl h) = rw (lt-ltb (x .position) (y .position) h)
-before-from x y (inr h) = rw (le-ltb (x .position) (y .position) (omega (arith, h .0)), eq-eqb (x .position) (y .position) (h .0), le-leb (x .end) (y .start) (h .1))
+before-from x y (inr h) = rw (
+  le-ltb (x .position) (y .position) (omega (arith, h .0)),
+  eq-eqb (x .position) (y .position) (h .0),
+  le-leb (x .end) (y .start)
+      (h .1),
+)
 
 -- items ascend and are disjoint
 abbrev pub Ordered : List Item → Type 0
@@ -262,7 +271,8 @@ Ordered xs = Pairs (λ x y. itemBefore x y ≡ true) xs
 before-pieces : (x y v w : Item) → Piece x v → Piece y w → itemBefore x y ≡ true → itemBefore v w ≡ true
 before-pieces x y v w s t h = before-from v w (go (before-facts x y h))
   where
-    go : (x .position < y .position) ⊎ ((x .position ≡ y .position) × (x .end ≤ y .start)) → (v .position < w .position) ⊎ ((v .position ≡ w .position) × (v .end ≤ w .start))
+    go : (x .position < y .position) ⊎ ((x .position ≡ y .position) × (x .end ≤ y .start)) → (v .position < w .position) ⊎
+        ((v .position ≡ w .position) × (v .end ≤ w .start))
     go (inl k) = inl (omega (arith, s .same, t .same))
     go (inr k) = inr (omega (arith, s .same, t .same, k .0), omega (arith, s .upper, t .lower, k .1))
 
@@ -308,7 +318,8 @@ before-places x y v w s t h = rw (s .same, t .same, s .end, t .start) h
 pub ordered-voteOver : (c : Committee) (a : AuthorityIndex) (q s e : ℕ) (xs : List Item) → Ordered xs → Ordered (voteOver c a q s e xs)
 unfolding voteOver voted
 ordered-voteOver c a q s e xs h =
-    pairs-map (voted c a q s e) (λ x y b. before-places x y _ _ (place-voted c a q s e x) (place-voted c a q s e y) b) (bothCuts q s e xs) (ordered-bothCuts q s e xs h)
+    pairs-map (voted c a q s e) (λ x y b. before-places x y _ _ (place-voted c a q s e x) (place-voted c a q s e y) b) (bothCuts q s e xs)
+    (ordered-bothCuts q s e xs h)
 
 -- so does leaving
 pub ordered-afterLeaving : (c : Committee) (q s e : ℕ) (xs : List Item) → Ordered xs → Ordered (afterLeaving c q s e xs)
@@ -382,11 +393,13 @@ module _ (c : Committee) (q s e : ℕ) where
       ≡ pick (eqb p q && within s e o) (unless (hasQuorum c) (Option·map (λ v. counted c v a) (heldAt xs p o))) (heldAt xs p o)
   unfolding unless
   held-afterVote a xs h p o =
-      held-leaving (voteOver c a q s e xs) (clear-voteOver a s xs (clear-start q s e xs)) (clear-voteOver a e xs (clear-end q s e xs)) (ordered-voteOver c a q s e xs h) p o
+      held-leaving (voteOver c a q s e xs) (clear-voteOver a s xs (clear-start q s e xs)) (clear-voteOver a e xs (clear-end q s e xs))
+      (ordered-voteOver c a q s e xs h) p o
       ∙ rw (held-voteOver c a q s e xs p o) (go (eqb p q && within s e o) (heldAt xs p o))
     where
       go : (t : Bool) (g : Option StakeAggregator)
-          → unless (λ v. t && hasQuorum c v) (pick t (Option·map (λ v. counted c v a) g) g) ≡ pick t (unless (hasQuorum c) (Option·map (λ v. counted c v a) g)) g
+          → unless (λ v. t && hasQuorum c v) (pick t (Option·map (λ v. counted c v a) g) g) ≡ pick t
+          (unless (hasQuorum c) (Option·map (λ v. counted c v a) g)) g
       go true none = refl
       go true (some g) = refl
       go false none = refl
@@ -416,7 +429,8 @@ unfolding heldAt itemAt find anyOf registered firstVote itemHolds
 held-registered c a q [] p o = rw (and-false (eqb q p))
 held-registered c a q (x ∷ runs) p o =
     held-cons (registered c a q x) (map (registered c a q) runs) p o
-    ∙ rw (held-registered c a q runs p o) (either-part (eqb q p) (within (x .start) (x .end) o) (anyOf (λ y. within (y .start) (y .end) o) runs) (some (counted c noVotes a)) none)
+    ∙ rw (held-registered c a q runs p o) (either-part (eqb q p) (within (x .start) (x .end) o) (anyOf (λ y. within (y .start) (y .end) o) runs)
+    (some (counted c noVotes a)) none)
 
 -- a block's shares, registered at a new position, are held with its author's vote; all else as before
 pub held-register : (c : Committee) (a : AuthorityIndex) (q : ℕ) (b : Block) (xs : List Item) → Every (λ x. x .position < q) xs → (p o : ℕ)

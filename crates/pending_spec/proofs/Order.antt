@@ -12,7 +12,8 @@ use borrow.Author.Tests.{lt-ltb, ltb-true, eqb-true, ne-eqb, eq-eqb}
 use Rattle.base.specs.Lists.{pick, pairwise, find, holds, same, countFrom}
 use Rattle.base.proofs.Tests.{and-left, and-right}
 use Rattle.base.proofs.Orders.{same-true, same-refl}
-use Rattle.base.proofs.Lists.{Every, every, every-append, every-keep, every-map, every-all, all-every, countFrom-every, every-countFrom, pairs-append, pairs-map, pairwise-pairs, pairs-pairwise, find-passes, find-every, holds-some, length-keep}
+use Rattle.base.proofs.Lists.{Every, every, every-append, every-keep, every-map, every-all, all-every, countFrom-every, every-countFrom, pairs-append}
+use Rattle.base.proofs.Lists.{pairs-map, pairwise-pairs, pairs-pairwise, find-passes, find-every, holds-some, length-keep}
 use Rattle.committee.specs.Committee.{AuthorityIndex, Committee, known}
 use Rattle.committee_set.specs.AuthoritySet.{member}
 use Rattle.committee_aggregator.specs.StakeAggregator.{noVotes, aggregatorInOrder}
@@ -21,7 +22,8 @@ use Rattle.record_spec.specs.Reference.{TransactionLocatorRange}
 use Rattle.record_spec.specs.Block.{Block, author, isShareAt, sharedRanges}
 use Rattle.record_spec.proofs.Runs.{SharedRun, shared-runs, shared-below}
 use Rattle.store_spec.specs.Layout.{Entry}
-use Rattle.pending_spec.specs.Items.{Item, itemBefore, itemFull, cutAt, bothCuts, itemWithin, votedItem, voteOver, afterLeaving, firstVote, registered, register}
+use Rattle.pending_spec.specs.Items.{Item, itemBefore, itemFull, cutAt, bothCuts, itemWithin, votedItem, voteOver, afterLeaving, firstVote, registered}
+use Rattle.pending_spec.specs.Items.{register}
 use Rattle.pending_spec.specs.Table.{tableOf, itemsOf, room, sharesIn, itemSuits, itemStored, itemInOrder, tableInOrder}
 use Rattle.pending_spec.proofs.Items.{Ordered, before-from, Piece, every-cut}
 use Rattle.pending_spec.proofs.Table.{itemsOf-tableOf, length-tableOf}
@@ -112,7 +114,8 @@ pending-voteOver c es a k q s e xs h =
     go true x p = pending-voted c es a k x p
     go false x p = p
 
-pub pending-afterLeaving : (c : Committee) (es : List Entry) (q s e : ℕ) (xs : List Item) → Every (Pending c es) xs → Every (Pending c es) (afterLeaving c q s e xs)
+pub pending-afterLeaving : (c : Committee) (es : List Entry) (q s e : ℕ) (xs : List Item) → Every (Pending c es) xs → Every (Pending c es)
+    (afterLeaving c q s e xs)
 unfolding afterLeaving
 pending-afterLeaving c es q s e xs h = every-keep _ xs h
 
@@ -137,7 +140,8 @@ module _ (c : Committee) (es : List Entry) (new : Entry) (last : Every (λ e. e 
         sharer = p .sharer;
       }
 
-  pending-registered : (x : TransactionLocatorRange) → known c (author (new .block)) ≡ true → SharedRun (new .block) x → Pending c (new ∷ es) (registered c (author (new .block)) (new .position) x)
+  pending-registered : (x : TransactionLocatorRange) → known c (author (new .block)) ≡ true → SharedRun (new .block) x → Pending c (new ∷ es)
+      (registered c (author (new .block)) (new .position) x)
   unfolding registered firstVote find
   pending-registered x k r =
       record {
@@ -154,9 +158,11 @@ module _ (c : Committee) (es : List Entry) (new : Entry) (last : Every (λ e. e 
       → Every (Pending c (new ∷ es)) (register c (author (new .block)) (new .position) (sharedRanges (new .block)) xs)
   unfolding register
   pending-register k xs h =
-      every-append xs _ (every pending-more xs h) (every-map (registered c (author (new .block)) (new .position)) (λ x r. pending-registered x k r) (sharedRanges (new .block)) (shared-runs (new .block)))
+      every-append xs _ (every pending-more xs h) (every-map (registered c (author (new .block)) (new .position)) (λ x r. pending-registered x k r)
+      (sharedRanges (new .block)) (shared-runs (new .block)))
 
-  pub ordered-register : (xs : List Item) → Every (Pending c es) xs → Ordered xs → Ordered (register c (author (new .block)) (new .position) (sharedRanges (new .block)) xs)
+  pub ordered-register : (xs : List Item) → Every (Pending c es) xs → Ordered xs → Ordered
+      (register c (author (new .block)) (new .position) (sharedRanges (new .block)) xs)
   unfolding register registered firstVote
   ordered-register xs h o =
       pairs-append xs (map make runs) o
@@ -189,7 +195,8 @@ in-order c es t h =
     }
 
 -- a table of n words written from items in order is in order, and holds them
-pub order-tableOf : (c : Committee) (es : List Entry) (n : ℕ) (xs : List Item) → 1 + 6 * length xs ≤ n → Ordered xs → Every (Pending c es) xs → tableInOrder c es (tableOf n xs) ≡ true
+pub order-tableOf : (c : Committee) (es : List Entry) (n : ℕ) (xs : List Item) → 1 + 6 * length xs ≤ n → Ordered xs → Every (Pending c es) xs → tableInOrder c
+    es (tableOf n xs) ≡ true
 unfolding tableInOrder
 order-tableOf c es n xs h o p =
     rw (

@@ -85,7 +85,8 @@ vote-item-fits s t u k f x h c m l e =
     let same : asItem x ≡ getD (itemsOf t) k noItem = e ∙ m .above k (omega arith) ∙ holds-holding t h .items k in
     omega (arith, c .fits k l, ap (λ y. y .aggregator .stake) same)
 
-pub countable : (c : Committee) (a : AuthorityIndex) (xs : List Item) → broken c ≡ false → known c a ≡ true → Every (λ x. aggregatorInOrder c (x .aggregator) ≡ true) xs → Countable (getStake c a) xs
+pub countable : (c : Committee) (a : AuthorityIndex) (xs : List Item) → broken c ≡ false → known c a ≡ true → Every
+    (λ x. aggregatorInOrder c (x .aggregator) ≡ true) xs → Countable (getStake c a) xs
 countable c a xs h k e = record { fits = λ i l. vote-fits c (getD xs i noItem .aggregator) a h (every-place noItem xs i e l) k .1 }
 
 pub few : (c : Committee) (a : AuthorityIndex) → broken c ≡ false → known c a ≡ true → a < 128
@@ -102,7 +103,12 @@ none-within : (p start end : ℕ) (x : Item) → x .start < x .end → end ≤ s
 unfolding itemWithin
 none-within p start end x f h =
     fails (itemWithin p start end x)
-    (λ e. let k = and-right (eqb (x .position) p) _ e in omega (arith, leb-true start (x .start) (and-left (leb start (x .start)) _ k), leb-true (x .end) end (and-right (leb start (x .start)) _ k)))
+    (λ e. let k = and-right (eqb (x .position) p) _ e in omega (
+      arith,
+      leb-true start (x .start) (and-left (leb start (x .start)) _ k),
+      leb-true (x .end) end
+          (and-right (leb start (x .start)) _ k),
+    ))
 
 -- 01: "An empty range does nothing"
 pub empty-vote : (c : Committee) (a : AuthorityIndex) (p start end : ℕ) (xs : List Item) → Full xs → end ≤ start → voteOver c a p start end xs ≡ xs
@@ -139,7 +145,8 @@ pub record VoteRange (c : Committee) (t : List ℕ) (p start end : ℕ) : Type 0
   pub range : start < end
   pub enough : length (bothCuts p start end (itemsOf t)) ≤ room t
 
-pub vote-range : {c : Committee} {t : List ℕ} {p start end : ℕ} → tableFormed c t ≡ true → start < end → length (bothCuts p start end (itemsOf t)) ≤ room t → VoteRange c t p start end
+pub vote-range : {c : Committee} {t : List ℕ} {p start end : ℕ} → tableFormed c t ≡ true → start < end → length (bothCuts p start end (itemsOf t)) ≤ room t →
+    VoteRange c t p start end
 vote-range {c} {t} f h k = record { table = formed c t f; range = h; enough = k }
 
 module _ {c : Committee} {t : List ℕ} {p start end : ℕ} (h : VoteRange c t p start end) where
@@ -184,7 +191,8 @@ module _ {c : Committee} {t : List ℕ} {p start end : ℕ} (h : VoteRange c t p
       → broken c ≡ false → known c a ≡ true → Countable s (itemsOf v)
   cut-countable a w e b k =
       rw (w .items, e)
-      (countable c a (cutAt p end (cutAt p start (itemsOf t))) b k (votes-cutAt c p end (cutAt p start (itemsOf t)) (votes-cutAt c p start (itemsOf t) (h .table .votes))))
+      (countable c a (cutAt p end (cutAt p start (itemsOf t))) b k
+      (votes-cutAt c p end (cutAt p start (itemsOf t)) (votes-cutAt c p start (itemsOf t) (h .table .votes))))
 
   pub all-voted : (a : AuthorityIndex) {v r : List ℕ} {s : Stake} → Written v (length t) (cutAt p end (cutAt p start (itemsOf t))) → s ≡ getStake c a
       → r ≡ tableOf (length v) (map (votedIn s a p start end) (itemsOf v)) → r ≡ tableOf (length t) (voteOver c a p start end (itemsOf t))

@@ -81,7 +81,8 @@ module _ (f : Item → Item) (t : List ℕ) where
   pub mapped-none : Mapped f t 0 t
   mapped-none = record { long = refl; count = refl; below = λ j h. absurd (omega arith); above = λ j h. refl }
 
-  pub mapped-more : (u : List ℕ) (k : ℕ) (x y : Item) → Mapped f t k u → 6 * k + 7 ≤ length t → x ≡ f y → y ≡ slot u k → Mapped f t (k + 1) (sets u (6 * k + 1) (itemWords x))
+  pub mapped-more : (u : List ℕ) (k : ℕ) (x y : Item) → Mapped f t k u → 6 * k + 7 ≤ length t → x ≡ f y → y ≡ slot u k → Mapped f t (k + 1)
+      (sets u (6 * k + 1) (itemWords x))
   mapped-more u k x y m h e d =
       record {
         long = length-sets u (6 * k + 1) (itemWords x) ∙ m .long;
@@ -163,7 +164,8 @@ module _ (test : Item → Bool) (xs : List Item) (t : List ℕ) (hold : Holding 
       went b f = next k h ∙ rw (← same, f)
 
       low : (b : Bool) → (j : ℕ) → j < kept → slot (sets u (6 * kept + 1) (itemWords x)) j ≡ getD (keep test (take k xs) ++ pick b (x ∷ []) []) j noItem
-      low b j a = put-other u kept x j (λ (c : j ≡ kept). omega arith) ∙ m .below j a ∙ sym (List·getD-append (keep test (take k xs)) _ noItem j (omega (arith, m .many)))
+      low b j a = put-other u kept x j (λ (c : j ≡ kept). omega arith) ∙ m .below j a ∙ sym
+          (List·getD-append (keep test (take k xs)) _ noItem j (omega (arith, m .many)))
 
       last : (j : ℕ) → j < kept + 1 → Dec (j ≡ kept) → slot (sets u (6 * kept + 1) (itemWords x)) j ≡ getD (keep test (take k xs) ++ x ∷ []) j noItem
       last j a (yes b) = rw b (put-same u kept x fits ∙ sym (getD-at (keep test (take k xs)) x [] noItem kept (sym (m .many))))
@@ -192,7 +194,8 @@ module _ (test : Item → Bool) (xs : List Item) (t : List ℕ) (hold : Holding 
           }
 
   -- the others cleared, and the count written
-  pub kept-table : (u v : List ℕ) (kept k n : ℕ) → Kept test xs t kept k u → k ≡ length xs → n ≡ length xs → Cleared u kept n v → set v 0 kept ≡ tableOf (length t) (keep test xs)
+  pub kept-table : (u v : List ℕ) (kept k n : ℕ) → Kept test xs t kept k u → k ≡ length xs → n ≡ length xs → Cleared u kept n v → set v 0 kept ≡ tableOf
+      (length t) (keep test xs)
   kept-table u v kept k n m e d c =
       rw long at (holding-table (set v 0 kept) (keep test xs) record {
         count = getD-set-same v 0 kept 0 (omega (arith, c .long, m .long, hold .fits)) ∙ many;

@@ -99,10 +99,12 @@ unfolding itemFrom itemWords flatten
 words-slot c n [] i = zero-slot c n i
 words-slot c n (x ∷ xs) zero = refl
 words-slot c n (x ∷ xs) (suc i) =
-    from-same (c ∷ flatten (map itemWords (x ∷ xs)) ++ replicate n 0) (c ∷ flatten (map itemWords xs) ++ replicate n 0) (6 * suc i + 1) (6 * i + 1) (λ k l. at k)
+    from-same (c ∷ flatten (map itemWords (x ∷ xs)) ++ replicate n 0) (c ∷ flatten (map itemWords xs) ++ replicate n 0) (6 * suc i + 1) (6 * i + 1)
+    (λ k l. at k)
     ∙ words-slot c n xs i
   where
-    at : (k : ℕ) → getD (c ∷ flatten (map itemWords (x ∷ xs)) ++ replicate n 0) (6 * suc i + 1 + k) 0 ≡ getD (c ∷ flatten (map itemWords xs) ++ replicate n 0) (6 * i + 1 + k) 0
+    at : (k : ℕ) → getD (c ∷ flatten (map itemWords (x ∷ xs)) ++ replicate n 0) (6 * suc i + 1 + k) 0 ≡ getD (c ∷ flatten (map itemWords xs) ++ replicate n 0)
+        (6 * i + 1 + k) 0
     at k =
         let e : 6 * suc i + 1 + k ≡ suc (suc (suc (suc (suc (suc (suc (6 * i + k))))))) = omega arith in
         let d : 6 * i + 1 + k ≡ suc (6 * i + k) = omega arith in
@@ -128,7 +130,8 @@ table-holding t xs h =
 pub holding-table : (t : List ℕ) (xs : List Item) → Holding t xs → t ≡ tableOf (length t) xs
 unfolding tableOf
 holding-table t xs h =
-    slots-ext t (tableOf (length t) xs) (sym (length-tableOf (length t) xs (omega (arith, h .fits)))) (h .count) (λ i. h .items i ∙ sym (table-slot (length t) xs i))
+    slots-ext t (tableOf (length t) xs) (sym (length-tableOf (length t) xs (omega (arith, h .fits)))) (h .count)
+    (λ i. h .items i ∙ sym (table-slot (length t) xs i))
 
 -- none of the items is empty
 abbrev pub Full : List Item → Type 0

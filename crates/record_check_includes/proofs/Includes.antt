@@ -37,7 +37,8 @@ lookup-known c a s h = go (known c a) h
 -- ---- 24 and 25
 
 -- an include that passes
-known-lower : (c : Committee) (b : Block) (i : BlockReference) → passes (includeChecks c b i) ≡ true → (i .authority < length c) × (i .round < b .reference .round)
+known-lower : (c : Committee) (b : Block) (i : BlockReference) → passes (includeChecks c b i) ≡ true → (i .authority < length c) ×
+    (i .round < b .reference .round)
 unfolding includeChecks known
 known-lower c b i h =
     let low : leb (b .reference .round) (i .round) ≡ false = passes-first _ _ (passes-others _ _ h) in
@@ -53,11 +54,13 @@ module _ (c : Committee) (b : Block) where
     unfolding ofIncludes includeChecks refusal flatten
     include-unknown h e = rw (drop-cons is k noReference h, e)
 
-    pub include-high : k < length is → known c (getD is k noReference .authority) ≡ true → b .reference .round ≤ getD is k noReference .round → ofIncludes (drop k is) ≡ 25
+    pub include-high : k < length is → known c (getD is k noReference .authority) ≡ true → b .reference .round ≤ getD is k noReference .round → ofIncludes
+        (drop k is) ≡ 25
     unfolding ofIncludes includeChecks refusal flatten
     include-high h e l = rw (drop-cons is k noReference h, e, le-leb (b .reference .round) (getD is k noReference .round) l)
 
-    pub include-on : k < length is → known c (getD is k noReference .authority) ≡ true → getD is k noReference .round < b .reference .round → ofIncludes (drop k is) ≡ ofIncludes (drop (k + 1) is)
+    pub include-on : k < length is → known c (getD is k noReference .authority) ≡ true → getD is k noReference .round < b .reference .round → ofIncludes
+        (drop k is) ≡ ofIncludes (drop (k + 1) is)
     unfolding ofIncludes includeChecks refusal flatten
     include-on h e l = rw (add-one, drop-cons is k noReference h, e, lt-leb (b .reference .round) (getD is k noReference .round) l)
 
@@ -84,8 +87,10 @@ one-more : (b : Block) (is : List BlockReference) (i : BlockReference) (js : Lis
 unfolding previousAuthors setOf keep
 one-more b is i js e = rw e (go (eqb (i .round + 1) (b .reference .round)))
   where
-    go : (t : Bool) → setOf (map (λ j. j .authority) (pick t (i ∷ keep (λ j. eqb (j .round + 1) (b .reference .round)) is) (keep (λ j. eqb (j .round + 1) (b .reference .round)) is)))
-        ≡ pick t (inserted (setOf (map (λ j. j .authority) (keep (λ j. eqb (j .round + 1) (b .reference .round)) is))) (i .authority)) (setOf (map (λ j. j .authority) (keep (λ j. eqb (j .round + 1) (b .reference .round)) is)))
+    go : (t : Bool) → setOf (map (λ j. j .authority) (pick t (i ∷ keep (λ j. eqb (j .round + 1) (b .reference .round)) is)
+        (keep (λ j. eqb (j .round + 1) (b .reference .round)) is)))
+        ≡ pick t (inserted (setOf (map (λ j. j .authority) (keep (λ j. eqb (j .round + 1) (b .reference .round)) is))) (i .authority))
+        (setOf (map (λ j. j .authority) (keep (λ j. eqb (j .round + 1) (b .reference .round)) is)))
     go true = refl
     go false = refl
 
@@ -93,12 +98,14 @@ module _ (b : Block) (is : List BlockReference) where
   -- one include before those that are counted already
   pub authors-on : (k : ℕ) → 0 < k → k ≤ length is
       → previousAuthors b (drop (k - 1) is)
-      ≡ pick (eqb (getD is (k - 1) noReference .round + 1) (b .reference .round)) (inserted (previousAuthors b (drop k is)) (getD is (k - 1) noReference .authority)) (previousAuthors b (drop k is))
+      ≡ pick (eqb (getD is (k - 1) noReference .round + 1) (b .reference .round))
+      (inserted (previousAuthors b (drop k is)) (getD is (k - 1) noReference .authority)) (previousAuthors b (drop k is))
   authors-on zero h l = absurd (omega arith)
   authors-on (suc k) h l = rw (sub-one (suc k)) (step k (omega arith))
     where
       step : (k : ℕ) → k < length is → previousAuthors b (drop k is)
-          ≡ pick (eqb (getD is k noReference .round + 1) (b .reference .round)) (inserted (previousAuthors b (drop (suc k) is)) (getD is k noReference .authority)) (previousAuthors b (drop (suc k) is))
+          ≡ pick (eqb (getD is k noReference .round + 1) (b .reference .round))
+          (inserted (previousAuthors b (drop (suc k) is)) (getD is k noReference .authority)) (previousAuthors b (drop (suc k) is))
       step k l = one-more b (drop (suc k) is) (getD is k noReference) (drop k is) (drop-cons is k noReference l)
 
   pub authors-none : (k : ℕ) → length is ≤ k → previousAuthors b (drop k is) ≡ nobody

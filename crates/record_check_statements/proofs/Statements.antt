@@ -28,13 +28,16 @@ pub statements-numbered : (ss : List Statement) → Numbered (flatten (map state
 statements-numbered ss = every-flatten {P = λ s. Unit {0}} statementChecks (λ s u. numbered s) ss (every-one (λ s. tt) ss)
 
 module _ (ss : List Statement) (k : ℕ) where
-  pub statement-refused : k < length ss → (refusal (statementChecks (getD ss k noStatement)) ≡ 0 → ⊥) → ofStatements (drop k ss) ≡ refusal (statementChecks (getD ss k noStatement))
+  pub statement-refused : k < length ss → (refusal (statementChecks (getD ss k noStatement)) ≡ 0 → ⊥) → ofStatements (drop k ss) ≡ refusal
+      (statementChecks (getD ss k noStatement))
   unfolding ofStatements flatten
-  statement-refused h f = rw (drop-cons ss k noStatement h) (refusal-first (statementChecks (getD ss k noStatement)) (flatten (map statementChecks (drop (suc k) ss))) f)
+  statement-refused h f = rw (drop-cons ss k noStatement h) (refusal-first (statementChecks (getD ss k noStatement))
+      (flatten (map statementChecks (drop (suc k) ss))) f)
 
   pub statement-on : k < length ss → refusal (statementChecks (getD ss k noStatement)) ≡ 0 → ofStatements (drop k ss) ≡ ofStatements (drop (k + 1) ss)
   unfolding ofStatements flatten
-  statement-on h e = rw (add-one, drop-cons ss k noStatement h) (refusal-then (statementChecks (getD ss k noStatement)) (flatten (map statementChecks (drop (suc k) ss))) (numbered (getD ss k noStatement)) e)
+  statement-on h e = rw (add-one, drop-cons ss k noStatement h)
+      (refusal-then (statementChecks (getD ss k noStatement)) (flatten (map statementChecks (drop (suc k) ss))) (numbered (getD ss k noStatement)) e)
 
   pub statement-end : length ss ≤ k → ofStatements (drop k ss) ≡ 0
   unfolding ofStatements refusal flatten

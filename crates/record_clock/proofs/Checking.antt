@@ -44,14 +44,16 @@ module _ (c : Committee) (b : Block) where
   pub body-statements : ofIncludes c b (b .includes) ≡ 0 → (ofStatements (b .statements) ≡ 0 → ⊥) → refusal (bodyChecks c b) ≡ ofStatements (b .statements)
   unfolding bodyChecks ofIncludes ofStatements
   body-statements e f =
-      refusal-then (flatten (map (includeChecks c b) (b .includes))) (flatten (map statementChecks (b .statements)) ++ clock) (includes-numbered c b (b .includes)) e
+      refusal-then (flatten (map (includeChecks c b) (b .includes))) (flatten (map statementChecks (b .statements)) ++ clock)
+      (includes-numbered c b (b .includes)) e
       ∙ refusal-first (flatten (map statementChecks (b .statements))) clock f
 
   pub body-clock : ofIncludes c b (b .includes) ≡ 0 → ofStatements (b .statements) ≡ 0
       → refusal (bodyChecks c b) ≡ pick (not (eqb (b .reference .round) 0) && not (clockValid c b)) 29 0
   unfolding bodyChecks ofIncludes ofStatements refusal
   body-clock e f =
-      refusal-then (flatten (map (includeChecks c b) (b .includes))) (flatten (map statementChecks (b .statements)) ++ clock) (includes-numbered c b (b .includes)) e
+      refusal-then (flatten (map (includeChecks c b) (b .includes))) (flatten (map statementChecks (b .statements)) ++ clock)
+      (includes-numbered c b (b .includes)) e
       ∙ refusal-then (flatten (map statementChecks (b .statements))) clock (statements-numbered (b .statements)) f
 
   -- where nothing refuses, every check passes
@@ -59,7 +61,8 @@ module _ (c : Committee) (b : Block) where
   unfolding bodyChecks
   body-passes e =
       zero-passes (flatten (map (includeChecks c b) (b .includes)) ++ (flatten (map statementChecks (b .statements)) ++ clock))
-      (every-append (flatten (map (includeChecks c b) (b .includes))) (flatten (map statementChecks (b .statements)) ++ clock) (includes-numbered c b (b .includes))
+      (every-append (flatten (map (includeChecks c b) (b .includes))) (flatten (map statementChecks (b .statements)) ++ clock)
+      (includes-numbered c b (b .includes))
       (every-append (flatten (map statementChecks (b .statements))) clock (statements-numbered (b .statements)) (and (lit< tt) none-of)))
       e
 

@@ -88,11 +88,13 @@ module _ (s : List ℕ) (bytes : AllBytes s) (well : wellFormed s ≡ true) wher
 
   -- so what is taken there is the statement, up to the next
   pub took-some : (i end : ℕ) (st : BaseStatement) → i < length (blockIn s .statements) → Took s (statementStart s i) (taken.the-variants.Statement st end)
-      → (asStatement s st ≡ getD (blockIn s .statements) i noStatement) × ((end ≡ statementStart s (i + 1)) × (payloadBetween (statementStart s i) end st ≡ true))
+      → (asStatement s st ≡ getD (blockIn s .statements) i noStatement) ×
+      ((end ≡ statementStart s (i + 1)) × (payloadBetween (statementStart s i) end st ≡ true))
   unfolding Took
   took-some i end st h k =
       let next = statementStart s (i + 1) in
-      let e : part (asStatement s st) (drop end s) ≡ part (getD (b .statements) i noStatement) (drop next s) = Option·some-injective _ _ (sym (k .0) ∙ statement-at i h) in
+      let e : part (asStatement s st) (drop end s) ≡ part (getD (b .statements) i noStatement) (drop next s) = Option·some-injective _ _
+      (sym (k .0) ∙ statement-at i h) in
       let f : length (drop end s) ≡ length (drop next s) = ap (λ (p : Part Statement). length (p .rest)) e in
       (ap (λ (p : Part Statement). p .value) e, (omega (arith, f, length-drop end s, length-drop next s, k .1 .0, start-inside (i + 1)), k .1 .1))
 

@@ -58,7 +58,8 @@ module _ (s : List ℕ) (long : 56 ≤ length s) where
   unfolding editionRight
   not-three h = rw h
 
-  same-here : same (take 3 (drop 53 s)) (editionBytes (editionOf s)) ≡ eqb (getD s 53 0) (firstOf (editionOf s)) && (eqb (getD s 54 0) 0 && (eqb (getD s 55 0) 0 && true))
+  same-here : same (take 3 (drop 53 s)) (editionBytes (editionOf s)) ≡ eqb (getD s 53 0) (firstOf (editionOf s)) &&
+      (eqb (getD s 54 0) 0 && (eqb (getD s 55 0) 0 && true))
   same-here = rw three (same-three (editionOf s) (getD s 53 0) (getD s 54 0) (getD s 55 0))
 
   pub not-second : (getD s 54 0 ≡ 0 → ⊥) → editionRight s ≡ false
@@ -135,7 +136,8 @@ module _ (s : List ℕ) (long : 56 ≤ length s) where
       two e = omega arith
   some-in b timed h r = test (ltb (leAt 16 s 56) 18446744073709551616) refl (rw (number-at 16 s 56 (r .inside)) at (r .reads))
     where
-      test : (t : Bool) → ltb (leAt 16 s 56) 18446744073709551616 ≡ t → pick t (give (some (leAt 16 s 56))) fail (drop 72 s) ≡ some (part (r .value) (drop 72 s)) → some (leAt 8 s 56) ≡ r .value
+      test : (t : Bool) → ltb (leAt 16 s 56) 18446744073709551616 ≡ t → pick t (give (some (leAt 16 s 56))) fail (drop 72 s) ≡ some
+          (part (r .value) (drop 72 s)) → some (leAt 8 s 56) ≡ r .value
       test true e k =
           let whole : leAt 16 s 56 ≡ leAt 8 s 56 = leAt-add 8 8 s 56 (omega (arith, r .inside)) ∙ lower (time-test s b (r .inside)) in
           rw (← whole) (ap (λ (p : Part (Option ℕ)). p .value) (Option·some-injective _ _ k))

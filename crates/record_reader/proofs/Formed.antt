@@ -15,7 +15,8 @@ use Rattle.base.proofs.Tests.{and-left, and-right, and-both, fails, not-both}
 use Rattle.base.proofs.Le.{leAt-byte}
 use Rattle.base.proofs.Fixed.{fixed-items, fixed-number, fixed-repeated, Least, least-zero, least-bind, reads-at, short-at, items-at, number-at}
 use Rattle.record_spec.specs.Reference.{BlockReference}
-use Rattle.record_spec.specs.Record.{readReference, readStatement, Edition, Timed, editionBytes, readTime, readIn, editionOf, timedOf, blockOf, wellFormed, bodyStart}
+use Rattle.record_spec.specs.Record.{readReference, readStatement, Edition, Timed, editionBytes, readTime, readIn, editionOf, timedOf, blockOf, wellFormed}
+use Rattle.record_spec.specs.Record.{bodyStart}
 use Rattle.record_statement.specs.Step.{statementsOnly}
 use Rattle.record_edition.specs.Step.{editionRight}
 use Rattle.record_reference_bytes.proofs.Fixed.{fixed-reference}
@@ -130,7 +131,11 @@ module _ (s : List ℕ) (long : 56 ≤ length s) where
     Rest =
         (repeated (leAt 2 s 49) readReference >>= (λ is.
         repeated (leAt 2 s 51) readStatement >>= (λ ss.
-        give (record { block = record { reference = fixed-reference .value s; marked = eqb (leAt 1 s 48) 1; includes = is; statements = ss }; time = time .value }))))
+        give (record {
+          block = record { reference = fixed-reference .value s; marked = eqb (leAt 1 s 48) 1; includes = is; statements = ss };
+          time = time
+              .value;
+        }))))
         (drop (bodyStart s) s)
 
     pub block-rest : readIn e s ≡ Rest
@@ -139,7 +144,11 @@ module _ (s : List ℕ) (long : 56 ≤ length s) where
 
     pub block-cut : length s - bodyStart s < leAt 2 s 49 * 48 → wellFormed s ≡ false
     unfolding complete isNone _>>=_ onward
-    block-cut k = whole-in s ∙ rw (block-rest, short-at (repeated (leAt 2 s 49) readReference) (leAt 2 s 49 * 48) (fixed-repeated readReference 48 fixed-reference (leAt 2 s 49)) s (bodyStart s) k)
+    block-cut k = whole-in s ∙ rw (
+      block-rest,
+      short-at (repeated (leAt 2 s 49) readReference) (leAt 2 s 49 * 48)
+          (fixed-repeated readReference 48 fixed-reference (leAt 2 s 49)) s (bodyStart s) k,
+    )
 
     pub block-on : bodyStart s + leAt 2 s 49 * 48 ≤ length s → wellFormed s ≡ statementsOnly (leAt 2 s 51) (drop (bodyStart s + leAt 2 s 49 * 48) s)
     unfolding _>>=_ onward statementsOnly
@@ -148,5 +157,13 @@ module _ (s : List ℕ) (long : 56 ≤ length s) where
         let F = fixed-repeated readReference 48 fixed-reference i in
         whole-in s ∙ rw (block-rest, reads-at (repeated i readReference) (i * 48) F s (bodyStart s) k)
         (whole-map (repeated (leAt 2 s 51) readStatement)
-        (λ ss. record { block = record { reference = fixed-reference .value s; marked = eqb (leAt 1 s 48) 1; includes = F .value (drop (bodyStart s) s); statements = ss }; time = time .value })
+        (λ ss. record {
+          block = record {
+            reference = fixed-reference .value s;
+            marked = eqb (leAt 1 s 48) 1;
+            includes = F .value (drop (bodyStart s) s);
+            statements = ss;
+          };
+          time = time .value;
+        })
         (drop (bodyStart s + i * 48) s))

@@ -35,12 +35,21 @@ pub record Shape (s : List ℕ) (b : Block) : Type 0 where
   pub time : timeIn s ≡ time-read s long (head .edition) .value
 
 rest-some : (s : List ℕ) (r : BlockReference) (m i n : ℕ) (o : Option ℕ) (t : Timed) → bodyStart s + i * 48 ≤ length s
-    → (repeated i readReference >>= (λ is. repeated n readStatement >>= (λ ss. give (record { block = record { reference = r; marked = eqb m 1; includes = is; statements = ss }; time = o })))) (drop (bodyStart s) s) ≡ some (part t [])
+    → (repeated i readReference >>= (λ is. repeated n readStatement >>=
+    (λ ss. give (record { block = record { reference = r; marked = eqb m 1; includes = is; statements = ss }; time = o })))) (drop (bodyStart s) s) ≡ some
+    (part t [])
     → (ss : List Statement) × ((repeated n readStatement (drop (bodyStart s + i * 48) s) ≡ some (part ss []))
-    × (record { block = record { reference = r; marked = eqb m 1; includes = valuesOf i 48 (fixed-reference .value) (drop (bodyStart s) s); statements = ss }; time = o } ≡ t))
+    × (record {
+      block = record { reference = r; marked = eqb m 1; includes = valuesOf i 48 (fixed-reference .value) (drop (bodyStart s) s); statements = ss };
+      time = o;
+    } ≡ t))
 unfolding _>>=_ onward fixed-repeated
 rest-some s r m i n o t k h =
-    map-some (repeated n readStatement) (λ ss. record { block = record { reference = r; marked = eqb m 1; includes = valuesOf i 48 (fixed-reference .value) (drop (bodyStart s) s); statements = ss }; time = o })
+    map-some (repeated n readStatement) (λ ss. record {
+      block = record
+          { reference = r; marked = eqb m 1; includes = valuesOf i 48 (fixed-reference .value) (drop (bodyStart s) s); statements = ss };
+      time = o;
+    })
     (drop (bodyStart s + i * 48) s) t []
     (rw (reads-at (repeated i readReference) (i * 48) (fixed-repeated readReference 48 fixed-reference i) s (bodyStart s) k) at h)
 
@@ -83,7 +92,12 @@ module _ (s : List ℕ) (b : Block) (h : Shape s b) where
 
   pub include-at : (k : ℕ) → k < length (b .includes) → getD (b .includes) k noReference ≡ referenceAt s (bodyStart s + k * 48)
   include-at k i =
-      rw (h .includes, getD-valuesOf 48 (fixed-reference .value) (leAt 2 s 49) (drop (bodyStart s) s) k noReference (omega (arith, include-count)), drop-drop (k * 48) (bodyStart s) s)
+      rw (
+        h .includes,
+        getD-valuesOf 48 (fixed-reference .value) (leAt 2 s 49) (drop (bodyStart s) s) k noReference (omega (arith, include-count)),
+        drop-drop
+            (k * 48) (bodyStart s) s,
+      )
       (reference-value s (bodyStart s + k * 48))
 
   pub statement-count : length (b .statements) ≡ leAt 2 s 51
@@ -103,10 +117,12 @@ reference-front xs ys h =
     )
 
 -- its reference stands where it begins
-pub reference-within : (s : Bytes) (p n : ℕ) → wellFormed (take n (drop p s)) ≡ true → (p + 48 ≤ length s) × (referenceAt s p ≡ blockIn (take n (drop p s)) .reference)
+pub reference-within : (s : Bytes) (p n : ℕ) → wellFormed (take n (drop p s)) ≡ true → (p + 48 ≤ length s) ×
+    (referenceAt s p ≡ blockIn (take n (drop p s)) .reference)
 reference-within s p n w =
     let h : Shape (take n (drop p s)) (blockIn (take n (drop p s))) = shape-in (take n (drop p s)) w in
     let whole : take n (drop p s) ++ drop n (drop p s) ≡ drop p s = take-append-drop n (drop p s) in (
       omega (arith, h .long, ap length whole, length-append (take n (drop p s)) (drop n (drop p s)), length-drop p s),
-      sym (reference-value s p) ∙ reference-value (drop p s) 0 ∙ ap (λ (l : Bytes). referenceAt l 0) (sym whole) ∙ reference-front (take n (drop p s)) (drop n (drop p s)) (omega (arith, h .long)) ∙ sym (h .reference),
+      sym (reference-value s p) ∙ reference-value (drop p s) 0 ∙ ap (λ (l : Bytes). referenceAt l 0) (sym whole) ∙ reference-front (take n (drop p s))
+          (drop n (drop p s)) (omega (arith, h .long)) ∙ sym (h .reference),
     )

@@ -36,4 +36,17 @@ unfolding digestBytes
 read-four d s p e f g h =
     let f₂ : p + 8 + 8 ≡ p + 16 = omega arith in
     let f₃ : p + 16 + 8 ≡ p + 24 = omega arith in
-    rw (e, f, g, h, take-add 8 24 (drop p s), drop-drop 8 p s, take-add 8 16 (drop (p + 8) s), drop-drop 8 (p + 8) s, f₂, take-add 8 8 (drop (p + 16) s), drop-drop 8 (p + 16) s, f₃)
+    rw (
+      e,
+      f,
+      g,
+      h,
+      take-add 8 24 (drop p s),
+      drop-drop 8 p s,
+      take-add 8 16 (drop (p + 8) s),
+      drop-drop 8 (p + 8) s,
+      f₂,
+      take-add 8 8 (drop (p + 16) s),
+      drop-drop 8 (p + 16) s,
+      f₃,
+    )

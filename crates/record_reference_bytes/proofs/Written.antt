@@ -35,7 +35,8 @@ high-double n v l p = sym (rw (be-add n n v, sets-append (beBytes n (v / 256 ^ n
 
 -- four words written one after the other
 pub high-four : (d : digest.BlockDigest) (l : List ℕ) (p : ℕ)
-    → sets (sets (sets (sets l p (beBytes 8 (d .0))) (p + 8) (beBytes 8 (d .1))) (p + 16) (beBytes 8 (d .2))) (p + 24) (beBytes 8 (d .3)) ≡ sets l p (digestBytes d)
+    → sets (sets (sets (sets l p (beBytes 8 (d .0))) (p + 8) (beBytes 8 (d .1))) (p + 16) (beBytes 8 (d .2))) (p + 24) (beBytes 8 (d .3)) ≡ sets l p
+    (digestBytes d)
 unfolding digestBytes
 high-four d l p =
     let e : p + 8 + 8 ≡ p + 16 = omega arith in
@@ -63,7 +64,13 @@ reference-written r l p =
     let a = leBytes 8 (r .authority) in
     let n = leBytes 8 (r .round) in
     let e : p + 8 + 8 ≡ p + 16 = omega arith in
-    sym (rw (sets-append a (n ++ r .digest) l p, length-leBytes 8 (r .authority), sets-append n (r .digest) (sets l p a) (p + 8), length-leBytes 8 (r .round), e))
+    sym (rw (
+      sets-append a (n ++ r .digest) l p,
+      length-leBytes 8 (r .authority),
+      sets-append n (r .digest) (sets l p a) (p + 8),
+      length-leBytes 8 (r .round),
+      e,
+    ))
 
 pub length-referenceBytes : (r : declared.BlockReference) → length (referenceBytes (asReference r)) ≡ 48
 unfolding referenceBytes asReference

@@ -11,7 +11,8 @@ use Rattle.record_reference_search.specs.Places.{referenceFrom, Rising, 
 use Rattle.record_reference_search.specs.declared.FoundPlace.{FoundPlace}
 use Rattle.record_reference_search.specs.declared.FoundPlace.the-variants.{At, Before}
 
-module _ (s : Bytes) (order : List ℕ) (skip : ℕ) (at : ℕ → BlockReference) (stand : (j : ℕ) → j < length order → (getD order j 0 + skip + 48 ≤ length s) × (referenceAt s (getD order j 0 + skip) ≡ at j)) where
+module _ (s : Bytes) (order : List ℕ) (skip : ℕ) (at : ℕ → BlockReference)
+    (stand : (j : ℕ) → j < length order → (getD order j 0 + skip + 48 ≤ length s) × (referenceAt s (getD order j 0 + skip) ≡ at j)) where
   pub known-ascend : Rising (length order) at → Ascending s order skip
   unfolding referenceFrom
   known-ascend rise =
@@ -20,11 +21,13 @@ module _ (s : Bytes) (order : List ℕ) (skip : ℕ) (at : ℕ → BlockReferenc
         rises = λ i j (h : i < j) k. rw (stand i (omega arith) .1, stand j k .1) (rise i j h k);
       }
 
-  pub known-at : (r : BlockReference) (p : FoundPlace) (j : ℕ) → p ≡ At j → FoundAmong (length order) (referenceFrom s order skip) r p → (j < length order) × (at j ≡ r)
+  pub known-at : (r : BlockReference) (p : FoundPlace) (j : ℕ) → p ≡ At j → FoundAmong (length order) (referenceFrom s order skip) r p → (j < length order) ×
+      (at j ≡ r)
   unfolding FoundAmong referenceFrom
   known-at r p j e f = let g = subst (FoundAmong (length order) (referenceFrom s order skip) r) e f in (g .0, sym (stand j (g .0) .1) ∙ g .1)
 
-  pub known-between : (r : BlockReference) (p : FoundPlace) (j : ℕ) → p ≡ Before j → FoundAmong (length order) (referenceFrom s order skip) r p → Between (length order) at r j
+  pub known-between : (r : BlockReference) (p : FoundPlace) (j : ℕ) → p ≡ Before j → FoundAmong (length order) (referenceFrom s order skip) r p → Between
+      (length order) at r j
   unfolding FoundAmong referenceFrom
   known-between r p j e f =
       let g = subst (FoundAmong (length order) (referenceFrom s order skip) r) e f in

@@ -117,7 +117,8 @@ joined-apart r i o ss h = go (runsFrom r o ss) (runs-from r o ss)
     go (x ∷ xs) (and q qs) = rw (ne-eqb (i + 1) (x .start) (λ (e : i + 1 ≡ x .start). omega (arith, q .from)))
 
 -- a share before a statement that is none, or before the end, is a run of its own
-run-alone : (r : BlockReference) (i : ℕ) (ss : List Statement) → leading true ss ≡ 0 → joined r i (runsFrom r (i + 1) ss) ≡ newRange r i (i + 1) ∷ runsFrom r (i + 1) ss
+run-alone : (r : BlockReference) (i : ℕ) (ss : List Statement) → leading true ss ≡ 0 → joined r i (runsFrom r (i + 1) ss) ≡ newRange r i (i + 1) ∷ runsFrom r
+    (i + 1) ss
 unfolding joined runsFrom leading isOfKind
 run-alone r i [] h = refl
 run-alone r i (s ∷ ss) h = go (isShare s) refl h
@@ -133,7 +134,8 @@ unfolding joined newRange runsFrom leading isOfKind
 run-first r i [] h = absurd (omega arith)
 run-first r i (s ∷ ss) h = go (isShare s) refl h (run-first r (i + 1) ss)
   where
-    more : (m : ℕ) → leading true ss ≡ m → (0 < leading true ss → runsFrom r (i + 1) ss ≡ newRange r (i + 1) (i + 1 + leading true ss) ∷ runsFrom r (i + 1 + leading true ss) (drop (leading true ss) ss))
+    more : (m : ℕ) → leading true ss ≡ m → (0 < leading true ss → runsFrom r (i + 1) ss ≡ newRange r (i + 1) (i + 1 + leading true ss) ∷ runsFrom r
+        (i + 1 + leading true ss) (drop (leading true ss) ss))
         → joined r i (runsFrom r (i + 1) ss) ≡ newRange r i (i + suc m) ∷ runsFrom r (i + suc m) (drop m ss)
     more zero e ih = let z : i + 1 ≡ i + suc 0 = omega arith in rw (← z) (run-alone r i ss e)
     more (suc m) e ih =
@@ -142,7 +144,8 @@ run-first r i (s ∷ ss) h = go (isShare s) refl h (run-first r (i + 1) ss)
         rw (k, eq-eqb (i + 1) (i + 1) refl, z)
 
     go : (t : Bool) → isShare s ≡ t → 0 < leading true (s ∷ ss)
-        → (0 < leading true ss → runsFrom r (i + 1) ss ≡ newRange r (i + 1) (i + 1 + leading true ss) ∷ runsFrom r (i + 1 + leading true ss) (drop (leading true ss) ss))
+        → (0 < leading true ss → runsFrom r (i + 1) ss ≡ newRange r (i + 1) (i + 1 + leading true ss) ∷ runsFrom r (i + 1 + leading true ss)
+        (drop (leading true ss) ss))
         → runsFrom r i (s ∷ ss) ≡ newRange r i (i + leading true (s ∷ ss)) ∷ runsFrom r (i + leading true (s ∷ ss)) (drop (leading true (s ∷ ss)) (s ∷ ss))
     go true e k ih = rw e (more (leading true ss) refl ih)
     go false e k ih = absurd (let z : 0 < 0 = rw e at k in omega arith)
@@ -173,27 +176,35 @@ module _ (b : Block) (i : ℕ) (low : i ≤ length (b .statements)) where
   pub run-some : From < length (b .statements) → runsLeft b i ≡ newRange (b .reference) From To ∷ runsLeft b To
   unfolding runsLeft
   run-some h =
-      let one : 0 < leading true (drop From ss) = rw (drop-drop (leading false (drop i ss)) i ss) at (share-next (drop i ss) (omega (arith, length-drop i ss))) in
+      let one : 0 < leading true (drop From ss) = rw (drop-drop (leading false (drop i ss)) i ss) at
+      (share-next (drop i ss) (omega (arith, length-drop i ss))) in
       skipped ∙ run-first (b .reference) From (drop From ss) one ∙ rw (drop-drop (leading true (drop From ss)) From ss)
 
   pub run-on : From < length (b .statements) → i < To
   run-on h =
-      let one : 0 < leading true (drop From ss) = rw (drop-drop (leading false (drop i ss)) i ss) at (share-next (drop i ss) (omega (arith, length-drop i ss))) in
+      let one : 0 < leading true (drop From ss) = rw (drop-drop (leading false (drop i ss)) i ss) at
+      (share-next (drop i ss) (omega (arith, length-drop i ss))) in
       omega arith
 
   pub run-to : To ≤ length (b .statements)
   run-to = omega (arith, run-from, leading-most true (drop From ss), length-drop From ss)
 
   -- as code finds it
-  pub run-told : (r : Bytes) (start end : StatementCursor) → start ≡ cursorAt r From → end ≡ cursorAt r (start .index + leading true (drop (start .index) (b .statements)))
+  pub run-told : (r : Bytes) (start end : StatementCursor) → start ≡ cursorAt r From → end ≡ cursorAt r
+      (start .index + leading true (drop (start .index) (b .statements)))
       → (start .index ≡ length (b .statements) → ⊥)
       → (runsLeft b i ≡ newRange (b .reference) (start .index) (end .index) ∷ runsLeft b (end .index))
       × ((i < end .index) × ((end .index ≤ length (b .statements)) × (end ≡ cursorAt r (end .index))))
   run-told r start end e f g =
       let from : start .index ≡ From = placed-index r start From e in
       let to : end .index ≡ To = rw from at (placed-index r end (start .index + leading true (drop (start .index) ss)) f) in
-      let inside : From < length ss = omega (arith, run-from, from, g) in
-      (rw (from, to) (run-some inside), (omega (arith, to, run-on inside), (omega (arith, to, run-to), placed r end (start .index + leading true (drop (start .index) ss)) f)))
+      let inside : From < length ss = omega (arith, run-from, from, g) in (
+        rw (from, to) (run-some inside),
+        (
+          omega (arith, to, run-on inside),
+          (omega (arith, to, run-to), placed r end (start .index + leading true (drop (start .index) ss)) f),
+        ),
+      )
 
 -- ---- offsets that votes count
 
@@ -227,7 +238,8 @@ counted-most (reject l o) h = omega arith
 counted-most (voteRange r) h = let p = range-passes r h in omega (arith, p .1)
 
 -- where all pass, each does
-pub passes-at : (ss : List Statement) (i : ℕ) → passes (flatten (map statementChecks ss)) ≡ true → i < length ss → passes (statementChecks (getD ss i noStatement)) ≡ true
+pub passes-at : (ss : List Statement) (i : ℕ) → passes (flatten (map statementChecks ss)) ≡ true → i < length ss → passes
+    (statementChecks (getD ss i noStatement)) ≡ true
 unfolding flatten
 passes-at [] i h k = absurd (omega arith)
 passes-at (s ∷ ss) zero h k = passes-left (statementChecks s) (flatten (map statementChecks ss)) h

@@ -15,11 +15,13 @@ use Rattle.base.proofs.Le.{AllBytes}
 use Rattle.base.proofs.Read.{complete-reads}
 use Rattle.record_spec.specs.Reference.{BlockReference, TransactionLocator}
 use Rattle.record_spec.specs.Block.{Statement, share, accept, reject, voteRange, Block}
-use Rattle.record_spec.specs.Claims.{areBytes, fitsReference, fitsLocator, fitsOther, fitsStatement, fitsBlock, fitsTime, fitsIn, ReadsIn, WritesIn, ReadsWhatIsWritten, WritesWhatIsRead, PlacesMeant, Claims}
+use Rattle.record_spec.specs.Claims.{areBytes, fitsReference, fitsLocator, fitsOther, fitsStatement, fitsBlock, fitsTime, fitsIn, ReadsIn, WritesIn}
+use Rattle.record_spec.specs.Claims.{ReadsWhatIsWritten, WritesWhatIsRead, PlacesMeant, Claims}
 use Rattle.record_spec.specs.Record.{Edition, old, timed, Timed, readIn, bytesIn, editionFor}
 use Rattle.record_spec.proofs.References.{reference-irrefl, reference-trans, reference-total, locator-irrefl, locator-trans, locator-total}
 use Rattle.record_spec.proofs.Runs.{shared-cover}
-use Rattle.record_spec.proofs.Records.{ReferenceFits, LocatorFits, OtherFits, StatementFits, BlockFits, TimeFits, InFits, in-reads, read-back, timedOf-timedBytes, timed-back}
+use Rattle.record_spec.proofs.Records.{ReferenceFits, LocatorFits, OtherFits, StatementFits, BlockFits, TimeFits, InFits, in-reads, read-back}
+use Rattle.record_spec.proofs.Records.{timedOf-timedBytes, timed-back}
 use Rattle.record_spec.proofs.Places.{stands-in}
 
 -- ---- the tests of the claims say what the laws ask

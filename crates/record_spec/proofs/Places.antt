@@ -10,11 +10,13 @@ use Rattle.base.specs.Lists.{sumOf}
 use Rattle.base.specs.Le.{leBytes}
 use Rattle.base.proofs.Le.{AllBytes, length-leBytes, leBytes-add}
 use Rattle.base.proofs.Read.{One}
-use Rattle.record_spec.specs.Record.{statementBytes, Edition, old, timed, Timed, timedOf, blockOf, bodyFrom, bodyStart, statementStart, timeBytes, bytesIn, editionFor, timedBytes}
+use Rattle.record_spec.specs.Record.{statementBytes, Edition, old, timed, Timed, timedOf, blockOf, bodyFrom, bodyStart, statementStart, timeBytes}
+use Rattle.record_spec.specs.Record.{bytesIn, editionFor, timedBytes}
 use Rattle.record_spec.specs.Claims.{StandsIn}
 use Rattle.record_spec.proofs.Records.{TimeFits, InFits, past-edition, past-includes, edition-place, edition-said, timed-back, block-in}
 
-drop-written : {A : Type 0} (w : A → List ℕ) (i : ℕ) (xs : List A) → drop (sumOf (map (λ x. length (w x)) (take i xs))) (flatten (map w xs)) ≡ flatten (map w (drop i xs))
+drop-written : {A : Type 0} (w : A → List ℕ) (i : ℕ) (xs : List A) → drop (sumOf (map (λ x. length (w x)) (take i xs))) (flatten (map w xs)) ≡ flatten
+    (map w (drop i xs))
 unfolding sumOf flatten
 drop-written w zero xs = refl
 drop-written w (suc i) [] = refl

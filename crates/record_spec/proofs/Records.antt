@@ -17,10 +17,14 @@ use Rattle.base.proofs.Tests.{and-left, and-right, not-both, flag-back}
 use Rattle.base.proofs.Lists.{Every, none-of, and, every}
 use Rattle.base.proofs.Orders.{same-refl, same-true}
 use Rattle.base.proofs.Le.{AllBytes, length-leBytes}
-use Rattle.base.proofs.Read.{part, items-reads, number-reads, ReadsBack, repeated-reads, complete-reads, Back, give-back, fail-back, given-back, bind-back, map-back, Items, items-back, Number, number-back, One, Many, repeated-back, complete-back}
+use Rattle.base.proofs.Read.{part, items-reads, number-reads, ReadsBack, repeated-reads, complete-reads, Back, give-back, fail-back, given-back, bind-back}
+use Rattle.base.proofs.Read.{map-back, Items, items-back, Number, number-back, One, Many, repeated-back, complete-back}
 use Rattle.record_spec.specs.Reference.{BlockReference, TransactionLocator, TransactionLocatorRange, newRange}
 use Rattle.record_spec.specs.Block.{Statement, share, accept, reject, voteRange, Block}
-use Rattle.record_spec.specs.Record.{readReference, readLocator, readShare, readAccept, readOther, readReject, readRange, readKind, readStatement, Edition, old, timed, Timed, editionBytes, readTime, readIn, editionOf, timedOf, blockOf, timeOf, timeIn, wellFormed, noBlock, blockIn, referenceBytes, locatorBytes, otherBytes, statementBytes, timeBytes, bytesIn, editionFor, timedBytes}
+use Rattle.record_spec.specs.Record.{readReference, readLocator, readShare, readAccept, readOther, readReject, readRange, readKind, readStatement}
+use Rattle.record_spec.specs.Record.{Edition, old, timed, Timed, editionBytes, readTime, readIn, editionOf, timedOf, blockOf, timeOf, timeIn, wellFormed}
+use Rattle.record_spec.specs.Record.{noBlock, blockIn, referenceBytes, locatorBytes, otherBytes, statementBytes, timeBytes, bytesIn, editionFor}
+use Rattle.record_spec.specs.Record.{timedBytes}
 
 -- ---- the limits: what fits a record
 
@@ -308,7 +312,8 @@ in-back e =
     given-back _ _ _ λ h.
     bind-back _ _ (One timeBytes (TimeFits e)) _ (time-back e) λ o x₆ p₆.
     bind-back _ _ (Many referenceBytes ReferenceFits i) _ (repeated-back referenceBytes ReferenceFits readReference i reference-back) λ is x₇ p₇.
-    map-back _ (λ ss. record { block = record { reference = r; marked = eqb m 1; includes = is; statements = ss }; time = o }) (Many statementBytes StatementFits s) _ (repeated-back statementBytes StatementFits readStatement s statement-back) λ ss x₈ p₈.
+    map-back _ (λ ss. record { block = record { reference = r; marked = eqb m 1; includes = is; statements = ss }; time = o })
+    (Many statementBytes StatementFits s) _ (repeated-back statementBytes StatementFits readStatement s statement-back) λ ss x₈ p₈.
     let t : Head e m i s zs = head-tests e m i s zs h in
     record {
       are =
@@ -330,7 +335,13 @@ in-back e =
           );
       right =
           record {
-            block = record { reference = p₁ .right; fewIncludes = rw (p₇ .many) (t .few-includes); fewStatements = rw (p₈ .many) (t .few-statements); includes = p₇ .right; statements = p₈ .right };
+            block = record {
+              reference = p₁ .right;
+              fewIncludes = rw (p₇ .many) (t .few-includes);
+              fewStatements = rw (p₈ .many) (t .few-statements);
+              includes = p₇ .right;
+              statements = p₈ .right;
+            };
             time = p₆ .right;
           };
     }
@@ -348,7 +359,13 @@ length-reference r h = simp (length-append, length-leBytes, h .size)
 pub length-includes : (is : List BlockReference) → Every ReferenceFits is → length (flatten (map referenceBytes is)) ≡ 48 * length is
 unfolding flatten
 length-includes [] none-of = refl
-length-includes (i ∷ is) (and h hs) = omega (arith, length-append (referenceBytes i) (flatten (map referenceBytes is)), length-reference i h, length-includes is hs)
+length-includes (i ∷ is) (and h hs) = omega (
+  arith,
+  length-append (referenceBytes i) (flatten (map referenceBytes is)),
+  length-reference i h,
+  length-includes
+      is hs,
+)
 
 -- ---- where the parts stand
 
@@ -372,7 +389,8 @@ module _ (e : Edition) (t : Timed) (f : BlockFits (t .block)) where
       let rest : List ℕ = editionBytes e ++ (timeBytes (t .time) ++ (is ++ ss)) in
       let g : 53 + k ≡ 48 + (1 + (2 + (2 + k))) = omega arith in
       rw g
-      (drop-past (referenceBytes (b .reference)) (pick (b .marked) 1 0 ∷ (leBytes 2 i ++ (leBytes 2 n ++ rest))) 48 (1 + (2 + (2 + k))) (length-reference (b .reference) (f .reference))
+      (drop-past (referenceBytes (b .reference)) (pick (b .marked) 1 0 ∷ (leBytes 2 i ++ (leBytes 2 n ++ rest))) 48 (1 + (2 + (2 + k)))
+      (length-reference (b .reference) (f .reference))
       ∙ drop-past (pick (b .marked) 1 0 ∷ []) (leBytes 2 i ++ (leBytes 2 n ++ rest)) 1 (2 + (2 + k)) refl
       ∙ drop-past (leBytes 2 i) (leBytes 2 n ++ rest) 2 (2 + k) (length-leBytes 2 i)
       ∙ drop-past (leBytes 2 n) rest 2 k (length-leBytes 2 n))
@@ -382,7 +400,8 @@ module _ (e : Edition) (t : Timed) (f : BlockFits (t .block)) where
       let g : 56 + k ≡ 53 + (3 + k) = omega arith in
       rw g (past-head (3 + k) ∙ drop-past (editionBytes e) (timeBytes (t .time) ++ (is ++ ss)) 3 k (three-bytes e))
 
-  pub past-includes : (k : ℕ) → drop (56 + length (timeBytes (t .time)) + 48 * length (t .block .includes) + k) (bytesIn e t) ≡ drop k (flatten (map statementBytes (t .block .statements)))
+  pub past-includes : (k : ℕ) → drop (56 + length (timeBytes (t .time)) + 48 * length (t .block .includes) + k) (bytesIn e t) ≡ drop k
+      (flatten (map statementBytes (t .block .statements)))
   past-includes k =
       let n = length (t .block .includes) in
       let g : 56 + length (timeBytes (t .time)) + 48 * n + k ≡ 56 + (length (timeBytes (t .time)) + (48 * n + k)) = omega arith in

@@ -47,7 +47,8 @@ reference-trans r q p = before-trans (referenceKey r) (referenceKey q) (referenc
 pub reference-total : (r q : BlockReference) → referenceBefore r q ≡ false → referenceBefore q r ≡ false → r ≡ q
 unfolding referenceBefore sameReference
 reference-total r q h k =
-    reference-same r q (subst (λ (x : List ℕ). same (referenceKey r) x ≡ true) (before-total (referenceKey r) (referenceKey q) h k) (same-refl (referenceKey r)))
+    reference-same r q (subst (λ (x : List ℕ). same (referenceKey r) x ≡ true) (before-total (referenceKey r) (referenceKey q) h k)
+    (same-refl (referenceKey r)))
 
 -- of two references only one comes first
 pub reference-asymmetric : (r q : BlockReference) → referenceBefore r q ≡ true → referenceBefore q r ≡ false
@@ -74,7 +75,8 @@ locator-same l m h =
 
 pub same-locator : {l m : TransactionLocator} → l ≡ m → sameLocator l m ≡ true
 unfolding sameLocator
-same-locator {l} {m} e = and-both (sameReference (l .block) (m .block)) (eqb (l .offset) (m .offset)) (same-reference (ap (λ x. x .block) e)) (eq-eqb (l .offset) (m .offset) (ap (λ x. x .offset) e))
+same-locator {l} {m} e = and-both (sameReference (l .block) (m .block)) (eqb (l .offset) (m .offset)) (same-reference (ap (λ x. x .block) e))
+    (eq-eqb (l .offset) (m .offset) (ap (λ x. x .offset) e))
 
 -- a locator comes before another by its block or, in one block, by its offset
 pub data Precedes (l m : TransactionLocator) : Type 0 where
@@ -87,7 +89,8 @@ precedes l m h = split (or-cases (referenceBefore (l .block) (m .block)) (sameRe
   where
     split : (referenceBefore (l .block) (m .block) ≡ true) ⊎ (sameReference (l .block) (m .block) && ltb (l .offset) (m .offset) ≡ true) → Precedes l m
     split (inl k) = byBlock k
-    split (inr k) = byOffset (reference-same (l .block) (m .block) (and-left _ _ k)) (ltb-true (l .offset) (m .offset) (and-right (sameReference (l .block) (m .block)) _ k))
+    split (inr k) = byOffset (reference-same (l .block) (m .block) (and-left _ _ k))
+        (ltb-true (l .offset) (m .offset) (and-right (sameReference (l .block) (m .block)) _ k))
 
 pub is-before : (l m : TransactionLocator) → Precedes l m → locatorBefore l m ≡ true
 unfolding locatorBefore

@@ -25,12 +25,18 @@ abbrev pub Below : TransactionLocatorRange → TransactionLocatorRange → Type 
 Below x y = x .end ≤ y .start
 
 -- the share at index k - o, one statement on
-later : (s : Statement) (ss : List Statement) (o k : ℕ) → o + 1 ≤ k → holds isShare (getElem? ss (k - (o + 1))) ≡ true → holds isShare (getElem? (s ∷ ss) (k - o)) ≡ true
+later : (s : Statement) (ss : List Statement) (o k : ℕ) → o + 1 ≤ k → holds isShare (getElem? ss (k - (o + 1))) ≡ true → holds isShare
+    (getElem? (s ∷ ss) (k - o)) ≡ true
 later s ss o k h e = let n : k - o ≡ suc (k - (o + 1)) = omega arith in rw n e
 
 run-later : (s : Statement) (ss : List Statement) (o : ℕ) (x : TransactionLocatorRange) → Run (o + 1) ss x → Run o (s ∷ ss) x
 run-later s ss o x r =
-    record { from = omega (arith, r .from); full = r .full; shares = λ k (l : x .start ≤ k) (u : k < x .end). later s ss o k (omega (arith, r .from)) (r .shares k l u) }
+    record {
+      from = omega (arith, r .from);
+      full = r .full;
+      shares = λ k (l : x .start ≤ k) (u : k < x .end). later s ss o k (omega (arith, r .from))
+          (r .shares k l u);
+    }
 
 module _ (r : BlockReference) (o : ℕ) (s : Statement) (ss : List Statement) (h : isShare s ≡ true) where
   -- the share itself
@@ -75,7 +81,8 @@ unfolding runsFrom
 runs-from r o [] = none-of
 runs-from r o (s ∷ ss) = go (isShare s) refl (runs-from r (o + 1) ss)
   where
-    go : (t : Bool) → isShare s ≡ t → Every (Run (o + 1) ss) (runsFrom r (o + 1) ss) → Every (Run o (s ∷ ss)) (pick t (joined r o (runsFrom r (o + 1) ss)) (runsFrom r (o + 1) ss))
+    go : (t : Bool) → isShare s ≡ t → Every (Run (o + 1) ss) (runsFrom r (o + 1) ss) → Every (Run o (s ∷ ss))
+        (pick t (joined r o (runsFrom r (o + 1) ss)) (runsFrom r (o + 1) ss))
     go true e h = joined-runs r o s ss e (runsFrom r (o + 1) ss) h
     go false e h = every (run-later s ss o) (runsFrom r (o + 1) ss) h
 
@@ -96,7 +103,8 @@ pub record SharedRun (b : Block) (x : TransactionLocatorRange) : Type 0 where
 -- the runs of a block are not empty and shares at every offset
 pub shared-runs : (b : Block) → Every (SharedRun b) (sharedRanges b)
 unfolding sharedRanges isShareAt
-shared-runs b = every (λ x q. record { full = q .full; shares = λ o l u. same o (q .shares o l u) }) (runsFrom (b .reference) 0 (b .statements)) (runs-from (b .reference) 0 (b .statements))
+shared-runs b = every (λ x q. record { full = q .full; shares = λ o l u. same o (q .shares o l u) }) (runsFrom (b .reference) 0 (b .statements))
+    (runs-from (b .reference) 0 (b .statements))
   where
     same : (o : ℕ) → holds isShare (getElem? (b .statements) (o - 0)) ≡ true → holds isShare (getElem? (b .statements) o) ≡ true
     same o h = let n : o - 0 ≡ o = omega arith in rw n at h
@@ -112,15 +120,18 @@ shared-below b = runs-below (b .reference) 0 (b .statements)
 abbrev In : ℕ → TransactionLocatorRange → Bool
 In k x = within (x .start) (x .end) k
 
-joined-cover : (r : BlockReference) (o : ℕ) (ss : List Statement) (xs : List TransactionLocatorRange) → Every (Run (o + 1) ss) xs → (k : ℕ) → anyOf (In k) (joined r o xs) ≡ within o (o + 1) k || anyOf (In k) xs
+joined-cover : (r : BlockReference) (o : ℕ) (ss : List Statement) (xs : List TransactionLocatorRange) → Every (Run (o + 1) ss) xs → (k : ℕ) → anyOf (In k)
+    (joined r o xs) ≡ within o (o + 1) k || anyOf (In k) xs
 unfolding joined anyOf newRange
 joined-cover r o ss [] none-of k = refl
 joined-cover r o ss (x ∷ xs) (and q qs) k = go (eqb (o + 1) (x .start)) refl
   where
-    go : (t : Bool) → eqb (o + 1) (x .start) ≡ t → anyOf (In k) (pick t (newRange r o (x .end) ∷ xs) (newRange r o (o + 1) ∷ x ∷ xs)) ≡ within o (o + 1) k || (In k x || anyOf (In k) xs)
+    go : (t : Bool) → eqb (o + 1) (x .start) ≡ t → anyOf (In k) (pick t (newRange r o (x .end) ∷ xs) (newRange r o (o + 1) ∷ x ∷ xs)) ≡ within o (o + 1) k ||
+        (In k x || anyOf (In k) xs)
     go true e =
         let s : o + 1 ≡ x .start = eqb-true _ _ e in
-        rw (← s, within-parts o (o + 1) (x .end) k (omega arith) (omega (arith, q .full))) (or-assoc (within o (o + 1) k) (within (o + 1) (x .end) k) (anyOf (In k) xs))
+        rw (← s, within-parts o (o + 1) (x .end) k (omega arith) (omega (arith, q .full)))
+        (or-assoc (within o (o + 1) k) (within (o + 1) (x .end) k) (anyOf (In k) xs))
     go false e = refl
 
 -- where k stands against o decides: below, at, above
@@ -128,12 +139,28 @@ cover-step : (o k : ℕ) (s : Statement) (ss : List Statement) (t u : Bool) → 
     → u && within o (o + 1) k || t ≡ leb o k && pick (eqb k o) u (holds isShare (getElem? (s ∷ ss) (k - o)))
 cover-step o k s ss t u ih = rw ih (go (decLe o k) (decLt o k))
   where
-    go : Dec (o ≤ k) → Dec (o < k) → u && within o (o + 1) k || (leb (o + 1) k && holds isShare (getElem? ss (k - (o + 1)))) ≡ leb o k && pick (eqb k o) u (holds isShare (getElem? (s ∷ ss) (k - o)))
+    go : Dec (o ≤ k) → Dec (o < k) → u && within o (o + 1) k || (leb (o + 1) k && holds isShare (getElem? ss (k - (o + 1)))) ≡ leb o k && pick (eqb k o) u
+        (holds isShare (getElem? (s ∷ ss) (k - o)))
     go (no a) b = rw (within-no o (o + 1) k (λ l m. a l), lt-leb (o + 1) k (omega arith), lt-leb o k (omega arith), and-false u)
-    go (yes a) (no b) = rw (within-yes o (o + 1) k a (omega arith), lt-leb (o + 1) k (omega arith), le-leb o k a, eq-eqb k o (omega arith), and-true u, or-false u)
+    go (yes a) (no b) = rw (
+      within-yes o (o + 1) k a (omega arith),
+      lt-leb (o + 1) k (omega arith),
+      le-leb o k a,
+      eq-eqb k o (omega arith),
+      and-true u,
+      or-false u,
+    )
     go (yes a) (yes b) =
         let n : k - o ≡ suc (k - (o + 1)) = omega arith in
-        rw (within-no o (o + 1) k (λ l (m : k < o + 1). omega arith), le-leb (o + 1) k (omega arith), le-leb o k a, ne-eqb k o (λ e. omega arith), and-false u, n)
+        rw (
+          within-no o (o + 1) k (λ l (m : k < o + 1). omega arith),
+          le-leb (o + 1) k (omega arith),
+          le-leb o k a,
+          ne-eqb k o (λ e. omega arith),
+          and-false
+              u,
+          n,
+        )
 
 runs-cover : (r : BlockReference) (o : ℕ) (ss : List Statement) (k : ℕ) → anyOf (In k) (runsFrom r o ss) ≡ leb o k && holds isShare (getElem? ss (k - o))
 unfolding runsFrom anyOf holds
@@ -147,7 +174,8 @@ runs-cover r o (s ∷ ss) k = with-first (isShare s) ∙ cover-step o k s ss (an
     with-first true = joined-cover r o ss rest (runs-from r (o + 1) ss) k
     with-first false = refl
 
-    same-share : (t : Bool) → eqb k o ≡ t → leb o k && pick t (isShare s) (holds isShare (getElem? (s ∷ ss) (k - o))) ≡ leb o k && holds isShare (getElem? (s ∷ ss) (k - o))
+    same-share : (t : Bool) → eqb k o ≡ t → leb o k && pick t (isShare s) (holds isShare (getElem? (s ∷ ss) (k - o))) ≡ leb o k && holds isShare
+        (getElem? (s ∷ ss) (k - o))
     same-share false e = refl
     same-share true e = let n : k - o ≡ 0 = omega (arith, eqb-true k o e) in rw n
 

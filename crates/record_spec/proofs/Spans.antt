@@ -28,10 +28,12 @@ share-span r o (suc k) (s ∷ ss) h =
     rw e (in-right (pick (isShare s) (oneRange (locator r o) ∷ []) (Option·toList (votedRange s))) (share-span r (o + 1) k ss h))
 
 -- so is what an accept or a range votes for
-pub vote-span : (r : BlockReference) (o : ℕ) (q : TransactionLocatorRange) (s : Statement) → votedRange s ≡ some q → isShare s ≡ false → (ss : List Statement) → s ∈ ss → q ∈ spansFrom r o ss
+pub vote-span : (r : BlockReference) (o : ℕ) (q : TransactionLocatorRange) (s : Statement) → votedRange s ≡ some q → isShare s ≡ false → (ss : List Statement)
+    → s ∈ ss → q ∈ spansFrom r o ss
 unfolding spansFrom Option·toList
 vote-span r o q s e f (x ∷ ss) here = rw (f, e) here
-vote-span r o q s e f (x ∷ ss) (there m) = in-right (pick (isShare x) (oneRange (locator r o) ∷ []) (Option·toList (votedRange x))) (vote-span r (o + 1) q s e f ss m)
+vote-span r o q s e f (x ∷ ss) (there m) = in-right (pick (isShare x) (oneRange (locator r o) ∷ []) (Option·toList (votedRange x)))
+    (vote-span r (o + 1) q s e f ss m)
 
 -- and nothing else is
 pub span-of : (r : BlockReference) (o : ℕ) (ss : List Statement) (q : TransactionLocatorRange) → q ∈ spansFrom r o ss → Span r o ss q

@@ -11,7 +11,8 @@ use Rattle.base.specs.Le.{Bytes, leBytes}
 use Rattle.base.specs.Read.{complete}
 use Rattle.record_spec.specs.Reference.{BlockReference, TransactionLocator, referenceBefore, locatorBefore, within}
 use Rattle.record_spec.specs.Block.{Statement, share, accept, reject, voteRange, Block, isShareAt, sharedRanges}
-use Rattle.record_spec.specs.Record.{statementBytes, Edition, old, timed, Timed, editionBytes, readIn, timedOf, bodyStart, statementStart, timeBytes, bytesIn, editionFor, timedBytes}
+use Rattle.record_spec.specs.Record.{statementBytes, Edition, old, timed, Timed, editionBytes, readIn, timedOf, bodyStart, statementStart, timeBytes}
+use Rattle.record_spec.specs.Record.{bytesIn, editionFor, timedBytes}
 
 unfoldable pub areBytes : Bytes → Bool
 areBytes r = allOf (λ x. ltb x 256) r

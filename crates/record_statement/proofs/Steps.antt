@@ -111,7 +111,8 @@ module _ (s : List ℕ) (p : ℕ) (h : p < length s) (k : getD s p 0 ≡ 0) wher
   pub share-short : p + 3 ≤ length s → length s - (p + 3) < leAt 2 s (p + 1) → readStatement (drop p s) ≡ none
   share-short l m = is-share ∙ payload-short 2 s (p + 1) (omega arith) (omega arith)
 
-  pub share-reads : (n : ℕ) → n ≡ leAt 2 s (p + 1) → p + 3 + n ≤ length s → readStatement (drop p s) ≡ some (part (share (take n (drop (p + 3) s))) (drop (p + 3 + n) s))
+  pub share-reads : (n : ℕ) → n ≡ leAt 2 s (p + 1) → p + 3 + n ≤ length s → readStatement (drop p s) ≡ some
+      (part (share (take n (drop (p + 3) s))) (drop (p + 3 + n) s))
   share-reads n e l =
       let f : p + 1 + 2 ≡ p + 3 = omega arith in
       is-share ∙ rw f at (payload-reads 2 s (p + 1) n e (omega arith))
@@ -138,14 +139,24 @@ module _ (s : List ℕ) (p : ℕ) (h : p < length s) (k : getD s p 0 ≡ 2) wher
   unfolding readReject
   reject-cut l =
       is-reject
-      ∙ least-at s (p + 1) readReject 57 (least-bind readLocator _ 56 1 fixed-locator (λ l. least-bind (number 1) _ 1 0 (fixed-number 1) (λ k. least-zero _))) (omega arith)
+      ∙ least-at s (p + 1) readReject 57 (least-bind readLocator _ 56 1 fixed-locator (λ l. least-bind (number 1) _ 1 0 (fixed-number 1) (λ k. least-zero _)))
+      (omega arith)
 
-  reject-on : p + 58 ≤ length s → readReject (drop (p + 1) s) ≡ (readOther (getD s (p + 57) 0) >>= (λ o. give (reject (locatorAt s (p + 1)) o))) (drop (p + 58) s)
+  reject-on : p + 58 ≤ length s → readReject (drop (p + 1) s) ≡ (readOther (getD s (p + 57) 0) >>= (λ o. give (reject (locatorAt s (p + 1)) o)))
+      (drop (p + 58) s)
   unfolding readReject _>>=_ onward
   reject-on l =
       let e : p + 1 + 56 ≡ p + 57 = omega arith in
       let f : p + 57 + 1 ≡ p + 58 = omega arith in
-      rw (reads-at readLocator 56 fixed-locator s (p + 1) (omega arith), locator-value s (p + 1), e, number-at 1 s (p + 57) (omega arith), leAt-byte s (p + 57) (omega arith), f)
+      rw (
+        reads-at readLocator 56 fixed-locator s (p + 1) (omega arith),
+        locator-value s (p + 1),
+        e,
+        number-at 1 s (p + 57) (omega arith),
+        leAt-byte s
+            (p + 57) (omega arith),
+        f,
+      )
 
   pub reject-reads : p + 58 ≤ length s → getD s (p + 57) 0 ≡ 0 → readStatement (drop p s) ≡ some (part (reject (locatorAt s (p + 1)) none) (drop (p + 58) s))
   unfolding readOther _>>=_ onward give
@@ -165,7 +176,8 @@ module _ (s : List ℕ) (p : ℕ) (h : p < length s) (k : getD s p 0 ≡ 2) wher
   unfolding readOther _>>=_ onward
   reject-short l e m = rw (is-reject, reject-on l, e, short-at readLocator 56 fixed-locator s (p + 58) (omega arith))
 
-  pub reject-for-reads : p + 114 ≤ length s → getD s (p + 57) 0 ≡ 1 → readStatement (drop p s) ≡ some (part (reject (locatorAt s (p + 1)) (some (locatorAt s (p + 58)))) (drop (p + 114) s))
+  pub reject-for-reads : p + 114 ≤ length s → getD s (p + 57) 0 ≡ 1 → readStatement (drop p s) ≡ some
+      (part (reject (locatorAt s (p + 1)) (some (locatorAt s (p + 58)))) (drop (p + 114) s))
   unfolding readOther _>>=_ onward give
   reject-for-reads l e =
       let f : p + 58 + 56 ≡ p + 114 = omega arith in

@@ -19,4 +19,10 @@ checked-inside (accept l) p q e h =
     n (omega (arith, ap (λ (r : TransactionLocatorRange). r .end) (Option·some-injective _ _ e), h))
 checked-inside (reject l other) p q e h = absurd (Option·none-ne-some q e)
 checked-inside (voteRange r) p q e h =
-    omega (arith, leb-false maxLen (r .end) (passes-first _ _ (passes-others _ _ p)), ap (λ (r : TransactionLocatorRange). r .end) (Option·some-injective _ _ e), h)
+    omega (
+      arith,
+      leb-false maxLen (r .end) (passes-first _ _ (passes-others _ _ p)),
+      ap (λ (r : TransactionLocatorRange). r .end)
+          (Option·some-injective _ _ e),
+      h,
+    )

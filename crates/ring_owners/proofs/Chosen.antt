@@ -24,7 +24,8 @@ use Rattle.ring_owners.specs.Ranked.{reached, ranked, rung}
 use Rattle.ring_owners.proofs.Totals.{total, total-sum, topmost, take-most}
 use Rattle.ring_owners.proofs.Ranking.{Fits, ranked-falls, ranked-total, ranked-length, ranked-in, ranked-once}
 use Rattle.ring_owners.proofs.Weights.{bonus, scale, weight, stake-fits, weight-fits, weight-total, first-more, Ascends}
-use Rattle.ring_owners.proofs.Kept.{keep-keep, keep-same, keep-all, keep-front, take-in, take-length, set-in, in-set, small-set, kept-ascends, Until, until, weigh-apart}
+use Rattle.ring_owners.proofs.Kept.{keep-keep, keep-same, keep-all, keep-front, take-in, take-length, set-in, in-set, small-set, kept-ascends, Until}
+use Rattle.ring_owners.proofs.Kept.{until, weigh-apart}
 
 module _ (c : Committee) (few : length c ≤ 128) (v r : AuthoritySet) where
   -- a set of owners who can be rung
@@ -65,7 +66,8 @@ module _ (c : Committee) (few : length c ≤ 128) (v r : AuthoritySet) where
   both-stake : (w : AuthoritySet) → Further w → stakeOf c (united v w) ≡ stakeOf c v + stakeOf c w
   both-stake w h =
       let both : weigh (member (united v w)) c ≡ weigh (λ a. member v a || member w a) c = weigh-same _ _ c (λ a l. member-united v w a) in
-      rw (stake-of c (united v w), both, stake-of c v, stake-of c w) (sym (weigh-apart (member v) (member w) c (λ a k. fails (member w a) (λ m. not-both (h a m) (apart a k)))))
+      rw (stake-of c (united v w), both, stake-of c v, stake-of c w)
+      (sym (weigh-apart (member v) (member w) c (λ a k. fails (member w a) (λ m. not-both (h a m) (apart a k)))))
 
   -- ---- the set of the first k in rank
 
@@ -115,7 +117,8 @@ module _ (c : Committee) (few : length c ≤ 128) (v r : AuthoritySet) where
   rank-total : (f : AuthorityIndex → ℕ) → total f rank ≡ total f (reached c v r)
   unfolding reached
   rank-total f =
-      ap (total f) (sym (keep-all (ringable c v r) rank in-rank)) ∙ ranked-total c f (ringable c v r) (reached c v r) ∙ ap (total f) (keep-keep (ringable c v r) (ringable c v r) (countFrom 0 128) (λ a h. h))
+      ap (total f) (sym (keep-all (ringable c v r) rank in-rank)) ∙ ranked-total c f (ringable c v r) (reached c v r) ∙ ap (total f)
+      (keep-keep (ringable c v r) (ringable c v r) (countFrom 0 128) (λ a h. h))
 
   joined : (a : AuthorityIndex) → a < length c → member v a || ringable c v r a ≡ member (united v r) a
   unfolding ringable known
@@ -129,7 +132,8 @@ module _ (c : Committee) (few : length c ≤ 128) (v r : AuthoritySet) where
   pub all-stake : stakeOf c v + total (getStake c) rank ≡ stakeOf c (united v r)
   all-stake =
       let sum : total (getStake c) rank ≡ weigh (ringable c v r) c =
-      rank-total (getStake c) ∙ ap (total (getStake c)) (sym all-members) ∙ sym (stake-is (setOf (reached c v r)) all-further) ∙ stake-of c (setOf (reached c v r)) ∙ weigh-same _ _ c (λ a l. all-member a (omega arith)) in
+      rank-total (getStake c) ∙ ap (total (getStake c)) (sym all-members) ∙ sym (stake-is (setOf (reached c v r)) all-further) ∙ stake-of c
+      (setOf (reached c v r)) ∙ weigh-same _ _ c (λ a l. all-member a (omega arith)) in
       let both : weigh (λ a. member v a || ringable c v r a) c ≡ weigh (member (united v r)) c = weigh-same _ _ c joined in
       rw (sum, stake-of c v, weigh-apart (member v) (ringable c v r) c apart, both, stake-of c (united v r))
 
@@ -142,16 +146,27 @@ module _ (c : Committee) (few : length c ≤ 128) (v r : AuthoritySet) where
   pub no-more : (w : AuthoritySet) → Suffices c v r w → isQuorum c (stakeOf c (united v r)) ≡ true
   no-more w s =
       let most : total (getStake c) (members w) ≤ total (getStake c) (take (numberOfVoters w) rank) = at-most w (s .further) (getStake c) (stake-fits c) in
-      more-quorum c (stakeOf c (united v w)) (stakeOf c (united v r)) (omega (arith, most, both-stake w (s .further), stake-is w (s .further), all-stake, take-most (getStake c) (numberOfVoters w) rank)) (s .quorum)
+      more-quorum c (stakeOf c (united v w)) (stakeOf c (united v r))
+      (omega (arith, most, both-stake w (s .further), stake-is w (s .further), all-stake, take-most (getStake c) (numberOfVoters w) rank)) (s .quorum)
 
   pub rung-is-it : isQuorum c (stakeOf c (united v r)) ≡ true → Rung c v r (setOf (rung c v r))
   rung-is-it q = rw (reached-until .are) (it (reached-until .k) (reached-until .inside) (reached-until .short) (reached-until .enough (rw all-stake q)))
     where
-      it : (k : ℕ) → k ≤ length rank → ((m : ℕ) → m < k → isQuorum c (stakeOf c v + total (getStake c) (take m rank)) ≡ false) → isQuorum c (stakeOf c v + total (getStake c) (take k rank)) ≡ true
+      it : (k : ℕ) → k ≤ length rank → ((m : ℕ) → m < k → isQuorum c (stakeOf c v + total (getStake c) (take m rank)) ≡ false) → isQuorum c
+          (stakeOf c v + total (getStake c) (take k rank)) ≡ true
           → Rung c v r (setOf (take k rank))
       it k l short enough =
           record {
-            few = record { suffices = record { low = first-small k .low; high = first-small k .high; further = first-further k; quorum = rw (both-stake (setOf (take k rank)) (first-further k), first-stake k) enough }; fewest = λ u s. fewest u s (decLe k (numberOfVoters u)) };
+            few = record {
+              suffices = record {
+                low = first-small k .low;
+                high = first-small k .high;
+                further = first-further k;
+                quorum = rw
+                    (both-stake (setOf (take k rank)) (first-further k), first-stake k) enough;
+              };
+              fewest = λ u s. fewest u s (decLe k (numberOfVoters u));
+            };
             larger = larger;
             first = λ u s n e. fails _ (λ b. first u s n e b);
           }
@@ -163,21 +178,27 @@ module _ (c : Committee) (few : length c ≤ 128) (v r : AuthoritySet) where
           fewest u s (yes h) = omega (arith, count)
           fewest u s (no h) =
               let most = at-most u (s .further) (getStake c) (stake-fits c) in
-              absurd (not-both (more-quorum c (stakeOf c (united v u)) (stakeOf c v + total (getStake c) (take (numberOfVoters u) rank)) (omega (arith, most, both-stake u (s .further), stake-is u (s .further))) (s .quorum)) (short (numberOfVoters u) (omega arith)))
+              absurd (not-both (more-quorum c (stakeOf c (united v u)) (stakeOf c v + total (getStake c) (take (numberOfVoters u) rank))
+              (omega (arith, most, both-stake u (s .further), stake-is u (s .further))) (s .quorum)) (short (numberOfVoters u) (omega arith)))
 
-          larger : (u : AuthoritySet) → Suffices c v r u → numberOfVoters u ≡ numberOfVoters (setOf (take k rank)) → stakeOf c u ≤ stakeOf c (setOf (take k rank))
+          larger : (u : AuthoritySet) → Suffices c v r u → numberOfVoters u ≡ numberOfVoters (setOf (take k rank)) → stakeOf c u ≤ stakeOf c
+              (setOf (take k rank))
           larger u s n =
-              let most : total (getStake c) (members u) ≤ total (getStake c) (take k rank) = rw (n ∙ count) at (at-most u (s .further) (getStake c) (stake-fits c)) in
+              let most : total (getStake c) (members u) ≤ total (getStake c) (take k rank) = rw (n ∙ count) at
+              (at-most u (s .further) (getStake c) (stake-fits c)) in
               omega (arith, most, stake-is u (s .further), first-stake k)
 
-          first : (u : AuthoritySet) → Suffices c v r u → numberOfVoters u ≡ numberOfVoters (setOf (take k rank)) → stakeOf c u ≡ stakeOf c (setOf (take k rank))
+          first : (u : AuthoritySet) → Suffices c v r u → numberOfVoters u ≡ numberOfVoters (setOf (take k rank)) → stakeOf c u ≡ stakeOf c
+              (setOf (take k rank))
               → before (members u) (members (setOf (take k rank))) ≡ true → ⊥
           first u s n e b =
               let w : AuthoritySet = setOf (take k rank) in
-              let most : total (weight c) (members u) ≤ total (weight c) (take k rank) = rw (n ∙ count) at (at-most u (s .further) (weight c) (weight-fits c)) in
+              let most : total (weight c) (members u) ≤ total (weight c) (take k rank) = rw (n ∙ count) at (at-most u (s .further) (weight c) (weight-fits c))
+              in
               let stakes : total (getStake c) (members u) ≡ total (getStake c) (members w) = sym (stake-is u (s .further)) ∙ e ∙ stake-is w (first-further k) in
               let scales : total (getStake c) (members u) * scale ≡ total (getStake c) (members w) * scale = ap (λ (m : ℕ). m * scale) stakes in
-              let more : total bonus (members w) < total bonus (members u) = first-more 0 (members u) (members w) (ascends u) (ascends w) (unfold numberOfVoters in n) b in
+              let more : total bonus (members w) < total bonus (members u) = first-more 0 (members u) (members w) (ascends u) (ascends w)
+              (unfold numberOfVoters in n) b in
               omega (arith, most, first-total k (weight c), weight-total c (members u), weight-total c (members w), scales, more)
             where
               ascends : (x : AuthoritySet) → Ascends 0 (members x)

@@ -68,7 +68,11 @@ only c s v r w g = go (answers c s v r)
 
 pub none-exactly : NoneExactly
 unfolding NoneExactly NoneSuffices
-none-exactly c s v r = (λ h. fails _ (λ q. h _ (rung-is-it c (few-members c s) v r q .few .suffices)), λ h w k. not-both (no-more c (few-members c s) v r w k) h)
+none-exactly c s v r = (
+  λ h. fails _ (λ q. h _ (rung-is-it c (few-members c s) v r q .few .suffices)),
+  λ h w k. not-both (no-more c (few-members c s) v r w k)
+      h,
+)
 
 pub refused-meant : RefusedMeant
 unfolding RefusedMeant NoneSuffices
@@ -101,4 +105,12 @@ stake-summed c s v r =
     rw (u .are) (first-stake c few v r (u .k) ∙ total-sum (getStake c) (take (u .k) (ranked c (reached c v r))))
 
 pub claimed : Claims
-claimed = record { rungIsIt = is-it; onlyRung = only; refusedMeant = refused-meant; noneExactly = none-exactly; nobodyRung = nobody-rung; stakeSummed = stake-summed }
+claimed = record {
+  rungIsIt = is-it;
+  onlyRung = only;
+  refusedMeant = refused-meant;
+  noneExactly = none-exactly;
+  nobodyRung = nobody-rung;
+  stakeSummed =
+      stake-summed;
+}

@@ -58,11 +58,13 @@ keep-none p [] f = refl
 keep-none p (x ∷ xs) f = rw (f x here) (keep-none p xs (λ a m. f a (there m)))
 
 -- the first k are kept where the test holds of these alone
-pub keep-front : (p : ℕ → Bool) (k : ℕ) (xs : List ℕ) → Once xs → ((a : ℕ) → a ∈ xs → p a ≡ true → a ∈ take k xs) → ((a : ℕ) → a ∈ take k xs → p a ≡ true) → keep p xs ≡ take k xs
+pub keep-front : (p : ℕ → Bool) (k : ℕ) (xs : List ℕ) → Once xs → ((a : ℕ) → a ∈ xs → p a ≡ true → a ∈ take k xs) → ((a : ℕ) → a ∈ take k xs → p a ≡ true) →
+    keep p xs ≡ take k xs
 unfolding keep
 keep-front p zero xs o f g = keep-none p xs (λ a m. fails (p a) (λ h. in-empty (f a m h)))
 keep-front p (suc k) [] o f g = refl
-keep-front p (suc k) (x ∷ xs) (also n o) f g = rw (g x here) (ap {B = List ℕ} (λ l. x ∷ l) (keep-front p k xs o (λ a m h. other a m (in-cases (f a (there m) h))) (λ a m. g a (there m))))
+keep-front p (suc k) (x ∷ xs) (also n o) f g = rw (g x here)
+    (ap {B = List ℕ} (λ l. x ∷ l) (keep-front p k xs o (λ a m h. other a m (in-cases (f a (there m) h))) (λ a m. g a (there m))))
   where
     other : (a : ℕ) → a ∈ xs → (a ≡ x) ⊎ (a ∈ take k xs) → a ∈ take k xs
     other a m (inl e) = absurd (n (subst (λ (b : ℕ). b ∈ xs) e m))
@@ -143,7 +145,8 @@ until c s (x ∷ xs) = go (isQuorum c s) refl (until c (s + getStake c x) xs)
         fewer (suc m) h = rw (step (take m xs)) (u .short m (omega arith))
 
 -- groups that have nobody in common
-pub weigh-apart : (p q : AuthorityIndex → Bool) (c : Committee) → ((a : AuthorityIndex) → p a ≡ true → q a ≡ false) → weigh p c + weigh q c ≡ weigh (λ a. p a || q a) c
+pub weigh-apart : (p q : AuthorityIndex → Bool) (c : Committee) → ((a : AuthorityIndex) → p a ≡ true → q a ≡ false) → weigh p c + weigh q c ≡ weigh
+    (λ a. p a || q a) c
 unfolding weigh
 weigh-apart p q [] f = omega arith
 weigh-apart p q (s ∷ c) f = go (p 0) (q 0) (f 0) (weigh-apart (λ a. p (suc a)) (λ a. q (suc a)) c (λ a. f (suc a)))

@@ -52,17 +52,20 @@ module _ (c : Committee) (f : AuthorityIndex → ℕ) (p : AuthorityIndex → Bo
   placed-total a (x ∷ xs) = go (ahead c a x) (placed-total a xs)
     where
       swap : (s t : Bool) → total f (keep p (placed c a xs)) ≡ total f (pick s (a ∷ keep p xs) (keep p xs))
-          → total f (pick t (x ∷ keep p (placed c a xs)) (keep p (placed c a xs))) ≡ total f (pick s (a ∷ pick t (x ∷ keep p xs) (keep p xs)) (pick t (x ∷ keep p xs) (keep p xs)))
+          → total f (pick t (x ∷ keep p (placed c a xs)) (keep p (placed c a xs))) ≡ total f
+          (pick s (a ∷ pick t (x ∷ keep p xs) (keep p xs)) (pick t (x ∷ keep p xs) (keep p xs)))
       swap true true e = omega arith
       swap true false e = omega arith
       swap false true e = omega arith
       swap false false e = omega arith
 
-      go : (t : Bool) → total f (keep p (placed c a xs)) ≡ total f (keep p (a ∷ xs)) → total f (keep p (pick t (a ∷ x ∷ xs) (x ∷ placed c a xs))) ≡ total f (keep p (a ∷ x ∷ xs))
+      go : (t : Bool) → total f (keep p (placed c a xs)) ≡ total f (keep p (a ∷ xs)) → total f (keep p (pick t (a ∷ x ∷ xs) (x ∷ placed c a xs))) ≡ total f
+          (keep p (a ∷ x ∷ xs))
       go true e = refl
       go false e = swap (p a) (p x) e
 
-  cons-total : (a : AuthorityIndex) (xs ys : List AuthorityIndex) → total f (keep p xs) ≡ total f (keep p ys) → total f (keep p (a ∷ xs)) ≡ total f (keep p (a ∷ ys))
+  cons-total : (a : AuthorityIndex) (xs ys : List AuthorityIndex) → total f (keep p xs) ≡ total f (keep p ys) → total f (keep p (a ∷ xs)) ≡ total f
+      (keep p (a ∷ ys))
   unfolding keep total
   cons-total a xs ys e = go (p a)
     where

@@ -111,8 +111,10 @@ module _ (c : Committee) (v r : AuthoritySet) where
   unfolding reached
   all-below i e few =
       let from : 0 + i ≡ i = omega arith in
-      let parts : countFrom 0 128 ≡ countFrom 0 i ++ countFrom i (128 - i) = ap (λ (n : ℕ). countFrom 0 n) (the i (omega arith)) ∙ rw from at (countFrom-add 0 i (128 - i)) in
-      let rest : keep (ringable c v r) (countFrom i (128 - i)) ≡ [] = keep-none (ringable c v r) (countFrom i (128 - i)) (λ a m. unknown a (omega (arith, countFrom-in i (128 - i) m .0))) in
+      let parts : countFrom 0 128 ≡ countFrom 0 i ++ countFrom i (128 - i) = ap (λ (n : ℕ). countFrom 0 n) (the i (omega arith)) ∙ rw from at
+      (countFrom-add 0 i (128 - i)) in
+      let rest : keep (ringable c v r) (countFrom i (128 - i)) ≡ [] = keep-none (ringable c v r) (countFrom i (128 - i))
+      (λ a m. unknown a (omega (arith, countFrom-in i (128 - i) m .0))) in
       rw parts (keep-append (ringable c v r) (countFrom 0 i) (countFrom i (128 - i)) ∙ rw rest (append-nil (below i)))
     where
       the : (n : ℕ) → n ≤ 128 → 128 ≡ n + (128 - n)

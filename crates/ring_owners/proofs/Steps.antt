@@ -27,11 +27,27 @@ ahead-not : (c : Committee) (a b : AuthorityIndex) → ahead c a b ≡ true → 
 unfolding ahead
 ahead-not c a b h = fails _ (λ k. both (or-cases (ltb (getStake c b) (getStake c a)) _ h) (or-cases (ltb (getStake c a) (getStake c b)) _ k))
   where
-    both : (ltb (getStake c b) (getStake c a) ≡ true) ⊎ (eqb (getStake c b) (getStake c a) && ltb a b ≡ true) → (ltb (getStake c a) (getStake c b) ≡ true) ⊎ (eqb (getStake c a) (getStake c b) && ltb b a ≡ true) → ⊥
+    both : (ltb (getStake c b) (getStake c a) ≡ true) ⊎ (eqb (getStake c b) (getStake c a) && ltb a b ≡ true) → (ltb (getStake c a) (getStake c b) ≡ true) ⊎
+        (eqb (getStake c a) (getStake c b) && ltb b a ≡ true) → ⊥
     both (inl p) (inl q) = omega (arith, ltb-true (getStake c b) (getStake c a) p, ltb-true (getStake c a) (getStake c b) q)
-    both (inl p) (inr q) = omega (arith, ltb-true (getStake c b) (getStake c a) p, eqb-true (getStake c a) (getStake c b) (and-left (eqb (getStake c a) (getStake c b)) _ q))
-    both (inr p) (inl q) = omega (arith, eqb-true (getStake c b) (getStake c a) (and-left (eqb (getStake c b) (getStake c a)) _ p), ltb-true (getStake c a) (getStake c b) q)
-    both (inr p) (inr q) = omega (arith, ltb-true a b (and-right (eqb (getStake c b) (getStake c a)) _ p), ltb-true b a (and-right (eqb (getStake c a) (getStake c b)) _ q))
+    both (inl p) (inr q) = omega (
+      arith,
+      ltb-true (getStake c b) (getStake c a) p,
+      eqb-true (getStake c a) (getStake c b)
+          (and-left (eqb (getStake c a) (getStake c b)) _ q),
+    )
+    both (inr p) (inl q) = omega (
+      arith,
+      eqb-true (getStake c b) (getStake c a) (and-left (eqb (getStake c b) (getStake c a)) _ p),
+      ltb-true (getStake c a)
+          (getStake c b) q,
+    )
+    both (inr p) (inr q) = omega (
+      arith,
+      ltb-true a b (and-right (eqb (getStake c b) (getStake c a)) _ p),
+      ltb-true b a
+          (and-right (eqb (getStake c a) (getStake c b)) _ q),
+    )
 
 -- placed before all others
 placed-first : (c : Committee) (h : AuthorityIndex) (ys : List AuthorityIndex) → ((y : AuthorityIndex) → y ∈ ys → ahead c h y ≡ true) → placed c h ys ≡ h ∷ ys
@@ -63,8 +79,10 @@ ranked-first c (x ∷ xs) h (also n o) f = go (ℕ-discrete x h) (λ k. ranked-f
     behind (inl e) k = absurd (k e)
     behind (inr m) k = ahead-not c h x m
 
-    go : Dec (x ≡ h) → (First c xs h → ranked c xs ≡ h ∷ ranked c (others h xs)) → placed c x (ranked c xs) ≡ h ∷ ranked c (pick (not (eqb x h)) (x ∷ others h xs) (others h xs))
-    go (yes e) ih = placed-first c x (ranked c xs) (lead e) ∙ rw (eq-eqb x h e, keep-all (λ a. not (eqb a h)) xs (apart e)) (ap {B = List ℕ} (λ y. y ∷ ranked c xs) e)
+    go : Dec (x ≡ h) → (First c xs h → ranked c xs ≡ h ∷ ranked c (others h xs)) → placed c x (ranked c xs) ≡ h ∷ ranked c
+        (pick (not (eqb x h)) (x ∷ others h xs) (others h xs))
+    go (yes e) ih = placed-first c x (ranked c xs) (lead e) ∙ rw (eq-eqb x h e, keep-all (λ a. not (eqb a h)) xs (apart e))
+        (ap {B = List ℕ} (λ y. y ∷ ranked c xs) e)
     go (no e) ih =
         let k : First c xs h = record { among = later (in-cases (f .among)) e; leads = λ y m. f .leads y (there m) } in
         rw (ih k, ne-eqb x h e) (unfold placed in rw (behind (f .leads x here) e))
@@ -113,16 +131,19 @@ first-scan c xs h a up f = go (decLt (getStake c h) (getStake c a))
             by : Dec (getStake c a < getStake c h) → ahead c h a ≡ true
             by (yes k) = unfold ahead in or-left (ltb (getStake c a) (getStake c h)) _ (lt-ltb (getStake c a) (getStake c h) k)
             by (no k) =
-                unfold ahead in or-right (ltb (getStake c a) (getStake c h)) _ (and-both _ _ (eq-eqb (getStake c a) (getStake c h) (omega arith)) (lt-ltb h a (up h (f .among))))
+                unfold ahead in or-right (ltb (getStake c a) (getStake c h)) _
+                (and-both _ _ (eq-eqb (getStake c a) (getStake c h) (omega arith)) (lt-ltb h a (up h (f .among))))
 
         old : (y : AuthorityIndex) → (y ∈ xs) ⊎ (y ∈ (a ∷ [])) → (y ≡ h) ⊎ (ahead c h y ≡ true)
         old y (inl m) = f .leads y m
         old y (inr m) = inr (last y (in-cases m))
 
 -- the set grows by one owner at the end of the list
-pub set-next : (xs : List AuthorityIndex) (a : AuthorityIndex) → a < 128 → ((y : AuthorityIndex) → y ∈ xs → y < 128) → setOf (xs ++ a ∷ []) ≡ inserted (setOf xs) a
+pub set-next : (xs : List AuthorityIndex) (a : AuthorityIndex) → a < 128 → ((y : AuthorityIndex) → y ∈ xs → y < 128) → setOf (xs ++ a ∷ []) ≡ inserted
+    (setOf xs) a
 set-next xs a l f =
-    set-ext (setOf (xs ++ a ∷ [])) (inserted (setOf xs) a) (small-set (xs ++ a ∷ []) (λ y m. below y (in-append xs m))) (small-inserted (setOf xs) a l (small-set xs f)) (λ b k. same-test _ _ (λ h. there-in b h) (λ h. back-in b h))
+    set-ext (setOf (xs ++ a ∷ [])) (inserted (setOf xs) a) (small-set (xs ++ a ∷ []) (λ y m. below y (in-append xs m)))
+    (small-inserted (setOf xs) a l (small-set xs f)) (λ b k. same-test _ _ (λ h. there-in b h) (λ h. back-in b h))
   where
     below : (y : AuthorityIndex) → (y ∈ xs) ⊎ (y ∈ (a ∷ [])) → y < 128
     below y (inl m) = f y m

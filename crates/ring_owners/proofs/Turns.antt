@@ -42,7 +42,8 @@ none-rung c v r h = go (ranked c (reached c v r))
     go (x ∷ xs) = unfold untilQuorum in rw h
 
 -- somebody is left while the voters miss quorum and all together have it
-pub someone : (c : Committee) → length c ≤ 128 → (v r : AuthoritySet) → isQuorum c (stakeOf c v) ≡ false → isQuorum c (stakeOf c (united v r)) ≡ true → reached c v r ≡ [] → ⊥
+pub someone : (c : Committee) → length c ≤ 128 → (v r : AuthoritySet) → isQuorum c (stakeOf c v) ≡ false → isQuorum c (stakeOf c (united v r)) ≡ true →
+    reached c v r ≡ [] → ⊥
 someone c few v r h q e =
     let alone : total (getStake c) (ranked c (reached c v r)) ≡ 0 = rw e (unfold ranked total in refl) in
     let same : stakeOf c (united v r) ≡ stakeOf c v = omega (arith, all-stake c few v r) in
@@ -94,7 +95,9 @@ module _ (c : Committee) (v r : AuthoritySet) (a : AuthorityIndex) where
 
   -- all together have no less
   all-more : stakeOf c (united v r) ≤ stakeOf c (united (inserted v a) r)
-  all-more = rw (stake-of c (united v r), stake-of c (united (inserted v a) r)) (weigh-mono _ _ c (λ b l h. rw (member-united (inserted v a) r b, member-inserted v a b) (go (member v b) (eqb b a) (member r b) (rw (member-united v r b) at h))))
+  all-more = rw (stake-of c (united v r), stake-of c (united (inserted v a) r))
+      (weigh-mono _ _ c (λ b l h. rw (member-united (inserted v a) r b, member-inserted v a b)
+      (go (member v b) (eqb b a) (member r b) (rw (member-united v r b) at h))))
     where
       go : (s e t : Bool) → s || t ≡ true → (s || e) || t ≡ true
       go true e t h = refl
@@ -115,7 +118,8 @@ module _ (c : Committee) (v r : AuthoritySet) where
   ringing-start s e q = record { called = []; low = λ a m. absurd (in-empty m); are = unfold setOf in refl; rest = refl; held = e; all = q }
 
   module _ (o w : AuthoritySet) (s : Stake) (g : Ringing o w s) where
-    pub ringing-turn : length c ≤ 128 → isQuorum c s ≡ false → (a : AuthorityIndex) → First c (reached c w r) a → Ringing (inserted o a) (inserted w a) (s + getStake c a)
+    pub ringing-turn : length c ≤ 128 → isQuorum c s ≡ false → (a : AuthorityIndex) → First c (reached c w r) a → Ringing (inserted o a) (inserted w a)
+        (s + getStake c a)
     ringing-turn few q a f =
         record {
           called = g .called ++ a ∷ [];

@@ -61,7 +61,8 @@ behind-order c a b h = go (decLt (getStake c a) (getStake c b)) (decLt a b)
     go (no l) (no k) = level (omega (arith, most)) (omega arith)
     go (no l) (yes k) =
         let e : getStake c b ≡ getStake c a = omega (arith, most) in
-        absurd (not-both (and-both (eqb (getStake c b) (getStake c a)) (ltb a b) (eq-eqb (getStake c b) (getStake c a) e) (lt-ltb a b k)) (neither-right (ltb (getStake c b) (getStake c a)) _ h))
+        absurd (not-both (and-both (eqb (getStake c b) (getStake c a)) (ltb a b) (eq-eqb (getStake c b) (getStake c a) e) (lt-ltb a b k))
+        (neither-right (ltb (getStake c b) (getStake c a)) _ h))
 
 bonus-most : (a : AuthorityIndex) → bonus a ≤ scale
 unfolding bonus scale
@@ -112,14 +113,17 @@ unfolding total
 few-powers y [] none-left = omega (arith, bonus-pos y)
 few-powers y (a ∷ xs) (next-up h l k) = omega (arith, few-powers (a + 1) xs k, double a l, bonus-falls y a h)
 
-pub first-more : (y : ℕ) (xs ys : List AuthorityIndex) → Ascends y xs → Ascends y ys → length xs ≡ length ys → before xs ys ≡ true → total bonus ys < total bonus xs
+pub first-more : (y : ℕ) (xs ys : List AuthorityIndex) → Ascends y xs → Ascends y ys → length xs ≡ length ys → before xs ys ≡ true → total bonus ys < total
+    bonus xs
 unfolding before total
 first-more y [] [] h k e b = absurd (true≢false (sym b))
 first-more y [] (z ∷ zs) h k e b = absurd (omega arith)
 first-more y (x ∷ xs) [] h k e b = absurd (omega arith)
-first-more y (x ∷ xs) (z ∷ zs) (next-up hx lx h) (next-up hz lz k) e b = go (or-cases (ltb x z) _ b) (λ (q : x ≡ z) r. first-more (x + 1) xs zs h (rw q k) (suc-inj e) r)
+first-more y (x ∷ xs) (z ∷ zs) (next-up hx lx h) (next-up hz lz k) e b = go (or-cases (ltb x z) _ b)
+    (λ (q : x ≡ z) r. first-more (x + 1) xs zs h (rw q k) (suc-inj e) r)
   where
-    go : (ltb x z ≡ true) ⊎ (eqb x z && before xs zs ≡ true) → (x ≡ z → before xs zs ≡ true → total bonus zs < total bonus xs) → bonus z + total bonus zs < bonus x + total bonus xs
+    go : (ltb x z ≡ true) ⊎ (eqb x z && before xs zs ≡ true) → (x ≡ z → before xs zs ≡ true → total bonus zs < total bonus xs) → bonus z + total bonus zs <
+        bonus x + total bonus xs
     go (inl i) ih =
         let l : x < z = ltb-true x z i in
         omega (arith, few-powers (z + 1) zs k, double z lz, double x lx, bonus-falls (x + 1) z (omega arith))

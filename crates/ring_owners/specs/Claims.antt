@@ -12,7 +12,8 @@ use Rattle.ring_owners.specs.Ranked.{rung, Ring, ringOf, ring}
 
 -- the set that is answered is the one that 02 wants, with its stake
 unfoldable pub RungIsIt : Type 0
-RungIsIt = (c : Committee) → broken c ≡ false → (v r : AuthoritySet) (g : Ring) → ring c v r ≡ answered g → Rung c v r (g .owners) × (g .stake ≡ stakeOf c (g .owners))
+RungIsIt = (c : Committee) → broken c ≡ false → (v r : AuthoritySet) (g : Ring) → ring c v r ≡ answered g → Rung c v r (g .owners) ×
+    (g .stake ≡ stakeOf c (g .owners))
 
 -- and there is no other
 unfoldable pub OnlyRung : Type 0

@@ -36,7 +36,8 @@ module _ (c : Committee) (s : Bytes) (t : List ℕ) (w : AuthoritySet) (l : Tran
   unfolding whomToRing
   asked-at h = rw (lying c s t h .passing)
 
-  module _ (p : ℕ) (r : Found) (h : HoldsItems t) (e : p ≡ positionOf (lookup (entries (recordsOf s)) (l .block))) (f : FoundBy (itemHolds p (l .offset)) (itemsOf t) r) where
+  module _ (p : ℕ) (r : Found) (h : HoldsItems t) (e : p ≡ positionOf (lookup (entries (recordsOf s)) (l .block)))
+      (f : FoundBy (itemHolds p (l .offset)) (itemsOf t) r) where
     pub ring-none : r ≡ Nothing → ringAt c s t w l ≡ refused 42
     unfolding ringAt ringFor
     ring-none q = rw (← e, at-none (itemsOf t) (holds-ordered t h) p (l .offset) r f q)
@@ -47,13 +48,18 @@ module _ (c : Committee) (s : Bytes) (t : List ℕ) (w : AuthoritySet) (l : Tran
 
 pub claimed : Claims
 unfolding pending standingAt whomToRing ringAt
-claimed = record { refusedAlike = λ c s t r l n h. alike c s t r l n h (passes (pendingChecks c s t)) (itemAt (itemsOf t) (positionOf (lookup (entries (recordsOf s)) (l .block))) (l .offset)) h }
+claimed = record {
+  refusedAlike = λ c s t r l n h. alike c s t r l n h (passes (pendingChecks c s t))
+      (itemAt (itemsOf t) (positionOf (lookup (entries (recordsOf s)) (l .block))) (l .offset)) h;
+}
   where
     none-or : (c : Committee) (r : AuthoritySet) (n : ℕ) (o : Option Item) → standingOf o ≡ refused n → ringFor c r o ≡ refused n
     none-or c r n none h = unfold standingOf ringFor in (cc)
     none-or c r n (some x) h = let z : _≡_ {A = ℕ} 0 1 = unfold standingOf in (cc) in absurd (omega arith)
 
-    alike : (c : Committee) (s : Bytes) (t : List ℕ) (r : AuthoritySet) (l : TransactionLocator) (n : ℕ) → pending c s t l ≡ refused n → (u : Bool) (o : Option Item)
-        → pick u (standingOf o) (refused (refusal (pendingChecks c s t))) ≡ refused n → pick u (ringFor c r o) (refused (refusal (pendingChecks c s t))) ≡ refused n
+    alike : (c : Committee) (s : Bytes) (t : List ℕ) (r : AuthoritySet) (l : TransactionLocator) (n : ℕ) → pending c s t l ≡ refused n → (u : Bool)
+        (o : Option Item)
+        → pick u (standingOf o) (refused (refusal (pendingChecks c s t))) ≡ refused n → pick u (ringFor c r o) (refused (refusal (pendingChecks c s t))) ≡
+        refused n
     alike c s t r l n k true o h = none-or c r n o h
     alike c s t r l n k false o h = (cc)

@@ -32,4 +32,5 @@ whomToRing c s t r l = pick (passes (pendingChecks c s t)) (ringAt c s t r l) (r
 
 pub record Claims : Type 0 where
   -- what refuses the pending question refuses this one, with the same number and before 60
-  pub refusedAlike : (c : Committee) (s : Bytes) (t : List ℕ) (r : AuthoritySet) (l : TransactionLocator) (n : ℕ) → pending c s t l ≡ refused n → whomToRing c s t r l ≡ refused n
+  pub refusedAlike : (c : Committee) (s : Bytes) (t : List ℕ) (r : AuthoritySet) (l : TransactionLocator) (n : ℕ) → pending c s t l ≡ refused n → whomToRing c
+      s t r l ≡ refused n

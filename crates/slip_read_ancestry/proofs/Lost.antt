@@ -83,7 +83,8 @@ module _ (q : Bytes) (order : List ℕ) (p : Places q (suppliedBlocks q) order) 
     its = blockAtPlace q order j .includes
 
     -- an include is lost exactly where it is noted so
-    pub noted-lost : (k : ℕ) → k < length its → (r : code.Led) → LedTo q order r (onBy bs toBlock (getElem? its k)) → lostAt t r ≡ lost bs (getD its k noReference)
+    pub noted-lost : (k : ℕ) → k < length its → (r : code.Led) → LedTo q order r (onBy bs toBlock (getElem? its k)) → lostAt t r ≡ lost bs
+        (getD its k noReference)
     unfolding lostAt lost holds isNone
     noted-lost k m r d = go r refl
       where
@@ -94,7 +95,8 @@ module _ (q : Bytes) (order : List ℕ) (p : Places q (suppliedBlocks q) order) 
         go (To i) e =
             let x = led-block q order r _ i e led in
             let y = from-block (named bs (getD its k noReference)) (blockAtPlace q order i) (x .1) in
-            rw (y, n .at i (lower-place q order p f j i h (x .0) (getD its k noReference) (in-place noReference its k m) y)) (flag-back (inAncestry (lacks bs) bs (blockAtPlace q order i)))
+            rw (y, n .at i (lower-place q order p f j i h (x .0) (getD its k noReference) (in-place noReference its k m) y))
+            (flag-back (inAncestry (lacks bs) bs (blockAtPlace q order i)))
         go Nowhere e = absurd (from-somewhere (named bs (getD its k noReference)) (led-nowhere q order r _ e led))
         go NotGiven e = rw (from-none (named bs (getD its k noReference)) (led-missing q order r _ e led))
 
@@ -112,7 +114,8 @@ module _ (q : Bytes) (order : List ℕ) (p : Places q (suppliedBlocks q) order) 
   pub lacking-none : (t : List ℕ) → Lacking q order 0 t
   lacking-none t = record { at = λ j h. absurd (omega arith) }
 
-  pub lacking-more : (t : List ℕ) (n v : ℕ) → Lacking q order n t → n < length t → v ≡ pick (inAncestry (lacks bs) bs (blockAtPlace q order n)) 1 0 → Lacking q order (n + 1) (set t n v)
+  pub lacking-more : (t : List ℕ) (n v : ℕ) → Lacking q order n t → n < length t → v ≡ pick (inAncestry (lacks bs) bs (blockAtPlace q order n)) 1 0 → Lacking
+      q order (n + 1) (set t n v)
   lacking-more t n v k h e = record { at = λ j m. go j m (ℕ-discrete j n) }
     where
       go : (j : ℕ) → j < n + 1 → Dec (j ≡ n) → getD (set t n v) j 0 ≡ pick (inAncestry (lacks bs) bs (blockAtPlace q order j)) 1 0

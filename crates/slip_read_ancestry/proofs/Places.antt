@@ -48,9 +48,12 @@ module _ (q : Bytes) (order : List ℕ) (p : Places q (suppliedBlocks q) order) 
       under : referenceBefore (referenceIn q order k) (referenceIn q order j) ≡ true
       under =
           round-before (referenceIn q order k) (referenceIn q order j)
-          (subst (λ (r : BlockReference). r .round < referenceIn q order j .round) (sym (named-reference (suppliedBlocks q) i (blockAtPlace q order k) e)) (f .lower (blockAtPlace q order j) (p .only j h) i m))
+          (subst (λ (r : BlockReference). r .round < referenceIn q order j .round) (sym (named-reference (suppliedBlocks q) i (blockAtPlace q order k) e))
+          (f .lower (blockAtPlace q order j) (p .only j h) i m))
 
       go : Dec (k < j) → Dec (j ≡ k) → k < j
       go (yes a) b = a
-      go (no a) (yes b) = absurd (reference-irrefl (referenceIn q order j) (subst (λ (x : ℕ). referenceBefore (referenceIn q order x) (referenceIn q order j) ≡ true) (sym b) under))
-      go (no a) (no b) = absurd (reference-irrefl (referenceIn q order j) (reference-trans (referenceIn q order j) (referenceIn q order k) (referenceIn q order j) (p .sorted .rises j k (omega arith) g) under))
+      go (no a) (yes b) = absurd (reference-irrefl (referenceIn q order j)
+          (subst (λ (x : ℕ). referenceBefore (referenceIn q order x) (referenceIn q order j) ≡ true) (sym b) under))
+      go (no a) (no b) = absurd (reference-irrefl (referenceIn q order j)
+          (reference-trans (referenceIn q order j) (referenceIn q order k) (referenceIn q order j) (p .sorted .rises j k (omega arith) g) under))

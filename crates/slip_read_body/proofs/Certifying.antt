@@ -35,7 +35,8 @@ least-body reading = least-bind readLocator _ 56 2 fixed-locator (λ l. least-bi
 
 least-first : Least 59 readFirst
 unfolding readFirst
-least-first = least-bind (number 1) _ 1 58 (fixed-number 1) (λ first. least-given 58 (ltb first 2) (readBody (readingOf (eqb first 1))) (least-body (readingOf (eqb first 1))))
+least-first = least-bind (number 1) _ 1 58 (fixed-number 1) (λ first. least-given 58 (ltb first 2) (readBody (readingOf (eqb first 1)))
+    (least-body (readingOf (eqb first 1))))
 
 pub short-slip : (s : Bytes) → length s < 59 → readSlip s ≡ none
 unfolding readSlip complete
@@ -71,15 +72,18 @@ module _ (s : Bytes) (h : headRight s ≡ true) where
         number-at 2 s 57 (omega (arith, head-long)),
       )
 
-  pub slip-none : ((r : Part (List SlipCertifier)) → repeated (leAt 2 s 57) readCertifier (drop 59 s) ≡ some r → certifiersAscend (r .value) ≡ false) → readSlip s ≡ none
+  pub slip-none : ((r : Part (List SlipCertifier)) → repeated (leAt 2 s 57) readCertifier (drop 59 s) ≡ some r → certifiersAscend (r .value) ≡ false) →
+      readSlip s ≡ none
   unfolding onward given fail complete
   slip-none f = slip-on ∙ go (repeated (leAt 2 s 57) readCertifier (drop 59 s)) f
     where
-      go : (o : Option (Part (List SlipCertifier))) → ((r : Part (List SlipCertifier)) → o ≡ some r → certifiersAscend (r .value) ≡ false) → complete (onward o ofCertifiers) ≡ none
+      go : (o : Option (Part (List SlipCertifier))) → ((r : Part (List SlipCertifier)) → o ≡ some r → certifiersAscend (r .value) ≡ false) → complete
+          (onward o ofCertifiers) ≡ none
       go none g = refl
       go (some r) g = rw (g r refl)
 
-  module _ (ks : List SlipCertifier) (end : ℕ) (e : repeated (leAt 2 s 57) readCertifier (drop 59 s) ≡ some (part ks (drop end s))) (k : certifiersAscend ks ≡ true) (i : end ≤ length s) where
+  module _ (ks : List SlipCertifier) (end : ℕ) (e : repeated (leAt 2 s 57) readCertifier (drop 59 s) ≡ some (part ks (drop end s)))
+      (k : certifiersAscend ks ≡ true) (i : end ≤ length s) where
     slip-whole : readSlip s ≡ pick (eqb end (length s)) (some (record { reading = readingAt s; locator = locatorAt s 1; certifiers = ks })) none
     unfolding onward given give complete
     slip-whole = slip-on ∙ rw (e, k, empty-drop s end i)

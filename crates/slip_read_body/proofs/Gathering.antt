@@ -47,7 +47,8 @@ module _ (c : Committee) (s : Bytes) (q : Bytes) (order votes lacking rejecting 
     pub taken : List SlipCertifier
     pub listed : Listed readCertifier referenceOf referenceBefore reference-trans s 59 (leAt 2 s 57) at i (referenceAt s last) taken
     pub speak : Speak authors (map (λ k. k .reference .authority) taken)
-    pub shows : (reading : Reading) (l : TransactionLocator) → Known reading q order l votes lacking rejecting → shown ≡ certifiersVerdict reading c (suppliedBlocks q) l taken
+    pub shows : (reading : Reading) (l : TransactionLocator) → Known reading q order l votes lacking rejecting → shown ≡ certifiersVerdict reading c
+        (suppliedBlocks q) l taken
     pub back : last + 48 ≤ length s
 
   pub gathering-start : 59 ≤ length s → Gathering 59 nobody 0 0 0
@@ -74,42 +75,53 @@ module _ (c : Committee) (s : Bytes) (q : Bytes) (order votes lacking rejecting 
         }
 
     module _ (more : i < n) where
-      pub gathering-none : readCertifier (drop at s) ≡ none → (r : Part (List SlipCertifier)) → repeated n readCertifier (drop 59 s) ≡ some r → certifiersAscend (r .value) ≡ false
+      pub gathering-none : readCertifier (drop at s) ≡ none → (r : Part (List SlipCertifier)) → repeated n readCertifier (drop 59 s) ≡ some r →
+          certifiersAscend (r .value) ≡ false
       gathering-none h r e =
-          absurd (Option·none-ne-some r (sym (listed-none readCertifier referenceOf referenceBefore reference-trans s 59 n at i (referenceAt s last) (t .taken) (t .listed) more h) ∙ e))
+          absurd (Option·none-ne-some r (sym (listed-none readCertifier referenceOf referenceBefore reference-trans s 59 n at i (referenceAt s last)
+          (t .taken) (t .listed) more h) ∙ e))
 
       module _ (end own : ℕ) (one : ReadOne c s at q order votes lacking rejecting end own) where
         pub gathering-falls : eqb i 0 || referenceBefore (referenceAt s last) (referenceAt s at) ≡ false
             → (r : Part (List SlipCertifier)) → repeated n readCertifier (drop 59 s) ≡ some r → certifiersAscend (r .value) ≡ false
         unfolding certifiersAscend
         gathering-falls h =
-            listed-falls readCertifier referenceOf referenceBefore reference-trans s 59 n at i (referenceAt s last) (t .taken) (t .listed) more (one .certifier) end (one .reads)
+            listed-falls readCertifier referenceOf referenceBefore reference-trans s 59 n at i (referenceAt s last) (t .taken) (t .listed) more
+            (one .certifier) end (one .reads)
             (not-first (neither-left (eqb i 0) _ h)) (ap (referenceBefore (referenceAt s last)) (one .named-by) ∙ neither-right (eqb i 0) _ h)
 
-        pub gathering-on : (new author : ℕ) (with : AuthoritySet) → eqb i 0 || referenceBefore (referenceAt s last) (referenceAt s at) ≡ true → author ≡ leAt 8 s at
+        pub gathering-on : (new author : ℕ) (with : AuthoritySet) → eqb i 0 || referenceBefore (referenceAt s last) (referenceAt s at) ≡ true → author ≡ leAt
+            8 s at
             → with ≡ pick (ltb author 128) (inserted authors author) authors → new ≡ worse shown own → Gathering end with new at (i + 1)
         unfolding referenceAt
         gathering-on new author with h a e f =
             record {
               taken = t .taken ++ one .certifier ∷ [];
               listed =
-                  subst (λ (r : BlockReference). Listed readCertifier referenceOf referenceBefore reference-trans s 59 n end (i + 1) r (t .taken ++ one .certifier ∷ [])) (one .named-by)
-                  (listed-on readCertifier referenceOf referenceBefore reference-trans s 59 n at i (referenceAt s last) (t .taken) (t .listed) more (one .certifier) end (one .reads)
-                  (λ z. ap (referenceBefore (referenceAt s last)) (one .named-by) ∙ not-last (or-cases (eqb i 0) (referenceBefore (referenceAt s last) (referenceAt s at)) h) z) (one .inside));
+                  subst (λ (r : BlockReference). Listed readCertifier referenceOf referenceBefore reference-trans s 59 n end (i + 1) r
+                  (t .taken ++ one .certifier ∷ [])) (one .named-by)
+                  (listed-on readCertifier referenceOf referenceBefore reference-trans s 59 n at i (referenceAt s last) (t .taken) (t .listed) more
+                  (one .certifier) end (one .reads)
+                  (λ z. ap (referenceBefore (referenceAt s last)) (one .named-by) ∙ not-last
+                  (or-cases (eqb i 0) (referenceBefore (referenceAt s last) (referenceAt s at)) h) z) (one .inside));
               speak =
                   let own-author : author ≡ one .certifier .reference .authority = a ∙ sym (ap (λ (r : BlockReference). r .authority) (one .named-by)) in
-                  rw (e, map-append authorOf (t .taken) (one .certifier ∷ []), own-author) (speak-more authors (map authorOf (t .taken)) (one .certifier .reference .authority) (t .speak));
-              shows = λ reading l m. f ∙ rw (t .shows reading l m, one .shows reading l m) (sym (shows-more reading c (suppliedBlocks q) l (t .taken) (one .certifier)));
+                  rw (e, map-append authorOf (t .taken) (one .certifier ∷ []), own-author)
+                  (speak-more authors (map authorOf (t .taken)) (one .certifier .reference .authority) (t .speak));
+              shows = λ reading l m. f ∙ rw (t .shows reading l m, one .shows reading l m)
+                  (sym (shows-more reading c (suppliedBlocks q) l (t .taken) (one .certifier)));
               back = omega (arith, one .long);
             }
           where
-            not-last : (eqb i 0 ≡ true) ⊎ (referenceBefore (referenceAt s last) (referenceAt s at) ≡ true) → 0 < i → referenceBefore (referenceAt s last) (referenceAt s at) ≡ true
+            not-last : (eqb i 0 ≡ true) ⊎ (referenceBefore (referenceAt s last) (referenceAt s at) ≡ true) → 0 < i → referenceBefore (referenceAt s last)
+                (referenceAt s at) ≡ true
             not-last (inl z) y = absurd (omega (arith, eqb-true i 0 z))
             not-last (inr z) y = z
 
 -- ---- the slip
 
-module _ (c : Committee) (s : Bytes) (q : Bytes) (order votes lacking rejecting : List ℕ) (end : ℕ) (authors : AuthoritySet) (shown : ℕ) (sound : broken c ≡ false) (h : headRight s ≡ true)
+module _ (c : Committee) (s : Bytes) (q : Bytes) (order votes lacking rejecting : List ℕ) (end : ℕ) (authors : AuthoritySet) (shown : ℕ)
+    (sound : broken c ≡ false) (h : headRight s ≡ true)
     (r : ReadAll c s q order votes lacking rejecting end authors shown) where
   pub after-all : (end ≡ length s → ⊥) → readSlip s ≡ none
   after-all f = slip-more s h (r .certifiers) end (r .reads) (r .ascend) (r .inside) f
@@ -118,7 +130,8 @@ module _ (c : Committee) (s : Bytes) (q : Bytes) (order votes lacking rejecting 
     abbrev the : Slip
     the = record { reading = readingAt s; locator = locatorAt s 1; certifiers = r .certifiers }
 
-    slip-shows : (v : ℕ) → (Known (readingAt s) q order (locatorAt s 1) votes lacking rejecting → v ≡ verdict (missing (suppliedBlocks q) the) (slipHolds c (suppliedBlocks q) the))
+    slip-shows : (v : ℕ) → (Known (readingAt s) q order (locatorAt s 1) votes lacking rejecting → v ≡ verdict (missing (suppliedBlocks q) the)
+        (slipHolds c (suppliedBlocks q) the))
         → ReadSlip c s q order votes lacking rejecting v
     slip-shows v f =
         record {
@@ -132,4 +145,5 @@ module _ (c : Committee) (s : Bytes) (q : Bytes) (order votes lacking rejecting 
     all-found f = slip-shows shown (λ m. slip-found c (suppliedBlocks q) the shown (r .shows (readingAt s) (locatorAt s 1) m) f)
 
     pub all-quorum : (t : Bool) → shown ≡ 0 → t ≡ isQuorum c (stakeOf c authors) → ReadSlip c s q order votes lacking rejecting (pick t 0 1)
-    all-quorum t z f = slip-shows (pick t 0 1) (λ m. slip-quorum c (suppliedBlocks q) the shown (r .shows (readingAt s) (locatorAt s 1) m) t z (f ∙ quorum-same c authors _ sound (r .speak)))
+    all-quorum t z f = slip-shows (pick t 0 1) (λ m. slip-quorum c (suppliedBlocks q) the shown (r .shows (readingAt s) (locatorAt s 1) m) t z
+        (f ∙ quorum-same c authors _ sound (r .speak)))

@@ -28,12 +28,14 @@ module _ (reading : Reading) (c : Committee) (bs : List Block) (l : TransactionL
   shows-none = refl
 
   pub shows-more : (ks : List SlipCertifier) (k : SlipCertifier)
-      → certifiersVerdict reading c bs l (ks ++ k ∷ []) ≡ worse (certifiersVerdict reading c bs l ks) (certifierVerdict reading c bs l (k .voters) (named bs (k .reference)))
+      → certifiersVerdict reading c bs l (ks ++ k ∷ []) ≡ worse (certifiersVerdict reading c bs l ks)
+      (certifierVerdict reading c bs l (k .voters) (named bs (k .reference)))
   unfolding certifiersVerdict certifierVerdict anyOf allOf
   shows-more ks k =
       let gone : SlipCertifier → Bool = λ x. missingFrom reading bs (x .voters) (named bs (x .reference)) in
       let held : SlipCertifier → Bool = λ x. holds (certifierHolds reading c bs l (x .voters)) (named bs (x .reference)) in
-      rw (any-append gone ks (k ∷ []), all-append held ks (k ∷ []), or-false (gone k), and-true (held k)) (sym (worse-both (anyOf gone ks) (gone k) (allOf held ks) (held k)))
+      rw (any-append gone ks (k ∷ []), all-append held ks (k ∷ []), or-false (gone k), and-true (held k))
+      (sym (worse-both (anyOf gone ks) (gone k) (allOf held ks) (held k)))
 
 module _ (c : Committee) (bs : List Block) (s : Slip) (v : ℕ) (e : v ≡ certifiersVerdict (s .reading) c bs (s .locator) (s .certifiers)) where
   abbrev gone : Bool

@@ -42,24 +42,28 @@ certifiersVerdict reading c bs l ks =
     (allOf (λ k. holds (certifierHolds reading c bs l (k .voters)) (named bs (k .reference))) ks)
 
 -- the certifiers that were read after the head, with their authors and what they show
-pub record ReadAll (c : Committee) (s : Bytes) (q : Bytes) (order votes lacking rejecting : List ℕ) (end : ℕ) (authors : AuthoritySet) (shown : ℕ) : Type 0 where
-  pub certifiers : List SlipCertifier
-  pub reads : repeated (leAt 2 s 57) readCertifier (drop 59 s) ≡ some (record { value = certifiers; rest = drop end s })
-  pub inside : end ≤ length s
-  pub ascend : certifiersAscend certifiers ≡ true
-  pub speak : Speak authors (map (λ k. k .reference .authority) certifiers)
-  pub shows : (reading : Reading) (l : TransactionLocator) → Known reading q order l votes lacking rejecting → shown ≡ certifiersVerdict reading c (suppliedBlocks q) l certifiers
+pub record ReadAll (c : Committee) (s : Bytes) (q : Bytes) (order votes lacking rejecting : List ℕ) (end : ℕ) (authors : AuthoritySet) (shown : ℕ) : Type 0
+  where
+    pub certifiers : List SlipCertifier
+    pub reads : repeated (leAt 2 s 57) readCertifier (drop 59 s) ≡ some (record { value = certifiers; rest = drop end s })
+    pub inside : end ≤ length s
+    pub ascend : certifiersAscend certifiers ≡ true
+    pub speak : Speak authors (map (λ k. k .reference .authority) certifiers)
+    pub shows : (reading : Reading) (l : TransactionLocator) → Known reading q order l votes lacking rejecting → shown ≡ certifiersVerdict reading c
+        (suppliedBlocks q) l certifiers
 
 unfoldable pub TookCertifiers : Committee → Bytes → Bytes → List ℕ → List ℕ → List ℕ → List ℕ → TakenCertifiers → Type 0
 TookCertifiers c s q order votes lacking rejecting (certifiers.Certifiers end authors shown) = ReadAll c s q order votes lacking rejecting end authors shown
-TookCertifiers c s q order votes lacking rejecting certifiers.Malformed = (r : Part (List SlipCertifier)) → repeated (leAt 2 s 57) readCertifier (drop 59 s) ≡ some r → certifiersAscend (r .value) ≡ false
+TookCertifiers c s q order votes lacking rejecting certifiers.Malformed = (r : Part (List SlipCertifier)) → repeated (leAt 2 s 57) readCertifier (drop 59 s) ≡
+    some r → certifiersAscend (r .value) ≡ false
 
 -- the slip that was read, and what it shows
 pub record ReadSlip (c : Committee) (s : Bytes) (q : Bytes) (order votes lacking rejecting : List ℕ) (shown : ℕ) : Type 0 where
   pub slip : Slip
   pub reads : readSlip s ≡ some slip
   pub many : length (slip .certifiers) ≡ leAt 2 s 57
-  pub shows : Known (readingAt s) q order (locatorAt s 1) votes lacking rejecting → shown ≡ verdict (missing (suppliedBlocks q) slip) (slipHolds c (suppliedBlocks q) slip)
+  pub shows : Known (readingAt s) q order (locatorAt s 1) votes lacking rejecting → shown ≡ verdict (missing (suppliedBlocks q) slip)
+      (slipHolds c (suppliedBlocks q) slip)
 
 unfoldable pub TookSlip : Committee → Bytes → Bytes → List ℕ → List ℕ → List ℕ → List ℕ → TakenSlip → Type 0
 TookSlip c s q order votes lacking rejecting (slip.Shows shown) = ReadSlip c s q order votes lacking rejecting shown

@@ -48,8 +48,10 @@ module _ (c : Committee) (s q : Bytes) where
     answer-records h = rw (sound, names) (go (isNone (readSlip s)) (isNone (suppliedRecords q)) (rightBlocks c (suppliedBlocks q)) h)
       where
         go : (a b r : Bool) → not b && r ≡ false → refused 52
-            ≡ pick (not a && (not b && (not (not r) && (not (missing (suppliedBlocks q) (slipIn s)) && (not (not (slipHolds c (suppliedBlocks q) (slipIn s))) && true))))) (answered (length (slipIn s .certifiers)))
-            (refused (pick a 52 (pick b 52 (pick (not r) 52 (pick (missing (suppliedBlocks q) (slipIn s)) 53 (pick (not (slipHolds c (suppliedBlocks q) (slipIn s))) 52 0))))))
+            ≡ pick (not a && (not b && (not (not r) && (not (missing (suppliedBlocks q) (slipIn s)) &&
+            (not (not (slipHolds c (suppliedBlocks q) (slipIn s))) && true))))) (answered (length (slipIn s .certifiers)))
+            (refused (pick a 52 (pick b 52 (pick (not r) 52 (pick (missing (suppliedBlocks q) (slipIn s)) 53
+            (pick (not (slipHolds c (suppliedBlocks q) (slipIn s))) 52 0))))))
         go true b r k = refl
         go false true r k = refl
         go false false true k = absurd (let z : _≡_ {A = ℕ} 0 1 = cc in omega arith)
@@ -85,7 +87,8 @@ module _ (c : Committee) (s q : Bytes) where
         unfolding verdict lost held
         answer-missing e = go (missing (suppliedBlocks q) x) (slipHolds c (suppliedBlocks q) x) (sym shows ∙ e) ∙ sym whole
           where
-            go : (m h : Bool) → _≡_ {A = ℕ} (pick m 2 (pick h 0 1)) 2 → refused 53 ≡ pick m (refused 53) (pick h (answered (length (x .certifiers))) (refused 52))
+            go : (m h : Bool) → _≡_ {A = ℕ} (pick m 2 (pick h 0 1)) 2 → refused 53 ≡ pick m (refused 53)
+                (pick h (answered (length (x .certifiers))) (refused 52))
             go true h k = refl
             go false true k = absurd (omega arith)
             go false false k = absurd (omega arith)
@@ -94,7 +97,8 @@ module _ (c : Committee) (s q : Bytes) where
         unfolding verdict lost held
         answer-fails e = go (missing (suppliedBlocks q) x) (slipHolds c (suppliedBlocks q) x) (sym shows ∙ e) ∙ sym whole
           where
-            go : (m h : Bool) → _≡_ {A = ℕ} (pick m 2 (pick h 0 1)) 1 → refused 52 ≡ pick m (refused 53) (pick h (answered (length (x .certifiers))) (refused 52))
+            go : (m h : Bool) → _≡_ {A = ℕ} (pick m 2 (pick h 0 1)) 1 → refused 52 ≡ pick m (refused 53)
+                (pick h (answered (length (x .certifiers))) (refused 52))
             go true h k = absurd (omega arith)
             go false true k = absurd (omega arith)
             go false false k = refl
@@ -103,7 +107,8 @@ module _ (c : Committee) (s q : Bytes) where
         unfolding verdict lost held
         answer-holds n f g e = rw (← e) (go (missing (suppliedBlocks q) x) (slipHolds c (suppliedBlocks q) x) shows ∙ sym whole)
           where
-            go : (m h : Bool) → v ≡ pick m 2 (pick h 0 1) → answered (length (x .certifiers)) ≡ pick m (refused 53) (pick h (answered (length (x .certifiers))) (refused 52))
+            go : (m h : Bool) → v ≡ pick m 2 (pick h 0 1) → answered (length (x .certifiers)) ≡ pick m (refused 53)
+                (pick h (answered (length (x .certifiers))) (refused 52))
             go true h k = absurd (f k)
             go false true k = refl
             go false false k = absurd (g k)
@@ -124,7 +129,8 @@ pub known-all : (s q : Bytes) (order votes lacking rejecting : List ℕ) (l : Tr
     → Known (readingAt s) q order (locatorAt s 1) votes lacking rejecting
 known-all s q order votes lacking rejecting l reading e f n k r = rw (← e, ← f) (record { noted = n; lacks = k; rejects = r })
 
-pub shown-slip : (c : Committee) (s q : Bytes) (order votes lacking rejecting : List ℕ) (r : TakenSlip) → Known (readingAt s) q order (locatorAt s 1) votes lacking rejecting
+pub shown-slip : (c : Committee) (s q : Bytes) (order votes lacking rejecting : List ℕ) (r : TakenSlip) → Known (readingAt s) q order (locatorAt s 1) votes
+    lacking rejecting
     → TookSlip c s q order votes lacking rejecting r → Showed c s q r
 unfolding TookSlip Showed
 shown-slip c s q order votes lacking rejecting (Shows v) k t = record { slip = t .slip; reads = t .reads; many = t .many; shows = t .shows k }

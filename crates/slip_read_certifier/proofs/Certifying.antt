@@ -22,7 +22,8 @@ module _ (s : Bytes) (p : ℕ) where
   pub certifier-short : length s - p < 49 → readCertifier (drop p s) ≡ none
   unfolding readCertifier
   certifier-short h =
-      least-bind readReference _ 48 1 fixed-reference (λ b. least-bind (number 1) _ 1 0 (fixed-number 1) (λ n. least-zero _)) (drop p s) (omega (arith, length-drop p s))
+      least-bind readReference _ 48 1 fixed-reference (λ b. least-bind (number 1) _ 1 0 (fixed-number 1) (λ n. least-zero _)) (drop p s)
+      (omega (arith, length-drop p s))
 
   module _ (h : p + 49 ≤ length s) where
     abbrev ofVoters : List SlipVoter → Read SlipCertifier
@@ -32,9 +33,17 @@ module _ (s : Bytes) (p : ℕ) where
     unfolding readCertifier _>>=_ onward
     certifier-on =
         let e : p + 48 + 1 ≡ p + 49 = omega arith in
-        rw (reads-at readReference 48 fixed-reference s p (omega arith), reference-value s p, number-at 1 s (p + 48) (omega arith), leAt-byte s (p + 48) (omega arith), e)
+        rw (
+          reads-at readReference 48 fixed-reference s p (omega arith),
+          reference-value s p,
+          number-at 1 s (p + 48) (omega arith),
+          leAt-byte s (p + 48)
+              (omega arith),
+          e,
+        )
 
-    pub certifier-none : ((r : Part (List SlipVoter)) → repeated (getD s (p + 48) 0) readVoter (drop (p + 49) s) ≡ some r → votersAscend (r .value) ≡ false) → readCertifier (drop p s) ≡ none
+    pub certifier-none : ((r : Part (List SlipVoter)) → repeated (getD s (p + 48) 0) readVoter (drop (p + 49) s) ≡ some r → votersAscend (r .value) ≡ false) →
+        readCertifier (drop p s) ≡ none
     unfolding onward given fail
     certifier-none f = certifier-on ∙ go (repeated (getD s (p + 48) 0) readVoter (drop (p + 49) s)) f
       where
@@ -42,7 +51,8 @@ module _ (s : Bytes) (p : ℕ) where
         go none g = refl
         go (some r) g = rw (g r refl)
 
-    pub certifier-reads : (vs : List SlipVoter) (end : ℕ) → repeated (getD s (p + 48) 0) readVoter (drop (p + 49) s) ≡ some (part vs (drop end s)) → votersAscend vs ≡ true
+    pub certifier-reads : (vs : List SlipVoter) (end : ℕ) → repeated (getD s (p + 48) 0) readVoter (drop (p + 49) s) ≡ some (part vs (drop end s)) →
+        votersAscend vs ≡ true
         → readCertifier (drop p s) ≡ some (part (record { reference = referenceAt s p; voters = vs }) (drop end s))
     unfolding onward given give
     certifier-reads vs end e k = certifier-on ∙ rw (e, k)

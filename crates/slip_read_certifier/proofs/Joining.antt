@@ -26,7 +26,8 @@ use Rattle.slip_read_certifier.specs.Verdict.{ownVerdict, standingVerdic
 
 -- ---- the quorum of authors
 
-pub quorum-same : (c : Committee) (v : AuthoritySet) (as′ : List AuthorityIndex) → broken c ≡ false → Speak v as′ → isQuorum c (stakeOf c v) ≡ isQuorum c (stakeOf c (setOf as′))
+pub quorum-same : (c : Committee) (v : AuthoritySet) (as′ : List AuthorityIndex) → broken c ≡ false → Speak v as′ → isQuorum c (stakeOf c v) ≡ isQuorum c
+    (stakeOf c (setOf as′))
 unfolding Speak
 quorum-same c v as′ b h = ap (isQuorum c) (stake-same c v (setOf as′) (λ a (k : a < length c). h a (omega (arith, few-members c b)) ∙ sym (member-setOf as′ a)))
 
@@ -76,14 +77,16 @@ module _ (reading : Reading) (c : Committee) (bs : List Block) (l : TransactionL
   shown-some : (b : Block) → shownOf (some b) ≡ verdict (anyOf (lost (some b)) vs || lacksAncestor reading bs b) (unspoilt b)
   unfolding ownVerdict votersVerdict standingVerdict isNone holds
   shown-some b =
-      ap (λ (x : ℕ). worse x (standingVerdict reading bs l vs (some b))) (worse-both false (anyOf (lost (some b)) vs) (not (b .marked)) (allOf (right (some b)) vs))
+      ap (λ (x : ℕ). worse x (standingVerdict reading bs l vs (some b)))
+      (worse-both false (anyOf (lost (some b)) vs) (not (b .marked)) (allOf (right (some b)) vs))
       ∙ worse-both (anyOf (lost (some b)) vs) (lacksAncestor reading bs b) (not (b .marked) && allOf (right (some b)) vs) (allOf (keeps b) vs)
 
   shown-none : shownOf none ≡ verdict true false
   unfolding ownVerdict votersVerdict standingVerdict verdict isNone holds
   shown-none = ap (λ (x : ℕ). worse x 0) (worse-both true (anyOf (lost none) vs) false (allOf (right none) vs)) ∙ worse-both true false false true
 
-  whole-some : (b : Block) → certifierVerdict reading c bs l vs (some b) ≡ verdict (anyOf (lost (some b)) vs || lacksAncestor reading bs b) (unspoilt b && quorum)
+  whole-some : (b : Block) → certifierVerdict reading c bs l vs (some b) ≡ verdict (anyOf (lost (some b)) vs || lacksAncestor reading bs b)
+      (unspoilt b && quorum)
   unfolding certifierVerdict missingFrom certifierHolds holds onFrom
   whole-some b =
       ap (verdict (anyOf (lost (some b)) vs || lacksAncestor reading bs b))

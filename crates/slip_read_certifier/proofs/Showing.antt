@@ -28,16 +28,19 @@ use Rattle.slip_read_certifier.proofs.Certifying.{certifier-reads}
 
 -- ---- one certifier, with what its voters and its ancestry show
 
-module _ (c : Committee) (s : Bytes) (p : ℕ) (q : Bytes) (order votes lacking rejecting : List ℕ) (certifier : code.Led) (end : ℕ) (authors : AuthoritySet) (shown own standing : ℕ)
+module _ (c : Committee) (s : Bytes) (p : ℕ) (q : Bytes) (order votes lacking rejecting : List ℕ) (certifier : code.Led) (end : ℕ) (authors : AuthoritySet)
+    (shown own standing : ℕ)
     (sound : broken c ≡ false) (fit : Right q) (places : Places q (suppliedBlocks q) order)
     (h : p + 49 ≤ length s) (r : voters.Read s (p + 49) (getD s (p + 48) 0) q order votes certifier end authors shown)
-    (led : LedTo q order certifier (onFrom toBlock (named (suppliedBlocks q) (referenceAt s p)))) (alone : (o : Option Block) → LedTo q order certifier (onFrom toBlock o) → own ≡ ownVerdict o)
+    (led : LedTo q order certifier (onFrom toBlock (named (suppliedBlocks q) (referenceAt s p))))
+    (alone : (o : Option Block) → LedTo q order certifier (onFrom toBlock o) → own ≡ ownVerdict o)
     (stands : Stands lacking rejecting certifier authors standing) where
   abbrev given : Option Block
   given = named (suppliedBlocks q) (referenceAt s p)
 
   reads-one : (v : ℕ)
-      → ((reading : Reading) (l : TransactionLocator) → Known reading q order l votes lacking rejecting → v ≡ certifierVerdict reading c (suppliedBlocks q) l (r .voters) given)
+      → ((reading : Reading) (l : TransactionLocator) → Known reading q order l votes lacking rejecting → v ≡ certifierVerdict reading c (suppliedBlocks q) l
+      (r .voters) given)
       → ReadOne c s p q order votes lacking rejecting end v
   reads-one v f =
       record {
@@ -58,7 +61,9 @@ module _ (c : Committee) (s : Bytes) (p : ℕ) (q : Bytes) (order votes lacking 
   pub one-found : (v : ℕ) → v ≡ worse (worse own shown) standing → (v ≡ 0 → ⊥) → ReadOne c s p q order votes lacking rejecting end v
   one-found v e f = reads-one v (λ reading l m. certifier-found reading c (suppliedBlocks q) l (r .voters) given v (e ∙ shown-with reading l m) f)
 
-  pub one-quorum : (v : ℕ) (t : Bool) → v ≡ worse (worse own shown) standing → v ≡ 0 → t ≡ isQuorum c (stakeOf c authors) → ReadOne c s p q order votes lacking rejecting end (pick t 0 1)
+  pub one-quorum : (v : ℕ) (t : Bool) → v ≡ worse (worse own shown) standing → v ≡ 0 → t ≡ isQuorum c (stakeOf c authors) → ReadOne c s p q order votes
+      lacking rejecting end (pick t 0 1)
   one-quorum v t e z f =
       reads-one (pick t 0 1)
-      (λ reading l m. certifier-quorum reading c (suppliedBlocks q) l (r .voters) given v t (e ∙ shown-with reading l m) z (f ∙ quorum-same c authors _ sound (r .speak)))
+      (λ reading l m. certifier-quorum reading c (suppliedBlocks q) l (r .voters) given v t (e ∙ shown-with reading l m) z
+      (f ∙ quorum-same c authors _ sound (r .speak)))

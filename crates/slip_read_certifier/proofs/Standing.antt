@@ -31,7 +31,8 @@ use Rattle.slip_read_rejecters.specs.Rejecting.{setAt, RejectingIn, Meeting}
 use Rattle.slip_read_certifier.specs.Verdict.{standingVerdict}
 
 -- nobody whom a set cannot hold has rejected
-none-beyond : (reading : Reading) (q : Bytes) → Right q → (l : TransactionLocator) (b : Block) → b ∈ suppliedBlocks q → (a : ℕ) → (a < 128 → ⊥) → hasRejected reading (suppliedBlocks q) l b a ≡ false
+none-beyond : (reading : Reading) (q : Bytes) → Right q → (l : TransactionLocator) (b : Block) → b ∈ suppliedBlocks q → (a : ℕ) → (a < 128 → ⊥) → hasRejected
+    reading (suppliedBlocks q) l b a ≡ false
 unfolding hasRejected
 none-beyond old q r l b m a f = refl
 none-beyond withdrawing q r l b m a f =
@@ -77,7 +78,11 @@ module _ (reading : Reading) (q : Bytes) (order : List ℕ) (l : TransactionLoca
 
     pub stands-kept : Meeting v (setAt rejecting j) false → 0 ≡ standingVerdict reading bs l vs (some b)
     unfolding standingVerdict verdict
-    stands-kept m = rw (other-is (lacksAncestor reading bs b) (getD lacking j 0) (n .at j h) whole, in-all keeps vs (λ x i. ap not (one x i (decLt (x .author) 128))))
+    stands-kept m = rw (
+      other-is (lacksAncestor reading bs b) (getD lacking j 0) (n .at j h) whole,
+      in-all keeps vs
+          (λ x i. ap not (one x i (decLt (x .author) 128))),
+    )
       where
         right-no : (s t : Bool) → s ≡ true → s && t ≡ false → t ≡ false
         right-no true t e f = f
@@ -86,5 +91,6 @@ module _ (reading : Reading) (q : Bytes) (order : List ℕ) (l : TransactionLoca
         one : (x : SlipVoter) → x ∈ vs → Dec (x .author < 128) → hasRejected reading bs l b (x .author) ≡ false
         one x i (yes s) =
             sym (k .at j h (x .author) s)
-            ∙ right-no (member v (x .author)) _ (unfold Speak in speak (x .author) s ∙ in-any (eqb (x .author)) (in-map (λ (z : SlipVoter). z .author) i) (eq-eqb (x .author) (x .author) refl)) (unfold Meeting in m (x .author) s)
+            ∙ right-no (member v (x .author)) _ (unfold Speak in speak (x .author) s ∙ in-any (eqb (x .author)) (in-map (λ (z : SlipVoter). z .author) i)
+            (eq-eqb (x .author) (x .author) refl)) (unfold Meeting in m (x .author) s)
         one x i (no s) = none-beyond reading q fit l b (p .only j h) (x .author) s

@@ -24,8 +24,10 @@ module _ (q : Bytes) (order : List ℕ) (s : Sorted q order) where
   one-place i j h k e = go (decLt i j) (decLt j i)
     where
       go : Dec (i < j) → Dec (j < i) → i ≡ j
-      go (yes a) b = absurd (reference-irrefl (referenceIn q order j) (ap (λ (r : BlockReference). referenceBefore r (referenceIn q order j)) (sym e) ∙ s .rises i j a k))
-      go (no a) (yes b) = absurd (reference-irrefl (referenceIn q order j) (ap (λ (r : BlockReference). referenceBefore (referenceIn q order j) r) (sym e) ∙ s .rises j i b h))
+      go (yes a) b = absurd (reference-irrefl (referenceIn q order j)
+          (ap (λ (r : BlockReference). referenceBefore r (referenceIn q order j)) (sym e) ∙ s .rises i j a k))
+      go (no a) (yes b) = absurd (reference-irrefl (referenceIn q order j)
+          (ap (λ (r : BlockReference). referenceBefore (referenceIn q order j) r) (sym e) ∙ s .rises j i b h))
       go (no a) (no b) = omega arith
 
 module _ (q : Bytes) (bs : List Block) (order : List ℕ) (p : Places q bs order) (r : BlockReference) where

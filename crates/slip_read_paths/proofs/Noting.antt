@@ -19,7 +19,8 @@ module _ (q : Bytes) (order : List ℕ) (l : TransactionLocator) where
   pub noted-none : (votes : List ℕ) → Noted q order l 0 votes
   noted-none votes = record { at = λ j h. absurd (omega arith) }
 
-  pub noted-more : (votes : List ℕ) (n v : ℕ) → Noted q order l n votes → n < length votes → v ≡ pick (votesFor (blockAtPlace q order n) l) 1 0 → Noted q order l (n + 1) (set votes n v)
+  pub noted-more : (votes : List ℕ) (n v : ℕ) → Noted q order l n votes → n < length votes → v ≡ pick (votesFor (blockAtPlace q order n) l) 1 0 → Noted q
+      order l (n + 1) (set votes n v)
   noted-more votes n v k h e = record { at = λ j m. go j m (ℕ-discrete j n) }
     where
       go : (j : ℕ) → j < n + 1 → Dec (j ≡ n) → getD (set votes n v) j 0 ≡ pick (votesFor (blockAtPlace q order j) l) 1 0

@@ -34,8 +34,10 @@ module _ (q : Bytes) (order : List ℕ) (s : Sorted q order) where
   pub sorted-ascends : Ascending q order 4
   sorted-ascends = known-ascend q order 4 (referenceIn q order) stand (s .rises)
 
-  pub sorted-at : (r : BlockReference) (p : FoundPlace) (j : ℕ) → p ≡ At j → FoundAmong (length order) (referenceFrom q order 4) r p → (j < length order) × (referenceIn q order j ≡ r)
+  pub sorted-at : (r : BlockReference) (p : FoundPlace) (j : ℕ) → p ≡ At j → FoundAmong (length order) (referenceFrom q order 4) r p → (j < length order) ×
+      (referenceIn q order j ≡ r)
   sorted-at = known-at q order 4 (referenceIn q order) stand
 
-  pub sorted-between : (r : BlockReference) (p : FoundPlace) (j : ℕ) → p ≡ Before j → FoundAmong (length order) (referenceFrom q order 4) r p → Between (length order) (referenceIn q order) r j
+  pub sorted-between : (r : BlockReference) (p : FoundPlace) (j : ℕ) → p ≡ Before j → FoundAmong (length order) (referenceFrom q order 4) r p → Between
+      (length order) (referenceIn q order) r j
   sorted-between = known-between q order 4 (referenceIn q order) stand

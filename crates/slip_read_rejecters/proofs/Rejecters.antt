@@ -62,7 +62,8 @@ rejectsBelow q l a i = holds (inAncestry (rejectsAs l a) (suppliedBlocks q)) (na
 -- k includes of the block at a place are joined to its own set
 pub record Joined (q : Bytes) (order : List ℕ) (j : ℕ) (t : List ℕ) (own v : AuthoritySet) (k : ℕ) : Type 0 where
   pub same : (l : TransactionLocator) → Rejecting q order l j t → (a : ℕ) → a < 128
-      → member v a || anyOf (rejectsBelow q l a) (drop k (blockAtPlace q order j .includes)) ≡ member own a || anyOf (rejectsBelow q l a) (blockAtPlace q order j .includes)
+      → member v a || anyOf (rejectsBelow q l a) (drop k (blockAtPlace q order j .includes)) ≡ member own a || anyOf (rejectsBelow q l a)
+      (blockAtPlace q order j .includes)
 
 module _ (q : Bytes) (order : List ℕ) (p : Places q (suppliedBlocks q) order) (f : Falling (suppliedBlocks q)) where
   abbrev bs : List Block
@@ -96,12 +97,14 @@ module _ (q : Bytes) (order : List ℕ) (p : Places q (suppliedBlocks q) order) 
           → member w a || anyOf below (drop (k + 1) its) ≡ member v a || anyOf below (drop k its)
       rejects-on v w r d e =
           ap (λ (x : AuthoritySet). member x a || anyOf below (drop (k + 1) its)) e
-          ∙ ap (λ (x : Bool). x || anyOf below (drop (k + 1) its)) (member-united v (rejectersAt t r) a ∙ ap (λ (x : Bool). member v a || x) (noted-rejects r d))
+          ∙ ap (λ (x : Bool). x || anyOf below (drop (k + 1) its)) (member-united v (rejectersAt t r) a ∙ ap (λ (x : Bool). member v a || x)
+          (noted-rejects r d))
           ∙ or-assoc (member v a) (below (getD its k noReference)) (anyOf below (drop (k + 1) its))
           ∙ ap (λ (x : Bool). member v a || x) (sym (any-next below noReference its k m))
 
     -- all of them
-    rejects-all : (v : AuthoritySet) (k : ℕ) → length its ≤ k → member v a || anyOf below (drop k its) ≡ member (ownReject (blockAtPlace q order j) l) a || anyOf below its
+    rejects-all : (v : AuthoritySet) (k : ℕ) → length its ≤ k → member v a || anyOf below (drop k its) ≡ member (ownReject (blockAtPlace q order j) l) a ||
+        anyOf below its
         → member v a ≡ inAncestry (rejectsAs l a) bs (blockAtPlace q order j)
     rejects-all v k m e =
         sym (ap (λ (x : Bool). member v a || x) (any-past below noReference its k m) ∙ or-false (member v a))
@@ -109,11 +112,13 @@ module _ (q : Bytes) (order : List ℕ) (p : Places q (suppliedBlocks q) order) 
         ∙ sym (ancestry-step (rejectsAs l a) bs f (blockAtPlace q order j) (p .only j h))
 
   module _ (t : List ℕ) (j : ℕ) (h : j < length order) (own v : AuthoritySet) (k : ℕ) (o : Joined q order j t own v k) where
-    pub joined-more : (w : AuthoritySet) (r : code.Led) → k < length (blockAtPlace q order j .includes) → LedTo q order r (onBy bs toBlock (getElem? (blockAtPlace q order j .includes) k)) → w ≡ united v (rejectersAt t r)
+    pub joined-more : (w : AuthoritySet) (r : code.Led) → k < length (blockAtPlace q order j .includes) → LedTo q order r
+        (onBy bs toBlock (getElem? (blockAtPlace q order j .includes) k)) → w ≡ united v (rejectersAt t r)
         → Joined q order j t own w (k + 1)
     joined-more w r m d e = record { same = λ l n a s. rejects-on t j h l a n s k m v w r d e ∙ o .same l n a s }
 
-    pub joined-all : (l : TransactionLocator) → own ≡ ownReject (blockAtPlace q order j) l → length (blockAtPlace q order j .includes) ≤ k → Rejecting q order l j t
+    pub joined-all : (l : TransactionLocator) → own ≡ ownReject (blockAtPlace q order j) l → length (blockAtPlace q order j .includes) ≤ k → Rejecting q order
+        l j t
         → (a : ℕ) → a < 128 → member v a ≡ inAncestry (rejectsAs l a) bs (blockAtPlace q order j)
     joined-all l e m n a s =
         rejects-all t j h l a v k m (o .same l n a s ∙ ap (λ (x : AuthoritySet). member x a || anyOf (rejectsBelow q l a) (blockAtPlace q order j .includes)) e)
@@ -137,14 +142,17 @@ module _ (q : Bytes) (order : List ℕ) (p : Places q (suppliedBlocks q) order) 
 
       own : setAt u n ≡ v
       own =
-          let low : getD u (2 * n) 0 ≡ v .low = getD-set-other (set t (2 * n) (v .low)) (2 * n + 1) (2 * n) (v .high) 0 (λ d. omega arith) ∙ getD-set-same t (2 * n) (v .low) 0 (omega arith) in
+          let low : getD u (2 * n) 0 ≡ v .low = getD-set-other (set t (2 * n) (v .low)) (2 * n + 1) (2 * n) (v .high) 0 (λ d. omega arith) ∙ getD-set-same t
+          (2 * n) (v .low) 0 (omega arith) in
           let high : getD u (2 * n + 1) 0 ≡ v .high = getD-set-same (set t (2 * n) (v .low)) (2 * n + 1) (v .high) 0 (simp length-set h) in
           ap₂ {C = AuthoritySet} (λ x y. record { low = x; high = y }) low high
 
       other : (j : ℕ) → (j ≡ n → ⊥) → setAt u j ≡ setAt t j
       other j d =
-          let low : getD u (2 * j) 0 ≡ getD t (2 * j) 0 = getD-set-other (set t (2 * n) (v .low)) (2 * n + 1) (2 * j) (v .high) 0 (λ g. omega arith) ∙ getD-set-other t (2 * n) (2 * j) (v .low) 0 (λ g. d (omega arith)) in
-          let high : getD u (2 * j + 1) 0 ≡ getD t (2 * j + 1) 0 = getD-set-other (set t (2 * n) (v .low)) (2 * n + 1) (2 * j + 1) (v .high) 0 (λ g. d (omega arith)) ∙ getD-set-other t (2 * n) (2 * j + 1) (v .low) 0 (λ g. omega arith) in
+          let low : getD u (2 * j) 0 ≡ getD t (2 * j) 0 = getD-set-other (set t (2 * n) (v .low)) (2 * n + 1) (2 * j) (v .high) 0 (λ g. omega arith) ∙
+          getD-set-other t (2 * n) (2 * j) (v .low) 0 (λ g. d (omega arith)) in
+          let high : getD u (2 * j + 1) 0 ≡ getD t (2 * j + 1) 0 = getD-set-other (set t (2 * n) (v .low)) (2 * n + 1) (2 * j + 1) (v .high) 0
+          (λ g. d (omega arith)) ∙ getD-set-other t (2 * n) (2 * j + 1) (v .low) 0 (λ g. omega arith) in
           ap₂ {C = AuthoritySet} (λ x y. record { low = x; high = y }) low high
 
       go : (j : ℕ) → j < n + 1 → (a : ℕ) → a < 128 → Dec (j ≡ n) → member (setAt u j) a ≡ inAncestry (rejectsAs l a) bs (blockAtPlace q order j)
@@ -158,7 +166,10 @@ module _ (q : Bytes) (order : List ℕ) (p : Places q (suppliedBlocks q) order) 
 -- where nobody withdraws nobody is noted
 pub rejecting-old : (q : Bytes) (order : List ℕ) (l : TransactionLocator) (t : List ℕ) → ((j : ℕ) → getD t j 0 ≡ 0) → RejectingIn old q order l t
 unfolding hasRejected setAt
-rejecting-old q order l t f = record { at = λ j h a s. ap₂ {C = Bool} (λ x y. member (record { low = x; high = y }) a) (f (2 * j)) (f (2 * j + 1)) ∙ member-nobody a }
+rejecting-old q order l t f = record {
+  at = λ j h a s. ap₂ {C = Bool} (λ x y. member (record { low = x; high = y }) a) (f (2 * j)) (f (2 * j + 1)) ∙
+      member-nobody a;
+}
 
 -- an include's words stand in a table of two words a place
 pub in-table : (order t : List ℕ) (r : code.Led) → 2 * length order ≤ length t → InPlace order r → InTable t r

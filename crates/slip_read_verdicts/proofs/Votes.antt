@@ -17,7 +17,8 @@ use Rattle.slip_read_records.specs.Places.{blockAtPlace}
 use Rattle.slip_read_paths.specs.Walk.{Noted}
 
 -- what is noted, with the author
-pub vote-noted : (q : Bytes) (order votes : List ℕ) (l : TransactionLocator) (n j : ℕ) (a : AuthorityIndex) → Noted q order l n votes → j < n → author (blockAtPlace q order j) ≡ a
+pub vote-noted : (q : Bytes) (order votes : List ℕ) (l : TransactionLocator) (n j : ℕ) (a : AuthorityIndex) → Noted q order l n votes → j < n → author
+    (blockAtPlace q order j) ≡ a
     → eqb (getD votes j 0) 1 ≡ votesAs l a (blockAtPlace q order j)
 unfolding votesAs
 vote-noted q order votes l n j a k h e = rw (k .at j h, eq-eqb _ _ e) (flag-back (votesFor (blockAtPlace q order j) l))

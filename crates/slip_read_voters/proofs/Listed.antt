@@ -27,12 +27,14 @@ module _ {A : Type 0} where
   before-none none = refl
   before-none (some p) = refl
 
-  before-one : (xs : List A) (x : A) (m : Read A) (n : ℕ) (s t : Bytes) → 0 < n → m s ≡ some (part x t) → readBefore xs (repeated n m s) ≡ readBefore (xs ++ x ∷ []) (repeated (n - 1) m t)
+  before-one : (xs : List A) (x : A) (m : Read A) (n : ℕ) (s t : Bytes) → 0 < n → m s ≡ some (part x t) → readBefore xs (repeated n m s) ≡ readBefore
+      (xs ++ x ∷ []) (repeated (n - 1) m t)
   unfolding readBefore repeated _>>=_ onward give
   before-one xs x m zero s t l h = absurd (omega arith)
   before-one xs x m (suc n) s t l h = rw (h, sub-one (suc n)) (go (repeated n m t))
     where
-      go : (o : Option (Part (List A))) → Option·map (λ p. part (xs ++ p .value) (p .rest)) (onward o (λ rest. give (x ∷ rest))) ≡ Option·map (λ p. part ((xs ++ x ∷ []) ++ p .value) (p .rest)) o
+      go : (o : Option (Part (List A))) → Option·map (λ p. part (xs ++ p .value) (p .rest)) (onward o (λ rest. give (x ∷ rest))) ≡ Option·map
+          (λ p. part ((xs ++ x ∷ []) ++ p .value) (p .rest)) o
       go none = refl
       go (some p) = ap (λ (ys : List A). some (part ys (p .rest))) (sym (append-assoc xs (x ∷ []) (p .value)))
 
@@ -103,7 +105,8 @@ module _ {A K : Type 0} (m : Read A) (key : A → K) (lt : K → K → Bool) (tr
               bad ys =
                   let t = l .top h in
                   fails _ λ r.
-                  not-both (rises-to (λ a b. lt (key a) (key b)) (t .0) x xs ys (t .1) (ap rising (sym (append-assoc xs (x ∷ []) ys)) ∙ r)) (ap (λ (k : K). lt k (key x)) (t .2) ∙ f)
+                  not-both (rises-to (λ a b. lt (key a) (key b)) (t .0) x xs ys (t .1) (ap rising (sym (append-assoc xs (x ∷ []) ys)) ∙ r))
+                  (ap (λ (k : K). lt k (key x)) (t .2) ∙ f)
 
               go : (o : Option (Part (List A))) → readBefore (xs ++ x ∷ []) o ≡ some p → rising (p .value) ≡ false
               go none k = absurd (Option·none-ne-some p k)
@@ -117,7 +120,8 @@ module _ {A K : Type 0} (m : Read A) (key : A → K) (lt : K → K → Bool) (tr
                 inside = e;
                 rises =
                     pairs-pairwise (λ x y. lt (key x) (key y)) (xs ++ x ∷ [])
-                    (pairs-append xs (x ∷ []) (pairwise-pairs (λ x y. lt (key x) (key y)) xs (l .rises)) (with-later none-of no-pairs) (all-below xs (λ y k. under y k)));
+                    (pairs-append xs (x ∷ []) (pairwise-pairs (λ x y. lt (key x) (key y)) xs (l .rises)) (with-later none-of no-pairs)
+                    (all-below xs (λ y k. under y k)));
                 below = λ y k. split y (in-append xs k);
                 top = λ k. (x, in-right xs here, refl);
                 first = λ (k : i + 1 ≡ 0). absurd (omega arith);

@@ -40,15 +40,23 @@ use Rattle.slip_read_voters.proofs.Listed.{Listed, listed-start, listed
 module _ (s : Bytes) (p : ℕ) where
   pub voter-short : length s - p < 10 → readVoter (drop p s) ≡ none
   unfolding readVoter
-  voter-short h = least-bind (number 8) _ 8 2 (fixed-number 8) (λ a. least-bind (number 2) _ 2 0 (fixed-number 2) (λ n. least-zero _)) (drop p s) (omega (arith, length-drop p s))
+  voter-short h = least-bind (number 8) _ 8 2 (fixed-number 8) (λ a. least-bind (number 2) _ 2 0 (fixed-number 2) (λ n. least-zero _)) (drop p s)
+      (omega (arith, length-drop p s))
 
   pub voter-cut : p + 10 ≤ length s → length s - (p + 10) < leAt 2 s (p + 8) → readVoter (drop p s) ≡ none
   unfolding readVoter _>>=_ onward
   voter-cut h k =
       let e : p + 8 + 2 ≡ p + 10 = omega arith in
-      rw (number-at 8 s p (omega arith), number-at 2 s (p + 8) (omega arith), e, short-at (items (leAt 2 s (p + 8))) (leAt 2 s (p + 8)) (fixed-items (leAt 2 s (p + 8))) s (p + 10) k)
+      rw (
+        number-at 8 s p (omega arith),
+        number-at 2 s (p + 8) (omega arith),
+        e,
+        short-at (items (leAt 2 s (p + 8))) (leAt 2 s (p + 8))
+            (fixed-items (leAt 2 s (p + 8))) s (p + 10) k,
+      )
 
-  pub voter-reads : (a n : ℕ) → a ≡ leAt 8 s p → n ≡ leAt 2 s (p + 8) → p + 10 + n ≤ length s → readVoter (drop p s) ≡ some (part (voterAt s p a (p + 10 + n)) (drop (p + 10 + n) s))
+  pub voter-reads : (a n : ℕ) → a ≡ leAt 8 s p → n ≡ leAt 2 s (p + 8) → p + 10 + n ≤ length s → readVoter (drop p s) ≡ some
+      (part (voterAt s p a (p + 10 + n)) (drop (p + 10 + n) s))
   unfolding readVoter _>>=_ onward give voterAt
   voter-reads a n f g h =
       let e : p + 8 + 2 ≡ p + 10 = omega arith in
@@ -75,12 +83,14 @@ module _ (bs : List Block) (l : TransactionLocator) (o : Option Block) where
   unfolding votersVerdict verdict anyOf allOf
   shows-none = refl
 
-  pub shows-more : (vs : List SlipVoter) (v : SlipVoter) → votersVerdict bs l o (vs ++ v ∷ []) ≡ worse (votersVerdict bs l o vs) (voterVerdict bs l (v .author) (v .path) o)
+  pub shows-more : (vs : List SlipVoter) (v : SlipVoter) → votersVerdict bs l o (vs ++ v ∷ []) ≡ worse (votersVerdict bs l o vs)
+      (voterVerdict bs l (v .author) (v .path) o)
   unfolding votersVerdict voterVerdict anyOf allOf
   shows-more vs v =
       let lost : SlipVoter → Bool = λ w. isNotGiven (onFrom (leads bs (w .path)) o) in
       let right : SlipVoter → Bool = λ w. endsAtVote l (w .author) (onFrom (leads bs (w .path)) o) in
-      rw (any-append lost vs (v ∷ []), all-append right vs (v ∷ []), or-false (lost v), and-true (right v)) (sym (worse-both (anyOf lost vs) (lost v) (allOf right vs) (right v)))
+      rw (any-append lost vs (v ∷ []), all-append right vs (v ∷ []), or-false (lost v), and-true (right v))
+      (sym (worse-both (anyOf lost vs) (lost v) (allOf right vs) (right v)))
 
 -- ---- the loop
 
@@ -128,15 +138,20 @@ module _ (s : Bytes) (from n : ℕ) (q : Bytes) (order votes : List ℕ) (certif
         }
 
     module _ (more : i < n) where
-      pub taking-none : readVoter (drop at s) ≡ none → (r : Part (List SlipVoter)) → repeated n readVoter (drop from s) ≡ some r → votersAscend (r .value) ≡ false
-      taking-none h r e = absurd (Option·none-ne-some r (sym (listed-none readVoter authorOf ltb lower-trans s from n at i last (t .taken) (t .listed) more h) ∙ e))
+      pub taking-none : readVoter (drop at s) ≡ none → (r : Part (List SlipVoter)) → repeated n readVoter (drop from s) ≡ some r → votersAscend (r .value) ≡
+          false
+      taking-none h r e = absurd (Option·none-ne-some r (sym (listed-none readVoter authorOf ltb lower-trans s from n at i last (t .taken) (t .listed) more h)
+          ∙ e))
 
       module _ (a end : ℕ) (took : readVoter (drop at s) ≡ some (part (voterAt s at a end) (drop end s))) where
-        pub taking-falls : eqb i 0 || ltb last a ≡ false → (r : Part (List SlipVoter)) → repeated n readVoter (drop from s) ≡ some r → votersAscend (r .value) ≡ false
+        pub taking-falls : eqb i 0 || ltb last a ≡ false → (r : Part (List SlipVoter)) → repeated n readVoter (drop from s) ≡ some r → votersAscend (r .value)
+            ≡ false
         unfolding votersAscend voterAt
-        taking-falls h = listed-falls readVoter authorOf ltb lower-trans s from n at i last (t .taken) (t .listed) more _ end took (not-first (neither-left (eqb i 0) _ h)) (neither-right (eqb i 0) _ h)
+        taking-falls h = listed-falls readVoter authorOf ltb lower-trans s from n at i last (t .taken) (t .listed) more _ end took
+            (not-first (neither-left (eqb i 0) _ h)) (neither-right (eqb i 0) _ h)
 
-        pub taking-on : (own new : ℕ) (with : AuthoritySet) → eqb i 0 || ltb last a ≡ true → end ≤ length s → with ≡ pick (ltb a 128) (inserted authors a) authors → new ≡ worse shown own
+        pub taking-on : (own new : ℕ) (with : AuthoritySet) → eqb i 0 || ltb last a ≡ true → end ≤ length s → with ≡ pick (ltb a 128) (inserted authors a)
+            authors → new ≡ worse shown own
             → ((l : TransactionLocator) → Noted q order l (length order) votes → (o : Option Block) → LedTo q order certifier (onFrom toBlock o)
             → own ≡ voterVerdict (suppliedBlocks q) l a (take (end - (at + 10)) (drop (at + 10) s)) o)
             → Taking end with new a (i + 1)
@@ -144,7 +159,8 @@ module _ (s : Bytes) (from n : ℕ) (q : Bytes) (order votes : List ℕ) (certif
         taking-on own new with h k e f g =
             record {
               taken = t .taken ++ voterAt s at a end ∷ [];
-              listed = listed-on readVoter authorOf ltb lower-trans s from n at i last (t .taken) (t .listed) more _ end took (λ z. not-last (or-cases (eqb i 0) (ltb last a) h) z) k;
+              listed = listed-on readVoter authorOf ltb lower-trans s from n at i last (t .taken) (t .listed) more _ end took
+                  (λ z. not-last (or-cases (eqb i 0) (ltb last a) h) z) k;
               speak = rw (e, map-append authorOf (t .taken) (voterAt s at a end ∷ [])) (speak-more authors (map authorOf (t .taken)) a (t .speak));
               shows = λ l m o z. f ∙ rw (t .shows l m o z, g l m o z) (sym (shows-more (suppliedBlocks q) l o (t .taken) (voterAt s at a end)));
             }

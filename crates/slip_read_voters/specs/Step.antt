@@ -58,4 +58,5 @@ pub record Read (s : Bytes) (p n : ℕ) (q : Bytes) (order votes : List ℕ) (ce
 -- voters that are not read, or do not ascend
 unfoldable pub TookVoters : Bytes → ℕ → ℕ → Bytes → List ℕ → List ℕ → code.Led → TakenVoters → Type 0
 TookVoters s p n q order votes certifier (voters.Voters end authors shown) = Read s p n q order votes certifier end authors shown
-TookVoters s p n q order votes certifier voters.Malformed = (r : Part (List SlipVoter)) → repeated n readVoter (drop p s) ≡ some r → votersAscend (r .value) ≡ false
+TookVoters s p n q order votes certifier voters.Malformed = (r : Part (List SlipVoter)) → repeated n readVoter (drop p s) ≡ some r → votersAscend (r .value) ≡
+    false

@@ -32,7 +32,8 @@ use Rattle.final_readings_spec.proofs.FinalsIn.{true-certifies-in, final-in-iff
 use Rattle.slip_spec.specs.Slip.{SlipVoter, SlipCertifier, Slip, slipIn}
 use Rattle.slip_spec.specs.Supplied.{suppliedIn, suppliedBlocks}
 use Rattle.slip_spec.specs.Reading.{votesAs, readAnswer}
-use Rattle.slip_spec.specs.Meaning.{OnPath, LeadsToVote, StandingIn, RightCertifier, RightSlip, NamedBy, asCertifier, byPath, inAncestry, Certifies, ReallyFinal}
+use Rattle.slip_spec.specs.Meaning.{OnPath, LeadsToVote, StandingIn, RightCertifier, RightSlip, NamedBy, asCertifier, byPath, inAncestry, Certifies}
+use Rattle.slip_spec.specs.Meaning.{ReallyFinal}
 use Rattle.slip_spec.proofs.Paths.{named-reference, named-in, path-ancestor, on-path-in}
 use Rattle.slip_spec.proofs.Reading.{accepted-sound, accepted-right}
 
@@ -62,17 +63,23 @@ module _ (c : Committee) (bs cs : List Block) (w : WellStored cs) (s : Slip) (ri
     still-votes : (reading : Reading) → s .reading ≡ reading → StandingIn reading bs (s .locator) (k .voters) (own .block) → (v : SlipVoter) → v ∈ k .voters
         → Voter cs (own .block) (s .locator) (v .author) → VoterIn reading cs (own .block) (s .locator) (v .author)
     still-votes old e h v n x = x
-    still-votes withdrawing e h v n x = (x, λ r. h .kept v n (record { rejecting = r .rejecting; ancestor = given-too (r .ancestor); rejects = r .rejects; authored = r .authored }))
+    still-votes withdrawing e h v n x = (
+      x,
+      λ r. h .kept v n (record
+          { rejecting = r .rejecting; ancestor = given-too (r .ancestor); rejects = r .rejects; authored = r .authored }),
+    )
       where
         given-too : {d : Block} → Ancestor cs d (own .block) → Ancestor bs d (own .block)
-        given-too a = whole-ancestor (λ x y. one-reference w) (named-in bs (k .reference) (own .block) (own .given)) (h .whole) (λ d y. f d (inAncestry e k (own .block) m (own .given) y)) a
+        given-too a = whole-ancestor (λ x y. one-reference w) (named-in bs (k .reference) (own .block) (own .given)) (h .whole)
+            (λ d y. f d (inAncestry e k (own .block) m (own .given) y)) a
 
     voters-quorum : HoldQuorum c (VoterIn (s .reading) cs (own .block) (s .locator))
     voters-quorum =
         quorum-mono c _ (VoterIn (s .reading) cs (own .block) (s .locator))
         (λ a x. subst (VoterIn (s .reading) cs (own .block) (s .locator)) (x .2)
         (still-votes (s .reading) refl (own .standing) (x .0) (x .1)
-        (path-voter bs cs (s .locator) (x .0 .author) (own .block) (x .0 .path) (own .ends (x .0) (x .1)) (λ d y. f d (byPath k (x .0) (own .block) m (x .1) (own .given) y)))))
+        (path-voter bs cs (s .locator) (x .0 .author) (own .block) (x .0 .path) (own .ends (x .0) (x .1))
+        (λ d y. f d (byPath k (x .0) (own .block) m (x .1) (own .given) y)))))
         (own .quorum)
 
     own-certifies : Certifies c cs s k
@@ -100,7 +107,8 @@ module _ (c : Committee) (bs cs : List Block) (w : WellStored cs) (s : Slip) (ri
         certifying = own-certifies;
         final =
             final-in-iff (s .reading) c w (s .locator) .1
-            (quorum-mono c _ (CertificateIn (s .reading) c cs (s .locator)) (λ a x. subst (CertificateIn (s .reading) c cs (s .locator)) (x .2) (certificate (x .0) (x .1))) (right .quorum));
+            (quorum-mono c _ (CertificateIn (s .reading) c cs (s .locator))
+            (λ a x. subst (CertificateIn (s .reading) c cs (s .locator)) (x .2) (certificate (x .0) (x .1))) (right .quorum));
       }
 
 -- ---- the claims
@@ -123,4 +131,5 @@ accepted-in-store c r q n h t o g =
     (record { sound = accepted-sound c r q n h; records = recordsOf t; accepted = in-order c t o .accepted; blocks = refl })
     (λ d y.
     let x = map-in (λ z. z .block) (suppliedIn q) (named-by-in (suppliedBlocks q) (slipIn r) d y) in
-    subst (λ (z : Block). z ∈ blocksOf t) (x .2) (in-map (λ z. z .block) (g (x .0) (x .1) (subst (λ (z : Block). NamedBy (suppliedBlocks q) (slipIn r) z) (sym (x .2)) y))))
+    subst (λ (z : Block). z ∈ blocksOf t) (x .2) (in-map (λ z. z .block)
+    (g (x .0) (x .1) (subst (λ (z : Block). NamedBy (suppliedBlocks q) (slipIn r) z) (sym (x .2)) y))))

@@ -46,7 +46,8 @@ within-ancestor test bs zero b m h = (b, itself m, h)
 within-ancestor test bs (suc n) b m h = go (or-cases (test b) _ h) (λ d k t. within-ancestor test bs n d k t)
   where
     go : (test b ≡ true) ⊎ (anyOf (λ i. holds (passesWithin test bs n) (named bs i)) (b .includes) ≡ true)
-        → ((d : Block) → d ∈ bs → passesWithin test bs n d ≡ true → (x : Block) × Ancestor bs x d × (test x ≡ true)) → (d : Block) × Ancestor bs d b × (test d ≡ true)
+        → ((d : Block) → d ∈ bs → passesWithin test bs n d ≡ true → (x : Block) × Ancestor bs x d × (test x ≡ true)) → (d : Block) × Ancestor bs d b ×
+        (test d ≡ true)
     go (inl k) ih = (b, itself m, k)
     go (inr k) ih =
         let i = any-in (λ j. holds (passesWithin test bs n) (named bs j)) (b .includes) k in
@@ -64,7 +65,8 @@ module _ (test : Block → Bool) (bs : List Block) (f : Falling bs) where
   ancestor-within (suc n) (included {b = b} {i = i} m k a) t l =
       or-right (test b) _
       (in-any (λ j. holds (passesWithin test bs n) (named bs j)) k
-      (some-holds (passesWithin test bs n) i (named bs (i .reference)) (f .found i (descendant-stored a)) (ancestor-within n a t (omega (arith, f .lower b m (i .reference) k, l)))))
+      (some-holds (passesWithin test bs n) i (named bs (i .reference)) (f .found i (descendant-stored a))
+      (ancestor-within n a t (omega (arith, f .lower b m (i .reference) k, l)))))
 
   pub ancestor-passes : {d b : Block} → Ancestor bs d b → test d ≡ true → inAncestry test bs b ≡ true
   unfolding inAncestry
@@ -128,7 +130,8 @@ module _ (bs : List Block) (f : Falling bs) (b : Block) (m : b ∈ bs) where
   module _ (l : TransactionLocator) (a : AuthorityIndex) where
     pub rejecter-found : Rejecter bs b l a → inAncestry (rejectsAs l a) bs b ≡ true
     unfolding rejectsAs
-    rejecter-found r = ancestor-passes (rejectsAs l a) bs f (r .ancestor) (and-both _ _ (eq-eqb (author (r .rejecting)) a (r .authored)) (rejected-is (r .rejecting) l (r .rejects)))
+    rejecter-found r = ancestor-passes (rejectsAs l a) bs f (r .ancestor)
+        (and-both _ _ (eq-eqb (author (r .rejecting)) a (r .authored)) (rejected-is (r .rejecting) l (r .rejects)))
 
     pub found-rejecter : inAncestry (rejectsAs l a) bs b ≡ true → Rejecter bs b l a
     unfolding rejectsAs
@@ -143,7 +146,8 @@ module _ (bs : List Block) (f : Falling bs) (b : Block) (m : b ∈ bs) where
 
 -- ---- blocks that are right by themselves
 
-distinct-named : (bs : List Block) → pairwise (λ b d. not (sameReference (b .reference) (d .reference))) bs ≡ true → (b : Block) → b ∈ bs → named bs (b .reference) ≡ some b
+distinct-named : (bs : List Block) → pairwise (λ b d. not (sameReference (b .reference) (d .reference))) bs ≡ true → (b : Block) → b ∈ bs → named bs
+    (b .reference) ≡ some b
 unfolding named find pairwise
 distinct-named (d ∷ ds) h b here = rw (reference-refl (b .reference))
 distinct-named (d ∷ ds) h b (there m) =
@@ -152,12 +156,14 @@ distinct-named (d ∷ ds) h b (there m) =
 
 lower-include : (c : Committee) (b : Block) → passes (bodyChecks c b) ≡ true → (i : BlockReference) → i ∈ b .includes → i .round < round b
 unfolding bodyChecks includeChecks
-lower-include c b h i m = leb-false (round b) (i .round) (passes-none (bodyChecks c b) h (leb (round b) (i .round) ⇒ 25) (in-left _ (in-flatten (there here) (in-map (includeChecks c b) m))))
+lower-include c b h i m = leb-false (round b) (i .round) (passes-none (bodyChecks c b) h (leb (round b) (i .round) ⇒ 25)
+    (in-left _ (in-flatten (there here) (in-map (includeChecks c b) m))))
 
 pub right-falling : (c : Committee) (bs : List Block) → rightBlocks c bs ≡ true → Falling bs
 unfolding rightBlocks
 right-falling c bs h =
     record {
       found = distinct-named bs (and-right (allOf (λ b. passes (headChecks c b) && passes (bodyChecks c b)) bs) _ h);
-      lower = λ b m. lower-include c b (and-right (passes (headChecks c b)) _ (all-in (λ b. passes (headChecks c b) && passes (bodyChecks c b)) bs (and-left _ _ h) m));
+      lower = λ b m. lower-include c b (and-right (passes (headChecks c b)) _
+          (all-in (λ b. passes (headChecks c b) && passes (bodyChecks c b)) bs (and-left _ _ h) m));
     }

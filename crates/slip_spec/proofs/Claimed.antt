@@ -1,7 +1,8 @@
 -- The claims about slips hold. Assumes nothing.
 use Rattle.record_spec.proofs.Claimed.{bytes-fit}
 use Rattle.final_spec.proofs.Claimed.{well-stored}
-use Rattle.slip_spec.specs.Claims.{SlipReadsBack, SlipWritesBack, ReadingMeant, MissingMeant, AcceptedCertifies, AcceptedInStore, PathsMeant, WrittenNamesAll, WrittenAccepted, WrittenReads, WrittenCarried, WrittenWhole, WrittenSays, Claims}
+use Rattle.slip_spec.specs.Claims.{SlipReadsBack, SlipWritesBack, ReadingMeant, MissingMeant, AcceptedCertifies, AcceptedInStore, PathsMeant}
+use Rattle.slip_spec.specs.Claims.{WrittenNamesAll, WrittenAccepted, WrittenReads, WrittenCarried, WrittenWhole, WrittenSays, Claims}
 use Rattle.slip_spec.proofs.Slips.{readSlip-slipBytes, slipBytes-readSlip, slip-fits}
 use Rattle.slip_spec.proofs.Reading.{answer-iff}
 use Rattle.slip_spec.proofs.Ancestry.{right-falling}

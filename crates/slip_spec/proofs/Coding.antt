@@ -74,7 +74,8 @@ module _ {A : Type 0} (p : A → Bool) where
   place-stays [] ys h = absurd (not-both h refl)
   place-stays (x ∷ xs) ys h = go (p x) h (place-stays xs ys)
     where
-      go : (t : Bool) → t || anyOf p xs ≡ true → (anyOf p xs ≡ true → firstPlace p (xs ++ ys) ≡ firstPlace p xs) → pick t 0 (suc (firstPlace p (xs ++ ys))) ≡ pick t 0 (suc (firstPlace p xs))
+      go : (t : Bool) → t || anyOf p xs ≡ true → (anyOf p xs ≡ true → firstPlace p (xs ++ ys) ≡ firstPlace p xs) → pick t 0 (suc (firstPlace p (xs ++ ys))) ≡
+          pick t 0 (suc (firstPlace p xs))
       go true k ih = refl
       go false k ih = ap suc (ih k)
 
@@ -103,7 +104,8 @@ voter-distance {bs} w l a b m = same-test _ _ there-is is-there
     some-away none e h = absurd (not-both h (unfold isNone in refl))
     some-away (some n) e h =
         voter-counted w l a b m
-        (path-voter bs bs l a b (stepsFrom (votesAs l a) bs n b) (steps-lead (votesAs l a) bs w n b m e) (λ x y. on-path-in bs (stepsFrom (votesAs l a) bs n b) b x m y))
+        (path-voter bs bs l a b (stepsFrom (votesAs l a) bs n b) (steps-lead (votesAs l a) bs w n b m e)
+        (λ x y. on-path-in bs (stepsFrom (votesAs l a) bs n b) b x m y))
 
     is-there : not (isNone away) ≡ true → member (voters bs l (b .reference)) a ≡ true
     is-there h = some-away away refl h
@@ -124,7 +126,8 @@ placed-blocks e [] = refl
 placed-blocks e (d ∷ ds) = go (lower (e .block) (d .block)) (placed-blocks e ds)
   where
     go : (t : Bool) → placedBlock (e .block) (map blockOf ds) ≡ map blockOf (placed e ds)
-        → pick t (e .block ∷ d .block ∷ map blockOf ds) (d .block ∷ placedBlock (e .block) (map blockOf ds)) ≡ map blockOf (pick t (e ∷ d ∷ ds) (d ∷ placed e ds))
+        → pick t (e .block ∷ d .block ∷ map blockOf ds) (d .block ∷ placedBlock (e .block) (map blockOf ds)) ≡ map blockOf
+        (pick t (e ∷ d ∷ ds) (d ∷ placed e ds))
     go true q = refl
     go false q = ap {B = List Block} (λ bs. d .block ∷ bs) q
 
@@ -138,11 +141,13 @@ unfolding keep
 keep-map f p [] = refl
 keep-map {A} {B} f p (x ∷ xs) = go (p (f x)) (keep-map f p xs)
   where
-    go : (t : Bool) → keep p (map f xs) ≡ map f (keep (λ y. p (f y)) xs) → pick t (f x ∷ keep p (map f xs)) (keep p (map f xs)) ≡ map f (pick t (x ∷ keep (λ y. p (f y)) xs) (keep (λ y. p (f y)) xs))
+    go : (t : Bool) → keep p (map f xs) ≡ map f (keep (λ y. p (f y)) xs) → pick t (f x ∷ keep p (map f xs)) (keep p (map f xs)) ≡ map f
+        (pick t (x ∷ keep (λ y. p (f y)) xs) (keep (λ y. p (f y)) xs))
     go true q = ap {B = List B} (λ ys. f x ∷ ys) q
     go false q = q
 
-at-positions : (s : Bytes) (es : List Entry) → ((e : Entry) → e ∈ es → blockAt s (e .position) ≡ e .block) → map blockOf es ≡ map (blockAt s) (map (λ e. e .position) es)
+at-positions : (s : Bytes) (es : List Entry) → ((e : Entry) → e ∈ es → blockAt s (e .position) ≡ e .block) → map blockOf es ≡ map (blockAt s)
+    (map (λ e. e .position) es)
 at-positions s [] f = refl
 at-positions s (e ∷ es) f = ap₂ {C = List Block} (λ b bs. b ∷ bs) (sym (f e here)) (at-positions s es (λ d m. f d (there m)))
 
@@ -156,7 +161,8 @@ pub certifiers-at : (reading : Reading) (c : Committee) (s : Bytes) (l : Transac
 unfolding orderedCertifiers certifyingPositionsIn
 certifiers-at reading c s l o =
     ap (keep test) sorted ∙ keep-map blockOf test (ascending (entries (recordsOf s)))
-    ∙ at-positions s kept (λ e m. block-of-entry s (laid-out s (order-laid c s o) .reads) e (ascending-in (entries (recordsOf s)) e (keep-in _ (ascending (entries (recordsOf s))) m .0)))
+    ∙ at-positions s kept (λ e m. block-of-entry s (laid-out s (order-laid c s o) .reads) e
+    (ascending-in (entries (recordsOf s)) e (keep-in _ (ascending (entries (recordsOf s))) m .0)))
   where
     test : Block → Bool
     test b = certifiesIn reading c (blocksOf s) l b

@@ -30,7 +30,8 @@ least-found [] n h = absurd (Option·none-ne-some n h)
 least-found (none ∷ os) n h = there (least-found os n h)
 least-found (some m ∷ os) n h = go (leastDistance os) refl (λ k. least-found os n k) h
   where
-    either : (k : ℕ) (t : Bool) → leastDistance os ≡ some k → (leastDistance os ≡ some n → some n ∈ os) → pick t (some k) (some m) ≡ some n → some n ∈ (some m ∷ os)
+    either : (k : ℕ) (t : Bool) → leastDistance os ≡ some k → (leastDistance os ≡ some n → some n ∈ os) → pick t (some k) (some m) ≡ some n → some n ∈
+        (some m ∷ os)
     either k true e ih q = there (ih (e ∙ q))
     either k false e ih q = subst (λ (o : Option ℕ). some n ∈ (o ∷ os)) (sym q) here
 
@@ -123,16 +124,19 @@ module _ (votes : Block → Bool) where
       → nearest older b ≡ nearest (h ∷ older) b
   same-nearest h older b f = ap leastDistance (map-same (distance votes older) (distance votes (h ∷ older)) (b .includes) f)
 
-  pub distance-step : {bs : List Block} → WellStored bs → (b : Block) → b ∈ bs → distance votes bs (b .reference) ≡ pick (votes b) (some 0) (Option·map suc (nearest bs b))
+  pub distance-step : {bs : List Block} → WellStored bs → (b : Block) → b ∈ bs → distance votes bs (b .reference) ≡ pick (votes b) (some 0)
+      (Option·map suc (nearest bs b))
   distance-step fresh b m = absurd (in-empty m)
   distance-step (stored {b = h} {older = older} new found w) b here =
-      newest ∙ ap (λ (o : Option ℕ). pick (votes h) (some 0) (Option·map suc o)) (same-nearest h older h (λ i k. sym (older-distance h older new i (found i k))))
+      newest ∙ ap (λ (o : Option ℕ). pick (votes h) (some 0) (Option·map suc o))
+      (same-nearest h older h (λ i k. sym (older-distance h older new i (found i k))))
     where
       newest : distance votes (h ∷ older) (h .reference) ≡ pick (votes h) (some 0) (Option·map suc (nearest older h))
       newest = unfold distance in rw (reference-refl (h .reference))
   distance-step (stored {b = h} {older = older} new found w) b (there m) =
       older-distance h older new (b .reference) (b, m, refl) ∙ distance-step w b m
-      ∙ ap (λ (o : Option ℕ). pick (votes b) (some 0) (Option·map suc o)) (same-nearest h older b (λ i k. sym (older-distance h older new i (include-stored w m i k))))
+      ∙ ap (λ (o : Option ℕ). pick (votes b) (some 0) (Option·map suc o))
+      (same-nearest h older b (λ i k. sym (older-distance h older new i (include-stored w m i k))))
 
 zero-only : (t : Bool) (o : Option ℕ) → pick t (some 0) (Option·map suc o) ≡ some 0 → t ≡ true
 zero-only true o h = refl
@@ -160,7 +164,8 @@ module _ (votes : Block → Bool) (bs : List Block) (w : WellStored bs) where
       let s = first-step bs q qs b (h .vote) (h .leading) in
       let a = path-least qs (s .next) (named-in bs (s .include) (s .next) (s .given)) (record { vote = h .vote; leading = s .onward; voting = h .voting }) in
       let e : distance votes bs (s .include) ≡ some (a .away) = ap (distance votes bs) (sym (named-reference bs (s .include) (s .next) (s .given))) ∙ a .is in
-      let k : some (a .away) ∈ map (distance votes bs) (b .includes) = subst (λ (o : Option ℕ). o ∈ map (distance votes bs) (b .includes)) e (in-map (distance votes bs) (place-in (b .includes) q (s .include) (s .at))) in
+      let k : some (a .away) ∈ map (distance votes bs) (b .includes) = subst (λ (o : Option ℕ). o ∈ map (distance votes bs) (b .includes)) e
+      (in-map (distance votes bs) (place-in (b .includes) q (s .include) (s .at))) in
       rw (distance-step votes w b m) (go (votes b) (a .away) (a .most) (least-below (map (distance votes bs) (b .includes)) (a .away) k))
     where
       go : (t : Bool) (n : ℕ) → n ≤ length qs → AtMost (nearest votes bs b) n → AtMost (pick t (some 0) (Option·map suc (nearest votes bs b))) (suc (length qs))
@@ -176,7 +181,8 @@ module _ (votes : Block → Bool) (bs : List Block) (w : WellStored bs) where
       pub given : named bs include ≡ some next
       pub near : distance votes bs (next .reference) ≡ some n
 
-    next-block : (p : ℕ) (r : BlockReference) (i : Block) → getElem? (b .includes) p ≡ some r → named bs r ≡ some i → Option·getD (named bs (getD (b .includes) p noReference)) noBlock ≡ i
+    next-block : (p : ℕ) (r : BlockReference) (i : Block) → getElem? (b .includes) p ≡ some r → named bs r ≡ some i → Option·getD
+        (named bs (getD (b .includes) p noReference)) noBlock ≡ i
     next-block p r i e f = rw (at-place noReference (b .includes) p r e, f)
 
     is-away : (n : ℕ) (o : Option ℕ) → isAway n o ≡ true → o ≡ some n
@@ -205,7 +211,12 @@ module _ (votes : Block → Bool) (bs : List Block) (w : WellStored bs) where
   -- the path that is read off leads to a vote
   pub steps-lead : (n : ℕ) (b : Block) → b ∈ bs → distance votes bs (b .reference) ≡ some n → LeadsToVote votes bs (stepsFrom votes bs n b) b
   unfolding stepsFrom
-  steps-lead zero b m h = record { vote = b; leading = unfold leads in refl; voting = zero-only (votes b) (nearest votes bs b) (sym (distance-step votes w b m) ∙ h) }
+  steps-lead zero b m h = record {
+    vote = b;
+    leading = unfold leads in refl;
+    voting = zero-only (votes b) (nearest votes bs b)
+        (sym (distance-step votes w b m) ∙ h);
+  }
   steps-lead (suc n) b m h =
       let s = step-on b m n h in
       let e = next-block b m _ (s .include) (s .next) (s .at) (s .given) in
@@ -214,7 +225,14 @@ module _ (votes : Block → Bool) (bs : List Block) (w : WellStored bs) where
         vote = l .vote;
         leading =
             step-leads bs _ _ b (l .vote)
-            (record { include = s .include; next = s .next; at = s .at; given = s .given; onward = ap (λ (x : Block). leads bs (stepsFrom votes bs n x) (s .next)) e ∙ l .leading });
+            (record {
+              include = s .include;
+              next = s .next;
+              at = s .at;
+              given = s .given;
+              onward = ap
+                  (λ (x : Block). leads bs (stepsFrom votes bs n x) (s .next)) e ∙ l .leading;
+            });
         voting = l .voting;
       }
 
@@ -249,7 +267,8 @@ module _ (votes : Block → Bool) (bs : List Block) (w : WellStored bs) where
       lower : n ≤ upper .away
       lower =
           let k : some (upper .away) ∈ map (distance votes bs) (b .includes) =
-          subst (λ (o : Option ℕ). o ∈ map (distance votes bs) (b .includes)) (same-one ∙ upper .is) (in-map (distance votes bs) (place-in (b .includes) q (s .include) (s .at))) in
+          subst (λ (o : Option ℕ). o ∈ map (distance votes bs) (b .includes)) (same-one ∙ upper .is)
+          (in-map (distance votes bs) (place-in (b .includes) q (s .include) (s .at))) in
           let a = least-below (map (distance votes bs) (b .includes)) (upper .away) k in
           let near = suc-only (votes b) (nearest votes bs b) n (sym (distance-step votes w b m) ∙ h) in
           let f : a .away ≡ n = Option·some-injective _ _ (sym (a .is) ∙ near) in
@@ -259,7 +278,8 @@ module _ (votes : Block → Bool) (bs : List Block) (w : WellStored bs) where
       exact = let f : upper .away ≡ n = omega (arith, lower, upper .most) in upper .is ∙ ap some f
 
       p-least : p ≤ q
-      p-least = first-place-least (λ i. isAway n (distance votes bs i)) (b .includes) q (s .include) (s .at) (away-is b m n (distance votes bs (s .include)) (same-one ∙ exact))
+      p-least = first-place-least (λ i. isAway n (distance votes bs i)) (b .includes) q (s .include) (s .at)
+          (away-is b m n (distance votes bs (s .include)) (same-one ∙ exact))
 
       same-place : (t : Bool) → eqb q p ≡ t
           → ((x : Block) → x ∈ bs → distance votes bs (x .reference) ≡ some n → LeadsToVote votes bs qs x → before qs (stepsFrom votes bs n x) ≡ false)
@@ -267,7 +287,8 @@ module _ (votes : Block → Bool) (bs : List Block) (w : WellStored bs) where
       same-place false f ih = refl
       same-place true f ih =
           let g : Option·getD (named bs (getD (b .includes) p noReference)) noBlock ≡ s .next =
-          ap (λ (j : ℕ). Option·getD (named bs (getD (b .includes) j noReference)) noBlock) (sym (eqb-true q p f)) ∙ next-block b m q (s .include) (s .next) (s .at) (s .given) in
+          ap (λ (j : ℕ). Option·getD (named bs (getD (b .includes) j noReference)) noBlock) (sym (eqb-true q p f)) ∙ next-block b m q (s .include) (s .next)
+          (s .at) (s .given) in
           rw g (ih (s .next) s-stored exact rest)
 
   -- the path that is read off is the shortest, and the first of these
@@ -276,7 +297,8 @@ module _ (votes : Block → Bool) (bs : List Block) (w : WellStored bs) where
   shortest-first b m qs h =
       let a = path-least qs b m h in
       let n : ℕ = a .away in
-      let e : stepsFrom votes bs (Option·getD (distance votes bs (b .reference)) 0) b ≡ stepsFrom votes bs n b = ap (λ (o : Option ℕ). stepsFrom votes bs (Option·getD o 0) b) (a .is) in
+      let e : stepsFrom votes bs (Option·getD (distance votes bs (b .reference)) 0) b ≡ stepsFrom votes bs n b = ap
+      (λ (o : Option ℕ). stepsFrom votes bs (Option·getD o 0) b) (a .is) in
       rw e
       (record {
         leading = steps-lead n b m (a .is);

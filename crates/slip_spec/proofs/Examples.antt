@@ -166,7 +166,12 @@ few-voters : readAnswer four (slipBytes (slip (voter 1 (1 ∷ []) ∷ voter 2 (2
 unfolding computing
 few-voters = refl
 
-few-certifiers : readAnswer four (slipBytes (record { reading = old; locator = the; certifiers = certifier 1 12 right-voters ∷ certifier 2 13 right-voters ∷ [] })) (records enough) ≡ refused 52
+few-certifiers : readAnswer four (slipBytes (record {
+  reading = old;
+  locator = the;
+  certifiers = certifier 1 12 right-voters ∷ certifier 2 13 right-voters ∷
+      [];
+})) (records enough) ≡ refused 52
 unfolding computing
 few-certifiers = refl
 

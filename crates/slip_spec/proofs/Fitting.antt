@@ -9,7 +9,8 @@ use lib.Dec.{ltb}
 use lib.ListN.{length, length-map, getElem?}
 use borrow.Author.Tests.{lt-ltb}
 use Rattle.base.specs.Lists.{pick, countFrom, _∈_}
-use Rattle.base.proofs.Lists.{every-in, every-countFrom, length-keep, length-countFrom, holds-some, Pairs, no-pairs, with-later, pairs-keep, pairs-map, pairs-pairwise}
+use Rattle.base.proofs.Lists.{every-in, every-countFrom, length-keep, length-countFrom, holds-some, Pairs, no-pairs, with-later, pairs-keep, pairs-map}
+use Rattle.base.proofs.Lists.{pairs-pairwise}
 use Rattle.base.proofs.Le.{AllBytes}
 use Rattle.base.proofs.Members.{map-in}
 use Rattle.committee.specs.Committee.{AuthorityIndex, Committee}
@@ -81,11 +82,15 @@ length-path votes bs b = go (distance votes bs (b .reference)) refl
     go none e = omega (arith, length-steps votes bs 0 b)
     go (some n) e = omega (arith, length-steps votes bs n b, distance-below votes bs (b .reference) n e)
 
-path-bytes : (bs : List Block) → ((x : Block) → x ∈ bs → length (x .includes) ≤ 256) → (ps : List ℕ) (b d : Block) → b ∈ bs → leads bs ps b ≡ toBlock d → AllBytes ps
+path-bytes : (bs : List Block) → ((x : Block) → x ∈ bs → length (x .includes) ≤ 256) → (ps : List ℕ) (b d : Block) → b ∈ bs → leads bs ps b ≡ toBlock d →
+    AllBytes ps
 path-bytes bs f [] b d m h = tt
 path-bytes bs f (p ∷ ps) b d m h =
-    let s = first-step bs p ps b d h in
-    (omega (arith, f b m, place-below (b .includes) p (s .include) (s .at)), path-bytes bs f ps (s .next) d (named-in bs (s .include) (s .next) (s .given)) (s .onward))
+    let s = first-step bs p ps b d h in (
+      omega (arith, f b m, place-below (b .includes) p (s .include) (s .at)),
+      path-bytes bs f ps (s .next) d (named-in bs (s .include) (s .next) (s .given))
+          (s .onward),
+    )
 
 -- ---- both lists ascend
 
@@ -96,9 +101,11 @@ rising i (suc n) = with-later (every-countFrom (i + 1) n (λ o (l : i + 1 ≤ o)
 
 distinct-stored : {bs : List Block} → WellStored bs → Distinct bs
 distinct-stored fresh = no-pairs
-distinct-stored (stored {b = b} {older = older} new found w) = with-later (in-every older (λ d m. other-reference (b .reference) (d .reference) (λ e. new d m (sym e)))) (distinct-stored w)
+distinct-stored (stored {b = b} {older = older} new found w) = with-later
+    (in-every older (λ d m. other-reference (b .reference) (d .reference) (λ e. new d m (sym e)))) (distinct-stored w)
 
-module _ (reading : Reading) (c : Committee) (bs : List Block) (h : Stored c bs) (l : TransactionLocator) (few : length bs ≤ 1024) (fits : (b : Block) → b ∈ bs → BlockFits b) (target : LocatorFits l) where
+module _ (reading : Reading) (c : Committee) (bs : List Block) (h : Stored c bs) (l : TransactionLocator) (few : length bs ≤ 1024)
+    (fits : (b : Block) → b ∈ bs → BlockFits b) (target : LocatorFits l) where
   module _ (b : Block) (m : b ∈ bs) where
     abbrev own : AuthoritySet
     own = votersIn reading bs l (b .reference)
@@ -129,7 +136,8 @@ module _ (reading : Reading) (c : Committee) (bs : List Block) (h : Stored c bs)
         record {
           reference = fits b m .reference;
           few = omega (arith, few-voters);
-          voters = in-every (map (voterOf bs l b) (members own)) (λ v k. let x = map-in (voterOf bs l b) (members own) k in subst VoterFits (x .2) (voter-fits (x .0) (x .1)));
+          voters = in-every (map (voterOf bs l b) (members own)) (λ v k. let x = map-in (voterOf bs l b) (members own) k in subst VoterFits (x .2)
+              (voter-fits (x .0) (x .1)));
           ascend = voters-ascend;
         }
 
@@ -148,7 +156,8 @@ module _ (reading : Reading) (c : Committee) (bs : List Block) (h : Stored c bs)
   unfolding certifiersAscend certifierOf orderedCertifiers
   certifiers-ascend =
       pairs-pairwise _ (map (certifierOf reading bs l) ordered)
-      (pairs-map (certifierOf reading bs l) (λ x y e. e) ordered (pairs-keep (certifiesIn reading c bs l) (ascendingBlocks bs) (ascending-ascends bs (distinct-stored (well-stored c bs h)))))
+      (pairs-map (certifierOf reading bs l) (λ x y e. e) ordered (pairs-keep (certifiesIn reading c bs l) (ascendingBlocks bs)
+      (ascending-ascends bs (distinct-stored (well-stored c bs h)))))
 
   pub slip-fits : SlipFits (slipFor reading c bs l)
   unfolding slipFor
@@ -156,6 +165,8 @@ module _ (reading : Reading) (c : Committee) (bs : List Block) (h : Stored c bs)
       record {
         locator = target;
         few = omega (arith, length-certifiers, few-certifiers);
-        certifiers = in-every (map (certifierOf reading bs l) ordered) (λ k m. let x = map-in (certifierOf reading bs l) ordered m in subst CertifierFits (x .2) (certifier-fits (x .0) (certifier-in reading c bs h l (x .0) (x .1) .0)));
+        certifiers = in-every (map (certifierOf reading bs l) ordered)
+            (λ k m. let x = map-in (certifierOf reading bs l) ordered m in subst CertifierFits (x .2)
+            (certifier-fits (x .0) (certifier-in reading c bs h l (x .0) (x .1) .0)));
         ascend = certifiers-ascend;
       }

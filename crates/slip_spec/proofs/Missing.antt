@@ -49,7 +49,8 @@ module _ (bs : List Block) where
         let k = any-in any-lost (s .certifiers) h in
         from (k .0) (k .1) (named bs (k .0 .reference)) refl (k .2)
       where
-        above : (reading : Reading) → s .reading ≡ reading → (k : SlipCertifier) → k ∈ s .certifiers → (b : Block) → named bs (k .reference) ≡ some b → lacksAncestor reading bs b ≡ true → NotSupplied bs s
+        above : (reading : Reading) → s .reading ≡ reading → (k : SlipCertifier) → k ∈ s .certifiers → (b : Block) → named bs (k .reference) ≡ some b →
+            lacksAncestor reading bs b ≡ true → NotSupplied bs s
         above old r k m b e t = absurd (not-both t (unfold lacksAncestor in refl))
         above withdrawing r k m b e t = notInAncestry r k b m e (lacks-missing bs (f r) b (named-in bs (k .reference) b e) (unfold lacksAncestor in t))
 
@@ -60,7 +61,8 @@ module _ (bs : List Block) where
             notOnPath k (v .0) b m (v .1) e (path-missing (v .0 .path) b (v .2))
         either k m b e (inr t) = above (s .reading) refl k m b e t
 
-        from : (k : SlipCertifier) → k ∈ s .certifiers → (o : Option Block) → named bs (k .reference) ≡ o → missingFrom (s .reading) bs (k .voters) o ≡ true → NotSupplied bs s
+        from : (k : SlipCertifier) → k ∈ s .certifiers → (o : Option Block) → named bs (k .reference) ≡ o → missingFrom (s .reading) bs (k .voters) o ≡ true →
+            NotSupplied bs s
         from k m none e t = noCertifier k m e
         from k m (some b) e t = either k m b e (or-cases (anyOf (λ (x : SlipVoter). isNotGiven (leads bs (x .path) b)) (k .voters)) _ (unfold missingFrom in t))
 
@@ -72,7 +74,8 @@ module _ (bs : List Block) where
         (rw e (or-left _ _ (in-any (λ (x : SlipVoter). isNotGiven (leads bs (x .path) b)) n (missing-path (v .path) b p))))
     missing-named (notInAncestry r k b m e a) =
         in-any any-lost m
-        (rw (e, r) (or-right (anyOf (λ (x : SlipVoter). isNotGiven (leads bs (x .path) b)) (k .voters)) _ (unfold lacksAncestor in missing-lacks bs (f r) b (named-in bs (k .reference) b e) a)))
+        (rw (e, r) (or-right (anyOf (λ (x : SlipVoter). isNotGiven (leads bs (x .path) b)) (k .voters)) _
+        (unfold lacksAncestor in missing-lacks bs (f r) b (named-in bs (k .reference) b e) a)))
 
     pub missing-iff : (missing bs s ≡ true) ↔ NotSupplied bs s
     missing-iff = (named-missing, missing-named)

@@ -45,15 +45,30 @@ unfolding leads
 ancestor-path w (itself m) = ([], refl)
 ancestor-path {bs} w {d = d} (included {b = b} {i = i} m k a) =
     let p = place-of k in
-    let r = ancestor-path w a in
-    (p .0 ∷ r .0, step-leads bs (p .0) (r .0) b d (record { include = i .reference; next = i; at = p .1; given = named-stored w i (descendant-stored a); onward = r .1 }))
+    let r = ancestor-path w a in (
+      p .0 ∷ r .0,
+      step-leads bs (p .0) (r .0) b d (record {
+        include = i .reference;
+        next = i;
+        at = p .1;
+        given = named-stored w i (descendant-stored a);
+        onward = r .1;
+      }),
+    )
 
 -- to the vote of every voter
-pub voter-path : {bs : List Block} → WellStored bs → (l : TransactionLocator) (a : AuthorityIndex) (b : Block) → Voter bs b l a → (ps : List ℕ) × LeadsToVote (votesAs l a) bs ps b
+pub voter-path : {bs : List Block} → WellStored bs → (l : TransactionLocator) (a : AuthorityIndex) (b : Block) → Voter bs b l a → (ps : List ℕ) × LeadsToVote
+    (votesAs l a) bs ps b
 unfolding votesAs
 voter-path w l a b v =
-    let p = ancestor-path w (v .ancestor) in
-    (p .0, record { vote = v .voting; leading = p .1; voting = and-both _ _ (eq-eqb (author (v .voting)) a (v .authored)) (for-votes (v .voting) l (v .votes)) })
+    let p = ancestor-path w (v .ancestor) in (
+      p .0,
+      record {
+        vote = v .voting;
+        leading = p .1;
+        voting = and-both _ _ (eq-eqb (author (v .voting)) a (v .authored)) (for-votes (v .voting) l (v .votes));
+      },
+    )
 
 -- ---- the written slip
 
@@ -89,8 +104,10 @@ module _ (reading : Reading) (c : Committee) (bs : List Block) (h : Stored c bs)
             in-map (voterOf bs l b) (in-members own a (small (in-voter reading v)) (voter-in-counted reading well l a b m v)),
             refl,
           );
-          only = λ v k. let x = map-in (voterOf bs l b) (members own) k in subst (λ (y : SlipVoter). VoterIn reading bs b l (y .author)) (x .2) (own-voter (x .0) (x .1));
-          paths = λ v k. let x = map-in (voterOf bs l b) (members own) k in subst (λ (y : SlipVoter). ShortestThenFirst (votesAs l (y .author)) bs b (y .path)) (x .2) (own-path (x .0) (x .1));
+          only = λ v k. let x = map-in (voterOf bs l b) (members own) k in subst (λ (y : SlipVoter). VoterIn reading bs b l (y .author)) (x .2)
+              (own-voter (x .0) (x .1));
+          paths = λ v k. let x = map-in (voterOf bs l b) (members own) k in subst
+              (λ (y : SlipVoter). ShortestThenFirst (votesAs l (y .author)) bs b (y .path)) (x .2) (own-path (x .0) (x .1));
         }
       where
         small : {a : AuthorityIndex} → Voter bs b l a → a < 128
@@ -117,5 +134,12 @@ module _ (reading : Reading) (c : Committee) (bs : List Block) (h : Stored c bs)
         only = λ k m.
             let x = map-in (certifierOf reading bs l) (orderedCertifiers reading c bs l) m in
             let i = certifier-in (x .0) (x .1) in
-            subst (NamesCertifier reading c bs l) (x .2) (record { block = x .0; stored = i .0; listed = refl; certifying = i .1; voters = names-voters (x .0) (i .0) });
+            subst (NamesCertifier reading c bs l) (x .2) (record {
+              block = x .0;
+              stored = i .0;
+              listed = refl;
+              certifying = i .1;
+              voters = names-voters (x .0)
+                  (i .0);
+            });
       }

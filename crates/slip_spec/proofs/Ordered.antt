@@ -35,12 +35,14 @@ unfolding ascendingBlocks
 ascending-every [] none-of = none-of
 ascending-every (b ∷ bs) (and h hs) = placed-every b (ascendingBlocks bs) h (ascending-every bs hs)
 
-placed-ascends : (b : Block) (ds : List Block) → Every (λ d. sameReference (b .reference) (d .reference) ≡ false) ds → Pairs (λ e d. lower e d ≡ true) ds → Pairs (λ e d. lower e d ≡ true) (placedBlock b ds)
+placed-ascends : (b : Block) (ds : List Block) → Every (λ d. sameReference (b .reference) (d .reference) ≡ false) ds → Pairs (λ e d. lower e d ≡ true) ds →
+    Pairs (λ e d. lower e d ≡ true) (placedBlock b ds)
 unfolding placedBlock
 placed-ascends b [] none-of no-pairs = with-later none-of no-pairs
 placed-ascends b (d ∷ ds) (and a as′) (with-later h hs) = go (lower b d) refl (placed-ascends b ds as′ hs)
   where
-    go : (t : Bool) → lower b d ≡ t → Pairs (λ e d. lower e d ≡ true) (placedBlock b ds) → Pairs (λ e d. lower e d ≡ true) (pick t (b ∷ d ∷ ds) (d ∷ placedBlock b ds))
+    go : (t : Bool) → lower b d ≡ t → Pairs (λ e d. lower e d ≡ true) (placedBlock b ds) → Pairs (λ e d. lower e d ≡ true)
+        (pick t (b ∷ d ∷ ds) (d ∷ placedBlock b ds))
     go true l q = with-later (and l (every (λ f k. reference-trans (b .reference) (d .reference) (f .reference) l k) ds h)) (with-later h hs)
     go false l q = with-later (placed-every b ds (reference-other (b .reference) (d .reference) a l) h) q
 
@@ -109,13 +111,15 @@ length-placed p b [] = refl
 length-placed p b (d ∷ ds) = by (lower b d) (length-placed p b ds)
   where
     go : (u v : Bool) → length (keep p (placedBlock b ds)) ≡ length (pick u (b ∷ keep p ds) (keep p ds))
-        → length (pick v (d ∷ keep p (placedBlock b ds)) (keep p (placedBlock b ds))) ≡ length (pick u (b ∷ pick v (d ∷ keep p ds) (keep p ds)) (pick v (d ∷ keep p ds) (keep p ds)))
+        → length (pick v (d ∷ keep p (placedBlock b ds)) (keep p (placedBlock b ds))) ≡ length
+        (pick u (b ∷ pick v (d ∷ keep p ds) (keep p ds)) (pick v (d ∷ keep p ds) (keep p ds)))
     go true true e = ap suc e
     go true false e = e
     go false true e = ap suc e
     go false false e = e
 
-    by : (t : Bool) → length (keep p (placedBlock b ds)) ≡ length (keep p (b ∷ ds)) → length (keep p (pick t (b ∷ d ∷ ds) (d ∷ placedBlock b ds))) ≡ length (keep p (b ∷ d ∷ ds))
+    by : (t : Bool) → length (keep p (placedBlock b ds)) ≡ length (keep p (b ∷ ds)) → length (keep p (pick t (b ∷ d ∷ ds) (d ∷ placedBlock b ds))) ≡ length
+        (keep p (b ∷ d ∷ ds))
     by true e = refl
     by false e = go (p b) (p d) e
 
@@ -124,6 +128,7 @@ unfolding ascendingBlocks keep
 length-ascending p [] = refl
 length-ascending p (b ∷ bs) = length-placed p b (ascendingBlocks bs) ∙ first (p b) (length-ascending p bs)
   where
-    first : (t : Bool) → length (keep p (ascendingBlocks bs)) ≡ length (keep p bs) → length (pick t (b ∷ keep p (ascendingBlocks bs)) (keep p (ascendingBlocks bs))) ≡ length (pick t (b ∷ keep p bs) (keep p bs))
+    first : (t : Bool) → length (keep p (ascendingBlocks bs)) ≡ length (keep p bs) → length
+        (pick t (b ∷ keep p (ascendingBlocks bs)) (keep p (ascendingBlocks bs))) ≡ length (pick t (b ∷ keep p bs) (keep p bs))
     first true e = ap suc e
     first false e = e

@@ -64,7 +64,8 @@ unfolding leads onBy onFrom
 step-leads bs p ps b d s = rw (s .at, s .given) (s .onward)
 
 -- one step of a path: on to the include's block; past the end; to a block that is not given
-pub leads-on : (bs : List Block) (p : ℕ) (ps : List ℕ) (b i : Block) (r : BlockReference) → getElem? (b .includes) p ≡ some r → named bs r ≡ some i → leads bs (p ∷ ps) b ≡ leads bs ps i
+pub leads-on : (bs : List Block) (p : ℕ) (ps : List ℕ) (b i : Block) (r : BlockReference) → getElem? (b .includes) p ≡ some r → named bs r ≡ some i → leads bs
+    (p ∷ ps) b ≡ leads bs ps i
 unfolding leads onBy onFrom
 leads-on bs p ps b i r e f = rw (e, f)
 
@@ -72,7 +73,8 @@ pub leads-nowhere : (bs : List Block) (p : ℕ) (ps : List ℕ) (b : Block) → 
 unfolding leads onBy
 leads-nowhere bs p ps b e = rw e
 
-pub leads-not-given : (bs : List Block) (p : ℕ) (ps : List ℕ) (b : Block) (r : BlockReference) → getElem? (b .includes) p ≡ some r → named bs r ≡ none → leads bs (p ∷ ps) b ≡ notGiven
+pub leads-not-given : (bs : List Block) (p : ℕ) (ps : List ℕ) (b : Block) (r : BlockReference) → getElem? (b .includes) p ≡ some r → named bs r ≡ none → leads
+    bs (p ∷ ps) b ≡ notGiven
 unfolding leads onBy onFrom
 leads-not-given bs p ps b r e f = rw (e, f)
 
@@ -83,7 +85,8 @@ path-ancestor bs cs [] b d h f = subst (λ (x : Block). Ancestor cs x b) (same-e
 path-ancestor bs cs (p ∷ ps) b d h f =
     let s = first-step bs p ps b d h in
     included (f b start)
-    (subst (λ (r : BlockReference). r ∈ b .includes) (sym (named-reference bs (s .include) (s .next) (s .given))) (place-in (b .includes) p (s .include) (s .at)))
+    (subst (λ (r : BlockReference). r ∈ b .includes) (sym (named-reference bs (s .include) (s .next) (s .given)))
+    (place-in (b .includes) p (s .include) (s .at)))
     (path-ancestor bs cs ps (s .next) d (s .onward) (λ x y. f x (later (s .at) (s .given) y)))
 
 -- what stands on a path is one of the blocks given

@@ -100,7 +100,8 @@ module _ (reading : Reading) (c : Committee) (bs : List Block) (f : Falling bs) 
   abbrev ends-right : Block → SlipVoter → Bool
   ends-right b v = endsAtVote l (v .author) (leads bs (v .path) b)
 
-  certifier-right : holds (certifierHolds reading c bs l (k .voters)) (named bs (k .reference)) ≡ true → missingFrom reading bs (k .voters) (named bs (k .reference)) ≡ false
+  certifier-right : holds (certifierHolds reading c bs l (k .voters)) (named bs (k .reference)) ≡ true → missingFrom reading bs (k .voters)
+      (named bs (k .reference)) ≡ false
       → RightCertifier reading c bs l k
   unfolding certifierHolds missingFrom
   certifier-right h g =
@@ -210,10 +211,12 @@ module _ (c : Committee) (r q : Bytes) (n : ℕ) where
     accepted-right = slip-right c (suppliedBlocks q) (right-falling c (suppliedBlocks q) right-by-themselves) (slipIn r) held given-all
       where
         held : slipHolds c (suppliedBlocks q) (slipIn r) ≡ true
-        held = unfold readChecks in not-false _ (passes-none (readChecks c r q) pass (not (slipHolds c (suppliedBlocks q) (slipIn r)) ⇒ 52) (there (there (there (there (there (there here)))))))
+        held = unfold readChecks in not-false _ (passes-none (readChecks c r q) pass (not (slipHolds c (suppliedBlocks q) (slipIn r)) ⇒ 52)
+            (there (there (there (there (there (there here)))))))
 
         given-all : missing (suppliedBlocks q) (slipIn r) ≡ false
-        given-all = unfold readChecks in passes-none (readChecks c r q) pass (missing (suppliedBlocks q) (slipIn r) ⇒ 53) (there (there (there (there (there here)))))
+        given-all = unfold readChecks in passes-none (readChecks c r q) pass (missing (suppliedBlocks q) (slipIn r) ⇒ 53)
+            (there (there (there (there (there here)))))
 
     answer-accepted : AcceptedSlip c r q n
     unfolding readChecks readAnswer

@@ -15,13 +15,15 @@ use Rattle.base.proofs.Tests.{and-left, and-right}
 use Rattle.base.proofs.Lists.{Every, every, all-every}
 use Rattle.base.proofs.Le.{AllBytes, leAt-byte}
 use Rattle.base.proofs.Fixed.{number-at}
-use Rattle.base.proofs.Read.{part, items-reads, number-reads, ReadsBack, repeated-reads, complete-reads, Back, give-back, given-back, bind-back, map-back, Items, items-back, Number, number-back, One, Many, repeated-back, complete-back}
+use Rattle.base.proofs.Read.{part, items-reads, number-reads, ReadsBack, repeated-reads, complete-reads, Back, give-back, given-back, bind-back, map-back}
+use Rattle.base.proofs.Read.{Items, items-back, Number, number-back, One, Many, repeated-back, complete-back}
 use Rattle.record_spec.specs.Record.{referenceBytes, locatorBytes}
 use Rattle.record_spec.specs.Claims.{fitsReference, fitsLocator}
 use Rattle.record_spec.proofs.Records.{ReferenceFits, LocatorFits, reference-reads, locator-reads, reference-back, locator-back, byte-reads, one-byte}
 use Rattle.record_spec.proofs.Claimed.{bytes-fit, reference-fits, locator-fits}
 use Rattle.final_readings_spec.specs.Readings.{Reading, old, withdrawing, readingOf}
-use Rattle.slip_spec.specs.Slip.{SlipVoter, SlipCertifier, Slip, votersAscend, certifiersAscend, readVoter, readCertifier, readBody, readFirst, namesReading, readSlip, voterBytes, certifierBytes, readingByte, slipBytes, fitsVoter, fitsCertifier, fitsSlip}
+use Rattle.slip_spec.specs.Slip.{SlipVoter, SlipCertifier, Slip, votersAscend, certifiersAscend, readVoter, readCertifier, readBody, readFirst}
+use Rattle.slip_spec.specs.Slip.{namesReading, readSlip, voterBytes, certifierBytes, readingByte, slipBytes, fitsVoter, fitsCertifier, fitsSlip}
 
 -- ---- the limits: what fits a slip
 

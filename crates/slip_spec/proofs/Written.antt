@@ -77,7 +77,8 @@ module _ (reading : Reading) (c : Committee) (bs : List Block) (h : Stored c bs)
           ends = λ v k.
               let x = map-in (voterOf bs l b) (members own) k in
               subst (λ (y : SlipVoter). LeadsToVote (votesAs l (y .author)) bs (y .path) b) (x .2) (own-path reading c bs h l b m (x .0) (x .1) .leading);
-          standing = stands reading (λ v k. let x = map-in (voterOf bs l b) (members own) k in subst (λ (y : SlipVoter). VoterIn reading bs b l (y .author)) (x .2) (own-voter reading c bs h l b m (x .0) (x .1)));
+          standing = stands reading (λ v k. let x = map-in (voterOf bs l b) (members own) k in subst (λ (y : SlipVoter). VoterIn reading bs b l (y .author))
+              (x .2) (own-voter reading c bs h l b m (x .0) (x .1)));
           quorum =
               counted-quorum c own _
               (λ a k t. (voterOf bs l b a, in-map (voterOf bs l b) (in-members own a (omega (arith, few-members c (h .sound), k)) t), refl))
@@ -94,13 +95,19 @@ module _ (reading : Reading) (c : Committee) (bs : List Block) (h : Stored c bs)
             subst (RightCertifier reading c bs l) (x .2) (written-certifier (x .0) (i .0) (i .1));
         quorum =
             quorum-mono c (NamedAs author (certifiersIn reading c bs l)) _
-            (λ a x. (certifierOf reading bs l (x .0), in-map (certifierOf reading bs l) (certifiers-in reading c bs h l (x .0) (x .1)), unfold certifierOf in x .2))
+            (λ a x. (
+              certifierOf reading bs l (x .0),
+              in-map (certifierOf reading bs l) (certifiers-in reading c bs h l (x .0) (x .1)),
+              unfold certifierOf in
+                  x .2,
+            ))
             (quorum-listed author (certifiersIn reading c bs l) c f);
       }
 
 -- ---- together
 
-module _ (reading : Reading) (c : Committee) (t : Bytes) (sound : broken c ≡ false) (bytes : AllBytes t) (o : storeInOrder c t ≡ true) (l : TransactionLocator) (f : isFinalIn reading c (blocksOf t) l ≡ true) where
+module _ (reading : Reading) (c : Committee) (t : Bytes) (sound : broken c ≡ false) (bytes : AllBytes t) (o : storeInOrder c t ≡ true)
+    (l : TransactionLocator) (f : isFinalIn reading c (blocksOf t) l ≡ true) where
   order : InOrder c t
   order = in-order c t o
 
@@ -113,7 +120,8 @@ module _ (reading : Reading) (c : Committee) (t : Bytes) (sound : broken c ≡ f
   few-blocks = omega (arith, length-map (recordsOf t) (λ r. r .block), order .few)
 
   target : LocatorFits l
-  target = let v = final-votes c (blocksOf t) l (sym (old-reading .final c (blocksOf t) l) ∙ final-in-old reading c (blocksOf t) l f) in vote-fits (v .block) l (block-fits t bytes (v .block) (v .stands)) (votes-for (v .block) l (v .votes))
+  target = let v = final-votes c (blocksOf t) l (sym (old-reading .final c (blocksOf t) l) ∙ final-in-old reading c (blocksOf t) l f) in vote-fits (v .block)
+      l (block-fits t bytes (v .block) (v .stands)) (votes-for (v .block) l (v .votes))
 
   slip-reads : readSlip (slipBytes (slipFor reading c (blocksOf t) l)) ≡ some (slipFor reading c (blocksOf t) l)
   slip-reads = readSlip-slipBytes (slipFor reading c (blocksOf t) l) (slip-fits reading c (blocksOf t) all-stored l few-blocks (block-fits t bytes) target)
@@ -181,7 +189,8 @@ module _ (reading : Reading) (c : Committee) (t out : Bytes) (l : TransactionLoc
       → readAnswer c (take n (writeSlip reading c t out l .out)) (suppliedBytes rs) ≡ answered (length (certifiersIn reading c (blocksOf t) l))
   slice-carried rs f e few g = slice-accepted (suppliedBytes rs) (stored-supply c t (in-order c t ordered) rs f e few (slipFor reading c (blocksOf t) l) g)
 
-  pub slice-whole : readAnswer c (take n (writeSlip reading c t out l .out)) (suppliedBytes (recordsOf t)) ≡ answered (length (certifiersIn reading c (blocksOf t) l))
+  pub slice-whole : readAnswer c (take n (writeSlip reading c t out l .out)) (suppliedBytes (recordsOf t)) ≡ answered
+      (length (certifiersIn reading c (blocksOf t) l))
   slice-whole = slice-accepted (suppliedBytes (recordsOf t)) (whole-supply c t (in-order c t ordered) (slipFor reading c (blocksOf t) l))
 
   pub slice-says : SaysAll reading c (blocksOf t) l (take n (writeSlip reading c t out l .out))

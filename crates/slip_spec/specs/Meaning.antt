@@ -145,7 +145,8 @@ pub record NamesCertifier (reading : Reading) (c : Committee) (bs : List Block) 
 
 -- 02: "naming all certifiers and voters by the shortest, then first, path", and no others
 pub record NamesAll (c : Committee) (bs : List Block) (s : Slip) : Type 0 where
-  pub every : (b : Block) → b ∈ bs → certifiesIn (s .reading) c bs (s .locator) b ≡ true → (k : SlipCertifier) × (k ∈ s .certifiers) × (k .reference ≡ b .reference)
+  pub every : (b : Block) → b ∈ bs → certifiesIn (s .reading) c bs (s .locator) b ≡ true → (k : SlipCertifier) × (k ∈ s .certifiers) ×
+      (k .reference ≡ b .reference)
   pub only : (k : SlipCertifier) → k ∈ s .certifiers → NamesCertifier (s .reading) c bs (s .locator) k
 
 -- bytes that are read as a slip of the reading and the locator which names all

@@ -13,6 +13,7 @@ module _ (bytes out : Bytes) where
   unfolding writtenOver
   over-short h = rw (lt-ltb (length out) (length bytes) h)
 
-  pub over-long : length bytes ≤ length out → (n : ℕ) → n ≡ length bytes → record { answer = answered n; out = bytes ++ drop (length bytes) out } ≡ writtenOver bytes out
+  pub over-long : length bytes ≤ length out → (n : ℕ) → n ≡ length bytes → record { answer = answered n; out = bytes ++ drop (length bytes) out } ≡
+      writtenOver bytes out
   unfolding writtenOver
   over-long h n e = rw (e, le-ltb (length out) (length bytes) h)

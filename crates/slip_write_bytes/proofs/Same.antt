@@ -32,12 +32,14 @@ use Rattle.slip_write_parts.specs.Listed.{Voted, headBytes, listedBytes}
 use Rattle.slip_write_bytes.specs.Listed.{slipAt}
 
 -- a list mapped, by its indexes
-map-count : {B : Type 0} (f : ℕ → B) (g : ℕ → B) (xs : List ℕ) (j : ℕ) → ((i : ℕ) → i < length xs → g (j + i) ≡ f (getD xs i 0)) → map g (countFrom j (length xs)) ≡ map f xs
+map-count : {B : Type 0} (f : ℕ → B) (g : ℕ → B) (xs : List ℕ) (j : ℕ) → ((i : ℕ) → i < length xs → g (j + i) ≡ f (getD xs i 0)) → map g
+    (countFrom j (length xs)) ≡ map f xs
 unfolding countFrom
 map-count f g [] j h = refl
 map-count {B} f g (x ∷ xs) j h =
     ap₂ {C = List B} (λ y ys. y ∷ ys) (subst (λ (k : ℕ). g k ≡ f x) (add-zero j) (h 0 (omega arith)))
-    (map-count f g xs (j + 1) (λ i m. let e : j + 1 + i ≡ j + suc i = omega arith in subst (λ (k : ℕ). g k ≡ f (getD xs i 0)) (sym e) (h (suc i) (omega arith))))
+    (map-count f g xs (j + 1) (λ i m. let e : j + 1 + i ≡ j + suc i = omega arith in subst (λ (k : ℕ). g k ≡ f (getD xs i 0)) (sym e)
+    (h (suc i) (omega arith))))
 
 map-twice : {A B C : Type 0} (f : B → C) (g : A → B) (xs : List A) → map f (map g xs) ≡ map (λ x. f (g x)) xs
 map-twice f g [] = refl
@@ -62,24 +64,33 @@ module _ (reading : Reading) (s : Bytes) (order : List ℕ) (l : TransactionLoca
   abbrev bs : List Block
   bs = blocksOf s
 
-  one-same : (k : ℕ) (b : Block) (v : AuthoritySet) → blockAtPlace s order k ≡ b → v ≡ readings.votersIn reading bs l (b .reference) → certifierBytesAt s order l k v ≡ certifierBytes (certifierOf reading bs l b)
+  one-same : (k : ℕ) (b : Block) (v : AuthoritySet) → blockAtPlace s order k ≡ b → v ≡ readings.votersIn reading bs l (b .reference) → certifierBytesAt s
+      order l k v ≡ certifierBytes (certifierOf reading bs l b)
   unfolding certifierBytesAt certifierBytes certifierOf votersAt voterAt numberOfVoters
   one-same k b v e f =
-      ap₂ (λ (d : Block) (u : AuthoritySet). referenceBytes (d .reference) ++ (leBytes 1 (length (members u)) ++ flatten (map (λ a. voterBytes (voterOf bs l d a)) (members u)))) e f
-      ∙ sym (rw (length-map (members (readings.votersIn reading bs l (b .reference))) (voterOf bs l b), map-twice voterBytes (voterOf bs l b) (members (readings.votersIn reading bs l (b .reference)))))
+      ap₂ (λ (d : Block) (u : AuthoritySet). referenceBytes (d .reference) ++
+      (leBytes 1 (length (members u)) ++ flatten (map (λ a. voterBytes (voterOf bs l d a)) (members u)))) e f
+      ∙ sym (rw (
+        length-map (members (readings.votersIn reading bs l (b .reference))) (voterOf bs l b),
+        map-twice voterBytes (voterOf bs l b)
+            (members (readings.votersIn reading bs l (b .reference))),
+      ))
 
   all-same : certifiersBytes s order l t (length ps) ≡ flatten (map certifierBytes (map (certifierOf reading bs l) (map (blockAt s) ps)))
   unfolding certifiersBytes
   all-same =
       ap flatten
       (map-count (λ p. certifierBytes (certifierOf reading bs l (blockAt s p))) (λ i. certifierBytesAt s order l (placeIn t i) (votersIn t i)) ps 0
-      (λ i h. rw (zero-add i) (one-same (placeIn t i) (blockAt s (getD ps i 0)) (votersIn t i) (w .blocks i h) (w .voted i h ∙ ap (λ (b : Block). readings.votersIn reading bs l (b .reference)) (w .blocks i h))))
-      ∙ sym (map-twice (λ b. certifierBytes (certifierOf reading bs l b)) (blockAt s) ps) ∙ sym (map-twice certifierBytes (certifierOf reading bs l) (map (blockAt s) ps)))
+      (λ i h. rw (zero-add i) (one-same (placeIn t i) (blockAt s (getD ps i 0)) (votersIn t i) (w .blocks i h)
+      (w .voted i h ∙ ap (λ (b : Block). readings.votersIn reading bs l (b .reference)) (w .blocks i h))))
+      ∙ sym (map-twice (λ b. certifierBytes (certifierOf reading bs l b)) (blockAt s) ps) ∙ sym
+      (map-twice certifierBytes (certifierOf reading bs l) (map (blockAt s) ps)))
 
   pub listed-same : listedBytes s order l (readingByte reading) t (length ps) ≡ slipBytes (slipAt reading s l ps)
   unfolding listedBytes headBytes slipBytes slipAt
   listed-same =
-      let n : length (map (certifierOf reading bs l) (map (blockAt s) ps)) ≡ length ps = length-map (map (blockAt s) ps) (certifierOf reading bs l) ∙ length-map ps (blockAt s) in
+      let n : length (map (certifierOf reading bs l) (map (blockAt s) ps)) ≡ length ps = length-map (map (blockAt s) ps) (certifierOf reading bs l) ∙
+      length-map ps (blockAt s) in
       ap (λ (x : Bytes). readingByte reading ∷ x)
       (append-assoc (locatorBytes l) (leBytes 2 (length ps)) (certifiersBytes s order l t (length ps))
       ∙ ap₂ (λ (m : ℕ) (x : Bytes). locatorBytes l ++ (leBytes 2 m ++ x)) (sym n) all-same)

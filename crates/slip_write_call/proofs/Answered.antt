@@ -50,16 +50,19 @@ module _ (reading : Reading) (c : Committee) (s out : Bytes) (l : TransactionLoc
       unfolding writeSlip writeChecks checked passes refusal allOf writtenOver
       slip-over h = go (ltb (length out) (length (slipBytes (slipFor reading c (blocksOf s) l)))) refl
         where
-          go : (t : Bool) → ltb (length out) (length (slipBytes (slipFor reading c (blocksOf s) l))) ≡ t → writtenOver (slipBytes (slipFor reading c (blocksOf s) l)) out ≡ writeSlip reading c s out l
+          go : (t : Bool) → ltb (length out) (length (slipBytes (slipFor reading c (blocksOf s) l))) ≡ t → writtenOver
+              (slipBytes (slipFor reading c (blocksOf s) l)) out ≡ writeSlip reading c s out l
           go true e = rw (b, o, h, e)
           go false e = rw (b, o, h, e)
 
       slip-same : slipAt reading s l (certifyingPositionsIn reading c s l) ≡ slipFor reading c (blocksOf s) l
       unfolding slipAt slipFor
-      slip-same = ap (λ (bs : List Block). record { reading = reading; locator = l; certifiers = map (certifierOf reading (blocksOf s) l) bs }) (sym (certifiers-at reading c s l o))
+      slip-same = ap (λ (bs : List Block). record { reading = reading; locator = l; certifiers = map (certifierOf reading (blocksOf s) l) bs })
+          (sym (certifiers-at reading c s l o))
 
       -- the slip is that of the certifying positions
-      pub slip-final : isFinalIn reading c (blocksOf s) l ≡ true → writtenOver (slipBytes (slipAt reading s l (certifyingPositionsIn reading c s l))) out ≡ writeSlip reading c s out l
+      pub slip-final : isFinalIn reading c (blocksOf s) l ≡ true → writtenOver (slipBytes (slipAt reading s l (certifyingPositionsIn reading c s l))) out ≡
+          writeSlip reading c s out l
       slip-final h = ap (λ (x : Slip). writtenOver (slipBytes x) out) slip-same ∙ slip-over h
 
 -- ---- the certifying positions
@@ -69,7 +72,8 @@ module _ (reading : Reading) (c : Committee) (s : Bytes) (l : TransactionLocator
   certifiesAt p = certifiesIn reading c (blocksOf s) l (blockAt s p)
 
   pub certifying-few : length (certifyingPositionsIn reading c s l) ≤ length order
-  certifying-few = subst (λ (ps : List ℕ). length ps ≤ length order) (certifying-all reading c s l order o) (omega (arith, length-keep (certifiesAt) (take (length order) order), length-take (length order) order))
+  certifying-few = subst (λ (ps : List ℕ). length ps ≤ length order) (certifying-all reading c s l order o)
+      (omega (arith, length-keep (certifiesAt) (take (length order) order), length-take (length order) order))
 
   certifying-in : (p : ℕ) → p ∈ certifyingPositionsIn reading c s l → p ∈ order
   certifying-in p m =

@@ -59,10 +59,12 @@ module _ (s : Bytes) (order : List ℕ) (l : TransactionLocator) (t : List ℕ) 
   unfolding bytesOn flatten
   bytes-last i h = rw (count-end n i h)
 
-module _ (s : Bytes) (order : List ℕ) (l : TransactionLocator) (near steps : List ℕ) (o : SortedStore s order) (bytes : AllBytes s) (d : Distances s order l near steps (length order)) where
+module _ (s : Bytes) (order : List ℕ) (l : TransactionLocator) (near steps : List ℕ) (o : SortedStore s order) (bytes : AllBytes s)
+    (d : Distances s order l near steps (length order)) where
   module _ (k : ℕ) (h : k < length order) (v : AuthoritySet) (r : Reached near k v) where
     reference-length : length (referenceBytes (blockAtPlace s order k .reference)) ≡ 48
-    reference-length = length-reference (blockAtPlace s order k .reference) (block-fits s bytes (blockAtPlace s order k) (place-stored s order o k h) .reference)
+    reference-length = length-reference (blockAtPlace s order k .reference)
+        (block-fits s bytes (blockAtPlace s order k) (place-stored s order o k h) .reference)
 
     certifier-length : length (certifierBytesAt s order l k v) ≡ 49 + votersSize near k v
     unfolding certifierBytesAt Reached
@@ -80,7 +82,8 @@ module _ (s : Bytes) (order : List ℕ) (l : TransactionLocator) (near steps : L
 
     -- reference, number of voters, voters
     pub certifier-written : (out : List ℕ) (at : ℕ)
-        → sets (set (sets out at (referenceBytes (blockAtPlace s order k .reference))) (at + 48) (numberOfVoters v)) (at + 49) (votersAt s order l k v) ≡ sets out at (certifierBytesAt s order l k v)
+        → sets (set (sets out at (referenceBytes (blockAtPlace s order k .reference))) (at + 48) (numberOfVoters v)) (at + 49) (votersAt s order l k v) ≡ sets
+        out at (certifierBytesAt s order l k v)
     unfolding certifierBytesAt
     certifier-written out at =
         let r = referenceBytes (blockAtPlace s order k .reference) in
@@ -90,18 +93,21 @@ module _ (s : Bytes) (order : List ℕ) (l : TransactionLocator) (near steps : L
         sets-append r (leBytes 1 (numberOfVoters v) ++ w) out at
         ∙ ap (λ (x : ℕ). sets (sets out at r) (at + x) (leBytes 1 (numberOfVoters v) ++ w)) reference-length
         ∙ sets-append (leBytes 1 (numberOfVoters v)) w (sets out at r) (at + 48)
-        ∙ ap (λ (x : ℕ). sets (sets (sets out at r) (at + 48) (leBytes 1 (numberOfVoters v))) x w) (ap (λ (x : ℕ). at + 48 + x) (length-leBytes 1 (numberOfVoters v)) ∙ e)
+        ∙ ap (λ (x : ℕ). sets (sets (sets out at r) (at + 48) (leBytes 1 (numberOfVoters v))) x w)
+        (ap (λ (x : ℕ). at + 48 + x) (length-leBytes 1 (numberOfVoters v)) ∙ e)
         ∙ ap (λ (x : List ℕ). sets (sets (sets out at r) (at + 48) x) (at + 49) w) (one-byte (numberOfVoters v) (omega (arith, few-voters v)))
         )
 
   module _ (t : List ℕ) (n : ℕ) (r : Ready order near t n) where
     pub bytes-next : (i : ℕ) → i < n → (out : List ℕ) (to : ℕ)
-        → sets out to (bytesOn s order l t n i) ≡ sets (sets out to (certifierBytesAt s order l (placeIn t i) (votersIn t i))) (to + (49 + votersSize near (placeIn t i) (votersIn t i))) (bytesOn s order l t n (i + 1))
+        → sets out to (bytesOn s order l t n i) ≡ sets (sets out to (certifierBytesAt s order l (placeIn t i) (votersIn t i)))
+        (to + (49 + votersSize near (placeIn t i) (votersIn t i))) (bytesOn s order l t n (i + 1))
     unfolding bytesOn flatten Ready
     bytes-next i h out to =
         rw (
           count-next n i h,
-          sets-append (certifierBytesAt s order l (placeIn t i) (votersIn t i)) (flatten (map (λ j. certifierBytesAt s order l (placeIn t j) (votersIn t j)) (countFrom (i + 1) (n - (i + 1))))) out to,
+          sets-append (certifierBytesAt s order l (placeIn t i) (votersIn t i))
+              (flatten (map (λ j. certifierBytesAt s order l (placeIn t j) (votersIn t j)) (countFrom (i + 1) (n - (i + 1))))) out to,
           certifier-length (placeIn t i) (r i h .0) (votersIn t i) (r i h .1),
         )
 

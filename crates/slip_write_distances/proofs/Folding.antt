@@ -36,7 +36,8 @@ nearer-than n m = rw (ne-eqb (suc n) 0 (λ (e : suc n ≡ 0). omega arith), ne-e
     go (no h) = le-ltb (suc n + 1) (suc (suc m)) (omega arith) ∙ sym (le-ltb n m (omega arith))
 
 -- the lesser distance as a word
-pub nearer-word : (o d : Option ℕ) → pick (isNearer (word d) (word (Option·map suc o))) (word d + 1) (word (Option·map suc o)) ≡ word (Option·map suc (lesserDistance o d))
+pub nearer-word : (o d : Option ℕ) → pick (isNearer (word d) (word (Option·map suc o))) (word d + 1) (word (Option·map suc o)) ≡ word
+    (Option·map suc (lesserDistance o d))
 unfolding word lesserDistance
 nearer-word none none = rw (nearer-none 0)
 nearer-word (some m) none = rw (nearer-none (suc (suc m)))

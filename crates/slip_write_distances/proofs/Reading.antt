@@ -93,10 +93,12 @@ module _ (s : Bytes) (order : List ℕ) (l : TransactionLocator) where
               rw (w .words .are a h, include-word a h, r .words .are a h, next, least-next (away s l a) (take j is) (getD is j noReference))
               (nearer-word (leastOf k j a) (away s l a (getD is j noReference)))
 
-          firsts : (a : ℕ) → a < 128 → (m : ℕ) → leastOf k (j + 1) a ≡ some m → getD steps′ (128 * k + a) 0 ≡ firstPlace (λ q. isAway m (away s l a q)) (take (j + 1) is)
+          firsts : (a : ℕ) → a < 128 → (m : ℕ) → leastOf k (j + 1) a ≡ some m → getD steps′ (128 * k + a) 0 ≡ firstPlace (λ q. isAway m (away s l a q))
+              (take (j + 1) is)
           firsts a h m e =
               rw (w .firsts .are a h, include-word a h, r .words .are a h, next)
-              (first-next (away s l a) (take j is) (getD is j noReference) j (getD steps (128 * k + a) 0) (sym (length-take-le j is (omega arith))) (r .firsts a h) m
+              (first-next (away s l a) (take j is) (getD is j noReference) j (getD steps (128 * k + a) 0) (sym (length-take-le j is (omega arith)))
+              (r .firsts a h) m
               (subst (λ (rs : List BlockReference). leastDistance (map (away s l a) rs) ≡ some m) next e))
 
     module _ (o : SortedStore s order) (h : k < length order) (near steps : List ℕ) (r : Reading near₀ steps₀ k near steps (length is)) (room : k < 1024) where
@@ -126,7 +128,8 @@ module _ (s : Bytes) (order : List ℕ) (l : TransactionLocator) where
       small = place-author s order o k h
 
       -- the index of the first include that is one nearer
-      led-here : (a : ℕ) → a < 128 → (m : ℕ) → away s l a (b .reference) ≡ some (suc m) → getD steps (128 * k + a) 0 ≡ firstPlace (λ i. isAway m (away s l a i)) is
+      led-here : (a : ℕ) → a < 128 → (m : ℕ) → away s l a (b .reference) ≡ some (suc m) → getD steps (128 * k + a) 0 ≡ firstPlace
+          (λ i. isAway m (away s l a i)) is
       led-here a n m e = go (votesAs l a b) refl
         where
           least : (x : Option ℕ) → Option·map suc x ≡ some (suc m) → x ≡ some m
@@ -137,7 +140,8 @@ module _ (s : Bytes) (order : List ℕ) (l : TransactionLocator) where
           go true q =
               let z : 0 ≡ suc m = Option·some-injective _ _ (sym (step a ∙ rw q) ∙ e) in
               absurd (omega arith)
-          go false q = r .firsts a n m (least _ (sym (other a q) ∙ e)) ∙ ap (λ (rs : List BlockReference). firstPlace (λ i. isAway m (away s l a i)) rs) (take-length is)
+          go false q = r .firsts a n m (least _ (sym (other a q) ∙ e)) ∙ ap (λ (rs : List BlockReference). firstPlace (λ i. isAway m (away s l a i)) rs)
+              (take-length is)
 
       led-all : (q : ℕ) → q < k + 1 → (a : ℕ) → a < 128 → (m : ℕ) → away s l a (blockAtPlace s order q .reference) ≡ some (suc m)
           → getD steps (128 * q + a) 0 ≡ firstPlace (λ i. isAway m (away s l a i)) (blockAtPlace s order q .includes)
@@ -172,7 +176,8 @@ module _ (s : Bytes) (order : List ℕ) (l : TransactionLocator) where
             longSteps = r .beside .long ∙ d .longSteps;
             known = λ q n a w. known q n a w (ℕ-discrete q k);
             led = led-all;
-            fresh = λ x (n : 128 * (k + 1) ≤ x). getD-set-other near (128 * k + author b) x 1 0 (λ (z : x ≡ 128 * k + author b). omega (arith, small)) ∙ r .words .beside .above x (omega arith) ∙ d .fresh x (omega arith);
+            fresh = λ x (n : 128 * (k + 1) ≤ x). getD-set-other near (128 * k + author b) x 1 0 (λ (z : x ≡ 128 * k + author b). omega (arith, small)) ∙ r
+                .words .beside .above x (omega arith) ∙ d .fresh x (omega arith);
           }
         where
           here : (a : ℕ) → a < 128 → Dec (a ≡ author b) → getD (set near (128 * k + author b) 1) (128 * k + a) 0 ≡ word (away s l a (b .reference))
@@ -180,12 +185,15 @@ module _ (s : Bytes) (order : List ℕ) (l : TransactionLocator) where
               rw z (getD-set-same near (128 * k + author b) 1 0 (omega (arith, small, r .words .beside .long, d .long)) ∙ unfold word in ap word (sym (own e)))
           here a w (no z) =
               let f : votesAs l a b ≡ false = unfold votesAs in rw (ne-eqb (author b) a (λ (u : author b ≡ a). z (sym u))) in
-              getD-set-other near (128 * k + author b) (128 * k + a) 1 0 (λ (u : 128 * k + a ≡ 128 * k + author b). z (omega arith)) ∙ r .words .are a w ∙ ap word (sym (other a f))
+              getD-set-other near (128 * k + author b) (128 * k + a) 1 0 (λ (u : 128 * k + a ≡ 128 * k + author b). z (omega arith)) ∙ r .words .are a w ∙ ap
+              word (sym (other a f))
 
-          known : (q : ℕ) → q < k + 1 → (a : ℕ) → a < 128 → Dec (q ≡ k) → getD (set near (128 * k + author b) 1) (128 * q + a) 0 ≡ word (away s l a (blockAtPlace s order q .reference))
+          known : (q : ℕ) → q < k + 1 → (a : ℕ) → a < 128 → Dec (q ≡ k) → getD (set near (128 * k + author b) 1) (128 * q + a) 0 ≡ word
+              (away s l a (blockAtPlace s order q .reference))
           known q n a w (yes z) = rw z (here a w (ℕ-discrete a (author b)))
           known q n a w (no z) =
-              getD-set-other near (128 * k + author b) (128 * q + a) 1 0 (λ (u : 128 * q + a ≡ 128 * k + author b). omega (arith, small)) ∙ r .words .beside .below (128 * q + a) (omega arith)
+              getD-set-other near (128 * k + author b) (128 * q + a) 1 0 (λ (u : 128 * q + a ≡ 128 * k + author b). omega (arith, small)) ∙ r .words .beside
+              .below (128 * q + a) (omega arith)
               ∙ d .known q (omega arith) a w
 
       pub reading-done : (near′ : List ℕ) → near′ ≡ pick (votesFor b l) (set near (128 * k + author b) 1) near → Distances s order l near′ steps (k + 1)

@@ -28,7 +28,8 @@ pub head-written : (l : TransactionLocator) → length (locatorBytes l) ≡ 56 �
     → sets (sets (set out 0 first) 1 (locatorBytes l)) 57 (leBytes 2 n) ≡ sets out 0 (headBytes first l n)
 unfolding headBytes
 head-written l h out first n =
-    sym (sets-append (locatorBytes l) (leBytes 2 n) (set out 0 first) 1 ∙ ap (λ (x : ℕ). sets (sets (set out 0 first) 1 (locatorBytes l)) (1 + x) (leBytes 2 n)) h)
+    sym (sets-append (locatorBytes l) (leBytes 2 n) (set out 0 first) 1 ∙ ap
+    (λ (x : ℕ). sets (sets (set out 0 first) 1 (locatorBytes l)) (1 + x) (leBytes 2 n)) h)
 
 head-length : (l : TransactionLocator) → length (locatorBytes l) ≡ 56 → (first n : ℕ) → length (headBytes first l n) ≡ 59
 unfolding headBytes
@@ -41,7 +42,8 @@ unfolding word isNone
 word-some none h = absurd (not-both refl h)
 word-some (some n) h = omega arith
 
-module _ (s : Bytes) (order : List ℕ) (l : TransactionLocator) (near steps : List ℕ) (d : Distances s order l near steps (length order)) (t : List ℕ) (n : ℕ) (v : Voted s order l t n) where
+module _ (s : Bytes) (order : List ℕ) (l : TransactionLocator) (near steps : List ℕ) (d : Distances s order l near steps (length order)) (t : List ℕ) (n : ℕ)
+    (v : Voted s order l t n) where
   pub voted-ready : Ready order near t n
   unfolding Ready Voted Reached
   voted-ready i h = (v i h .0, λ a w m. let e = word-some _ (v i h .1 a w m) in omega (arith, d .known (placeIn t i) (v i h .0) a w))
@@ -59,7 +61,8 @@ module _ (s : Bytes) (order : List ℕ) (l : TransactionLocator) (near steps : L
         )
 
     pub listed-written : (out : List ℕ) → length (listedBytes s order l first t n) ≤ length out
-        → sets (sets out 0 (headBytes first l n)) 59 (certifiersBytes s order l t n) ≡ listedBytes s order l first t n ++ drop (length (listedBytes s order l first t n)) out
+        → sets (sets out 0 (headBytes first l n)) 59 (certifiersBytes s order l t n) ≡ listedBytes s order l first t n ++ drop
+        (length (listedBytes s order l first t n)) out
     unfolding listedBytes
     listed-written out h =
         let a = headBytes first l n in

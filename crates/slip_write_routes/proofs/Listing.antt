@@ -96,9 +96,11 @@ unfolding flatten sumOf
 lengths f g [] h = refl
 lengths f g (x ∷ xs) h = length-append (f x) (flatten (map f xs)) ∙ ap₂ (λ (m n : ℕ). m + n) (h x here) (lengths f g xs (λ y m. h y (there m)))
 
-module _ (s : Bytes) (order : List ℕ) (l : TransactionLocator) (near steps : List ℕ) (o : SortedStore s order) (d : Distances s order l near steps (length order))
+module _ (s : Bytes) (order : List ℕ) (l : TransactionLocator) (near steps : List ℕ) (o : SortedStore s order)
+    (d : Distances s order l near steps (length order))
     (k : ℕ) (h : k < length order) where
-  path-length : (a : ℕ) → a < 128 → 0 < getD near (128 * k + a) 0 → length (pathTo (votesAs l a) (blocksOf s) (blockAtPlace s order k)) ≡ getD near (128 * k + a) 0 - 1
+  path-length : (a : ℕ) → a < 128 → 0 < getD near (128 * k + a) 0 → length (pathTo (votesAs l a) (blocksOf s) (blockAtPlace s order k)) ≡ getD near
+      (128 * k + a) 0 - 1
   path-length a w m =
       let n : ℕ = getD near (128 * k + a) 0 - 1 in
       let e : getD near (128 * k + a) 0 ≡ n + 1 = omega arith in
@@ -119,7 +121,8 @@ module _ (s : Bytes) (order : List ℕ) (l : TransactionLocator) (near steps : L
 
   -- author, length of the path, path
   pub voter-written : (a : ℕ) → a < 128 → 0 < getD near (128 * k + a) 0 → (out : List ℕ) (at : ℕ)
-      → sets (sets (sets out at (leBytes 8 a)) (at + 8) (leBytes 2 (getD near (128 * k + a) 0 - 1))) (at + 10) (pathTo (votesAs l a) (blocksOf s) (blockAtPlace s order k))
+      → sets (sets (sets out at (leBytes 8 a)) (at + 8) (leBytes 2 (getD near (128 * k + a) 0 - 1))) (at + 10)
+      (pathTo (votesAs l a) (blocksOf s) (blockAtPlace s order k))
       ≡ sets out at (voterAt s order l k a)
   unfolding voterAt voterBytes voterOf
   voter-written a w m out at =
@@ -137,11 +140,13 @@ module _ (s : Bytes) (order : List ℕ) (l : TransactionLocator) (near steps : L
 
   module _ (v : AuthoritySet) where
     pub bytes-yes : (a : ℕ) → a < 128 → member v a ≡ true → 0 < getD near (128 * k + a) 0 → (out : List ℕ) (to : ℕ)
-        → sets out to (bytesFrom s order l k v a) ≡ sets (sets out to (voterAt s order l k a)) (to + (9 + getD near (128 * k + a) 0)) (bytesFrom s order l k v (a + 1))
+        → sets out to (bytesFrom s order l k v a) ≡ sets (sets out to (voterAt s order l k a)) (to + (9 + getD near (128 * k + a) 0))
+        (bytesFrom s order l k v (a + 1))
     unfolding bytesFrom flatten
     bytes-yes a w e m out to =
         rw (from-yes v a w e, sets-append (voterAt s order l k a) (flatten (map (voterAt s order l k) (from v (a + 1)))) out to, voter-length a w m)
 
     pub voters-length : ((a : ℕ) → a < 128 → member v a ≡ true → 0 < getD near (128 * k + a) 0) → length (votersAt s order l k v) ≡ votersSize near k v
     unfolding votersAt votersSize voterSize
-    voters-length r = lengths (voterAt s order l k) (λ a. 9 + getD near (128 * k + a) 0) (members v) (λ a m. let q = listed-member v a m in voter-length a (q .0) (r a (q .0) (q .1)))
+    voters-length r = lengths (voterAt s order l k) (λ a. 9 + getD near (128 * k + a) 0) (members v)
+        (λ a m. let q = listed-member v a m in voter-length a (q .0) (r a (q .0) (q .1)))

@@ -46,7 +46,8 @@ unfolding word
 word-some none n h = absurd (omega arith)
 word-some (some k) n h = let e : k ≡ n = omega arith in ap some e
 
-module _ (s : Bytes) (order : List ℕ) (l : TransactionLocator) (near steps : List ℕ) (o : SortedStore s order) (d : Distances s order l near steps (length order))
+module _ (s : Bytes) (order : List ℕ) (l : TransactionLocator) (near steps : List ℕ) (o : SortedStore s order)
+    (d : Distances s order l near steps (length order))
     (p : ℕ) (h : p < length order) (a : AuthorityIndex) (w : a < 128) where
   abbrev b : Block
   b = blockAtPlace s order p
@@ -106,11 +107,13 @@ module _ (s : Bytes) (order : List ℕ) (l : TransactionLocator) (near steps : L
           go (suc n) k f = rw (sub-one (suc n)) (one-word n f i m q)
 
       pub step-written : (out : List ℕ) (to : ℕ)
-          → sets out to (stepsFrom votes (blocksOf s) left b) ≡ sets (set out to (getD steps (128 * p + a) 0)) (to + 1) (stepsFrom votes (blocksOf s) (left - 1) (blockAtPlace s order i))
+          → sets out to (stepsFrom votes (blocksOf s) left b) ≡ sets (set out to (getD steps (128 * p + a) 0)) (to + 1)
+          (stepsFrom votes (blocksOf s) (left - 1) (blockAtPlace s order i))
       step-written out to = go left more e
         where
           go : (n : ℕ) → 0 < n → getD near (128 * p + a) 0 ≡ n + 1
-              → sets out to (stepsFrom votes (blocksOf s) n b) ≡ sets (set out to (getD steps (128 * p + a) 0)) (to + 1) (stepsFrom votes (blocksOf s) (n - 1) (blockAtPlace s order i))
+              → sets out to (stepsFrom votes (blocksOf s) n b) ≡ sets (set out to (getD steps (128 * p + a) 0)) (to + 1)
+              (stepsFrom votes (blocksOf s) (n - 1) (blockAtPlace s order i))
           go zero k f = absurd (omega arith)
           go (suc n) k f = rw (one-step n f i m q, add-one to, sub-one (suc n))
 

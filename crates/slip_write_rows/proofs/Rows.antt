@@ -41,7 +41,8 @@ module _ (t₀ : List ℕ) (k : ℕ) (f : ℕ → ℕ) where
           beside = record {
             long = length-set t (128 * k + n) v ∙ r .beside .long;
             below = λ x (h : x < 128 * k). getD-set-other t (128 * k + n) x v 0 (λ (q : x ≡ 128 * k + n). omega arith) ∙ r .beside .below x h;
-            above = λ x (h : 128 * k + (n + 1) ≤ x). getD-set-other t (128 * k + n) x v 0 (λ (q : x ≡ 128 * k + n). omega arith) ∙ r .beside .above x (omega arith);
+            above = λ x (h : 128 * k + (n + 1) ≤ x). getD-set-other t (128 * k + n) x v 0 (λ (q : x ≡ 128 * k + n). omega arith) ∙ r .beside .above x
+                (omega arith);
           };
           are = λ a (h : a < n + 1). go a h (ℕ-discrete a n);
         }

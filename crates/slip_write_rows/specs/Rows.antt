@@ -24,5 +24,6 @@ pub record Row (t₀ t : List ℕ) (k n : ℕ) (f : ℕ → ℕ) : Type 0 where
 
 -- an include, which stands at place i and has the index j, is taken into the first n words of row k
 pub record Folded (near₀ steps₀ : List ℕ) (k i j : ℕ) (near steps : List ℕ) (n : ℕ) : Type 0 where
-  pub words : Row near₀ near k n (λ a. pick (isNearer (getD near₀ (128 * i + a) 0) (getD near₀ (128 * k + a) 0)) (getD near₀ (128 * i + a) 0 + 1) (getD near₀ (128 * k + a) 0))
+  pub words : Row near₀ near k n (λ a. pick (isNearer (getD near₀ (128 * i + a) 0) (getD near₀ (128 * k + a) 0)) (getD near₀ (128 * i + a) 0 + 1)
+      (getD near₀ (128 * k + a) 0))
   pub firsts : Row steps₀ steps k n (λ a. pick (isNearer (getD near₀ (128 * i + a) 0) (getD near₀ (128 * k + a) 0)) j (getD steps₀ (128 * k + a) 0))

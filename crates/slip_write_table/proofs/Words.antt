@@ -52,7 +52,8 @@ module _ (t : List ℕ) (i k : ℕ) (v : AuthoritySet) where
         let n : length one ≡ length t = length-set t (3 * i) k in
         let m : length two ≡ length t = length-set one (3 * i + 1) (v .low) ∙ n in
         let e =
-        getD-set-other two (3 * i + 2) (3 * i + 1) (v .high) 0 (λ (z : 3 * i + 1 ≡ 3 * i + 2). omega arith) ∙ getD-set-same one (3 * i + 1) (v .low) 0 (omega (arith, n)) in
+        getD-set-other two (3 * i + 2) (3 * i + 1) (v .high) 0 (λ (z : 3 * i + 1 ≡ 3 * i + 2). omega arith) ∙ getD-set-same one (3 * i + 1) (v .low) 0
+        (omega (arith, n)) in
         let f = getD-set-same two (3 * i + 2) (v .high) 0 (omega (arith, m)) in
         λ x. record { low = e x; high = f x }
 
@@ -66,9 +67,11 @@ module _ (t : List ℕ) (i k : ℕ) (v : AuthoritySet) where
     unfolding votersIn
     noted-voters-other =
         let e =
-        noted-word (3 * j + 1) (λ (z : 3 * j + 1 ≡ 3 * i). omega arith) (λ (z : 3 * j + 1 ≡ 3 * i + 1). ne (omega arith)) (λ (z : 3 * j + 1 ≡ 3 * i + 2). omega arith) in
+        noted-word (3 * j + 1) (λ (z : 3 * j + 1 ≡ 3 * i). omega arith) (λ (z : 3 * j + 1 ≡ 3 * i + 1). ne (omega arith))
+        (λ (z : 3 * j + 1 ≡ 3 * i + 2). omega arith) in
         let f =
-        noted-word (3 * j + 2) (λ (z : 3 * j + 2 ≡ 3 * i). omega arith) (λ (z : 3 * j + 2 ≡ 3 * i + 1). omega arith) (λ (z : 3 * j + 2 ≡ 3 * i + 2). ne (omega arith)) in
+        noted-word (3 * j + 2) (λ (z : 3 * j + 2 ≡ 3 * i). omega arith) (λ (z : 3 * j + 2 ≡ 3 * i + 1). omega arith)
+        (λ (z : 3 * j + 2 ≡ 3 * i + 2). ne (omega arith)) in
         λ x. record { low = e x; high = f x }
 
 -- ---- the blocks at positions of the order
@@ -103,7 +106,8 @@ module _ (reading : readings.Reading) (s : Bytes) (order : List ℕ) (l : Transa
       }
 
   pub listed-more : (t : List ℕ) (n : ℕ) → Listed reading s order l positions t n → 3 * n + 3 ≤ length t → (k : ℕ) → k < length order
-      → blockAtPlace s order k ≡ blockAt s (getD positions n 0) → (v : AuthoritySet) → v ≡ readings.votersIn reading (blocksOf s) l (blockAtPlace s order k .reference) → Listed reading s order l positions (noted t n k v) (n + 1)
+      → blockAtPlace s order k ≡ blockAt s (getD positions n 0) → (v : AuthoritySet) → v ≡ readings.votersIn reading (blocksOf s) l
+      (blockAtPlace s order k .reference) → Listed reading s order l positions (noted t n k v) (n + 1)
   listed-more t n w room k h e v f =
       record {
         places = λ i q. places i q (ℕ-discrete i n);

@@ -59,7 +59,8 @@ module _ (c : Committee) (s : Bytes) (ix : List ℕ) (bytes : Bytes) (out : List
     pub sorted-refused : (n ≡ 0 → ⊥) → record { answer = refused n; out = out } ≡ answerSorted c s ix bytes out
     sorted-refused f = go (holds-or-not (broken c)) (holds-or-not (storeInOrder c s)) (holds-or-not (indexAgrees (blocksOf s) ix))
       where
-        go : (broken c ≡ true) ⊎ (broken c ≡ false) → (storeInOrder c s ≡ true) ⊎ (storeInOrder c s ≡ false) → (indexAgrees (blocksOf s) ix ≡ true) ⊎ (indexAgrees (blocksOf s) ix ≡ false)
+        go : (broken c ≡ true) ⊎ (broken c ≡ false) → (storeInOrder c s ≡ true) ⊎ (storeInOrder c s ≡ false) → (indexAgrees (blocksOf s) ix ≡ true) ⊎
+            (indexAgrees (blocksOf s) ix ≡ false)
             → record { answer = refused n; out = out } ≡ answerSorted c s ix bytes out
         go (inl b) o a = numbered 5 (refusal-broken c s ix b) (sorted-broken b)
         go (inr b) (inr o) a = numbered 10 (refusal-disordered c s ix b o) (sorted-disordered b o)

@@ -44,13 +44,15 @@ module _ (c : Committee) (b : Block) (older : List Block) (new : (d : Block) →
       kept : List Block
       kept = keep (certifies c older l) older
 
-      go : (t : Bool) → pick t (replyOf c (inserted (setOf (map author kept)) (author b))) (replyOf c (setOf (map author kept))) ≡ replyOf c (setOf (map author (pick t (b ∷ kept) kept)))
+      go : (t : Bool) → pick t (replyOf c (inserted (setOf (map author kept)) (author b))) (replyOf c (setOf (map author kept))) ≡ replyOf c
+          (setOf (map author (pick t (b ∷ kept) kept)))
       go true = refl
       go false = refl
 
 -- the same of every locator of the list
 module _ (c : Committee) (b : Block) (older : List Block) where
-  list-step : (ls : List TransactionLocator) → ((m : TransactionLocator) → stepReply c b (partIn (b ∷ older) (b .reference)) m (singleReply c older m) ≡ singleReply c (b ∷ older) m)
+  list-step : (ls : List TransactionLocator) → ((m : TransactionLocator) → stepReply c b (partIn (b ∷ older) (b .reference)) m (singleReply c older m) ≡
+      singleReply c (b ∷ older) m)
       → step c b (partIn (b ∷ older) (b .reference)) ls (map (singleReply c older) ls) ≡ map (singleReply c (b ∷ older)) ls
   unfolding step
   list-step [] h = refl
@@ -65,7 +67,8 @@ none-yet c (l ∷ ls) =
     let f = none-yet c ls in
     λ i. e i ∷ f i
 
-pub replies-single : (c : Committee) (ls : List TransactionLocator) {bs : List Block} → WellStored bs → repliesAfter c ls (indexed bs) ≡ map (singleReply c bs) ls
+pub replies-single : (c : Committee) (ls : List TransactionLocator) {bs : List Block} → WellStored bs → repliesAfter c ls (indexed bs) ≡ map
+    (singleReply c bs) ls
 unfolding repliesAfter indexed
 replies-single c ls fresh = none-yet c ls
 replies-single c ls (stored {b = b} {older = older} new found w) =
@@ -88,7 +91,8 @@ replies-first c ls newer older w = ap (repliesAfter c ls) (indexed-first newer o
 
 -- ---- the question
 
-question-stored : (c : Committee) (s : Bytes) (ix : List ℕ) (bytes : Bytes) (out : List ℕ) → passes (sortedChecks c s ix bytes out) ≡ true → WellStored (blocksOf s)
+question-stored : (c : Committee) (s : Bytes) (ix : List ℕ) (bytes : Bytes) (out : List ℕ) → passes (sortedChecks c s ix bytes out) ≡ true → WellStored
+    (blocksOf s)
 unfolding sortedChecks blocksOf
 question-stored c s ix bytes out h = in-order-stored c s (not-false (storeInOrder c s) (passes-first _ _ (passes-others (broken c ⇒ 5) _ h)))
 
@@ -98,4 +102,5 @@ pub question-answered : (c : Committee) (s : Bytes) (ix : List ℕ) (bytes : Byt
 unfolding answerSorted
 question-answered c s ix bytes out h =
     rw h
-    (ap (λ (qs : List Reply). flatten (map replyWords qs) ++ drop (3 * length (asked bytes)) out) (replies-single c (asked bytes) (question-stored c s ix bytes out h)))
+    (ap (λ (qs : List Reply). flatten (map replyWords qs) ++ drop (3 * length (asked bytes)) out)
+    (replies-single c (asked bytes) (question-stored c s ix bytes out h)))

@@ -39,7 +39,8 @@ module _ (xs : List Run) (bytes : Bytes) (n i j : ℕ) (b : Behind xs bytes n i 
   pub behind-pass : (x : Run) (ls : List TransactionLocator) → Listed bytes ls → length ls ≡ n → drop j xs ≡ x ∷ drop (j + 1) xs
       → Beside x (at bytes i) side.Past → Behind xs bytes n i (j + 1)
   unfolding Behind Beside
-  behind-pass x ls l e r p k h m = b k h m ∙ ap (λ (ys : List Run). votersIn ys (at bytes k)) r ∙ past-head x (drop (j + 1) xs) (at bytes k) (passed-out x (at bytes k) (later (ℕ-discrete i k)))
+  behind-pass x ls l e r p k h m = b k h m ∙ ap (λ (ys : List Run). votersIn ys (at bytes k)) r ∙ past-head x (drop (j + 1) xs) (at bytes k)
+      (passed-out x (at bytes k) (later (ℕ-discrete i k)))
     where
       later : Dec (i ≡ k) → Past (x .reference) (x .end) (at bytes k .block) (at bytes k .offset)
       later (yes q) = subst (λ (z : ℕ). Past (x .reference) (x .end) (at bytes z .block) (at bytes z .offset)) q p
@@ -63,7 +64,8 @@ module _ (xs : List Run) (bytes : Bytes) (n i j : ℕ) (b : Behind xs bytes n i 
     named-before k = b i (omega arith) h ∙ ap (λ (ys : List Run). votersIn ys (at bytes i)) r ∙ go (rest .1)
       where
         go : {q : Place} → Chain Differs q (x ∷ drop (j + 1) xs) → votersIn (x ∷ drop (j + 1) xs) (at bytes i) ≡ nobody
-        go (link a g d t) = nobody-before (at bytes i .block) (at bytes i .offset) (x ∷ drop (j + 1) xs) (link {p = beyond (at bytes i .block) (at bytes i .offset + 1)} k g d t)
+        go (link a g d t) = nobody-before (at bytes i .block) (at bytes i .offset) (x ∷ drop (j + 1) xs)
+            (link {p = beyond (at bytes i .block) (at bytes i .offset + 1)} k g d t)
 
   -- past all of them, nobody
   pub named-end : length xs ≤ j → (k : ℕ) → i ≤ k → k < n → votersIn xs (at bytes k) ≡ nobody

@@ -53,7 +53,8 @@ module _ (c : Committee) (P : Block → Type 0) (xs : List Run) (ls : List Trans
             ∙ append-assoc (take (3 * i) ws) w (stepWords c b xs (drop (i + 1) ls) (drop (3 * (i + 1)) ws₀))
             ∙ ap (λ (us : List ℕ). take (3 * i) ws ++ us)
             (ap (λ (us : List ℕ). us ++ stepWords c b xs (drop (i + 1) ls) (drop (3 * (i + 1)) ws₀)) (sym (f b m))
-            ∙ ap (λ (us : List ℕ). replyWords (stepReply c b xs (at bytes i) (replyFrom (drop (3 * i) ws₀))) ++ stepWords c b xs (drop (i + 1) ls) us) (onward ws₀)
+            ∙ ap (λ (us : List ℕ). replyWords (stepReply c b xs (at bytes i) (replyFrom (drop (3 * i) ws₀))) ++ stepWords c b xs (drop (i + 1) ls) us)
+            (onward ws₀)
             ∙ sym (step-next c b xs (at bytes i) (drop (i + 1) ls) (drop (3 * i) ws₀))
             ∙ ap (λ (ms : List TransactionLocator). stepWords c b xs ms (drop (3 * i) ws₀)) (sym (l .told i h)))
             ∙ g .done b m
@@ -79,14 +80,17 @@ module _ (c : Committee) (P : Block → Type 0) (xs : List Run) (ls : List Trans
         next ws (sets ws (3 * i) w) w i h g (length-sets ws (3 * i) w)
         (ap (take (3 * (i + 1))) cut ∙ take-at (take (3 * i) ws ++ w) (drop (3 * i + 3) ws) (3 * (i + 1)) size)
         (ap (drop (3 * (i + 1))) cut ∙ drop-at (take (3 * i) ws ++ w) (drop (3 * i + 3) ws) (3 * (i + 1)) size ∙ ap (λ (n : ℕ). drop n ws) (three i))
-        (λ b m. reply-grows c b xs (at bytes i) (drop (3 * i) ws₀) (f b m) ∙ ap (λ (n : ℕ). replyWords (replyOf c (inserted (replyFrom (drop (3 * i) ws₀) .authors) n))) (by b m)
+        (λ b m. reply-grows c b xs (at bytes i) (drop (3 * i) ws₀) (f b m) ∙ ap
+        (λ (n : ℕ). replyWords (replyOf c (inserted (replyFrom (drop (3 * i) ws₀) .authors) n))) (by b m)
         ∙ ap (λ (us : List ℕ). replyWords (replyOf c (inserted (replyFrom us .authors) a))) (sym (g .kept)))
 
     -- all the others stay
-    pub merging-rest : (n : ℕ) (ws : List ℕ) (i : ℕ) → length ls ≡ n + i → Merging c P xs ls ws₀ ws i → ((k : ℕ) → i ≤ k → k < length ls → (b : Block) → P b → partCertifies c b xs (at bytes k) ≡ false)
+    pub merging-rest : (n : ℕ) (ws : List ℕ) (i : ℕ) → length ls ≡ n + i → Merging c P xs ls ws₀ ws i →
+        ((k : ℕ) → i ≤ k → k < length ls → (b : Block) → P b → partCertifies c b xs (at bytes k) ≡ false)
         → Merging c P xs ls ws₀ ws (length ls)
     merging-rest zero ws i e g f = subst (Merging c P xs ls ws₀ ws) (sym (e ∙ zero-add i)) g
-    merging-rest (suc n) ws i e g f = merging-rest n ws (i + 1) (omega arith) (merging-stays ws i (omega arith) g (f i (omega arith) (omega arith))) (λ k h m. f k (omega arith) m)
+    merging-rest (suc n) ws i e g f = merging-rest n ws (i + 1) (omega arith) (merging-stays ws i (omega arith) g (f i (omega arith) (omega arith)))
+        (λ k h m. f k (omega arith) m)
 
     pub merging-end : (ws : List ℕ) → Merging c P xs ls ws₀ ws (length ls) → (b : Block) → P b → ws ≡ stepWords c b xs ls ws₀
     unfolding stepWords step repliesWords flatten

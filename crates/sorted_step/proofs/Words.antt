@@ -55,7 +55,8 @@ module _ (c : Committee) where
   each-settled (q ∷ qs) zero (and e es) k = first-settled q qs e
   each-settled (q ∷ qs) (suc i) (and e es) k =
       let n : 3 * suc i ≡ 3 + 3 * i = omega arith in
-      subst (λ (m : ℕ). SettledReply c (drop m (repliesWords (q ∷ qs)))) (sym n) (rw (← drop-drop (3 * i) 3 (repliesWords (q ∷ qs))) (each-settled qs i es (omega arith)))
+      subst (λ (m : ℕ). SettledReply c (drop m (repliesWords (q ∷ qs)))) (sym n)
+      (rw (← drop-drop (3 * i) 3 (repliesWords (q ∷ qs))) (each-settled qs i es (omega arith)))
 
   pub settled-words : (qs : List Reply) → Every (λ q. q ≡ replyOf c (q .authors)) qs → Settled c (length qs) (repliesWords qs)
   settled-words qs h = record { long = length-replies qs; each = λ i k. each-settled qs i h k }
@@ -65,7 +66,8 @@ module _ (c : Committee) where
   settled-reply : (ws : List ℕ) → SettledReply c ws → replyFrom ws ≡ replyOf c (replyFrom ws .authors)
   unfolding SettledReply replyFrom replyOf replyWords
   settled-reply ws h =
-      let w : getD ws 0 0 ≡ pick (isQuorum c (stakeOf c (record { low = getD ws 1 0; high = getD ws 2 0 }))) 1 0 = sym (getD-take 3 ws 0 0 (omega arith)) ∙ ap (λ (xs : List ℕ). getD xs 0 0) h in
+      let w : getD ws 0 0 ≡ pick (isQuorum c (stakeOf c (record { low = getD ws 1 0; high = getD ws 2 0 }))) 1 0 = sym (getD-take 3 ws 0 0 (omega arith)) ∙ ap
+      (λ (xs : List ℕ). getD xs 0 0) h in
       let e = ap (λ (n : ℕ). eqb n 1) w ∙ flag-back (isQuorum c (stakeOf c (record { low = getD ws 1 0; high = getD ws 2 0 }))) in
       λ i. record { final = e i; authors = record { low = getD ws 1 0; high = getD ws 2 0 } }
 
@@ -83,7 +85,8 @@ module _ (c : Committee) where
   unfolding partCertifies isQuorum stakeOf
   certifies-nobody b xs l h = rw (h, stake-nobody c 0, le-ltb (2 * totalStake c) 0 (omega arith)) (and-false (not (b .marked)))
 
-  pub certifies-voters : (b : Block) (xs : List Run) (l : TransactionLocator) (v : AuthoritySet) → b .marked ≡ false → votersIn xs l ≡ v → partCertifies c b xs l ≡ isQuorum c (stakeOf c v)
+  pub certifies-voters : (b : Block) (xs : List Run) (l : TransactionLocator) (v : AuthoritySet) → b .marked ≡ false → votersIn xs l ≡ v → partCertifies c b
+      xs l ≡ isQuorum c (stakeOf c v)
   unfolding partCertifies
   certifies-voters b xs l v m h = rw (m, h)
 
@@ -110,7 +113,8 @@ module _ (ws : List ℕ) (i : ℕ) where
       λ k. record { low = e k; high = f k }
 
   module _ (c : Committee) (a : ℕ) where
-    pub add-again : 3 * i + 3 ≤ length ws → SettledReply c (drop (3 * i) ws) → Small (record { low = getD ws (3 * i + 1) 0; high = getD ws (3 * i + 2) 0 }) → a < 128
+    pub add-again : 3 * i + 3 ≤ length ws → SettledReply c (drop (3 * i) ws) → Small (record { low = getD ws (3 * i + 1) 0; high = getD ws (3 * i + 2) 0 }) →
+        a < 128
         → member (record { low = getD ws (3 * i + 1) 0; high = getD ws (3 * i + 2) 0 }) a ≡ true
         → ws ≡ sets ws (3 * i) (replyWords (replyOf c (inserted (replyFrom (drop (3 * i) ws) .authors) a)))
     unfolding SettledReply
@@ -127,7 +131,9 @@ module _ (ws : List ℕ) (i : ℕ) where
         ∙ ap (λ (us : List ℕ). us ++ drop (3 * i + 3) ws) (sym (take-add (3 * i) 3 ws))
         ∙ take-append-drop (3 * i + 3) ws)
 
-    pub add-new : (f : ℕ) (v : AuthoritySet) → v ≡ inserted (record { low = getD ws (3 * i + 1) 0; high = getD ws (3 * i + 2) 0 }) a → f ≡ pick (isQuorum c (stakeOf c v)) 1 0
-        → set (set (set ws (3 * i) f) (3 * i + 1) (v .low)) (3 * i + 2) (v .high) ≡ sets ws (3 * i) (replyWords (replyOf c (inserted (replyFrom (drop (3 * i) ws) .authors) a)))
+    pub add-new : (f : ℕ) (v : AuthoritySet) → v ≡ inserted (record { low = getD ws (3 * i + 1) 0; high = getD ws (3 * i + 2) 0 }) a → f ≡ pick
+        (isQuorum c (stakeOf c v)) 1 0
+        → set (set (set ws (3 * i) f) (3 * i + 1) (v .low)) (3 * i + 2) (v .high) ≡ sets ws (3 * i)
+        (replyWords (replyOf c (inserted (replyFrom (drop (3 * i) ws) .authors) a)))
     unfolding replyWords replyOf
     add-new f v e g = rw (g, authors-at, ← e) (simp towards-suc)

@@ -40,7 +40,8 @@ use Rattle.sorted_walk.proofs.Arriving.{Arriving, arriving-start, Arriv
 
 -- ---- replies
 
-length-step : (c : Committee) (b : Block) (xs : List Run) (ls : List TransactionLocator) (qs : List Reply) → length qs ≡ length ls → length (step c b xs ls qs) ≡ length ls
+length-step : (c : Committee) (b : Block) (xs : List Run) (ls : List TransactionLocator) (qs : List Reply) → length qs ≡ length ls → length
+    (step c b xs ls qs) ≡ length ls
 unfolding step
 length-step c b xs [] qs h = refl
 length-step c b xs (l ∷ ls) [] h = absurd (omega arith)
@@ -59,7 +60,8 @@ none-settled : (c : Committee) → OfAuthors c noReply
 unfolding noReply replyOf isQuorum stakeOf
 none-settled c = sym (rw (stake-nobody c 0, le-ltb (2 * totalStake c) 0 (omega arith)))
 
-step-settled : (c : Committee) (b : Block) (xs : List Run) (ls : List TransactionLocator) (qs : List Reply) → Every (OfAuthors c) qs → Every (OfAuthors c) (step c b xs ls qs)
+step-settled : (c : Committee) (b : Block) (xs : List Run) (ls : List TransactionLocator) (qs : List Reply) → Every (OfAuthors c) qs → Every (OfAuthors c)
+    (step c b xs ls qs)
 unfolding step stepReply replyOf
 step-settled c b xs [] qs h = none-of
 step-settled c b xs (l ∷ ls) [] h = none-of
@@ -121,21 +123,33 @@ module _ (c : Committee) (s bytes : Bytes) (ws : List ℕ) (k at p : ℕ) (g : A
     part-is = let n : next - p ≡ 1 + 10 * getD ix p 0 = omega arith in ap (λ (m : ℕ). take m (drop p ix)) n
 
     -- what the step asks of its record and its part
-    pub step-ready : (wellFormed (take (end - (at + 8)) (drop (at + 8) s)) ≡ true) × ((author (blockIn (take (end - (at + 8)) (drop (at + 8) s))) < 128) × PartWords (take (next - p) (drop p ix)))
-    step-ready =
-        (ap wellFormed rec-is ∙ entry-room s at (a .entry) .formed, (subst (λ (b : Block). author b < 128) (sym block-is) (a .small), subst PartWords (sym part-is) (a .words)))
+    pub step-ready : (wellFormed (take (end - (at + 8)) (drop (at + 8) s)) ≡ true) ×
+        ((author (blockIn (take (end - (at + 8)) (drop (at + 8) s))) < 128) × PartWords (take (next - p) (drop p ix)))
+    step-ready = (
+      ap wellFormed rec-is ∙ entry-room s at (a .entry) .formed,
+      (
+        subst (λ (b : Block). author b < 128) (sym block-is) (a .small),
+        subst PartWords
+            (sym part-is) (a .words),
+      ),
+    )
 
-    pub answering-next : (us : List ℕ) → us ≡ stepWords c (blockIn (take (end - (at + 8)) (drop (at + 8) s))) (partAt (take (next - p) (drop p ix)) 0) (asked bytes) ws → Answering c s bytes us (k + 1) end next
+    pub answering-next : (us : List ℕ) → us ≡ stepWords c (blockIn (take (end - (at + 8)) (drop (at + 8) s))) (partAt (take (next - p) (drop p ix)) 0)
+        (asked bytes) ws → Answering c s bytes us (k + 1) end next
     unfolding stepWords after repliesAfter indexed
     answering-next us h =
         record {
           older = a .next ∷ g .older;
-          arriving = subst (λ (n : ℕ). Arriving s (a .next ∷ g .older) (k + 1) end n) (sym f) (subst (λ (n : ℕ). Arriving s (a .next ∷ g .older) (k + 1) n (p + 1 + 10 * getD ix p 0)) (sym e) (a .onward));
+          arriving = subst (λ (n : ℕ). Arriving s (a .next ∷ g .older) (k + 1) end n) (sym f)
+              (subst (λ (n : ℕ). Arriving s (a .next ∷ g .older) (k + 1) n (p + 1 + 10 * getD ix p 0)) (sym e) (a .onward));
           replies =
               h
-              ∙ ap (λ (b : Block). repliesWords (step c b (partAt (take (next - p) (drop p ix)) 0) (asked bytes) (repliesFrom (length (asked bytes)) ws))) block-is
-              ∙ ap (λ (xs : List Run). repliesWords (step c (a .next .block) xs (asked bytes) (repliesFrom (length (asked bytes)) ws))) (ap (λ (us′ : List ℕ). partAt us′ 0) part-is ∙ a .runs)
-              ∙ ap (λ (qs : List Reply). repliesWords (step c (a .next .block) (partIn (a .next .block ∷ blocks (g .older)) (a .next .block .reference)) (asked bytes) qs)) (ap (λ (n : ℕ). repliesFrom n ws) (sym many) ∙ ap (repliesFrom (length after)) (g .replies) ∙ replies-back after);
+              ∙ ap (λ (b : Block). repliesWords (step c b (partAt (take (next - p) (drop p ix)) 0) (asked bytes) (repliesFrom (length (asked bytes)) ws)))
+              block-is
+              ∙ ap (λ (xs : List Run). repliesWords (step c (a .next .block) xs (asked bytes) (repliesFrom (length (asked bytes)) ws)))
+              (ap (λ (us′ : List ℕ). partAt us′ 0) part-is ∙ a .runs)
+              ∙ ap (λ (qs : List Reply). repliesWords (step c (a .next .block) (partIn (a .next .block ∷ blocks (g .older)) (a .next .block .reference))
+              (asked bytes) qs)) (ap (λ (n : ℕ). repliesFrom n ws) (sym many) ∙ ap (repliesFrom (length after)) (g .replies) ∙ replies-back after);
         }
 
 -- 02: "after k steps these are the replies for the first k blocks alone"
@@ -150,9 +164,11 @@ answered-first c s bytes b o ws k at p g =
     omega (arith, ap length all, length-append (blocks newer) (blocks older), length-map older (λ (r : Record). r .block), g .arriving .many) in
     let first : drop (length (blocksOf s) - k) (blocksOf s) ≡ blocks older =
     ap (λ (n : ℕ). drop n (blocksOf s)) many ∙ ap (λ (bs : List Block). drop (length (blocks newer)) bs) all ∙ drop-append-seam (blocks newer) (blocks older) in
-    let accepted : allAccepted c older ≡ true = accepted-older c newer older (subst (λ (rs : List Record). allAccepted c rs ≡ true) (g .arriving .all) (in-order c s o .accepted)) in
+    let accepted : allAccepted c older ≡ true = accepted-older c newer older
+    (subst (λ (rs : List Record). allAccepted c rs ≡ true) (g .arriving .all) (in-order c s o .accepted)) in
     g .replies
-    ∙ ap repliesWords (replies-single c (asked bytes) (well-stored c (blocks older) (record { sound = b; records = older; accepted = accepted; blocks = refl })))
+    ∙ ap repliesWords (replies-single c (asked bytes) (well-stored c (blocks older)
+    (record { sound = b; records = older; accepted = accepted; blocks = refl })))
     ∙ ap (λ (bs : List Block). repliesWords (map (singleReply c bs) (asked bytes))) (sym first)
 
 -- as many steps as there are blocks

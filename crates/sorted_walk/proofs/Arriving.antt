@@ -100,7 +100,8 @@ walked-stands : (s : Bytes) (newer : List Record) (r : Record) (older : List Rec
 walked-stands s [] r older (then w h) = h
 walked-stands s (q ∷ newer) r older (then w h) = walked-stands s newer r older w
 
-entry-in : (newer : List Record) (r : Record) (older : List Record) → record { position = usedBy older; bytes = r .bytes; block = r .block } ∈ entries (newer ++ r ∷ older)
+entry-in : (newer : List Record) (r : Record) (older : List Record) → record { position = usedBy older; bytes = r .bytes; block = r .block } ∈ entries
+    (newer ++ r ∷ older)
 unfolding entries
 entry-in [] r older = here
 entry-in (q ∷ newer) r older = there (entry-in newer r older)
@@ -120,7 +121,8 @@ pub record Arrived (s : Bytes) (ix : List ℕ) (older : List Record) (k at p : �
   pub runs : partAt (take (1 + 10 * getD ix p 0) (drop p ix)) 0 ≡ partIn (next .block ∷ blocks older) (next .block .reference)
   pub onward : Arriving s (next ∷ older) (k + 1) (at + 8 + leAt 4 s (at + 4)) (p + 1 + 10 * getD ix p 0)
 
-module _ (c : Committee) (s : Bytes) (ix : List ℕ) (sound : broken c ≡ false) (ordered : storeInOrder c s ≡ true) (bytes : AllBytes s) (agrees : indexAgrees (blocksOf s) ix ≡ true) where
+module _ (c : Committee) (s : Bytes) (ix : List ℕ) (sound : broken c ≡ false) (ordered : storeInOrder c s ≡ true) (bytes : AllBytes s)
+    (agrees : indexAgrees (blocksOf s) ix ≡ true) where
   stored : Stored c (blocksOf s)
   unfolding blocksOf
   stored = record { sound = sound; records = recordsOf s; accepted = in-order c s ordered .accepted; blocks = refl }
@@ -149,14 +151,17 @@ module _ (c : Committee) (s : Bytes) (ix : List ℕ) (sound : broken c ≡ false
       let here-is = agrees-part (blocks front) b (blocks older) ix (subst (λ (ds : List Block). indexAgrees ds ix ≡ true) bs agrees) in
       let e : Entry = record { position = usedBy older; bytes = r .bytes; block = r .block } in
       let words : drop p ix ≡ partWords xs ++ here-is .0 = ap (λ (n : ℕ). drop n ix) (g .part) ∙ here-is .1 in
-      let fits : (x : Run) → x ∈ xs → ReferenceFits (x .reference) = run-fits (b ∷ blocks older) (λ d m. block-fits s bytes d (subst (λ (ds : List Block). d ∈ ds) (sym bs) (in-right (blocks front) m))) (b .reference) in
+      let fits : (x : Run) → x ∈ xs → ReferenceFits (x .reference) = run-fits (b ∷ blocks older)
+      (λ d m. block-fits s bytes d (subst (λ (ds : List Block). d ∈ ds) (sym bs) (in-right (blocks front) m))) (b .reference) in
       let first : getD ix p 0 ≡ getD (drop p ix) 0 0 = ap (λ (n : ℕ). getD ix n 0) (sym (add-zero p)) ∙ sym (getD-drop p ix 0 0) in
       let count : getD ix p 0 ≡ length xs = first ∙ ap (λ (ws : List ℕ). getD ws 0 0) words ∙ part-first xs (here-is .0) in
       let size : length (partWords xs) ≡ 1 + 10 * getD ix p 0 = part-length xs ∙ ap (λ (n : ℕ). 1 + 10 * n) (sym count) in
-      let taken : take (1 + 10 * getD ix p 0) (drop p ix) ≡ partWords xs = ap (take (1 + 10 * getD ix p 0)) words ∙ take-at (partWords xs) (here-is .0) (1 + 10 * getD ix p 0) size in
+      let taken : take (1 + 10 * getD ix p 0) (drop p ix) ≡ partWords xs = ap (take (1 + 10 * getD ix p 0)) words ∙ take-at (partWords xs) (here-is .0)
+      (1 + 10 * getD ix p 0) size in
       record {
         next = r;
-        entry = subst (λ (n : ℕ). isEntry s n ≡ true) (sym (g .place)) (is-entry s e (laid-out s (order-laid c s ordered) .tested) (subst (λ (rs : List Record). e ∈ entries rs) (sym all) (entry-in front r older)));
+        entry = subst (λ (n : ℕ). isEntry s n ≡ true) (sym (g .place))
+            (is-entry s e (laid-out s (order-laid c s ordered) .tested) (subst (λ (rs : List Record). e ∈ entries rs) (sym all) (entry-in front r older)));
         block = block-at s at r st₁;
         small = small-authors c (blocksOf s) stored b (subst (λ (rs : List Record). b ∈ blocks rs) (sym all) (block-in front r older));
         inside = omega (arith, ap length words, length-append (partWords xs) (here-is .0), length-drop p ix);

@@ -79,7 +79,8 @@ rising-next bytes i p r e j k h m = go (decLt k i) (decLt j (i - 1))
     go (yes a) b = r j k h a
     go (no a) (yes b) =
         let q : i ≡ k = omega arith in
-        subst (λ (x : ℕ). locatorBefore (at bytes x) (at bytes j) ≡ false) q (not-before-trans (at bytes j) (at bytes (i - 1)) (at bytes i) (r j (i - 1) b (omega arith)) e)
+        subst (λ (x : ℕ). locatorBefore (at bytes x) (at bytes j) ≡ false) q
+        (not-before-trans (at bytes j) (at bytes (i - 1)) (at bytes i) (r j (i - 1) b (omega arith)) e)
     go (no a) (no b) =
         let q : i ≡ k = omega arith in
         let s : i - 1 ≡ j = omega arith in
@@ -104,10 +105,12 @@ module _ (bytes : Bytes) where
     unfolding holds sortedLocators
     sorted-pairs t j k a b =
         let z = length-list bytes in
-        let p = pairs-places noLocator (list bytes) j k (pairwise-pairs (λ l m. not (locatorBefore m l)) (list bytes) (rw (whole-list bytes h) at t)) a (omega arith) in
+        let p = pairs-places noLocator (list bytes) j k (pairwise-pairs (λ l m. not (locatorBefore m l)) (list bytes) (rw (whole-list bytes h) at t)) a
+        (omega arith) in
         not-true _ (rw (list-at bytes j (omega arith), list-at bytes k b) at p)
 
-    pub sorted-no : (i : ℕ) → 0 < i → i < length bytes / 56 → locatorBefore (at bytes i) (at bytes (i - 1)) ≡ true → holds sortedLocators (locatorsOf bytes) ≡ false
+    pub sorted-no : (i : ℕ) → 0 < i → i < length bytes / 56 → locatorBefore (at bytes i) (at bytes (i - 1)) ≡ true → holds sortedLocators (locatorsOf bytes) ≡
+        false
     sorted-no i p n e = fails (holds sortedLocators (locatorsOf bytes)) (λ t. not-both e (sorted-pairs t (i - 1) i (omega arith) n))
 
     asked-list : asked bytes ≡ list bytes

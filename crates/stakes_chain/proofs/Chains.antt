@@ -60,7 +60,12 @@ module _ (f : Bytes) where
 
   pub chain-short : {i : ℕ} {is : List ℕ} → Chain f i is → length is ≤ recordCount f
   chain-short {is} k =
-      omega (arith, length-countFrom 1 (recordCount f), no-more is (countFrom 1 (recordCount f)) (chain-once k) (λ a m. let l = in-file a (chain-inside k a m) in let p = l .0 in let q = l .1 in in-countFrom 1 (recordCount f) a p (omega arith)))
+      omega (
+        arith,
+        length-countFrom 1 (recordCount f),
+        no-more is (countFrom 1 (recordCount f)) (chain-once k)
+            (λ a m. let l = in-file a (chain-inside k a m) in let p = l .0 in let q = l .1 in in-countFrom 1 (recordCount f) a p (omega arith)),
+      )
 
   -- ---- the steps
 
@@ -81,7 +86,8 @@ module _ (f : Bytes) where
       go (no e) = absurd (Option·none-ne-some is (rw (ne-eqb i 0 e) at h))
   from-chain (suc n) i is h = go (ℕ-discrete i 0) (inFile f i) refl (λ later k. from-chain n (nextIndex f i) later k)
     where
-      go : Dec (i ≡ 0) → (t : Bool) → inFile f i ≡ t → ((later : List ℕ) → chainFrom n f (nextIndex f i) ≡ some later → Chain f (nextIndex f i) later) → Chain f i is
+      go : Dec (i ≡ 0) → (t : Bool) → inFile f i ≡ t → ((later : List ℕ) → chainFrom n f (nextIndex f i) ≡ some later → Chain f (nextIndex f i) later) → Chain
+          f i is
       go (yes e) t k ih = at-end i is e (rw (eq-eqb i 0 e) at h)
       go (no e) false k ih = absurd (Option·none-ne-some is (rw (ne-eqb i 0 e, k) at h))
       go (no e) true k ih =
@@ -111,8 +117,11 @@ module _ (f : Bytes) where
 
 pub long-enough : (f : Bytes) → wellSized f ≡ true → (2 ≤ length f) × (length f ≤ 65536)
 unfolding wellSized
-long-enough f h =
-    (leb-true 2 (length f) (and-left (leb 2 (length f)) _ (and-right (leb (length f) 65536) _ h)), leb-true (length f) 65536 (and-left (leb (length f) 65536) _ h))
+long-enough f h = (
+  leb-true 2 (length f) (and-left (leb 2 (length f)) _ (and-right (leb (length f) 65536) _ h)),
+  leb-true (length f) 65536
+      (and-left (leb (length f) 65536) _ h),
+)
 
 pub record-inside : (f : Bytes) (i : ℕ) → wellSized f ≡ true → inFile f i ≡ true → place i + 26 ≤ length f
 unfolding place recordCount
@@ -139,7 +148,8 @@ pub off-chain : (f g : Bytes) (is : List ℕ) → Chained f is → SameOnChain f
 off-chain f g is k a = record { sized = a .sized; chain = subst (λ (n : ℕ). Chain g n is) (a .first) (along (k .chain) (λ j m. m)); once = k .once }
   where
     next : (i : ℕ) → i ∈ is → nextIndex f i ≡ nextIndex g i
-    next i m = unfold nextIndex leAt in let z : place i + 0 ≡ place i = omega arith in ap leNumber (rw z at (part-same f g 2 0 (place i) (omega arith) (a .records i m)))
+    next i m = unfold nextIndex leAt in let z : place i + 0 ≡ place i = omega arith in ap leNumber
+        (rw z at (part-same f g 2 0 (place i) (omega arith) (a .records i m)))
 
     along : {i : ℕ} {js : List ℕ} → Chain f i js → ((j : ℕ) → j ∈ js → j ∈ is) → Chain g i js
     along ends h = ends

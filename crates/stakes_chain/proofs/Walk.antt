@@ -50,13 +50,15 @@ module _ (f : Bytes) (met : List ℕ) (left i : ℕ) where
       go zero = rw (ne-eqb i 0 k)
       go (suc m) = rw (ne-eqb i 0 k, lt-ltb 0 i (omega arith), lt-leb i (recordCount f) h)
 
-  walk-on : (i ≡ 0 → ⊥) → (left ≡ 0 → ⊥) → i ≤ recordCount f → joined met (chainFrom left f i) ≡ joined (met ++ (i ∷ [])) (chainFrom (left - 1) f (nextIndex f i))
+  walk-on : (i ≡ 0 → ⊥) → (left ≡ 0 → ⊥) → i ≤ recordCount f → joined met (chainFrom left f i) ≡ joined (met ++ (i ∷ []))
+      (chainFrom (left - 1) f (nextIndex f i))
   unfolding chainFrom inFile
   walk-on k l h = go left l
     where
       go : (m : ℕ) → (m ≡ 0 → ⊥) → joined met (chainFrom m f i) ≡ joined (met ++ (i ∷ [])) (chainFrom (m - 1) f (nextIndex f i))
       go zero q = absurd (q refl)
-      go (suc m) q = rw (ne-eqb i 0 k, lt-ltb 0 i (omega arith), le-leb i (recordCount f) h, sub-one (suc m)) (joined-linked met i (chainFrom m f (nextIndex f i)))
+      go (suc m) q = rw (ne-eqb i 0 k, lt-ltb 0 i (omega arith), le-leb i (recordCount f) h, sub-one (suc m))
+          (joined-linked met i (chainFrom m f (nextIndex f i)))
 
 -- how far the walk has come: n indexes stand in front, and i is the next
 pub record Walked (f : Bytes) (count : ℕ) (is : List ℕ) (n i : ℕ) : Type 0 where
@@ -90,7 +92,8 @@ module _ (f : Bytes) (count : ℕ) (is : List ℕ) where
     walked-past k h = w .onward ∙ walk-past f (take n is) (count - n) i k (omega (arith, w .records))
 
     pub walked-inside : (i ≡ 0 → ⊥) → i ≤ count → place i + 26 ≤ length f
-    walked-inside k h = record-inside f i (w .sized) (unfold inFile in and-both _ _ (lt-ltb 0 i (omega arith)) (le-leb i (recordCount f) (omega (arith, w .records))))
+    walked-inside k h = record-inside f i (w .sized) (unfold inFile in and-both _ _ (lt-ltb 0 i (omega arith))
+        (le-leb i (recordCount f) (omega (arith, w .records))))
 
     pub walked-on : (i ≡ 0 → ⊥) → (n ≡ count → ⊥) → i ≤ count → length is ≡ 2520 → (j : ℕ) → j ≡ nextIndex f i → Walked f count (set is n i) (n + 1) j
     walked-on k l h e j q =

@@ -19,7 +19,8 @@ use Rattle.stakes_names.proofs.Names.{names-meant}
 use Rattle.base.proofs.Checks.{refused-answered, checked-answered}
 use Rattle.stakes_file.specs.Load.{stakeAt, membersAt, memberChecks, loadAlong, load}
 use Rattle.stakes_file.specs.Claims.{Loaded, LoadedMeant, NeverBroken, EmptyFile, BrokenChain, BadNames, ThenCommittee, OffChain, Claims}
-use Rattle.stakes_file.proofs.Loaded.{refused-same, passes-sound, sound-passes, checked-passes, small-refusal, load-empty, load-broken, load-chained, along-bad, along-good}
+use Rattle.stakes_file.proofs.Loaded.{refused-same, passes-sound, sound-passes, checked-passes, small-refusal, load-empty, load-broken, load-chained}
+use Rattle.stakes_file.proofs.Loaded.{along-bad, along-good}
 
 -- the names of a chain are good or not, and loading goes on or not
 data Names (f : Bytes) (is : List ℕ) : Type 0 where
@@ -113,7 +114,8 @@ map-same : {B : Type 0} (s t : ℕ → B) (is : List ℕ) → ((i : ℕ) → i �
 map-same s t [] f = refl
 map-same s t (i ∷ is) f = rw (f i here, map-same s t is (λ j m. f j (there m)))
 
-along-same : (f g : Bytes) (is : List ℕ) → map (nameAt f) is ≡ map (nameAt g) is → map (stakeAt f) is ≡ map (stakeAt g) is → loadAlong f (some is) ≡ loadAlong g (some is)
+along-same : (f g : Bytes) (is : List ℕ) → map (nameAt f) is ≡ map (nameAt g) is → map (stakeAt f) is ≡ map (stakeAt g) is → loadAlong f (some is) ≡ loadAlong
+    g (some is)
 unfolding loadAlong memberChecks membersAt
 along-same f g is n s = rw (n, s)
 

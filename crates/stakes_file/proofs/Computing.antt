@@ -6,5 +6,6 @@ use Rattle.stakes_names.specs.Names.{nameAt, padded, goodName, goodNames}
 use Rattle.stakes_file.specs.Load.{stakeAt, membersAt, memberChecks, loadAlong, load, loadedInto}
 
 unfoldable pub computing : Unit {0}
-unfolding computing-committee wellSized recordCount place firstIndex nextIndex inFile linked chainFrom chainOf nameAt padded goodName goodNames stakeAt membersAt memberChecks loadAlong load loadedInto
+unfolding computing-committee wellSized recordCount place firstIndex nextIndex inFile linked chainFrom chainOf nameAt padded goodName goodNames stakeAt
+    membersAt memberChecks loadAlong load loadedInto
 computing = tt

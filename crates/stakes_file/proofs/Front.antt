@@ -30,7 +30,8 @@ pub load-few : (f : Bytes) (c : Committee) → load f ≡ answered c → length 
 load-few f c e = few-members c (load-sound f c e)
 
 module _ (words out : List ℕ) (r : LoadAnswer) (room : 128 ≤ length words) where
-  front : (a : Answer Committee) → ((c : Committee) → a ≡ answered c → length c ≤ 128) → asLoad r ≡ loadedInto a words .answer → out ≡ loadedInto a words .stakes
+  front : (a : Answer Committee) → ((c : Committee) → a ≡ answered c → length c ≤ 128) → asLoad r ≡ loadedInto a words .answer → out ≡ loadedInto a words
+      .stakes
       → membersAtMost 128 r × (stakesIn r out ≡ a)
   unfolding asLoad loadedInto stakesIn
   front (refused k) few h e = told r h

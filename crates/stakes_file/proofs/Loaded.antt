@@ -40,7 +40,8 @@ module _ {A : Type 0} (ks : List Check) where
   unfolding checked
   checked-refused {B} a b n h = go (passes ks) h
     where
-      go : (t : Bool) → pick {A = Answer A} t (answered a) (refused (refusal ks)) ≡ refused n → pick {A = Answer B} t (answered b) (refused (refusal ks)) ≡ refused n
+      go : (t : Bool) → pick {A = Answer A} t (answered a) (refused (refusal ks)) ≡ refused n → pick {A = Answer B} t (answered b) (refused (refusal ks)) ≡
+          refused n
       go true k = absurd (refused-answered k refl)
       go false k = let e : refusal ks ≡ n = cc in ap refused e
 
@@ -50,7 +51,8 @@ unfolding checked passes allOf refusal committeeChecks
 small-refusal {A} c a n l h = go (eqb (length c) 0) (anyOf (λ s. eqb s 0) c) (ltb 128 (length c)) (ltb 9223372036854775807 (totalStake c)) h
   where
     go : (p q r s : Bool)
-        → pick {A = Answer A} (not p && (not q && (not r && (not s && true)))) (answered a) (refused (pick p 1 (pick q 2 (pick r 3 (pick s 4 0))))) ≡ refused n → ⊥
+        → pick {A = Answer A} (not p && (not q && (not r && (not s && true)))) (answered a) (refused (pick p 1 (pick q 2 (pick r 3 (pick s 4 0))))) ≡ refused
+        n → ⊥
     go true q r s k = let e : _≡_ {A = ℕ} 1 n = cc in omega arith
     go false true r s k = let e : _≡_ {A = ℕ} 2 n = cc in omega arith
     go false false true s k = let e : _≡_ {A = ℕ} 3 n = cc in omega arith

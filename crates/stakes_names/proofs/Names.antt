@@ -43,7 +43,13 @@ padded-split (x ∷ xs) h = go (ℕ-discrete x 0) (λ k. padded-split xs k)
   where
     go : Dec (x ≡ 0) → (padded xs ≡ true → Split xs) → Split (x ∷ xs)
     go (yes e) ih =
-        record { text = []; zeros = suc (length xs); are = rw e (ap {B = Bytes} (λ l. 0 ∷ l) (all-zero xs (rw (eq-eqb x 0 e) at h))); noZero = λ y m. absurd (in-empty m) }
+        record {
+          text = [];
+          zeros = suc (length xs);
+          are = rw e (ap {B = Bytes} (λ l. 0 ∷ l) (all-zero xs (rw (eq-eqb x 0 e) at h)));
+          noZero = λ y m. absurd
+              (in-empty m);
+        }
     go (no e) ih =
         let r = ih (rw (ne-eqb x 0 e) at h) in
         record { text = x ∷ r .text; zeros = r .zeros; are = ap {B = Bytes} (λ l. x ∷ l) (r .are); noZero = λ y m k. both y k r (in-cases m) }
@@ -64,7 +70,11 @@ first-zero (suc n) = refl
 
 name-meant : (n : Bytes) → (goodName n ≡ true) ↔ Named n
 unfolding goodName
-name-meant n = (λ h. named (not-true (eqb (getD n 0 0) 0) (and-left (not (eqb (getD n 0 0) 0)) _ h)) (padded-split n (and-right (not (eqb (getD n 0 0) 0)) _ h)), back)
+name-meant n = (
+  λ h. named (not-true (eqb (getD n 0 0) 0) (and-left (not (eqb (getD n 0 0) 0)) _ h))
+      (padded-split n (and-right (not (eqb (getD n 0 0) 0)) _ h)),
+  back,
+)
   where
     named : eqb (getD n 0 0) 0 ≡ false → Split n → Named n
     named z r = record { text = r .text; zeros = r .zeros; are = r .are; notEmpty = fails _ (λ e. some-text e); noZero = r .noZero }
@@ -110,7 +120,8 @@ module _ (f : ℕ → Bytes) where
   differ-pairwise [] o d = refl
   differ-pairwise (x ∷ is) (also n o) d =
       and-both _ _
-      (in-all (λ y. not (same (f x) y)) (map f is) (λ y m. let r = map-in f is m in rw (fails (same (f x) y) (λ s. n (rw (d x (r .0) here (there (r .1)) (same-true (f x) y s ∙ sym (r .2))) (r .1))))))
+      (in-all (λ y. not (same (f x) y)) (map f is) (λ y m. let r = map-in f is m in rw
+      (fails (same (f x) y) (λ s. n (rw (d x (r .0) here (there (r .1)) (same-true (f x) y s ∙ sym (r .2))) (r .1))))))
       (differ-pairwise is o (λ i j l k. d i j (there l) (there k)))
 
 -- ---- the claims
@@ -118,7 +129,11 @@ module _ (f : ℕ → Bytes) where
 pub names-meant : (f : Bytes) (is : List ℕ) → Once is → (goodNames (map (nameAt f) is) ≡ true) ↔ WellNamed f is
 unfolding goodNames
 names-meant f is o = (
-  λ g. record { named = λ i m. name-meant (nameAt f i) .0 (all-in goodName (map (nameAt f) is) (and-left (allOf goodName (map (nameAt f) is)) _ g) (in-map (nameAt f) m)); differ = pairwise-differ (nameAt f) is (and-right (allOf goodName (map (nameAt f) is)) _ g) },
+  λ g. record {
+    named = λ i m. name-meant (nameAt f i) .0 (all-in goodName (map (nameAt f) is) (and-left (allOf goodName (map (nameAt f) is)) _ g)
+        (in-map (nameAt f) m));
+    differ = pairwise-differ (nameAt f) is (and-right (allOf goodName (map (nameAt f) is)) _ g);
+  },
   λ w.
       and-both _ _
       (in-all goodName (map (nameAt f) is) (λ x m. let r = map-in (nameAt f) is m in rw (← r .2) (name-meant (nameAt f (r .0)) .1 (w .named (r .0) (r .1)))))

@@ -113,10 +113,12 @@ module _ (f : Bytes) (is : List ℕ) (k : ℕ) where
   unfolding goodNames allOf
   names-bad h e = rw (drop-next is k h, e)
 
-  pub names-again : k < length is → goodName (nameAt f (getD is k 0)) ≡ true → allOf (λ n. not (same (nameAt f (getD is k 0)) n)) (map (nameAt f) (drop (k + 1) is)) ≡ false → good (drop k is) ≡ false
+  pub names-again : k < length is → goodName (nameAt f (getD is k 0)) ≡ true → allOf (λ n. not (same (nameAt f (getD is k 0)) n))
+      (map (nameAt f) (drop (k + 1) is)) ≡ false → good (drop k is) ≡ false
   unfolding goodNames allOf pairwise
   names-again h e d = rw (drop-next is k h, e, d) (and-false (allOf goodName (map (nameAt f) (drop (k + 1) is))))
 
-  pub names-on : k < length is → goodName (nameAt f (getD is k 0)) ≡ true → allOf (λ n. not (same (nameAt f (getD is k 0)) n)) (map (nameAt f) (drop (k + 1) is)) ≡ true → good (drop k is) ≡ good (drop (k + 1) is)
+  pub names-on : k < length is → goodName (nameAt f (getD is k 0)) ≡ true → allOf (λ n. not (same (nameAt f (getD is k 0)) n))
+      (map (nameAt f) (drop (k + 1) is)) ≡ true → good (drop k is) ≡ good (drop (k + 1) is)
   unfolding goodNames allOf pairwise
   names-on h e d = rw (drop-next is k h, e, d)

@@ -19,7 +19,8 @@ use Rattle.base.proofs.Le.{AllBytes, length-leBytes, sets-append}
 use Rattle.record_spec.specs.Reference.{BlockReference, sameReference, referenceBefore}
 use Rattle.record_spec.specs.Record.{blockIn}
 use Rattle.record_spec.proofs.References.{reference-irrefl, reference-same}
-use Rattle.store_spec.specs.Layout.{Record, usedBy, Entry, referenceOf, entries, positionOf, firstPosition, nextPosition, entryBytes, bodyBytes, layout, ascending}
+use Rattle.store_spec.specs.Layout.{Record, usedBy, Entry, referenceOf, entries, positionOf, firstPosition, nextPosition, entryBytes, bodyBytes, layout}
+use Rattle.store_spec.specs.Layout.{ascending}
 use Rattle.store_spec.specs.Store.{usedLength, blockCount, recordsOf, recordIn, storeFull, storeHolding}
 use Rattle.store_spec.specs.Entry.{laidOut}
 use Rattle.store_spec.specs.Step.{first}
@@ -52,7 +53,8 @@ two-parts f u n u′ n′ t a b b′ c c′ =
     ∙ append-assoc f u′ (n′ ++ t)
 
 -- an entry is written in three parts
-pub entry-written : (l rec : List ℕ) (at next size : ℕ) → sets (sets (sets l at (leBytes 4 next)) (at + 4) (leBytes 4 size)) (at + 8) rec ≡ sets l at (leBytes 4 next ++ (leBytes 4 size ++ rec))
+pub entry-written : (l rec : List ℕ) (at next size : ℕ) → sets (sets (sets l at (leBytes 4 next)) (at + 4) (leBytes 4 size)) (at + 8) rec ≡ sets l at
+    (leBytes 4 next ++ (leBytes 4 size ++ rec))
 entry-written l rec at next size =
     let last : at + 4 + 4 ≡ at + 8 = omega arith in
     sym (sets-append (leBytes 4 next) (leBytes 4 size ++ rec) l at
@@ -104,13 +106,18 @@ pub record Reach (s : Bytes) (below above : ℕ) : Type 0 where
 pub reach : (s : Bytes) → laidOut s ≡ true → (i : BlockReference) (below above : ℕ) → Neighbours s i below above → Reach s below above
 unfolding positionOf first
 reach s h i below above p =
-    record { below-in = by-last (p .last) (λ e m. inside e (in-left (p .higher) m)); above-in = by-next (p .higher) (p .next) (λ e m. inside e (in-right (p .lower) m)) }
+    record {
+      below-in = by-last (p .last) (λ e m. inside e (in-left (p .higher) m));
+      above-in = by-next (p .higher) (p .next)
+          (λ e m. inside e (in-right (p .lower) m));
+    }
   where
     whole : usedBy (recordsOf s) ≤ length s
     whole = walked-inside s (recordsOf s) (laid-out s h .reads .header .long) (laid-out s h .reads .walked)
 
     inside : (e : Entry) → e ∈ (p .lower ++ p .higher) → Within (usedBy (recordsOf s)) e
-    inside e m = every-in (entries (recordsOf s)) e (entries-within (recordsOf s)) (ascending-in (entries (recordsOf s)) e (subst (λ (l : List Entry). e ∈ l) (sym (p .sorted)) m))
+    inside e m = every-in (entries (recordsOf s)) e (entries-within (recordsOf s))
+        (ascending-in (entries (recordsOf s)) e (subst (λ (l : List Entry). e ∈ l) (sym (p .sorted)) m))
 
     by-last : {xs : List Entry} {n : ℕ} → LastAt xs n → ((e : Entry) → e ∈ xs → Within (usedBy (recordsOf s)) e) → n + 4 ≤ length s
     by-last none-last f = omega (arith, laid-out s h .reads .header .long)
@@ -122,7 +129,8 @@ reach s h i below above p =
 
 -- ---- the new store
 
-module _ (s : Bytes) (b : AllBytes s) (h : laidOut s ≡ true) (r : Record) (below above : ℕ) (p : Neighbours s (r .block .reference) below above) (room : usedBy (r ∷ recordsOf s) ≤ length s) where
+module _ (s : Bytes) (b : AllBytes s) (h : laidOut s ≡ true) (r : Record) (below above : ℕ) (p : Neighbours s (r .block .reference) below above)
+    (room : usedBy (r ∷ recordsOf s) ≤ length s) where
   abbrev rs : List Record
   rs = recordsOf s
 
@@ -133,7 +141,8 @@ module _ (s : Bytes) (b : AllBytes s) (h : laidOut s ≡ true) (r : Record) (bel
   new = record { position = usedBy rs; bytes = r .bytes; block = r .block }
 
   far : Distinct (new ∷ es)
-  far = with-later (in-every es (λ e m. apart e (in-append (p .lower) (subst (λ (l : List Entry). e ∈ l) (p .sorted) (in-ascending es e m))))) (laid-out s h .chain .distinct)
+  far = with-later (in-every es (λ e m. apart e (in-append (p .lower) (subst (λ (l : List Entry). e ∈ l) (p .sorted) (in-ascending es e m)))))
+      (laid-out s h .chain .distinct)
     where
       apart : (e : Entry) → (e ∈ p .lower) ⊎ (e ∈ p .higher) → sameReference (referenceOf new) (referenceOf e) ≡ false
       apart e (inl m) = fails _ (λ t. reference-irrefl (referenceOf e) (rw (reference-same (referenceOf new) (referenceOf e) t) at (p .low e m)))
@@ -173,7 +182,8 @@ module _ (s : Bytes) (b : AllBytes s) (h : laidOut s ≡ true) (r : Record) (bel
   unfolding usedBy
   three =
       let t : Bytes = drop (usedBy rs) s in
-      let split : s ≡ layout rs ++ t = sym (take-append-drop (usedBy rs) s) ∙ ap (λ (l : Bytes). l ++ t) (laid-used s b (laid-out s h .reads) (laid-out s h .chain)) in
+      let split : s ≡ layout rs ++ t = sym (take-append-drop (usedBy rs) s) ∙ ap (λ (l : Bytes). l ++ t)
+      (laid-used s b (laid-out s h .reads) (laid-out s h .chain)) in
       let fits : length own ≤ length t = omega (arith, length-own, length-drop (usedBy rs) s) in
       let gone : drop (length own) t ≡ rest = ap (λ (k : ℕ). drop k t) length-own ∙ drop-drop (8 + length (r .bytes)) (usedBy rs) s in
       let entry : sets s (usedBy rs) own ≡ layout rs ++ (own ++ rest) =
@@ -205,7 +215,8 @@ module _ (s : Bytes) (b : AllBytes s) (h : laidOut s ≡ true) (r : Record) (bel
   as-first : ascending es ≡ p .higher → Written 0
   unfolding Written
   as-first q =
-      let same : bodyBytes (new ∷ es) es ≡ body = body-same es (new ∷ es) rs (in-every es (λ e m. unchanged e (around (subst (λ (l : List Entry). e ∈ l) q (in-ascending es e m))))) in
+      let same : bodyBytes (new ∷ es) es ≡ body = body-same es (new ∷ es) rs
+      (in-every es (λ e m. unchanged e (around (subst (λ (l : List Entry). e ∈ l) q (in-ascending es e m))))) in
       rw (first-new es new far [] (p .higher) q none-of high refl, same)
       (sym (sets-seam (leBytes 4 (usedBy rs)) [] (leBytes 4 (firstPosition es)) _ (length-leBytes 4 _ ∙ sym (length-leBytes 4 (usedBy rs)))))
     where
@@ -213,7 +224,8 @@ module _ (s : Bytes) (b : AllBytes s) (h : laidOut s ≡ true) (r : Record) (bel
       unchanged e x = next-higher es new far [] (p .higher) q none-of high (x .before) (x .after) e (x .are)
 
   -- where d is the last that is lower, its next position changes
-  as-next : (zs : List Entry) (d : Entry) → ascending es ≡ zs ++ (d ∷ []) ++ p .higher → Every (λ x. referenceBefore (referenceOf x) (referenceOf new) ≡ true) (zs ++ (d ∷ [])) → Written (d .position)
+  as-next : (zs : List Entry) (d : Entry) → ascending es ≡ zs ++ (d ∷ []) ++ p .higher → Every (λ x. referenceBefore (referenceOf x) (referenceOf new) ≡ true)
+      (zs ++ (d ∷ [])) → Written (d .position)
   unfolding Written
   as-next zs d q m =
       let there-is : d ∈ es = ascending-in es d (subst (λ (l : List Entry). d ∈ l) (sym q) (in-left (p .higher) (in-right zs here))) in
@@ -226,7 +238,8 @@ module _ (s : Bytes) (b : AllBytes s) (h : laidOut s ≡ true) (r : Record) (bel
       let size : length head ≡ 16 = simp (length-append, length-leBytes) in
       let joined : (l : Bytes) → head ++ l ≡ f ++ (used ++ (count ++ (zeros ++ l))) = λ l. simp append-assoc in
       let patched : bodyBytes (new ∷ es) es ≡ sets body i v =
-      body-patched es (new ∷ es) (d .position) (usedBy rs) rs d there-is refl (one-changed es new d far zs (p .higher) q m high (ascending-apart es (entries-apart rs))) in
+      body-patched es (new ∷ es) (d .position) (usedBy rs) rs d there-is refl
+      (one-changed es new d far zs (p .higher) q m high (ascending-apart es (entries-apart rs))) in
       let at : d .position ≡ length head + i = omega (arith, w .from) in
       rw (starts-same zs q m, patched)
       (sym (ap (λ (l : Bytes). sets l (d .position) v) (sym (joined (body ++ tail)))
@@ -235,7 +248,8 @@ module _ (s : Bytes) (b : AllBytes s) (h : laidOut s ≡ true) (r : Record) (bel
       ∙ ap (λ (l : Bytes). head ++ l) (sets-left v body tail i (omega (arith, length-leBytes 4 (usedBy rs), length-body es rs, w .from, w .upto)))
       ∙ joined (sets body i v ++ tail)))
     where
-      starts-same : (ys : List Entry) → ascending es ≡ ys ++ (d ∷ []) ++ p .higher → Every (λ x. referenceBefore (referenceOf x) (referenceOf new) ≡ true) (ys ++ (d ∷ [])) → firstPosition (new ∷ es) ≡ firstPosition es
+      starts-same : (ys : List Entry) → ascending es ≡ ys ++ (d ∷ []) ++ p .higher → Every (λ x. referenceBefore (referenceOf x) (referenceOf new) ≡ true)
+          (ys ++ (d ∷ [])) → firstPosition (new ∷ es) ≡ firstPosition es
       starts-same [] q m = first-same es new far (d ∷ []) (p .higher) q m high d [] refl
       starts-same (y ∷ ys) q m = first-same es new far (y ∷ ys ++ (d ∷ [])) (p .higher) q m high y (ys ++ (d ∷ [])) refl
 
@@ -244,12 +258,14 @@ module _ (s : Bytes) (b : AllBytes s) (h : laidOut s ≡ true) (r : Record) (bel
   unfolding Written
   appended = held ∙ by-last (p .last) (p .sorted) low ∙ sym (ap (λ (l : Bytes). sets l below (leBytes 4 (usedBy rs))) three)
     where
-      by-last : {xs : List Entry} {n : ℕ} → LastAt xs n → ascending es ≡ xs ++ p .higher → Every (λ x. referenceBefore (referenceOf x) (referenceOf new) ≡ true) xs → Written n
+      by-last : {xs : List Entry} {n : ℕ} → LastAt xs n → ascending es ≡ xs ++ p .higher → Every
+          (λ x. referenceBefore (referenceOf x) (referenceOf new) ≡ true) xs → Written n
       by-last none-last q m = as-first q
       by-last (last-at zs d) q m = as-next zs d q m
 
 -- the same from the numbers that the code reads and writes
-pub appended-so : (s : Bytes) → AllBytes s → (h : laidOut s ≡ true) (rec : Bytes) (below above used end count : ℕ) → Neighbours s (blockIn rec .reference) below above → storeFull s (recordIn rec) ≡ false
+pub appended-so : (s : Bytes) → AllBytes s → (h : laidOut s ≡ true) (rec : Bytes) (below above used end count : ℕ) → Neighbours s (blockIn rec .reference)
+    below above → storeFull s (recordIn rec) ≡ false
     → used ≡ leAt 4 s 4 → end ≡ leAt 4 s 4 + (8 + length rec) → count ≡ leAt 2 s 8 + 1
     → sets (sets (sets (sets s used (leBytes 4 above ++ (leBytes 4 (length rec) ++ rec))) 4 (leBytes 4 end)) 8 (leBytes 2 count)) below (leBytes 4 used)
     ≡ storeHolding (recordIn rec ∷ recordsOf s) s

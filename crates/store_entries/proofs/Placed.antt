@@ -32,10 +32,12 @@ module _ (s : Bytes) (h : laidOut s ≡ true) (order : List ℕ) (q : order ≡ 
   pub order-ascends : Ascending s order 8
   order-ascends = known-ascend s order 8 (referenceIn s order) stand (order-rises s h order q)
 
-  pub order-at : (r : BlockReference) (p : FoundPlace) (j : ℕ) → p ≡ At j → FoundAmong (length order) (referenceFrom s order 8) r p → (j < length order) × (referenceIn s order j ≡ r)
+  pub order-at : (r : BlockReference) (p : FoundPlace) (j : ℕ) → p ≡ At j → FoundAmong (length order) (referenceFrom s order 8) r p → (j < length order) ×
+      (referenceIn s order j ≡ r)
   order-at = known-at s order 8 (referenceIn s order) stand
 
-  pub order-misses : (r : BlockReference) (p : FoundPlace) (j : ℕ) → p ≡ Before j → FoundAmong (length order) (referenceFrom s order 8) r p → 0 ≡ positionOf (lookup (entries (recordsOf s)) r)
+  pub order-misses : (r : BlockReference) (p : FoundPlace) (j : ℕ) → p ≡ Before j → FoundAmong (length order) (referenceFrom s order 8) r p → 0 ≡ positionOf
+      (lookup (entries (recordsOf s)) r)
   order-misses r p j e f =
       let b : Between (length order) (referenceIn s order) r j = known-between s order 8 (referenceIn s order) stand r p j e f in
       found-nowhere s h order q r j j (omega arith) (record { order = omega arith; inside = b .most; below = b .below; above = b .above })

@@ -69,7 +69,8 @@ module _ (s : Bytes) (h : laidOut s ≡ true) (r : BlockReference) where
         go : (ys : List Entry) → a .rest ≡ ys → at ≡ positionOf (first ys) → length ys ≡ left → Coming
         go [] q p m = absurd (omega arith)
         go (y ∷ ys) q p m =
-            let there-is : y ∈ es = ascending-in es y (subst (λ (l : List Entry). y ∈ l) (sym (a .sorted)) (in-right (a .passed) (subst (λ (l : List Entry). y ∈ l) (sym q) here))) in
+            let there-is : y ∈ es = ascending-in es y (subst (λ (l : List Entry). y ∈ l) (sym (a .sorted))
+            (in-right (a .passed) (subst (λ (l : List Entry). y ∈ l) (sym q) here))) in
             record {
               entry = y;
               others = ys;
@@ -117,9 +118,11 @@ module _ (s : Bytes) (h : laidOut s ≡ true) (r : BlockReference) where
     along-high l k =
         let x : Coming = coming l in
         let own : referenceBefore r (referenceOf (x .entry)) ≡ true = subst (λ (b : Block). referenceBefore r (b .reference) ≡ true) (x .block) k in
-        rw (x .are) (and own (after (x .entry) (x .others) (a .passed) (subst Ascending (a .sorted ∙ ap (λ (l : List Entry). a .passed ++ l) (x .are)) (ascending-ascends es (laid-out s h .chain .distinct))) own))
+        rw (x .are) (and own (after (x .entry) (x .others) (a .passed)
+        (subst Ascending (a .sorted ∙ ap (λ (l : List Entry). a .passed ++ l) (x .are)) (ascending-ascends es (laid-out s h .chain .distinct))) own))
       where
-        after : (e : Entry) (ys zs : List Entry) → Ascending (zs ++ e ∷ ys) → referenceBefore r (referenceOf e) ≡ true → Every (λ y. referenceBefore r (referenceOf y) ≡ true) ys
+        after : (e : Entry) (ys zs : List Entry) → Ascending (zs ++ e ∷ ys) → referenceBefore r (referenceOf e) ≡ true → Every
+            (λ y. referenceBefore r (referenceOf y) ≡ true) ys
         after e ys [] (with-later k ks) own = every (λ y t. reference-trans r (referenceOf e) (referenceOf y) own t) ys k
         after e ys (z ∷ zs) (with-later k ks) own = after e ys zs ks own
 

@@ -76,7 +76,8 @@ module _ (s : Bytes) (h : laidOut s ≡ true) (order : List ℕ) (q : order ≡ 
       ∙ ap (λ (b : Block). b .reference) (block-of-entry s (laid-out s h .reads) (getD asc j noEntry) (stored j l))
 
   -- the reference of a block that is not stored is found nowhere
-  pub found-not : (r : BlockReference) (p : FoundPlace) (j : ℕ) → p ≡ At j → FoundAmong (length order) (referenceFrom s order 8) r p → isStored (recordsOf s) r ≡ false → ⊥
+  pub found-not : (r : BlockReference) (p : FoundPlace) (j : ℕ) → p ≡ At j → FoundAmong (length order) (referenceFrom s order 8) r p → isStored (recordsOf s)
+      r ≡ false → ⊥
   unfolding FoundAmong
   found-not r p j e f new =
       let g = subst (FoundAmong (length order) (referenceFrom s order 8) r) e f in
@@ -152,7 +153,8 @@ module _ (s : Bytes) (h : laidOut s ≡ true) (order : List ℕ) (q : order ≡ 
           let j : ℕ = left - 1 in
           let inside : j < length order = omega (arith, a .within) in
           let own : referenceOf (getD asc j noEntry) ≡ r =
-          sym (ap (λ (p : ℕ). blockAt s p .reference) (place j) ∙ ap (λ (b : Block). b .reference) (block-of-entry s (laid-out s h .reads) (getD asc j noEntry) (stored j inside)))
+          sym (ap (λ (p : ℕ). blockAt s p .reference) (place j) ∙ ap (λ (b : Block). b .reference)
+          (block-of-entry s (laid-out s h .reads) (getD asc j noEntry) (stored j inside)))
           ∙ sym e ∙ reference-same x r (compared-equal x r o) in
           rw (lookup-hit es (laid-out s h .chain .distinct) (getD asc j noEntry) (stored j inside) r own)
 
@@ -166,7 +168,8 @@ module _ (s : Bytes) (h : laidOut s ≡ true) (order : List ℕ) (q : order ≡ 
           lower j k = go (decLt j (left - 1))
             where
               go : Dec (j < left - 1) → referenceBefore (referenceIn s order j) r ≡ true
-              go (yes u) = reference-trans (referenceIn s order j) (referenceIn s order (left - 1)) r (order-rises s h order q j (left - 1) u (omega (arith, a .within))) last
+              go (yes u) = reference-trans (referenceIn s order j) (referenceIn s order (left - 1)) r
+                  (order-rises s h order q j (left - 1) u (omega (arith, a .within))) last
               go (no u) = let z : j ≡ left - 1 = omega arith in rw z last
 
       pub below-on : referenceOrder x r ≡ Greater → Above s order r (left - 1)

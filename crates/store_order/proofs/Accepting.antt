@@ -36,7 +36,8 @@ distinct-older (r ∷ newer) older (with-later h hs) = distinct-older newer olde
 
 own-new : (newer older : List Record) (r : Record) → Distinct (entries (newer ++ r ∷ older)) → isStored older (r .block .reference) ≡ false
 unfolding entries
-own-new newer older r d = fails (isStored older (r .block .reference)) (λ t. go (distinct-older newer (r ∷ older) d) (entry-stored older (r .block .reference) t))
+own-new newer older r d = fails (isStored older (r .block .reference))
+    (λ t. go (distinct-older newer (r ∷ older) d) (entry-stored older (r .block .reference) t))
   where
     go : Distinct (entries (r ∷ older)) → ((e : Entry) × (e ∈ entries older) × (referenceOf e ≡ r .block .reference)) → ⊥
     go (with-later h hs) x = not-both (same-reference (sym (x .2))) (every-in (entries older) (x .0) h (x .1))
@@ -60,14 +61,16 @@ accepted-parts c s p h k =
     let joined : rs ≡ newer ++ (r ∷ []) ++ older = y .are ∙ sym (append-assoc newer (r ∷ []) older) in
     let far : Distinct (entries rs) = laid-out s h .chain .distinct in
     let at : p ≡ usedBy older = sym (x .place) ∙ ap (λ (e : Entry). e .position) (y .is) in
-    let block : blockAt s p ≡ r .block = ap (λ (q : ℕ). blockAt s q) (sym (x .place)) ∙ block-of-entry s (x .reads) (x .entry) (x .stored) ∙ ap (λ (e : Entry). e .block) (y .is) in
+    let block : blockAt s p ≡ r .block = ap (λ (q : ℕ). blockAt s q) (sym (x .place)) ∙ block-of-entry s (x .reads) (x .entry) (x .stored) ∙ ap
+    (λ (e : Entry). e .block) (y .is) in
     let before : (i : BlockReference) → isStored older i ≡ storedBefore (entries rs) p i =
     λ i. stored-older (newer ++ (r ∷ [])) older i (subst (λ (l : List Record). Distinct (entries l)) joined far)
     ∙ ap (λ (l : List Record). storedBefore (entries l) (usedBy older) i) (sym joined) ∙ ap (λ (q : ℕ). storedBefore (entries rs) q i) (sym at) in
     ap (λ (q : ℕ). acceptedAt c rs q) at ∙ ap (λ (l : List Record). acceptedAt c l (usedBy older)) (y .are)
     ∙ accepted-at c newer older r
     ∙ checks-new c older (r .block) (own-new newer older r (subst (λ (l : List Record). Distinct (entries l)) (y .are) far))
-    ∙ rw (block) (ap (λ (t : Bool). passes (headChecks c (r .block)) && (passes (bodyChecks c (r .block)) && t)) (all-ext (isStored older) (storedBefore (entries rs) p) before (r .block .includes)))
+    ∙ rw (block) (ap (λ (t : Bool). passes (headChecks c (r .block)) && (passes (bodyChecks c (r .block)) && t))
+    (all-ext (isStored older) (storedBefore (entries rs) p) before (r .block .includes)))
 
 module _ (c : Committee) (s : Bytes) (p : ℕ) (h : laidOut s ≡ true) (k : isEntry s p ≡ true) where
   abbrev own : Block
@@ -79,7 +82,8 @@ module _ (c : Committee) (s : Bytes) (p : ℕ) (h : laidOut s ≡ true) (k : isE
   pub body-refused : refusal (headChecks c own) ≡ 0 → (refusal (bodyChecks c own) ≡ 0 → ⊥) → acceptedAt c (recordsOf s) p ≡ false
   body-refused z f = accepted-parts c s p h k ∙ rw (head-passes c own z, fails (passes (bodyChecks c own)) (λ t. f (passes-zero (bodyChecks c own) t)))
 
-  pub includes-decide : refusal (headChecks c own) ≡ 0 → refusal (bodyChecks c own) ≡ 0 → acceptedAt c (recordsOf s) p ≡ allOf (storedBefore (entries (recordsOf s)) p) (own .includes)
+  pub includes-decide : refusal (headChecks c own) ≡ 0 → refusal (bodyChecks c own) ≡ 0 → acceptedAt c (recordsOf s) p ≡ allOf
+      (storedBefore (entries (recordsOf s)) p) (own .includes)
   includes-decide z y = accepted-parts c s p h k ∙ rw (head-passes c own z, body-passes c own y)
 
 -- ---- all records
@@ -121,19 +125,29 @@ module _ (c : Committee) (rs : List Record) where
     coming = next-record (a .newer) (a .older) (a .are) (omega (arith, a .many))
 
     position : getD (positions rs) i 0 ≡ usedBy (a .older)
-    position = ap (λ (x : List Record). getD (positions x) i 0) (coming .are) ∙ ap (λ (n : ℕ). getD (positions (coming .newer ++ coming .own ∷ a .older)) n 0) (sym (a .many)) ∙ position-at (coming .newer) (a .older) (coming .own)
+    position = ap (λ (x : List Record). getD (positions x) i 0) (coming .are) ∙ ap (λ (n : ℕ). getD (positions (coming .newer ++ coming .own ∷ a .older)) n 0)
+        (sym (a .many)) ∙ position-at (coming .newer) (a .older) (coming .own)
 
     decided : acceptedAt c rs (getD (positions rs) i 0) ≡ passes (blockChecks c (a .older) (coming .own .block))
-    decided = ap (λ (n : ℕ). acceptedAt c rs n) position ∙ ap (λ (x : List Record). acceptedAt c x (usedBy (a .older))) (coming .are) ∙ accepted-at c (coming .newer) (a .older) (coming .own)
+    decided = ap (λ (n : ℕ). acceptedAt c rs n) position ∙ ap (λ (x : List Record). acceptedAt c x (usedBy (a .older))) (coming .are) ∙ accepted-at c
+        (coming .newer) (a .older) (coming .own)
 
     pub accepting-on : acceptedAt c rs (getD (positions rs) i 0) ≡ true → Accepting c rs (i + 1)
     unfolding allAccepted
     accepting-on t =
-        record { newer = coming .newer; older = coming .own ∷ a .older; are = coming .are; many = omega (arith, a .many); accepted = rw (sym decided ∙ t) (a .accepted) }
+        record {
+          newer = coming .newer;
+          older = coming .own ∷ a .older;
+          are = coming .are;
+          many = omega (arith, a .many);
+          accepted = rw (sym decided ∙ t)
+              (a .accepted);
+        }
 
     pub accepting-stop : acceptedAt c rs (getD (positions rs) i 0) ≡ false → allAccepted c rs ≡ false
     unfolding allAccepted
-    accepting-stop f = fails (allAccepted c rs) (λ t. not-both (and-left _ _ (accepted-older c (coming .newer) (coming .own ∷ a .older) (subst (λ (x : List Record). allAccepted c x ≡ true) (coming .are) t))) (sym decided ∙ f))
+    accepting-stop f = fails (allAccepted c rs) (λ t. not-both (and-left _ _
+        (accepted-older c (coming .newer) (coming .own ∷ a .older) (subst (λ (x : List Record). allAccepted c x ≡ true) (coming .are) t))) (sym decided ∙ f))
 
   pub accepting-end : (i : ℕ) → Accepting c rs i → length rs ≤ i → allAccepted c rs ≡ true
   accepting-end i a l = all-old (a .newer) (a .are)

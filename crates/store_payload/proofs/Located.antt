@@ -47,12 +47,14 @@ element-past [] i h = refl
 element-past (x ∷ xs) zero h = absurd (omega arith)
 element-past (x ∷ xs) (suc i) h = element-past xs i (omega arith)
 
-pub share-past : (rec : Bytes) (o : ℕ) → length (blockIn rec .statements) ≤ o → asShare NoShare ≡ shareStretch (statementStart rec o) (getElem? (blockIn rec .statements) o)
+pub share-past : (rec : Bytes) (o : ℕ) → length (blockIn rec .statements) ≤ o → asShare NoShare ≡ shareStretch (statementStart rec o)
+    (getElem? (blockIn rec .statements) o)
 unfolding asShare shareStretch
 share-past rec o h = rw (element-past (blockIn rec .statements) o h)
 
 share-told : (rec : Bytes) → AllBytes rec → wellFormed rec ≡ true → (o next : ℕ) (st : BaseStatement) → o < length (blockIn rec .statements)
-    → asStatement rec st ≡ getD (blockIn rec .statements) o noStatement → payloadBetween (statementStart rec o) next st ≡ true → next ≡ statementStart rec (o + 1)
+    → asStatement rec st ≡ getD (blockIn rec .statements) o noStatement → payloadBetween (statementStart rec o) next st ≡ true → next ≡ statementStart rec
+    (o + 1)
     → (asShare (sharedBy st) ≡ shareStretch (statementStart rec o) (getElem? (blockIn rec .statements) o)) × (shareWithin (length rec) (sharedBy st) ≡ true)
 unfolding asShare shareStretch shareWithin sharedBy asStatement payloadBetween
 share-told rec bs w o next st h e p q = go st e p
@@ -75,9 +77,12 @@ share-told rec bs w o next st h e p q = go st e p
     go (VoteRange r) e p = (rw (at-is, ← e), refl)
 
 -- the statement that stands at a place, as next_statement tells it
-pub share-found : (rec : Bytes) → AllBytes rec → wellFormed rec ≡ true → (o : ℕ) (k : StatementCursor) (r : NextStatement) → k ≡ cursorAt rec o → o < length (blockIn rec .statements)
-    → (asStatement rec (r .statement) ≡ getD (blockIn rec .statements) (k .index) noStatement) × ((r .next ≡ cursorAt rec (k .index + 1)) × (payloadBetween (k .at) (r .next .at) (r .statement) ≡ true))
-    → (asShare (sharedBy (r .statement)) ≡ shareStretch (statementStart rec o) (getElem? (blockIn rec .statements) o)) × (shareWithin (length rec) (sharedBy (r .statement)) ≡ true)
+pub share-found : (rec : Bytes) → AllBytes rec → wellFormed rec ≡ true → (o : ℕ) (k : StatementCursor) (r : NextStatement) → k ≡ cursorAt rec o → o < length
+    (blockIn rec .statements)
+    → (asStatement rec (r .statement) ≡ getD (blockIn rec .statements) (k .index) noStatement) ×
+    ((r .next ≡ cursorAt rec (k .index + 1)) × (payloadBetween (k .at) (r .next .at) (r .statement) ≡ true))
+    → (asShare (sharedBy (r .statement)) ≡ shareStretch (statementStart rec o) (getElem? (blockIn rec .statements) o)) ×
+    (shareWithin (length rec) (sharedBy (r .statement)) ≡ true)
 unfolding cursorAt
 share-found rec bs w o k r q h f =
     let i : k .index ≡ o = ap (λ (x : StatementCursor). x .index) q in
@@ -112,7 +117,8 @@ module _ (c : Committee) (s : Bytes) (l : TransactionLocator) where
   place-refused k h = go (passes (payloadChecks c s l)) h
     where
       go : (t : Bool) → refused k ≡ pick t (answered (Option·getD (payloadAt s l) (record { start = 0; count = 0 }))) (refused (refusal (payloadChecks c s l)))
-          → ([] ≡ pick t (stretchOf (payloadAt s l) s) []) × (refused k ≡ pick t (answered (length (stretchOf (payloadAt s l) s))) (refused (refusal (payloadChecks c s l))))
+          → ([] ≡ pick t (stretchOf (payloadAt s l) s) []) × (refused k ≡ pick t (answered (length (stretchOf (payloadAt s l) s)))
+          (refused (refusal (payloadChecks c s l))))
       go true e = absurd (let z : _≡_ {A = ℕ} 0 1 = cc in omega arith)
       go false e = (refl, let same : k ≡ refusal (payloadChecks c s l) = cc in ap refused same)
 
@@ -121,23 +127,29 @@ module _ (c : Committee) (s : Bytes) (l : TransactionLocator) where
   unfolding payloadPlace payload payloadLength checked payloadChecks stretchOf isNone
   place-stands start count h inside = go (passes (payloadChecks c s l)) refl h
     where
-      by-place : (o : Option StoreStretch) → payloadAt s l ≡ o → passes (payloadChecks c s l) ≡ true → _≡_ {A = StoreStretch} (record { start = start; count = count }) (Option·getD o (record { start = 0; count = 0 }))
+      by-place : (o : Option StoreStretch) → payloadAt s l ≡ o → passes (payloadChecks c s l) ≡ true → _≡_ {A = StoreStretch}
+          (record { start = start; count = count }) (Option·getD o (record { start = 0; count = 0 }))
           → (take count (drop start s) ≡ stretchOf o s) × (answered count ≡ answered (length (stretchOf o s)))
       by-place none q p e =
           let k : storeInOrder c s ≡ true = not-false (storeInOrder c s) (passes-none (payloadChecks c s l) p (not (storeInOrder c s) ⇒ 10) (there here)) in
-          let stored : isStoredShare (blocks (recordsOf s)) l ≡ true = not-false _ (passes-none (payloadChecks c s l) p (not (isStoredShare (blocks (recordsOf s)) l) ⇒ 41) (there (there here))) in
+          let stored : isStoredShare (blocks (recordsOf s)) l ≡ true = not-false _
+          (passes-none (payloadChecks c s l) p (not (isStoredShare (blocks (recordsOf s)) l) ⇒ 41) (there (there here))) in
           absurd (not-both stored (rw (share-has-payload c s k l, q)))
       by-place (some t) q p e =
           rw (← e) (refl, ap answered (sym (length-take-le count (drop start s) (omega (arith, length-drop start s)))))
 
-      go : (t : Bool) → passes (payloadChecks c s l) ≡ t → answered (record { start = start; count = count }) ≡ pick t (answered (Option·getD (payloadAt s l) (record { start = 0; count = 0 }))) (refused (refusal (payloadChecks c s l)))
-          → (take count (drop start s) ≡ pick t (stretchOf (payloadAt s l) s) []) × (answered count ≡ pick t (answered (length (stretchOf (payloadAt s l) s))) (refused (refusal (payloadChecks c s l))))
+      go : (t : Bool) → passes (payloadChecks c s l) ≡ t → answered (record { start = start; count = count }) ≡ pick t
+          (answered (Option·getD (payloadAt s l) (record { start = 0; count = 0 }))) (refused (refusal (payloadChecks c s l)))
+          → (take count (drop start s) ≡ pick t (stretchOf (payloadAt s l) s) []) ×
+          (answered count ≡ pick t (answered (length (stretchOf (payloadAt s l) s))) (refused (refusal (payloadChecks c s l))))
       go false p e = absurd (let z : _≡_ {A = ℕ} 0 1 = cc in omega arith)
-      go true p e = let same : _≡_ {A = StoreStretch} (record { start = start; count = count }) (Option·getD (payloadAt s l) (record { start = 0; count = 0 })) = cc in by-place (payloadAt s l) refl p same
+      go true p e = let same : _≡_ {A = StoreStretch} (record { start = start; count = count })
+          (Option·getD (payloadAt s l) (record { start = 0; count = 0 })) = cc in by-place (payloadAt s l) refl p same
 
 -- ---- where the store has it
 
-shifted : (q p : ℕ) (o : Option Statement) (t : Option StoreStretch) → t ≡ shareStretch p o → shareStretch (q + p) o ≡ Option·map (λ (x : StoreStretch). record { start = q + x .start; count = x .count }) t
+shifted : (q p : ℕ) (o : Option Statement) (t : Option StoreStretch) → t ≡ shareStretch p o → shareStretch (q + p) o ≡ Option·map
+    (λ (x : StoreStretch). record { start = q + x .start; count = x .count }) t
 unfolding shareStretch
 shifted q p none t h = rw h
 shifted q p (some (share v)) t h = let e : q + p + 3 ≡ q + (p + 3) = omega arith in rw (h, e)
@@ -154,10 +166,13 @@ module _ (s : Bytes) (laid : laidOut s ≡ true) (l : TransactionLocator) (at : 
   payload-entry f = found-stands s laid (l .block) at found f
 
   -- from what the record has
-  pub payload-found : (at ≡ 0 → ⊥) → (t : Option StoreStretch) → t ≡ shareStretch (statementStart (recordAt s at) (l .offset)) (getElem? (blockAt s at .statements) (l .offset))
+  pub payload-found : (at ≡ 0 → ⊥) → (t : Option StoreStretch) → t ≡ shareStretch (statementStart (recordAt s at) (l .offset))
+      (getElem? (blockAt s at .statements) (l .offset))
       → payloadAt s l ≡ Option·map (λ (x : StoreStretch). record { start = at + 8 + x .start; count = x .count }) t
   unfolding payloadAt payloadOf
   payload-found f t h =
       let e : FoundEntry s (l .block) at = found-entry s laid (l .block) at found f in
-      let b : blockAt s at ≡ e .entry .block = ap (λ (n : ℕ). blockAt s n) (sym (e .place)) ∙ block-of-entry s (laid-out s laid .reads) (e .entry) (e .stored) in
-      rw (e .is, e .place, ← b, ← found-record s laid (l .block) at found f) (shifted (at + 8) (statementStart (recordAt s at) (l .offset)) (getElem? (blockAt s at .statements) (l .offset)) t h)
+      let b : blockAt s at ≡ e .entry .block = ap (λ (n : ℕ). blockAt s n) (sym (e .place)) ∙ block-of-entry s (laid-out s laid .reads) (e .entry) (e .stored)
+      in
+      rw (e .is, e .place, ← b, ← found-record s laid (l .block) at found f)
+      (shifted (at + 8) (statementStart (recordAt s at) (l .offset)) (getElem? (blockAt s at .statements) (l .offset)) t h)

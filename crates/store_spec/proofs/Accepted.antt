@@ -29,9 +29,11 @@ unfolding blockChecks
 accepted-new c rs b h = passes-none (blockChecks c rs b) h (isStored rs (b .reference) ⇒ 23) (in-right (headChecks c b) here)
 
 -- 30: its includes are stored
-pub accepted-includes : (c : Committee) (rs : List Record) (b : Block) → passes (blockChecks c rs b) ≡ true → anyOf (λ i. not (isStored rs i)) (b .includes) ≡ false
+pub accepted-includes : (c : Committee) (rs : List Record) (b : Block) → passes (blockChecks c rs b) ≡ true → anyOf (λ i. not (isStored rs i)) (b .includes) ≡
+    false
 unfolding blockChecks
-accepted-includes c rs b h = passes-none (blockChecks c rs b) h (anyOf (λ i. not (isStored rs i)) (b .includes) ⇒ 30) (in-right (headChecks c b) (there (in-right (bodyChecks c b) here)))
+accepted-includes c rs b h = passes-none (blockChecks c rs b) h (anyOf (λ i. not (isStored rs i)) (b .includes) ⇒ 30)
+    (in-right (headChecks c b) (there (in-right (bodyChecks c b) here)))
 
 stored-block : (rs : List Record) (i : BlockReference) → isStored rs i ≡ true → (d : Block) × (d ∈ blocks rs) × (d .reference ≡ i)
 unfolding isStored
@@ -53,5 +55,6 @@ accepted-stored c (r ∷ rs) h =
     let p : passes (blockChecks c rs (r .block)) ≡ true = and-left _ _ h in
     stored
     (λ d m e. not-both (block-stored rs (r .block .reference) d m e) (accepted-new c rs (r .block) p))
-    (λ i m. stored-block rs i (not-false (isStored rs i) (fails _ (λ t. not-both (in-any (λ j. not (isStored rs j)) m t) (accepted-includes c rs (r .block) p)))))
+    (λ i m. stored-block rs i (not-false (isStored rs i) (fails _
+    (λ t. not-both (in-any (λ j. not (isStored rs j)) m t) (accepted-includes c rs (r .block) p)))))
     (accepted-stored c rs (and-right (passes (blockChecks c rs (r .block))) _ h))

@@ -70,7 +70,8 @@ unfolding ascending
 ascending-every [] none-of = none-of
 ascending-every (e ∷ es) (and h hs) = placed-every e (ascending es) h (ascending-every es hs)
 
-placed-ascending : (e : Entry) (ds : List Entry) → Every (λ d. sameReference (referenceOf e) (referenceOf d) ≡ false) ds → Ascending ds → Ascending (placed e ds)
+placed-ascending : (e : Entry) (ds : List Entry) → Every (λ d. sameReference (referenceOf e) (referenceOf d) ≡ false) ds → Ascending ds → Ascending
+    (placed e ds)
 unfolding placed
 placed-ascending e [] none-of no-pairs = with-later none-of no-pairs
 placed-ascending e (d ∷ ds) (and a as′) (with-later h hs) = go (lower e d) refl (placed-ascending e ds as′ hs)
@@ -103,7 +104,8 @@ keep-placed p e (d ∷ ds) (with-later h hs) = go (lower e d) refl (keep-placed 
     go false l ih = by-tests (p d) (p e) ih
       where
         by-tests : (u v : Bool) → keep p (placed e ds) ≡ pick v (placed e (keep p ds)) (keep p ds)
-            → pick u (d ∷ keep p (placed e ds)) (keep p (placed e ds)) ≡ pick v (placed e (pick u (d ∷ keep p ds) (keep p ds))) (pick u (d ∷ keep p ds) (keep p ds))
+            → pick u (d ∷ keep p (placed e ds)) (keep p (placed e ds)) ≡ pick v (placed e (pick u (d ∷ keep p ds) (keep p ds)))
+            (pick u (d ∷ keep p ds) (keep p ds))
         by-tests true true q = rw (q, l)
         by-tests true false q = rw q
         by-tests false true q = q

@@ -19,11 +19,13 @@ use Rattle.base.proofs.Read.{part}
 use Rattle.base.proofs.Parts.{PartOf, part-taken, part-complete, part-left, part-right, part-part, part-at, part-same}
 use Rattle.committee.specs.Committee.{Committee}
 use Rattle.record_spec.specs.Reference.{sameReference, referenceBefore}
-use Rattle.store_spec.specs.Layout.{Record, usedBy, Entry, referenceOf, entries, lesser, least, positionOf, firstPosition, nextPosition, entryBytes, bodyBytes, headerBytes, layout}
+use Rattle.store_spec.specs.Layout.{Record, usedBy, Entry, referenceOf, entries, lesser, least, positionOf, firstPosition, nextPosition, entryBytes}
+use Rattle.store_spec.specs.Layout.{bodyBytes, headerBytes, layout}
 use Rattle.store_spec.specs.Accept.{allAccepted}
 use Rattle.store_spec.specs.Store.{usedLength, blockCount, readEntries, recordsRead, recordsOf, allowedLength, storeInOrder}
 use Rattle.store_spec.specs.Entry.{headerRight, endsAt, readable, chained, laidOut}
-use Rattle.store_spec.proofs.Store.{InOrder, in-order, to-order, longest, used-within, used-is, blockCount-laid, laid, body-laid, entries-reads, recordsOf-right, length-body, length-header, entries-below}
+use Rattle.store_spec.proofs.Store.{InOrder, in-order, to-order, longest, used-within, used-is, blockCount-laid, laid, body-laid, entries-reads}
+use Rattle.store_spec.proofs.Store.{recordsOf-right, length-body, length-header, entries-below}
 use Rattle.store_spec.proofs.Walk.{Stands, Walked, begun, then, walked-reads, Reached, reads-walked}
 use Rattle.store_spec.proofs.Chain.{Distinct, distinct}
 use Rattle.store_spec.proofs.Payloads.{body-part}
@@ -49,7 +51,8 @@ number-part n v s p h q =
 
 -- ---- from the parts to the layout
 
-header-bytes : (s : Bytes) (rs : List Record) → AllBytes s → 16 ≤ length s → leAt 4 s 0 ≡ firstPosition (entries rs) → leAt 4 s 4 ≡ usedBy rs → leAt 2 s 8 ≡ length rs → leAt 6 s 10 ≡ 0
+header-bytes : (s : Bytes) (rs : List Record) → AllBytes s → 16 ≤ length s → leAt 4 s 0 ≡ firstPosition (entries rs) → leAt 4 s 4 ≡ usedBy rs → leAt 2 s 8 ≡
+    length rs → leAt 6 s 10 ≡ 0
     → take 16 s ≡ headerBytes rs
 unfolding headerBytes flatten leBytes
 header-bytes s rs b l e₁ e₂ e₃ e₄ =
@@ -69,7 +72,8 @@ header-bytes s rs b l e₁ e₂ e₃ e₄ =
       e₄,
     )
 
-entry-bytes : (s : Bytes) (es : List Entry) (p : ℕ) (r : Record) → AllBytes s → Stands s p r → leAt 4 s p ≡ nextPosition es (record { position = p; bytes = r .bytes; block = r .block })
+entry-bytes : (s : Bytes) (es : List Entry) (p : ℕ) (r : Record) → AllBytes s → Stands s p r → leAt 4 s p ≡ nextPosition es
+    (record { position = p; bytes = r .bytes; block = r .block })
     → take (8 + length (r .bytes)) (drop p s) ≡ entryBytes es (record { position = p; bytes = r .bytes; block = r .block })
 unfolding entryBytes
 entry-bytes s es p r b h e =
@@ -87,7 +91,8 @@ entry-bytes s es p r b h e =
     )
     (append-assoc (leBytes 4 _) (leBytes 4 (length (r .bytes))) (r .bytes))
 
-walked-bytes : (s : Bytes) (es : List Entry) (rs : List Record) → AllBytes s → Walked s rs → Every (λ e. leAt 4 s (e .position) ≡ nextPosition es e) (entries rs)
+walked-bytes : (s : Bytes) (es : List Entry) (rs : List Record) → AllBytes s → Walked s rs → Every (λ e. leAt 4 s (e .position) ≡ nextPosition es e)
+    (entries rs)
     → take (usedBy rs) s ≡ take 16 s ++ bodyBytes es (entries rs)
 unfolding usedBy entries bodyBytes
 walked-bytes s es [] b begun none-of = sym (append-nil (take 16 s))
@@ -160,7 +165,13 @@ is-readable s h = go (readEntries (blockCount s) (drop 16 s)) refl (and-right (h
     go none e k = absurd (let z : false ≡ true = k in let y : _≡_ {A = ℕ} 0 1 = cc in omega arith)
     go (some q) e k =
         let r : Reached s (blockCount s) q = reads-walked s (blockCount s) q e in
-        record { header = header-right s (and-left (headerRight s) _ h); walked = rw e (r .walked); many = rw e (r .many); used = rw e (eqb-true (usedBy (q .value)) (usedLength s) k) }
+        record {
+          header = header-right s (and-left (headerRight s) _ h);
+          walked = rw e (r .walked);
+          many = rw e (r .many);
+          used = rw e
+              (eqb-true (usedBy (q .value)) (usedLength s) k);
+        }
 
 pub readable-is : (s : Bytes) (rs : List Record) → headerRight s ≡ true → Walked s rs → length rs ≡ blockCount s → usedBy rs ≡ usedLength s → readable s ≡ true
 unfolding readable endsAt
@@ -220,7 +231,8 @@ module _ (s : Bytes) (rs : List Record) (t : Bytes) (split : s ≡ layout rs ++ 
       let n : Bytes = leBytes 2 (length rs) in
       let z : Bytes = replicate 6 0 in
       number-part 6 0 s 10 (omega arith)
-      (part-at s z (length f + (length u + (length n + 0))) 10 (omega (arith, length-leBytes 4 (firstPosition (entries rs)), length-leBytes 4 (usedBy rs), length-leBytes 2 (length rs)))
+      (part-at s z (length f + (length u + (length n + 0))) 10 (omega
+      (arith, length-leBytes 4 (firstPosition (entries rs)), length-leBytes 4 (usedBy rs), length-leBytes 2 (length rs)))
       (part-same s _ z _ (split ∙ laid rs t) (part-right f _ z _ (part-right u _ z _ (part-right n _ z 0 (part-left z z _ 0 (part-complete z)))))))
 
   first-laid : leAt 4 s 0 ≡ firstPosition (entries rs)
@@ -241,11 +253,16 @@ module _ (s : Bytes) (rs : List Record) (t : Bytes) (split : s ≡ layout rs ++ 
           let h : Bytes = headerBytes rs in
           let own : Bytes = leBytes 4 v in
           let p = body-part es rs e m in
-          number-part 4 v s (e .position) (omega (arith, least-below (usedBy rs) (omega (arith, length-body [] rs)) _ (every-keep (λ d. referenceBefore (referenceOf e) (referenceOf d)) es (entries-below rs))))
+          number-part 4 v s (e .position) (omega (
+            arith,
+            least-below (usedBy rs) (omega (arith, length-body [] rs)) _
+                (every-keep (λ d. referenceBefore (referenceOf e) (referenceOf d)) es (entries-below rs)),
+          ))
           (part-at s own (length h + (p .0 + 0)) (e .position) (omega (arith, length-header rs, p .2))
           (part-same s (layout rs ++ t) own _ split
           (part-left (layout rs) own t _
-          (part-right h (bodyBytes es es) own _ (part-part (bodyBytes es es) (entryBytes es e) own (p .0) 0 (p .1) (part-left own own _ 0 (part-complete own)))))))
+          (part-right h (bodyBytes es es) own _ (part-part (bodyBytes es es) (entryBytes es e) own (p .0) 0 (p .1)
+          (part-left own own _ 0 (part-complete own)))))))
 
 -- what a store in order has: its entries read, its chain right
 module _ (c : Committee) (s : Bytes) (o : InOrder c s) where
@@ -305,7 +322,8 @@ laid-used s b r d =
     let rs : List Record = recordsOf s in
     let k : HeaderRight s = r .header in
     walked-bytes s (entries rs) rs b (r .walked) (d .next)
-    ∙ ap (λ (x : Bytes). x ++ bodyBytes (entries rs) (entries rs)) (header-bytes s rs b (k .long) (d .first) (sym (r .used)) (sym (r .many)) (omega (arith, six s (k .long), k .zeros, k .zeros₂)))
+    ∙ ap (λ (x : Bytes). x ++ bodyBytes (entries rs) (entries rs))
+    (header-bytes s rs b (k .long) (d .first) (sym (r .used)) (sym (r .many)) (omega (arith, six s (k .long), k .zeros, k .zeros₂)))
 
 -- the steps of the check decide it
 pub order-checked : (c : Committee) (s : Bytes) → AllBytes s → storeInOrder c s ≡ readable s && (chained s && allAccepted c (recordsOf s))

@@ -22,11 +22,13 @@ use Rattle.store_spec.specs.Layout.{Record, Entry, referenceOf, lesser, 
 use Rattle.store_spec.specs.Accept.{blockChecks, allAccepted}
 use Rattle.store_spec.specs.Store.{usedLength, recordsOf, allowedLength, storeFull, storeHolding}
 use Rattle.store_spec.specs.Payload.{shareStretch, payloadOf, payloadAt, payloadChecks, payload}
-use Rattle.store_spec.specs.Claims.{NextOf, next, last, ChainMeant, Accepts, from-fresh, accepting, InOrderAccepted, FreshInOrder, AcceptingKeepsOrder, StoredShareMeant, PayloadMeant}
+use Rattle.store_spec.specs.Claims.{NextOf, next, last, ChainMeant, Accepts, from-fresh, accepting, InOrderAccepted, FreshInOrder, AcceptingKeepsOrder}
+use Rattle.store_spec.specs.Claims.{StoredShareMeant, PayloadMeant}
 use Rattle.store_spec.proofs.Payloads.{payload-is}
 use Rattle.store_spec.proofs.Shares.{stored-share, share-stored, share-has-payload}
 use Rattle.store_spec.proofs.Chain.{lower, lower-self}
-use Rattle.store_spec.proofs.Store.{Right, length-layout, readRecord-some, recordsOf-right, InOrder, in-order, used-within, used-is, Holding, holding, holding-again, accepting as accepting-holds, fresh-held}
+use Rattle.store_spec.proofs.Store.{Right, length-layout, readRecord-some, recordsOf-right, InOrder, in-order, used-within, used-is, Holding, holding}
+use Rattle.store_spec.proofs.Store.{holding-again, accepting as accepting-holds, fresh-held}
 
 -- ---- the least entry
 
@@ -65,12 +67,14 @@ least-of (e ∷ es) d h = go (least es) refl h (least-of es)
         first f (inr m) = absurd (least-none es k f m)
 
     pair : (x : Entry) → LeastOf es x → (t : Bool) → lower e x ≡ t → pick t (some e) (some x) ≡ some d → LeastOf (e ∷ es) d
-    pair x l true k q = let r : e ≡ d = Option·some-injective _ _ q in subst (λ (y : Entry). LeastOf (e ∷ es) y) r (record { stands = here; lowest = λ f m. first f (in-cases m) })
+    pair x l true k q = let r : e ≡ d = Option·some-injective _ _ q in subst (λ (y : Entry). LeastOf (e ∷ es) y) r
+        (record { stands = here; lowest = λ f m. first f (in-cases m) })
       where
         first : (f : Entry) → (f ≡ e) ⊎ (f ∈ es) → lower f e ≡ false
         first f (inl r) = rw r (lower-self e)
         first f (inr m) = below e x f k (l .lowest f m)
-    pair x l false k q = let r : x ≡ d = Option·some-injective _ _ q in subst (λ (y : Entry). LeastOf (e ∷ es) y) r (record { stands = there (l .stands); lowest = λ f m. first f (in-cases m) })
+    pair x l false k q = let r : x ≡ d = Option·some-injective _ _ q in subst (λ (y : Entry). LeastOf (e ∷ es) y) r
+        (record { stands = there (l .stands); lowest = λ f m. first f (in-cases m) })
       where
         first : (f : Entry) → (f ≡ e) ⊎ (f ∈ es) → lower f x ≡ false
         first f (inl r) = rw r k
@@ -98,18 +102,21 @@ unfolding FreshInOrder allowedLength storeHolding usedBy
 fresh-in-order c past h =
     let s : Bytes = layout [] ++ past in
     let same : drop 16 s ≡ past = drop-at (layout []) past 16 (length-layout []) in
-    rw same at (fresh-held c s (rw (le-leb 16 (length s) (omega (arith, length-append (layout []) past, length-layout []))) (le-leb (length s) 4294967295 h)) .order)
+    rw same at (fresh-held c s (rw (le-leb 16 (length s) (omega (arith, length-append (layout []) past, length-layout []))) (le-leb (length s) 4294967295 h))
+    .order)
 
 pub accepting-keeps-order : AcceptingKeepsOrder
 unfolding AcceptingKeepsOrder
 accepting-keeps-order c s r o e p f = accepting-holds c s r o (readRecord-some (r .bytes) r e) p f .order
 
 -- accepted records are held once they were accepted one after the other
-accepts-all : (c : Committee) (rs : List Record) (s : Bytes) → allowedLength s ≡ true → Every Right rs → length rs ≤ 1024 → usedBy rs ≤ length s → allAccepted c rs ≡ true
+accepts-all : (c : Committee) (rs : List Record) (s : Bytes) → allowedLength s ≡ true → Every Right rs → length rs ≤ 1024 → usedBy rs ≤ length s → allAccepted
+    c rs ≡ true
     → Accepts c s rs (storeHolding rs s)
 unfolding usedBy allAccepted storeFull
 accepts-all c [] s a none-of few fits acc = from-fresh
-accepts-all c (r ∷ rs) s a (and h hs) few fits acc = subst (λ (x : Bytes). Accepts c s (r ∷ rs) x) same (accepting r (accepts-all c rs s a hs (omega arith) (omega arith) older) h passed room)
+accepts-all c (r ∷ rs) s a (and h hs) few fits acc = subst (λ (x : Bytes). Accepts c s (r ∷ rs) x) same
+    (accepting r (accepts-all c rs s a hs (omega arith) (omega arith) older) h passed room)
   where
     older : allAccepted c rs ≡ true
     older = and-right (passes (blockChecks c rs (r .block))) _ acc

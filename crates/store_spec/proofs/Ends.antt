@@ -33,7 +33,8 @@ unfolding blockChecks bodyChecks statementChecks
 accept-lower c rs b h l m =
     eqb-false (l .offset) 18446744073709551615
     (passes-none (blockChecks c rs b) h (eqb (l .offset) 18446744073709551615 ⇒ 28)
-    (in-right (headChecks c b) (there (in-left _ (in-right (flatten (map (includeChecks c b) (b .includes))) (in-left _ (in-flatten here (in-map statementChecks m))))))))
+    (in-right (headChecks c b) (there (in-left _ (in-right (flatten (map (includeChecks c b) (b .includes)))
+    (in-left _ (in-flatten here (in-map statementChecks m))))))))
 
 pub accepts-lower : (c : Committee) (rs : List Record) → allAccepted c rs ≡ true → (b : Block) → b ∈ blocks rs → AcceptsLower b
 unfolding allAccepted

@@ -30,7 +30,11 @@ module _ (s : Bytes) (laid : laidOut s ≡ true) (r : BlockReference) (at : ℕ)
     where
       go : (o : Option Entry) → lookup (entries (recordsOf s)) r ≡ o → positionOf o ≡ 0 → o ≡ none
       go none q k = refl
-      go (some e) q k = absurd (omega (arith, every-in (entries (recordsOf s)) e (entries-within (recordsOf s)) (lookup-in (entries (recordsOf s)) r e q .0) .from))
+      go (some e) q k = absurd (omega (
+        arith,
+        every-in (entries (recordsOf s)) e (entries-within (recordsOf s)) (lookup-in (entries (recordsOf s)) r e q .0)
+            .from,
+      ))
 
   pub found-entry : (at ≡ 0 → ⊥) → FoundEntry s r at
   unfolding positionOf

@@ -36,7 +36,11 @@ pub lookup-hit : (es : List Entry) → Distinct es → (e : Entry) → e ∈ es 
 unfolding lookup find
 lookup-hit (e ∷ es) (with-later h hs) d here i q = rw (same-reference q)
 lookup-hit (e ∷ es) (with-later h hs) d (there m) i q =
-    rw (fails (sameReference (referenceOf e) i) (λ t. not-both (same-reference (reference-same (referenceOf e) i t ∙ sym q)) (every-in es d h m)), lookup-hit es hs d m i q)
+    rw (
+      fails (sameReference (referenceOf e) i) (λ t. not-both (same-reference (reference-same (referenceOf e) i t ∙ sym q)) (every-in es d h m)),
+      lookup-hit
+          es hs d m i q,
+    )
 
 pub lookup-miss : (es : List Entry) (i : BlockReference) → ((e : Entry) → e ∈ es → referenceOf e ≡ i → ⊥) → lookup es i ≡ none
 unfolding lookup find
@@ -73,7 +77,8 @@ unfolding isStored anyOf entries
 entry-stored [] i h = absurd (not-both h refl)
 entry-stored (r ∷ rs) i h = go (sameReference (r .block .reference) i) refl h (entry-stored rs i)
   where
-    go : (t : Bool) → sameReference (r .block .reference) i ≡ t → t || isStored rs i ≡ true → (isStored rs i ≡ true → (e : Entry) × (e ∈ entries rs) × (referenceOf e ≡ i))
+    go : (t : Bool) → sameReference (r .block .reference) i ≡ t → t || isStored rs i ≡ true →
+        (isStored rs i ≡ true → (e : Entry) × (e ∈ entries rs) × (referenceOf e ≡ i))
         → (e : Entry) × (e ∈ entries (r ∷ rs)) × (referenceOf e ≡ i)
     go true q k ih = (record { position = usedBy rs; bytes = r .bytes; block = r .block }, here, reference-same (r .block .reference) i q)
     go false q k ih = let x = ih k in (x .0, there (x .1), x .2)
@@ -103,11 +108,13 @@ not-stored-none rs i h = go (lookup (entries rs) i) (sym (lookup-stored rs i) �
     go (some e) k = absurd (not-both refl k)
 
 -- a block is stored among the older records where it stands before the end of these
-pub stored-older : (newer older : List Record) (i : BlockReference) → Distinct (entries (newer ++ older)) → isStored older i ≡ storedBefore (entries (newer ++ older)) (usedBy older) i
+pub stored-older : (newer older : List Record) (i : BlockReference) → Distinct (entries (newer ++ older)) → isStored older i ≡ storedBefore
+    (entries (newer ++ older)) (usedBy older) i
 unfolding storedBefore holds
 stored-older newer older i d =
     same-test (isStored older i) _
-    (λ h. let x = entry-stored older i h in rw (lookup-hit (entries (newer ++ older)) d (x .0) (entries-older newer older (x .0) (x .1)) i (x .2)) (lt-ltb (x .0 .position) (usedBy older) (every-in (entries older) (x .0) (entries-below older) (x .1))))
+    (λ h. let x = entry-stored older i h in rw (lookup-hit (entries (newer ++ older)) d (x .0) (entries-older newer older (x .0) (x .1)) i (x .2))
+    (lt-ltb (x .0 .position) (usedBy older) (every-in (entries older) (x .0) (entries-below older) (x .1))))
     (λ h.
     let x = holds-some (λ e. ltb (e .position) (usedBy older)) (lookup (entries (newer ++ older)) i) h in
     let y = lookup-in (entries (newer ++ older)) i (x .0) (x .1) in
@@ -170,11 +177,13 @@ split-at-entry (r ∷ rs) e (there m) =
     let x : Split rs e = split-at-entry rs e m in
     record { newer = r ∷ x .newer; older = x .older; own = x .own; are = ap (λ (l : List Record). r ∷ l) (x .are); is = x .is }
 
-pub accepted-at : (c : Committee) (newer older : List Record) (r : Record) → acceptedAt c (newer ++ r ∷ older) (usedBy older) ≡ passes (blockChecks c older (r .block))
+pub accepted-at : (c : Committee) (newer older : List Record) (r : Record) → acceptedAt c (newer ++ r ∷ older) (usedBy older) ≡ passes
+    (blockChecks c older (r .block))
 unfolding acceptedAt usedBy
 accepted-at c [] older r = rw (eq-eqb (usedBy older) (usedBy older) refl)
 accepted-at c (n ∷ newer) older r =
-    rw (ne-eqb (usedBy (newer ++ r ∷ older)) (usedBy older) (λ (e : usedBy (newer ++ r ∷ older) ≡ usedBy older). omega (arith, used-more newer (r ∷ older)))) (accepted-at c newer older r)
+    rw (ne-eqb (usedBy (newer ++ r ∷ older)) (usedBy older) (λ (e : usedBy (newer ++ r ∷ older) ≡ usedBy older). omega (arith, used-more newer (r ∷ older))))
+    (accepted-at c newer older r)
 
 -- where its reference is new, a block is accepted where it passes the checks of its own and its includes are stored
 pub checks-new : (c : Committee) (older : List Record) (b : Block) → isStored older (b .reference) ≡ false
@@ -183,7 +192,8 @@ unfolding blockChecks passes allOf
 checks-new c older b h =
     let missing : Check = anyOf (λ i. not (isStored older i)) (b .includes) ⇒ 30 in
     passes-append (headChecks c b) ((isStored older (b .reference) ⇒ 23) ∷ bodyChecks c b ++ (missing ∷ []))
-    ∙ ap (λ (t : Bool). passes (headChecks c b) && t) (first ∙ passes-append (bodyChecks c b) (missing ∷ []) ∙ ap (λ (t : Bool). passes (bodyChecks c b) && t) last)
+    ∙ ap (λ (t : Bool). passes (headChecks c b) && t) (first ∙ passes-append (bodyChecks c b) (missing ∷ []) ∙ ap (λ (t : Bool). passes (bodyChecks c b) && t)
+    last)
   where
     first : passes ((isStored older (b .reference) ⇒ 23) ∷ bodyChecks c b ++ ((anyOf (λ i. not (isStored older i)) (b .includes) ⇒ 30) ∷ []))
         ≡ passes (bodyChecks c b ++ ((anyOf (λ i. not (isStored older i)) (b .includes) ⇒ 30) ∷ []))
@@ -212,7 +222,8 @@ unfolding isNone
 none-is o h = rw h
 
 module _ (rs : List Record) (is : List BlockReference) (k : ℕ) where
-  pub missing-on : k < length is → isNone (lookup (entries rs) (getD is k noReference)) ≡ false → k + firstMissing rs (drop k is) ≡ k + 1 + firstMissing rs (drop (k + 1) is)
+  pub missing-on : k < length is → isNone (lookup (entries rs) (getD is k noReference)) ≡ false → k + firstMissing rs (drop k is) ≡ k + 1 + firstMissing rs
+      (drop (k + 1) is)
   unfolding firstMissing
   missing-on h t = rw (add-one k, drop-cons is k noReference h, lookup-stored rs (getD is k noReference), t) (omega arith)
 
@@ -232,7 +243,8 @@ missing-test rs (i ∷ is) = go (isStored rs i) (missing-test rs is)
   where
     go : (t : Bool) → anyOf (λ j. not (isStored rs j)) is ≡ ltb (firstMissing rs is) (length is)
         → not t || anyOf (λ j. not (isStored rs j)) is ≡ ltb (pick t (firstMissing rs is + 1) 0) (suc (length is))
-    go true h = h ∙ ltb-same (firstMissing rs is) (length is) (firstMissing rs is + 1) (suc (length is)) (λ (l : firstMissing rs is < length is). omega arith) (λ (l : firstMissing rs is + 1 < suc (length is)). omega arith)
+    go true h = h ∙ ltb-same (firstMissing rs is) (length is) (firstMissing rs is + 1) (suc (length is)) (λ (l : firstMissing rs is < length is). omega arith)
+        (λ (l : firstMissing rs is + 1 < suc (length is)). omega arith)
     go false h = sym (lt-ltb 0 (suc (length is)) (omega arith))
 
 -- ---- the block of an entry is stored, and a stored block has an entry

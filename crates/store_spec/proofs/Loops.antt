@@ -27,7 +27,8 @@ use Rattle.store_spec.proofs.Walk.{Stands, Walked, begun, then, walked-
 use Rattle.store_spec.specs.Step.{first}
 use Rattle.store_spec.proofs.Chain.{lower, Ascending, ascending-ascends}
 use Rattle.store_spec.proofs.Check.{Readable, is-readable, readable-is, Chained, is-chained, chained-is}
-use Rattle.store_spec.proofs.Visit.{back, back-append, length-back, back-right, Descending, descending-more, ascending-in, length-ascending, length-entries, Linked, begins, goes, ToCome, comes, Ended, ended}
+use Rattle.store_spec.proofs.Visit.{back, back-append, length-back, back-right, Descending, descending-more, ascending-in, length-ascending}
+use Rattle.store_spec.proofs.Visit.{length-entries, Linked, begins, goes, ToCome, comes, Ended, ended}
 
 -- ---- positions
 
@@ -56,7 +57,8 @@ position-of (r ∷ rs) p m = go (in-append (positions rs) m) (position-of rs p)
     last (inl q) = (record { position = usedBy rs; bytes = r .bytes; block = r .block }, here, sym q)
     last (inr k) = absurd (in-empty k)
 
-    go : (p ∈ positions rs) ⊎ (p ∈ (usedBy rs ∷ [])) → (p ∈ positions rs → (e : Entry) × (e ∈ entries rs) × (e .position ≡ p)) → (e : Entry) × (e ∈ entries (r ∷ rs)) × (e .position ≡ p)
+    go : (p ∈ positions rs) ⊎ (p ∈ (usedBy rs ∷ [])) → (p ∈ positions rs → (e : Entry) × (e ∈ entries rs) × (e .position ≡ p)) → (e : Entry) ×
+        (e ∈ entries (r ∷ rs)) × (e .position ≡ p)
     go (inl k) ih = let x = ih k in (x .0, there (x .1), x .2)
     go (inr k) ih = last (in-cases k)
 
@@ -96,7 +98,15 @@ unfolding isEntry
 entry-at s p h =
     let r : Readable s = is-readable s (and-left (readable s) _ h) in
     let x = stands-at (recordsOf s) p (and-right (readable s) _ h) in
-    record { entry = x .0; stored = x .1; place = x .2; reads = r; stands = subst (λ (q : ℕ). Stands s q (record { bytes = x .0 .bytes; block = x .0 .block })) (x .2) (every-in (entries (recordsOf s)) (x .0) (entries-stand s (recordsOf s) (r .walked)) (x .1)) }
+    record {
+      entry = x .0;
+      stored = x .1;
+      place = x .2;
+      reads = r;
+      stands = subst
+          (λ (q : ℕ). Stands s q (record { bytes = x .0 .bytes; block = x .0 .block })) (x .2)
+          (every-in (entries (recordsOf s)) (x .0) (entries-stand s (recordsOf s) (r .walked)) (x .1));
+    }
 
 pub is-entry : (s : Bytes) (e : Entry) → readable s ≡ true → e ∈ entries (recordsOf s) → isEntry s (e .position) ≡ true
 unfolding isEntry
@@ -168,7 +178,8 @@ walking-step s i at starts r w h k =
     }
 
 -- the well-formed record that ends at a position stands there
-pub stands-of : (s : Bytes) (p : ℕ) → p + 8 + leAt 4 s (p + 4) ≤ length s → wellFormed (recordAt s p) ≡ true → Stands s p (record { bytes = recordAt s p; block = blockAt s p })
+pub stands-of : (s : Bytes) (p : ℕ) → p + 8 + leAt 4 s (p + 4) ≤ length s → wellFormed (recordAt s p) ≡ true → Stands s p
+    (record { bytes = recordAt s p; block = blockAt s p })
 unfolding recordAt blockAt
 stands-of s p h f =
     let n : ℕ = leAt 4 s (p + 4) in
@@ -200,7 +211,8 @@ walking-end s at starts k w =
     (λ h. readable-is s (w .rs) k (w .walked) (w .many) (w .place ∙ eqb-true at (usedLength s) h))
     (λ h. eq-eqb at (usedLength s) (sym (w .place) ∙ ap usedBy (sym (walking-all s at starts w h)) ∙ is-readable s h .used))
 
-pub walking-kept : (s : Bytes) (at : ℕ) (starts : List ℕ) → Walking s (blockCount s) at starts → readable s ≡ true → take (blockCount s) starts ≡ positions (recordsOf s)
+pub walking-kept : (s : Bytes) (at : ℕ) (starts : List ℕ) → Walking s (blockCount s) at starts → readable s ≡ true → take (blockCount s) starts ≡ positions
+    (recordsOf s)
 walking-kept s at starts w h = w .kept ∙ ap positions (sym (walking-all s at starts w h))
 
 -- all were walked over
@@ -253,7 +265,8 @@ module _ (s : Bytes) (rs : List Record) where
         latest = sym q;
         kept =
             rw (add-one k, take-suc-set order k at h, v .kept)
-            (sym (ap (map placeOf) (back-append (v .xs) (e ∷ [])) ∙ map-append placeOf (back (v .xs) []) (e ∷ []) ∙ ap (λ (p : ℕ). map placeOf (back (v .xs) []) ++ (p ∷ [])) q));
+            (sym (ap (map placeOf) (back-append (v .xs) (e ∷ [])) ∙ map-append placeOf (back (v .xs) []) (e ∷ []) ∙ ap
+            (λ (p : ℕ). map placeOf (back (v .xs) []) ++ (p ∷ [])) q));
       }
     where
       more : (xs : List Entry) → Descending xs → above xs e ≡ true → Descending (e ∷ xs)
@@ -308,7 +321,8 @@ module _ (s : Bytes) (r : Readable s) where
   pub block-of-entry : (e : Entry) → e ∈ entries (recordsOf s) → blockAt s (e .position) ≡ e .block
   block-of-entry e m = block-at s (e .position) _ (every-in (entries (recordsOf s)) e (entries-stand s (recordsOf s) (r .walked)) m)
 
-  pub follows-above : (xs : List Entry) (last at : ℕ) (e : Entry) → Every (λ x. x ∈ entries (recordsOf s)) xs → last ≡ positionOf (first xs) → e ∈ entries (recordsOf s) → e .position ≡ at
+  pub follows-above : (xs : List Entry) (last at : ℕ) (e : Entry) → Every (λ x. x ∈ entries (recordsOf s)) xs → last ≡ positionOf (first xs) → e ∈ entries
+      (recordsOf s) → e .position ≡ at
       → follows s last at ≡ above xs e
   unfolding follows above positionOf first
   follows-above [] last at e none-of q m p = rw q
@@ -316,13 +330,15 @@ module _ (s : Bytes) (r : Readable s) where
       let from : 16 ≤ x .position = every-in (entries (recordsOf s)) x (entries-within (recordsOf s)) k .from in
       rw (ne-eqb last 0 (λ (z : last ≡ 0). omega arith), q, ← p, block-of-entry x k, block-of-entry e m)
 
-  pub latest-entry : readable s ≡ true → (xs : List Entry) (last : ℕ) → Every (λ x. x ∈ entries (recordsOf s)) xs → last ≡ positionOf (first xs) → noneOrEntry s last ≡ true
+  pub latest-entry : readable s ≡ true → (xs : List Entry) (last : ℕ) → Every (λ x. x ∈ entries (recordsOf s)) xs → last ≡ positionOf (first xs) → noneOrEntry
+      s last ≡ true
   unfolding noneOrEntry positionOf first
   latest-entry h [] last none-of q = rw q
   latest-entry h (x ∷ xs) last (and k ks) q = or-right (eqb last 0) (isEntry s last) (rw q (is-entry s x h k))
 
 -- the order of two references decides
-pub follows-by : (s : Bytes) (last at : ℕ) (x y : BlockReference) (t : Bool) → (last ≡ 0 → ⊥) → x ≡ blockAt s last .reference → y ≡ blockAt s at .reference → referenceBefore x y ≡ t
+pub follows-by : (s : Bytes) (last at : ℕ) (x y : BlockReference) (t : Bool) → (last ≡ 0 → ⊥) → x ≡ blockAt s last .reference → y ≡ blockAt s at .reference →
+    referenceBefore x y ≡ t
     → t ≡ follows s last at
 unfolding follows
 follows-by s last at x y t f p q h = rw (ne-eqb last 0 f, ← p, ← q) (sym h)
@@ -364,14 +380,16 @@ module _ (s : Bytes) (h : readable s ≡ true) (places : List ℕ) (q : places �
     pub visiting-outside : k < length places → isIn at places ≡ false → chained s ≡ false
     visiting-outside l m = fails (chained s) λ t.
         let n : Next s (recordsOf s) (v .xs) at = visiting-next s (recordsOf s) k at last order v (is-chained s t) (omega (arith, many-places)) in
-        not-both (subst (λ (x : List ℕ). isIn at x ≡ true) (sym q) (subst (λ (x : ℕ). isIn x (positions (recordsOf s)) ≡ true) (n .place) (at-stands (recordsOf s) (n .entry) (n .there-is)))) m
+        not-both (subst (λ (x : List ℕ). isIn at x ≡ true) (sym q) (subst (λ (x : ℕ). isIn x (positions (recordsOf s)) ≡ true) (n .place)
+        (at-stands (recordsOf s) (n .entry) (n .there-is)))) m
 
     pub visiting-falls : k < length places → follows s last at ≡ false → chained s ≡ false
     visiting-falls l f = fails (chained s) λ t.
         let n : Next s (recordsOf s) (v .xs) at = visiting-next s (recordsOf s) k at last order v (is-chained s t) (omega (arith, many-places)) in
         not-both (follows-above s (is-readable s h) (v .xs) last at (n .entry) (v .stored) (v .latest) (n .there-is) (n .place) ∙ n .higher) f
 
-    pub visiting-on : (next : ℕ) → k < length order → isIn at places ≡ true → follows s last at ≡ true → next ≡ leAt 4 s at → Visiting s (recordsOf s) (k + 1) next at (set order k at)
+    pub visiting-on : (next : ℕ) → k < length order → isIn at places ≡ true → follows s last at ≡ true → next ≡ leAt 4 s at → Visiting s (recordsOf s) (k + 1)
+        next at (set order k at)
     visiting-on next l m f e =
         let x : EntryAt s at = entry-at s at (place-entry at m) in
         subst (λ (n : ℕ). Visiting s (recordsOf s) (k + 1) n at (set order k at)) (sym e)
@@ -382,5 +400,8 @@ module _ (s : Bytes) (h : readable s ≡ true) (places : List ℕ) (q : places �
     visiting-latest = latest-entry s (is-readable s h) h (v .xs) last (v .stored) (v .latest)
 
     pub visiting-done : k ≡ length places → (eqb at 0 ≡ chained s) × (eqb at 0 ≡ true → take (length places) order ≡ sortedPositions (recordsOf s))
-    visiting-done l =
-        (visiting-end s k at last order v (l ∙ many-places), λ z. ap (λ (n : ℕ). take n order) (sym l) ∙ visiting-kept s k at last order v (l ∙ many-places) (eqb-true at 0 z))
+    visiting-done l = (
+      visiting-end s k at last order v (l ∙ many-places),
+      λ z. ap (λ (n : ℕ). take n order) (sym l) ∙ visiting-kept s k at last order v (l ∙ many-places)
+          (eqb-true at 0 z),
+    )

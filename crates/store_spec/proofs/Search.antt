@@ -79,13 +79,16 @@ module _ (s : Bytes) (h : laidOut s ≡ true) (order : List ℕ) (q : order ≡ 
   found-there j r l e = rw (lookup-hit es (laid-out s h .chain .distinct) (sorted j) (stored j l) r (sym (reference-is j l) ∙ e)) (place j)
 
   pub found-nowhere : (r : BlockReference) (low high : ℕ) → high ≤ low
-      → Narrowed (length order) (λ j. referenceBefore (referenceIn s order j) r ≡ true) (λ j. referenceBefore r (referenceIn s order j) ≡ true) low high → 0 ≡ positionOf (lookup es r)
+      → Narrowed (length order) (λ j. referenceBefore (referenceIn s order j) r ≡ true) (λ j. referenceBefore r (referenceIn s order j) ≡ true) low high → 0 ≡
+      positionOf (lookup es r)
   unfolding positionOf sorted
   found-nowhere r low high l n = rw (lookup-miss es r (λ e m. every-in (ascending es) e others (in-ascending es e m)))
     where
-      by-side : (j : ℕ) → j < length order → referenceOf (sorted j) ≡ r → (referenceBefore (referenceIn s order j) r ≡ true) ⊎ (referenceBefore r (referenceIn s order j) ≡ true) → ⊥
+      by-side : (j : ℕ) → j < length order → referenceOf (sorted j) ≡ r → (referenceBefore (referenceIn s order j) r ≡ true) ⊎
+          (referenceBefore r (referenceIn s order j) ≡ true) → ⊥
       by-side j k e (inl t) = reference-irrefl r (subst (λ (x : BlockReference). referenceBefore x r ≡ true) (reference-is j k ∙ e) t)
       by-side j k e (inr t) = reference-irrefl r (subst (λ (x : BlockReference). referenceBefore r x ≡ true) (reference-is j k ∙ e) t)
 
       others : Every (λ e. referenceOf e ≡ r → ⊥) (ascending es)
-      others = places-every noEntry (ascending es) (λ j k e. by-side j (omega (arith, many)) e (narrowed-all (length order) _ _ low high l n j (omega (arith, many))))
+      others = places-every noEntry (ascending es) (λ j k e. by-side j (omega (arith, many)) e
+          (narrowed-all (length order) _ _ low high l n j (omega (arith, many))))

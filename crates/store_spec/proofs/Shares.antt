@@ -78,8 +78,10 @@ unfolding payloadOf isNone holds isShareAt
 payload-there none o = refl
 payload-there (some e) o = stretch-there _ (getElem? (e .block .statements) o)
 
-pub share-has-payload : (c : Committee) (s : Bytes) → storeInOrder c s ≡ true → (l : TransactionLocator) → isStoredShare (blocks (recordsOf s)) l ≡ not (isNone (payloadAt s l))
+pub share-has-payload : (c : Committee) (s : Bytes) → storeInOrder c s ≡ true → (l : TransactionLocator) → isStoredShare (blocks (recordsOf s)) l ≡ not
+    (isNone (payloadAt s l))
 unfolding payloadAt
 share-has-payload c s h l =
     let es : List Entry = entries (recordsOf s) in
-    rw (← blocks-entered (recordsOf s)) (share-looked-up es (distinct c (recordsOf s) (in-order c s h .accepted)) l ∙ payload-there (lookup es (l .block)) (l .offset))
+    rw (← blocks-entered (recordsOf s)) (share-looked-up es (distinct c (recordsOf s) (in-order c s h .accepted)) l ∙ payload-there (lookup es (l .block))
+    (l .offset))

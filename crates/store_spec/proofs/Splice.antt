@@ -27,7 +27,8 @@ sets-seam vs b ws t h =
     ∙ rw (take-append-seam b (ws ++ t), drop-append-add b (ws ++ t) (length vs), drop-at ws t (length vs) h) (append-assoc b vs t)
 
 -- entries whose next positions are the same have the same bytes
-pub body-same : (es ds : List Entry) (rs : List Record) → Every (λ e. nextPosition ds e ≡ nextPosition es e) (entries rs) → bodyBytes ds (entries rs) ≡ bodyBytes es (entries rs)
+pub body-same : (es ds : List Entry) (rs : List Record) → Every (λ e. nextPosition ds e ≡ nextPosition es e) (entries rs) → bodyBytes ds (entries rs) ≡
+    bodyBytes es (entries rs)
 unfolding entries bodyBytes entryBytes
 body-same es ds [] none-of = refl
 body-same es ds (r ∷ rs) (and h hs) = rw (h, body-same es ds rs hs)
@@ -51,7 +52,8 @@ body-patched es ds p v (r ∷ rs) d here q (and h hs) =
     below : usedBy rs ≡ p → bodyBytes ds (entries rs) ≡ bodyBytes es (entries rs)
     below q = body-same es ds rs (apart (entries rs) (entries-below rs) hs)
       where
-        apart : (fs : List Entry) → Every (λ e. e .position < usedBy rs) fs → Every (Changed es ds p v) fs → Every (λ e. nextPosition ds e ≡ nextPosition es e) fs
+        apart : (fs : List Entry) → Every (λ e. e .position < usedBy rs) fs → Every (Changed es ds p v) fs → Every
+            (λ e. nextPosition ds e ≡ nextPosition es e) fs
         apart [] none-of none-of = none-of
         apart (f ∷ fs) (and l ls) (and k ks) = and (k .others (λ e. omega arith)) (apart fs ls ks)
 body-patched es ds p v (r ∷ rs) d (there m) q (and h hs) =
@@ -82,7 +84,8 @@ unfolding entries
 entries-apart [] = no-pairs
 entries-apart (r ∷ rs) =
     let new : Entry = record { position = usedBy rs; bytes = r .bytes; block = r .block } in
-    with-later {x = new} (every {Q = Apart new} (λ e (l : e .position < usedBy rs) (q : usedBy rs ≡ e .position). omega arith) (entries rs) (entries-below rs)) (entries-apart rs)
+    with-later {x = new} (every {Q = Apart new} (λ e (l : e .position < usedBy rs) (q : usedBy rs ≡ e .position). omega arith) (entries rs)
+    (entries-below rs)) (entries-apart rs)
 
 placed-apart : (e : Entry) (ds : List Entry) → Every (Apart e) ds → Pairs Apart ds → Pairs Apart (placed e ds)
 unfolding placed
@@ -133,7 +136,8 @@ module _ (es : List Entry) (new d : Entry) (far : Distinct (new ∷ es)) (zs ys 
   highs : (as′ bs : List Entry) → ys ≡ as′ ++ bs → Every (λ e. Apart e d) bs → Every Goal bs
   highs as′ [] q none-of = none-of
   highs as′ (e ∷ bs) q (and a rest) =
-      and (same-next e a (next-higher es new far (zs ++ (d ∷ [])) ys split low high as′ bs e q)) (highs (as′ ++ (e ∷ [])) bs (q ∙ sym (append-assoc as′ (e ∷ []) bs)) rest)
+      and (same-next e a (next-higher es new far (zs ++ (d ∷ [])) ys split low high as′ bs e q))
+      (highs (as′ ++ (e ∷ [])) bs (q ∙ sym (append-assoc as′ (e ∷ []) bs)) rest)
 
   middle : (xs : List Entry) → Pairs Apart (xs ++ d ∷ ys) → Every (λ e. Apart e d) xs × Every (λ e. Apart e d) ys
   middle [] (with-later h hs) = (none-of, every (λ e a s. a (sym s)) ys h)
@@ -149,4 +153,5 @@ module _ (es : List Entry) (new d : Entry) (far : Distinct (new ∷ es)) (zs ys 
       let complete : ascending es ≡ zs ++ d ∷ ys = split ∙ append-assoc zs (d ∷ []) ys in
       let m = middle zs (rw complete at apart) in
       ascending-back es (rw complete (every-append zs (d ∷ ys) (lows [] zs refl (m .0))
-      (and (record { there-is = λ q. next-last es new far (zs ++ (d ∷ [])) ys split low high zs d refl; others = λ n. absurd (n refl) }) (highs [] ys refl (m .1)))))
+      (and (record { there-is = λ q. next-last es new far (zs ++ (d ∷ [])) ys split low high zs d refl; others = λ n. absurd (n refl) })
+      (highs [] ys refl (m .1)))))

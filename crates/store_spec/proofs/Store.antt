@@ -17,13 +17,15 @@ use Rattle.base.proofs.Tests.{and-left, and-right, neither-left, neither-right}
 use Rattle.base.proofs.Orders.{same-true, same-refl}
 use Rattle.base.proofs.Lists.{Every, none-of, and, every}
 use Rattle.base.proofs.Le.{AllBytes, bytes-drop, length-leBytes, leNumber-leBytes}
-use Rattle.base.proofs.Read.{part, items-reads, number-of, number-reads, bind-some, Back, give-back, fail-back, bind-back, map-back, Items, items-back, Number, number-back}
+use Rattle.base.proofs.Read.{part, items-reads, number-of, number-reads, bind-some, Back, give-back, fail-back, bind-back, map-back, Items, items-back, Number}
+use Rattle.base.proofs.Read.{number-back}
 use Rattle.committee.specs.Committee.{Committee}
 use Rattle.record_spec.specs.Block.{Block}
 use Rattle.record_spec.specs.Record.{blockOf}
 use Rattle.store_spec.specs.Layout.{Record, readRecord, usedBy, Entry, entries, firstPosition, nextPosition, entryBytes, bodyBytes, headerBytes, layout}
 use Rattle.store_spec.specs.Accept.{blockChecks, allAccepted}
-use Rattle.store_spec.specs.Store.{usedLength, blockCount, giveRecord, readEntry, readEntries, recordsRead, recordsOf, allowedLength, storeInOrder, storeFull, storeHolding}
+use Rattle.store_spec.specs.Store.{usedLength, blockCount, giveRecord, readEntry, readEntries, recordsRead, recordsOf, allowedLength, storeInOrder}
+use Rattle.store_spec.specs.Store.{storeFull, storeHolding}
 
 -- a record whose bytes are read as its block
 abbrev pub Right : Record → Type 0
@@ -55,7 +57,8 @@ length-layout rs = simp (length-append, length-header) (length-body (entries rs)
 
 -- a store that begins with the layout of rs, field by field
 pub laid : (rs : List Record) (t : List ℕ) → layout rs ++ t
-    ≡ leBytes 4 (firstPosition (entries rs)) ++ (leBytes 4 (usedBy rs) ++ (leBytes 2 (length rs) ++ (replicate 6 0 ++ (bodyBytes (entries rs) (entries rs) ++ t))))
+    ≡ leBytes 4 (firstPosition (entries rs)) ++ (leBytes 4 (usedBy rs) ++
+    (leBytes 2 (length rs) ++ (replicate 6 0 ++ (bodyBytes (entries rs) (entries rs) ++ t))))
 unfolding layout headerBytes flatten
 laid rs t = simp append-assoc
 
@@ -64,7 +67,8 @@ unfolding usedLength leAt
 usedLength-laid rs t h =
     rw (
       laid rs t,
-      drop-at (leBytes 4 (firstPosition (entries rs))) (leBytes 4 (usedBy rs) ++ (leBytes 2 (length rs) ++ (replicate 6 0 ++ (bodyBytes (entries rs) (entries rs) ++ t)))) 4 (length-leBytes 4 _),
+      drop-at (leBytes 4 (firstPosition (entries rs))) (leBytes 4 (usedBy rs) ++
+          (leBytes 2 (length rs) ++ (replicate 6 0 ++ (bodyBytes (entries rs) (entries rs) ++ t)))) 4 (length-leBytes 4 _),
       take-at (leBytes 4 (usedBy rs)) (leBytes 2 (length rs) ++ (replicate 6 0 ++ (bodyBytes (entries rs) (entries rs) ++ t))) 4 (length-leBytes 4 _),
     )
     (leNumber-leBytes 4 (usedBy rs) h)
@@ -74,8 +78,10 @@ unfolding blockCount leAt
 blockCount-laid rs t h =
     rw (
       laid rs t,
-      ← drop-drop 4 4 (leBytes 4 (firstPosition (entries rs)) ++ (leBytes 4 (usedBy rs) ++ (leBytes 2 (length rs) ++ (replicate 6 0 ++ (bodyBytes (entries rs) (entries rs) ++ t))))),
-      drop-at (leBytes 4 (firstPosition (entries rs))) (leBytes 4 (usedBy rs) ++ (leBytes 2 (length rs) ++ (replicate 6 0 ++ (bodyBytes (entries rs) (entries rs) ++ t)))) 4 (length-leBytes 4 _),
+      ← drop-drop 4 4 (leBytes 4 (firstPosition (entries rs)) ++ (leBytes 4 (usedBy rs) ++
+          (leBytes 2 (length rs) ++ (replicate 6 0 ++ (bodyBytes (entries rs) (entries rs) ++ t))))),
+      drop-at (leBytes 4 (firstPosition (entries rs))) (leBytes 4 (usedBy rs) ++
+          (leBytes 2 (length rs) ++ (replicate 6 0 ++ (bodyBytes (entries rs) (entries rs) ++ t)))) 4 (length-leBytes 4 _),
       drop-at (leBytes 4 (usedBy rs)) (leBytes 2 (length rs) ++ (replicate 6 0 ++ (bodyBytes (entries rs) (entries rs) ++ t))) 4 (length-leBytes 4 _),
       take-at (leBytes 2 (length rs)) (replicate 6 0 ++ (bodyBytes (entries rs) (entries rs) ++ t)) 2 (length-leBytes 2 _),
     )
@@ -262,11 +268,18 @@ pub record Holding (c : Committee) (rs : List Record) (s : Bytes) : Type 0 where
   pub size : length (storeHolding rs s) ≡ length s
 
 -- it is in order, holds them, and is as long as before
-pub holding : (c : Committee) (rs : List Record) (s : Bytes) → allowedLength s ≡ true → Every Right rs → length rs ≤ 1024 → usedBy rs ≤ length s → allAccepted c rs ≡ true → Holding c rs s
+pub holding : (c : Committee) (rs : List Record) (s : Bytes) → allowedLength s ≡ true → Every Right rs → length rs ≤ 1024 → usedBy rs ≤ length s → allAccepted
+    c rs ≡ true → Holding c rs s
 unfolding storeHolding allowedLength
 holding c rs s a h few fits acc =
     record {
-      order = to-order c (layout rs ++ drop (usedBy rs) s) (record { allowed = rw size a; used = rw (usedLength-laid rs (drop (usedBy rs) s) small, records) (take-at (layout rs) (drop (usedBy rs) s) (usedBy rs) (length-layout rs)); few = rw records few; accepted = rw records acc });
+      order = to-order c (layout rs ++ drop (usedBy rs) s) (record {
+        allowed = rw size a;
+        used = rw (usedLength-laid rs (drop (usedBy rs) s) small, records)
+            (take-at (layout rs) (drop (usedBy rs) s) (usedBy rs) (length-layout rs));
+        few = rw records few;
+        accepted = rw records acc;
+      });
       records = records;
       size = size;
     }

@@ -14,7 +14,8 @@ pub data WellStored : List Block → Type 0 where
       → WellStored older → WellStored (b ∷ older)
 
 -- an include of a stored block is stored
-pub include-stored : {bs : List Block} → WellStored bs → {b : Block} → b ∈ bs → (i : BlockReference) → i ∈ b .includes → (d : Block) × (d ∈ bs) × (d .reference ≡ i)
+pub include-stored : {bs : List Block} → WellStored bs → {b : Block} → b ∈ bs → (i : BlockReference) → i ∈ b .includes → (d : Block) × (d ∈ bs) ×
+    (d .reference ≡ i)
 include-stored fresh m i k = absurd (in-empty m)
 include-stored (stored new found w) here i k = let r = found i k in (r .0, there (r .1), r .2)
 include-stored (stored new found w) (there m) i k = let r = include-stored w m i k in (r .0, there (r .1), r .2)

@@ -75,7 +75,8 @@ back-ascends [] ys no-pairs a none-of = a
 back-ascends (x ∷ xs) ys (with-later h hs) a (and k ks) =
     back-ascends xs (x ∷ ys) hs (with-later k a) (both xs h ks)
   where
-    both : (zs : List Entry) → Every (λ d. lower d x ≡ true) zs → Every (λ z. Every (λ y. lower z y ≡ true) ys) zs → Every (λ z. Every (λ y. lower z y ≡ true) (x ∷ ys)) zs
+    both : (zs : List Entry) → Every (λ d. lower d x ≡ true) zs → Every (λ z. Every (λ y. lower z y ≡ true) ys) zs → Every
+        (λ z. Every (λ y. lower z y ≡ true) (x ∷ ys)) zs
     both [] none-of none-of = none-of
     both (z ∷ zs) (and l ls) (and m ms) = and (and l m) (both zs ls ms)
 
@@ -91,7 +92,8 @@ pub descending-more : (e x : Entry) (xs : List Entry) → lower x e ≡ true →
 descending-more e x xs l (with-later h hs) =
     with-later (and l (every (λ d k. reference-trans (referenceOf d) (referenceOf x) (referenceOf e) k l) xs h)) (with-later h hs)
 
-same-rest : (x y : Entry) (xs ys : List Entry) → x ≡ y → Every (λ d. lower x d ≡ true) xs → ((e : Entry) → e ∈ (x ∷ xs) → e ∈ (y ∷ ys)) → (e : Entry) → e ∈ xs → e ∈ ys
+same-rest : (x y : Entry) (xs ys : List Entry) → x ≡ y → Every (λ d. lower x d ≡ true) xs → ((e : Entry) → e ∈ (x ∷ xs) → e ∈ (y ∷ ys)) → (e : Entry) → e ∈ xs
+    → e ∈ ys
 same-rest x y xs ys q h f e m = go (in-cases (f e (there m)))
   where
     go : (e ≡ y) ⊎ (e ∈ ys) → e ∈ ys
@@ -181,7 +183,12 @@ module _ (s : Bytes) (rs : List Record) where
       by-rest (y ∷ ys) h n =
           let same : e ≡ y = one-position rs e y m (in-order y ys h) n in
           let h′ : ascending all ≡ back xs (e ∷ ys) = h ∙ ap (λ (z : Entry). back xs (z ∷ ys)) (sym same) in
-          record { rest = ys; sorted = h′; next = q ∙ every-in all e (c .next) m ∙ next-after all (back xs []) ys e (c .distinct) (h′ ∙ back-append xs (e ∷ ys)) }
+          record {
+            rest = ys;
+            sorted = h′;
+            next = q ∙ every-in all e (c .next) m ∙ next-after all (back xs []) ys e (c .distinct)
+                (h′ ∙ back-append xs (e ∷ ys));
+          }
 
       go : ToCome xs (e .position) → ToCome (e ∷ xs) at
       go t = by-rest (t .rest) (t .sorted) (t .next)
@@ -201,8 +208,10 @@ module _ (s : Bytes) (rs : List Record) where
     where
       pair : (ys : List Entry) → Descending ys → (e x : Entry) → e ∈ ys → x ∈ ys → Apart e x → sameReference (referenceOf e) (referenceOf x) ≡ false
       pair (y ∷ ys) (with-later h hs) e x here here a = absurd (a refl)
-      pair (y ∷ ys) (with-later h hs) e x here (there m) a = fails _ (λ t. reference-irrefl (referenceOf x) (rw (reference-same (referenceOf y) (referenceOf x) t) at (every-in ys x h m)))
-      pair (y ∷ ys) (with-later h hs) e x (there m) here a = fails _ (λ t. reference-irrefl (referenceOf e) (rw (← reference-same (referenceOf e) (referenceOf y) t) at (every-in ys e h m)))
+      pair (y ∷ ys) (with-later h hs) e x here (there m) a = fails _
+          (λ t. reference-irrefl (referenceOf x) (rw (reference-same (referenceOf y) (referenceOf x) t) at (every-in ys x h m)))
+      pair (y ∷ ys) (with-later h hs) e x (there m) here a = fails _
+          (λ t. reference-irrefl (referenceOf e) (rw (← reference-same (referenceOf e) (referenceOf y) t) at (every-in ys e h m)))
       pair (y ∷ ys) (with-later h hs) e x (there m) (there n) a = pair ys hs e x m n a
 
       go : (es : List Entry) → ((e : Entry) → e ∈ es → e ∈ xs) → Pairs Apart es → Distinct es

@@ -120,7 +120,8 @@ reads-walked s (suc n) q h =
 -- the walk goes one way
 pub walked-same : (s : Bytes) (rs qs : List Record) → Walked s rs → Walked s qs → length rs ≡ length qs → rs ≡ qs
 walked-same s rs qs w v e =
-    ap (λ (x : Part (List Record)). x .value) (Option·some-injective _ _ (sym (walked-reads s rs w) ∙ ap (λ (n : ℕ). readEntries n (drop 16 s)) e ∙ walked-reads s qs v))
+    ap (λ (x : Part (List Record)). x .value) (Option·some-injective _ _
+    (sym (walked-reads s rs w) ∙ ap (λ (n : ℕ). readEntries n (drop 16 s)) e ∙ walked-reads s qs v))
 
 pub walked-drop : (s : Bytes) (j : ℕ) (rs : List Record) → Walked s rs → Walked s (drop j rs)
 walked-drop s zero rs w = w
@@ -143,7 +144,8 @@ walked-inside s [] l begun = l
 walked-inside s (r ∷ rs) l (then w h) = h .inside
 
 -- every entry of a walk holds the record that stands there
-pub entries-stand : (s : Bytes) (rs : List Record) → Walked s rs → Every (λ e. Stands s (e .position) (record { bytes = e .bytes; block = e .block })) (entries rs)
+pub entries-stand : (s : Bytes) (rs : List Record) → Walked s rs → Every (λ e. Stands s (e .position) (record { bytes = e .bytes; block = e .block }))
+    (entries rs)
 unfolding entries
 entries-stand s [] begun = none-of
 entries-stand s (r ∷ rs) (then w h) = and h (entries-stand s rs w)

@@ -28,7 +28,8 @@ time-stored : (c : Committee) (s : Bytes) → storeInOrder c s ≡ true → (r :
 unfolding creationTime entryTime
 time-stored c s h r m =
     let e = record-entry (recordsOf s) r m in
-    rw (lookup-hit (entries (recordsOf s)) (distinct c (recordsOf s) (in-order c s h .accepted)) (record { position = e .0; bytes = r .bytes; block = r .block }) (e .1) (r .block .reference) refl)
+    rw (lookup-hit (entries (recordsOf s)) (distinct c (recordsOf s) (in-order c s h .accepted))
+    (record { position = e .0; bytes = r .bytes; block = r .block }) (e .1) (r .block .reference) refl)
 
 time-absent : (s : Bytes) (i : BlockReference) → isStored (recordsOf s) i ≡ false → creationTime s i ≡ none
 unfolding creationTime entryTime

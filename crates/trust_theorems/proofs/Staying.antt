@@ -29,16 +29,21 @@ use Rattle.trust_theorems.proofs.Growing.{Grown, run-grows}
 use Rattle.trust_theorems.proofs.Naming.{entered, share-stays, final-stays, positions-stay}
 
 -- a question that is not refused answers
-answers-final : (reading : Reading) (c : Committee) (s : Bytes) (ps : List ℕ) (l : TransactionLocator) → broken c ≡ false → storeInOrder c s ≡ true → length (recordsOf s) ≤ length ps
-    → isFinalIn reading c (blocksOf s) l ≡ true → finalityIn reading c s ps l .answer ≡ answered (record { final = true; certifying = length (certifyingPositionsIn reading c s l) })
+answers-final : (reading : Reading) (c : Committee) (s : Bytes) (ps : List ℕ) (l : TransactionLocator) → broken c ≡ false → storeInOrder c s ≡ true → length
+    (recordsOf s) ≤ length ps
+    → isFinalIn reading c (blocksOf s) l ≡ true → finalityIn reading c s ps l .answer ≡ answered
+    (record { final = true; certifying = length (certifyingPositionsIn reading c s l) })
 unfolding finalityIn finalityChecks checked passes refusal allOf
 answers-final reading c s ps l b h k f = rw (b, h, le-ltb (length ps) (length (recordsOf s)) k, f)
 
 module _ (reading : Reading) (c : Committee) (s : Bytes) (ps : List ℕ) (l : TransactionLocator) (f : Bool) (n : ℕ)
     (e : finalityIn reading c s ps l .answer ≡ answered (record { final = f; certifying = n })) where
   -- what an answer tells
-  told : (passes (finalityChecks c s ps) ≡ true) × (_≡_ {A = Finality} (record { final = isFinalIn reading c (blocksOf s) l; certifying = length (certifyingPositionsIn reading c s l) }) (record { final = f; certifying = n }))
-  told = unfold finalityIn in checked-answered (finalityChecks c s ps) (record { final = isFinalIn reading c (blocksOf s) l; certifying = length (certifyingPositionsIn reading c s l) }) (record { final = f; certifying = n }) e
+  told : (passes (finalityChecks c s ps) ≡ true) × (_≡_ {A = Finality}
+      (record { final = isFinalIn reading c (blocksOf s) l; certifying = length (certifyingPositionsIn reading c s l) }) (record { final = f; certifying = n }))
+  told = unfold finalityIn in checked-answered (finalityChecks c s ps)
+      (record { final = isFinalIn reading c (blocksOf s) l; certifying = length (certifyingPositionsIn reading c s l) })
+      (record { final = f; certifying = n }) e
 
   told-final : isFinalIn reading c (blocksOf s) l ≡ f
   told-final = ap (λ (x : Finality). x .final) (told .1)
@@ -52,8 +57,11 @@ pub still : (reading : Reading) (c : Committee) (s t : Bytes) → broken c ≡ f
 still reading c s t b h g =
     record {
       final = final-stays c s t b h g reading;
-      answered-final = λ l ps qs n e m.
-          (length (certifyingPositionsIn reading c t l), answers-final reading c t qs l b (g .order) m (final-stays c s t b h g reading l (told-final reading c s ps l true n e)));
+      answered-final = λ l ps qs n e m. (
+        length (certifyingPositionsIn reading c t l),
+        answers-final reading c t qs l b (g .order) m
+            (final-stays c s t b h g reading l (told-final reading c s ps l true n e)),
+      );
       named = λ l ps qs f u n m e d p k.
           subst (λ (x : List ℕ). p ∈ x) (sym (told-positions reading c t qs l u m d))
           (positions-stay c s t b h g reading l p (subst (λ (x : List ℕ). p ∈ x) (told-positions reading c s ps l f n e) k));
@@ -63,7 +71,8 @@ still reading c s t b h g =
   where
     in-list : (ls ms : List TransactionLocator) → FinalListIn reading c s ls → FinalListIn reading c t ms → (l : TransactionLocator) → l ∈ ls → l ∈ ms
     in-list ls ms x y l m =
-        let was : l ∈ finalListIn reading c (blocksOf s) = subst (λ (zs : List TransactionLocator). l ∈ zs) (asked-once (nextFinalIn reading c s) x (asked-on-in reading c s b h)) m in
+        let was : l ∈ finalListIn reading c (blocksOf s) = subst (λ (zs : List TransactionLocator). l ∈ zs)
+        (asked-once (nextFinalIn reading c s) x (asked-on-in reading c s b h)) m in
         subst (λ (zs : List TransactionLocator). l ∈ zs) (asked-once (nextFinalIn reading c t) (asked-on-in reading c t b (g .order)) y)
         (list-in reading c (blocksOf t) l .1 (final-stays c s t b h g reading l (list-in reading c (blocksOf s) l .0 was)))
 

@@ -12,5 +12,6 @@ use Rattle.mission_theorems.specs.Feeds.{Feed, Engine, run}
 
 -- a share that is loadable, with the changes that it needs, is loadable after every further list of feeds, in both readings
 pub record LoadablesStay : Type 0 where
-  pub loadable : (reading : Reading) (c : Committee) → broken c ≡ false → (g : Engine) → storeInOrder c (g .store) ≡ true → (fs : List Feed) (l : TransactionLocator)
+  pub loadable : (reading : Reading) (c : Committee) → broken c ≡ false → (g : Engine) → storeInOrder c (g .store) ≡ true → (fs : List Feed)
+      (l : TransactionLocator)
       → isLoadableIn reading c (blocksOf (g .store)) l ≡ true → isLoadableIn reading c (blocksOf (run c g fs .store)) l ≡ true

@@ -24,7 +24,8 @@ pub record StillFinal (reading : Reading) (c : Committee) (s t : Bytes) : Type 0
   -- 02: "once a locator is final, it is final after .."
   pub final : (l : TransactionLocator) → isFinalIn reading c (blocksOf s) l ≡ true → isFinalIn reading c (blocksOf t) l ≡ true
   -- so the question that answered final answers final, in any position slice that is long enough
-  pub answered-final : (l : TransactionLocator) (ps qs : List ℕ) (n : ℕ) → finalityIn reading c s ps l .answer ≡ answered (record { final = true; certifying = n })
+  pub answered-final : (l : TransactionLocator) (ps qs : List ℕ) (n : ℕ) → finalityIn reading c s ps l .answer ≡ answered
+      (record { final = true; certifying = n })
       → length (recordsOf t) ≤ length qs → (m : ℕ) × (finalityIn reading c t qs l .answer ≡ answered (record { final = true; certifying = m }))
   -- 02: "with all its earlier certifying blocks still named": each position that the question wrote it writes again
   pub named : (l : TransactionLocator) (ps qs : List ℕ) (f g : Bool) (n m : ℕ)
@@ -41,6 +42,8 @@ pub record StillFinal (reading : Reading) (c : Committee) (s t : Bytes) : Type 0
 -- blocks still named. Cover both readings."
 pub record StaysFinal : Type 0 where
   -- to any store in order, whatever table stands beside it; records good and bad, refused ones included
-  pub further : (reading : Reading) (c : Committee) → broken c ≡ false → (g : Engine) → storeInOrder c (g .store) ≡ true → (fs : List Feed) → StillFinal reading c (g .store) (run c g fs .store)
+  pub further : (reading : Reading) (c : Committee) → broken c ≡ false → (g : Engine) → storeInOrder c (g .store) ≡ true → (fs : List Feed) → StillFinal
+      reading c (g .store) (run c g fs .store)
   -- so to every engine that a list of feeds from fresh left
-  pub fed : (reading : Reading) (c : Committee) → broken c ≡ false → (t : Start) (fs : List Feed) → StillFinal reading c (engineOf c t .store) (run c (engineOf c t) fs .store)
+  pub fed : (reading : Reading) (c : Committee) → broken c ≡ false → (t : Start) (fs : List Feed) → StillFinal reading c (engineOf c t .store)
+      (run c (engineOf c t) fs .store)

@@ -42,7 +42,8 @@ key-step x y xs ys = go (ℕ-discrete x y)
     none-of true = refl
     none-of false = refl
 
-    go : Dec (x ≡ y) → pick (eqb x y && same xs ys) Equal (pick (ltb x y || (eqb x y && before xs ys)) Less Greater) ≡ pick (eqb x y) (pick (same xs ys) Equal (pick (before xs ys) Less Greater)) (pick (eqb x y) Equal (pick (ltb x y) Less Greater))
+    go : Dec (x ≡ y) → pick (eqb x y && same xs ys) Equal (pick (ltb x y || (eqb x y && before xs ys)) Less Greater) ≡ pick (eqb x y)
+        (pick (same xs ys) Equal (pick (before xs ys) Less Greater)) (pick (eqb x y) Equal (pick (ltb x y) Less Greater))
     go (yes e) = rw (eq-eqb x y e, le-ltb x y (omega arith))
     go (no e) = rw (ne-eqb x y e) (none-of (ltb x y))
 
@@ -61,12 +62,20 @@ bytes-step (suc n) v w xs ys h k =
         → pick (eqb (v / 256) (w / 256)) (pick (eqb (v % 256) (w % 256)) (keyOrder xs ys) (wordOrder (v % 256) (w % 256))) (wordOrder (v / 256) (w / 256))
         ≡ pick (eqb v w) (keyOrder xs ys) (wordOrder v w)
     go (yes a) (yes b) c = rw (eq-eqb (v / 256) (w / 256) a, eq-eqb (v % 256) (w % 256) b, eq-eqb v w (omega arith))
-    go (yes a) (no b) (yes c) = rw (eq-eqb (v / 256) (w / 256) a, ne-eqb (v % 256) (w % 256) b, ne-eqb v w (λ e. omega arith), word-less v w c) (word-less (v % 256) (w % 256) (omega arith))
-    go (yes a) (no b) (no c) = rw (eq-eqb (v / 256) (w / 256) a, ne-eqb (v % 256) (w % 256) b, ne-eqb v w (λ (e : v ≡ w). b (ap (λ x. x % 256) e)), word-greater v w (omega arith)) (word-greater (v % 256) (w % 256) (omega arith))
+    go (yes a) (no b) (yes c) = rw (eq-eqb (v / 256) (w / 256) a, ne-eqb (v % 256) (w % 256) b, ne-eqb v w (λ e. omega arith), word-less v w c)
+        (word-less (v % 256) (w % 256) (omega arith))
+    go (yes a) (no b) (no c) = rw (
+      eq-eqb (v / 256) (w / 256) a,
+      ne-eqb (v % 256) (w % 256) b,
+      ne-eqb v w (λ (e : v ≡ w). b (ap (λ x. x % 256) e)),
+      word-greater v w (omega arith),
+    ) (word-greater (v % 256) (w % 256) (omega arith))
     go (no a) b (yes c) = rw (ne-eqb (v / 256) (w / 256) a, ne-eqb v w (λ e. omega arith), word-less v w c) (word-less (v / 256) (w / 256) (omega arith))
-    go (no a) b (no c) = rw (ne-eqb (v / 256) (w / 256) a, ne-eqb v w (λ (e : v ≡ w). a (ap (λ x. x / 256) e)), word-greater v w (omega arith)) (word-greater (v / 256) (w / 256) (omega arith))
+    go (no a) b (no c) = rw (ne-eqb (v / 256) (w / 256) a, ne-eqb v w (λ (e : v ≡ w). a (ap (λ x. x / 256) e)), word-greater v w (omega arith))
+        (word-greater (v / 256) (w / 256) (omega arith))
 
-pub word-step : (n v w : ℕ) (xs ys : List ℕ) → v < 256 ^ n → w < 256 ^ n → keyOrder (beBytes n v ++ xs) (beBytes n w ++ ys) ≡ pick (eqb v w) (keyOrder xs ys) (wordOrder v w)
+pub word-step : (n v w : ℕ) (xs ys : List ℕ) → v < 256 ^ n → w < 256 ^ n → keyOrder (beBytes n v ++ xs) (beBytes n w ++ ys) ≡ pick (eqb v w) (keyOrder xs ys)
+    (wordOrder v w)
 unfolding beBytes
 word-step n v w xs ys h k = rw (← reverseAux-eq (leBytes n v) xs, ← reverseAux-eq (leBytes n w) ys) (bytes-step n v w xs ys h k)
 
@@ -93,8 +102,10 @@ module _ (a b : digest.BlockDigest) where
   unfolding digestBytes
   digest-order h k =
       rw (
-        word-step 8 (a .0) (b .0) (beBytes 8 (a .1) ++ (beBytes 8 (a .2) ++ beBytes 8 (a .3))) (beBytes 8 (b .1) ++ (beBytes 8 (b .2) ++ beBytes 8 (b .3))) (omega (arith, h .0)) (omega (arith, k .0)),
-        word-step 8 (a .1) (b .1) (beBytes 8 (a .2) ++ beBytes 8 (a .3)) (beBytes 8 (b .2) ++ beBytes 8 (b .3)) (omega (arith, h .1 .0)) (omega (arith, k .1 .0)),
+        word-step 8 (a .0) (b .0) (beBytes 8 (a .1) ++ (beBytes 8 (a .2) ++ beBytes 8 (a .3))) (beBytes 8 (b .1) ++ (beBytes 8 (b .2) ++ beBytes 8 (b .3)))
+            (omega (arith, h .0)) (omega (arith, k .0)),
+        word-step 8 (a .1) (b .1) (beBytes 8 (a .2) ++ beBytes 8 (a .3)) (beBytes 8 (b .2) ++ beBytes 8 (b .3)) (omega (arith, h .1 .0))
+            (omega (arith, k .1 .0)),
         word-step 8 (a .2) (b .2) (beBytes 8 (a .3)) (beBytes 8 (b .3)) (omega (arith, h .1 .1 .0)) (omega (arith, k .1 .1 .0)),
         word-last 8 (a .3) (b .3) (omega (arith, h .1 .1 .1 .0)) (omega (arith, k .1 .1 .1 .0)),
       )
@@ -102,17 +113,20 @@ module _ (a b : digest.BlockDigest) where
 module _ (a b : declared.BlockReference) where
   pub reference-order : referenceOrder (asReference a) (asReference b)
       ≡ pick (eqb (a .round .0) (b .round .0))
-      (pick (eqb (a .authority .0) (b .authority .0)) (keyOrder (digestBytes (a .digest)) (digestBytes (b .digest))) (wordOrder (a .authority .0) (b .authority .0)))
+      (pick (eqb (a .authority .0) (b .authority .0)) (keyOrder (digestBytes (a .digest)) (digestBytes (b .digest)))
+      (wordOrder (a .authority .0) (b .authority .0)))
       (wordOrder (a .round .0) (b .round .0))
   unfolding referenceOrder sameReference referenceBefore referenceKey asReference keyOrder
   reference-order = by-round ∙ ap (λ (o : Ordering). pick (eqb (a .round .0) (b .round .0)) o (wordOrder (a .round .0) (b .round .0))) by-author
     where
       by-round : keyOrder (a .round .0 ∷ a .authority .0 ∷ digestBytes (a .digest)) (b .round .0 ∷ b .authority .0 ∷ digestBytes (b .digest))
-          ≡ pick (eqb (a .round .0) (b .round .0)) (keyOrder (a .authority .0 ∷ digestBytes (a .digest)) (b .authority .0 ∷ digestBytes (b .digest))) (wordOrder (a .round .0) (b .round .0))
+          ≡ pick (eqb (a .round .0) (b .round .0)) (keyOrder (a .authority .0 ∷ digestBytes (a .digest)) (b .authority .0 ∷ digestBytes (b .digest)))
+          (wordOrder (a .round .0) (b .round .0))
       by-round = key-step (a .round .0) (b .round .0) (a .authority .0 ∷ digestBytes (a .digest)) (b .authority .0 ∷ digestBytes (b .digest))
 
       by-author : keyOrder (a .authority .0 ∷ digestBytes (a .digest)) (b .authority .0 ∷ digestBytes (b .digest))
-          ≡ pick (eqb (a .authority .0) (b .authority .0)) (keyOrder (digestBytes (a .digest)) (digestBytes (b .digest))) (wordOrder (a .authority .0) (b .authority .0))
+          ≡ pick (eqb (a .authority .0) (b .authority .0)) (keyOrder (digestBytes (a .digest)) (digestBytes (b .digest)))
+          (wordOrder (a .authority .0) (b .authority .0))
       by-author = key-step (a .authority .0) (b .authority .0) (digestBytes (a .digest)) (digestBytes (b .digest))
 
 -- ---- what an order says of the tests that it was told from, and locators

@@ -5,7 +5,8 @@ use mathlib.Core.List.{List, _++_, reverse}
 use lib.Dec.{eqb, ltb}
 use Rattle.base.specs.Lists.{pick, same, before}
 use Rattle.base.specs.Le.{Bytes, leBytes}
-use Rattle.record_spec.specs.Reference.{BlockReference, TransactionLocator, TransactionLocatorRange, locator, newRange, sameReference, referenceBefore, sameLocator, locatorBefore}
+use Rattle.record_spec.specs.Reference.{BlockReference, TransactionLocator, TransactionLocatorRange, locator, newRange, sameReference, referenceBefore}
+use Rattle.record_spec.specs.Reference.{sameLocator, locatorBefore}
 use Rattle.types.specs.declared.BlockDigest as digest
 use Rattle.types.specs.declared.BlockReference as reference
 use Rattle.types.specs.declared.TransactionLocator as locators

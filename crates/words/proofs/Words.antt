@@ -107,7 +107,8 @@ last-all s p h = rw (take-all 8 (drop p s) (simp length-drop (omega arith)))
 -- up to seven bytes leave room for one more
 pub last-fits : (s : List ℕ) (p : ℕ) → AllBytes s → length s ≤ p + 7 → leNumber (drop p s) < 72057594037927936
 last-fits s p h k =
-    lt-of-lt-of-le (leNumber-lt (drop p s) (bytes-right (take p s) (drop p s) (rw (take-append-drop p s) h))) (pow-le-pow-right {n = 256} (lit< tt) {i = length (drop p s)} {j = 7} (simp length-drop (omega arith)))
+    lt-of-lt-of-le (leNumber-lt (drop p s) (bytes-right (take p s) (drop p s) (rw (take-append-drop p s) h)))
+    (pow-le-pow-right {n = 256} (lit< tt) {i = length (drop p s)} {j = 7} (simp length-drop (omega arith)))
 
 -- the word at an index
 pub getD-wordsIn : (n : ℕ) (s : List ℕ) (i : ℕ) → i < n → getD (wordsIn n s) i 0 ≡ leAt 8 s (8 * i)

@@ -25,7 +25,13 @@ add-s : tie.Need-add-s Inv-loop μ-loop
 add-s c = search needs
 
 slice-write-s : tie.Need-slice-write-s Inv-loop μ-loop
-slice-write-s c = omega (arith, ap length (c .before .before .loop .inv .1), length-sets (c .before .before .before .args .s .now) (c .before .before .before .args .at) (take (c .before .before .loop .i) (c .before .before .before .args .from .now)), c .before .before .before .pre)
+slice-write-s c = omega (
+  arith,
+  ap length (c .before .before .loop .inv .1),
+  length-sets (c .before .before .before .args .s .now)
+      (c .before .before .before .args .at) (take (c .before .before .loop .i) (c .before .before .before .args .from .now)),
+  c .before .before .before .pre,
+)
 
 add-i : tie.Need-add-i Inv-loop μ-loop
 add-i c = search needs
@@ -36,11 +42,15 @@ loop-less c = search needs
 loop-again : tie.Need-loop-again Inv-loop μ-loop
 loop-again c =
     let a = c .before .before .before .args in
-    let l = c .before .before .loop in
-    (omega arith, ap (λ (x : List ℕ). set x (a .at + l .i) (getD (a .from .now) (l .i) 0)) (l .inv .1) ∙ sets-next (a .s .now) (a .from .now) (a .at) (l .i) (c .before .loop-test .taken))
+    let l = c .before .before .loop in (
+      omega arith,
+      ap (λ (x : List ℕ). set x (a .at + l .i) (getD (a .from .now) (l .i) 0)) (l .inv .1) ∙ sets-next (a .s .now) (a .from .now) (a .at) (l .i)
+          (c .before .loop-test .taken),
+    )
 
 same-length : tie.Need-same-length Inv-loop μ-loop
-same-length c = ap length (c .before .loop .inv .1) ∙ length-sets (c .before .before .args .s .now) (c .before .before .args .at) (take (c .before .loop .i) (c .before .before .args .from .now))
+same-length c = ap length (c .before .loop .inv .1) ∙ length-sets (c .before .before .args .s .now) (c .before .before .args .at)
+    (take (c .before .loop .i) (c .before .before .args .from .now))
 
 returns : tie.Need-returns Inv-loop μ-loop
 returns c =

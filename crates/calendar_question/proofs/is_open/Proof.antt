@@ -31,7 +31,8 @@ returns-2 c =
     let a = c .before .before .before .before .before .before .args in
     let ns = a .calendar .now in
     let good : goodCalendar ns ≡ true = sym (c .before .before .before .before .is-good .ensures) ∙ not-false _ (c .before .before .before .if1 .left) in
-    sym (open-answered ns (a .time) good ∙ ap answered (open-free (windows ns) (a .time) _ _ (c .before .before .week-second .ensures) (c .before .free-from .ensures) (c .if2 .taken)))
+    sym (open-answered ns (a .time) good ∙ ap answered (open-free (windows ns) (a .time) _ _ (c .before .before .week-second .ensures)
+    (c .before .free-from .ensures) (c .if2 .taken)))
 
 returns-3 : tie.Need-returns-3
 unfolding asOpen
@@ -39,7 +40,8 @@ returns-3 c =
     let a = c .before .before .before .before .before .before .args in
     let ns = a .calendar .now in
     let good : goodCalendar ns ≡ true = sym (c .before .before .before .before .is-good .ensures) ∙ not-false _ (c .before .before .before .if1 .left) in
-    sym (open-answered ns (a .time) good ∙ ap answered (closed-later (windows ns) (a .time) _ _ (c .before .before .week-second .ensures) (c .before .free-from .ensures) (c .if2 .left)))
+    sym (open-answered ns (a .time) good ∙ ap answered (closed-later (windows ns) (a .time) _ _ (c .before .before .week-second .ensures)
+    (c .before .free-from .ensures) (c .if2 .left)))
 
 pub is-open-spec : {M : Type 1} → statement M
 is-open-spec =

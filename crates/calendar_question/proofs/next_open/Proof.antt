@@ -32,7 +32,10 @@ returns-2 c =
     sym (next-answered ns (a .time) good ∙ ap answered (full-week (windows ns) _ (a .time) (c .before .free-from .ensures) (c .if2 .taken)))
 
 wait-requires : tie.Need-wait-requires
-wait-requires c κs = (sym (c .before .before .before .is-good .ensures) ∙ not-false _ (c .before .before .if1 .left), (c .before .free-from .ensures, c .if2 .left))
+wait-requires c κs = (
+  sym (c .before .before .before .is-good .ensures) ∙ not-false _ (c .before .before .if1 .left),
+  (c .before .free-from .ensures, c .if2 .left),
+)
 
 sub-if3 : tie.Need-sub-if3
 sub-if3 c = search needs
@@ -42,7 +45,8 @@ unfolding asNextOpen
 returns-3 c =
     let a = c .before .before .before .before .before .before .before .args in
     let ns = a .calendar .now in
-    let good : goodCalendar ns ≡ true = sym (c .before .before .before .before .before .is-good .ensures) ∙ not-false _ (c .before .before .before .before .if1 .left) in
+    let good : goodCalendar ns ≡ true = sym (c .before .before .before .before .before .is-good .ensures) ∙ not-false _
+    (c .before .before .before .before .if1 .left) in
     sym (next-answered ns (a .time) good ∙ ap answered (past-count (windows ns) (a .time) _ (c .before .wait .ensures) (omega arith)))
 
 add-t7 : tie.Need-add-t7
@@ -53,7 +57,8 @@ unfolding asNextOpen
 returns-4 c =
     let a = c .before .before .before .before .before .before .before .args in
     let ns = a .calendar .now in
-    let good : goodCalendar ns ≡ true = sym (c .before .before .before .before .before .is-good .ensures) ∙ not-false _ (c .before .before .before .before .if1 .left) in
+    let good : goodCalendar ns ≡ true = sym (c .before .before .before .before .before .is-good .ensures) ∙ not-false _
+    (c .before .before .before .before .if1 .left) in
     sym (next-answered ns (a .time) good ∙ ap answered (in-count (windows ns) (a .time) _ (c .before .wait .ensures) (omega arith)))
 
 pub next-open-spec : {M : Type 1} → statement M

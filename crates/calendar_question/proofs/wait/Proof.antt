@@ -32,7 +32,8 @@ returns-2 c =
     let a = c .before .before .before .before .args in
     let e = c .before .before .week-second .ensures in
     let p = c .before .before .before .before .pre in
-    rw e (next-week (windows (a .calendar .now)) (a .time) (c .before .free-from .result) (a .opening) (rw e at (c .before .free-from .ensures)) (c .if1 .left) (p .1 .0) (p .1 .1))
+    rw e (next-week (windows (a .calendar .now)) (a .time) (c .before .free-from .result) (a .opening) (rw e at (c .before .free-from .ensures))
+    (c .if1 .left) (p .1 .0) (p .1 .1))
 
 pub wait-spec : {M : Type 1} → statement M
 wait-spec =

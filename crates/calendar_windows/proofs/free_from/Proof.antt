@@ -10,7 +10,8 @@ use Rattle.calendar_windows.proofs.free_from.Statement.{statement}
 use Rattle.calendar_windows.proofs.free_from.Tie as tie
 
 abbrev Inv-loop : tie.InvT-loop
-Inv-loop calendar second free₀ i₀ free i = (i % 2 ≡ 0) × ((i ≤ length calendar) × (freeFrom (windows calendar) second ≡ freeFrom (windows (drop i calendar)) free))
+Inv-loop calendar second free₀ i₀ free i = (i % 2 ≡ 0) × ((i ≤ length calendar) ×
+    (freeFrom (windows calendar) second ≡ freeFrom (windows (drop i calendar)) free))
 
 abbrev μ-loop : tie.MeasureT-loop
 μ-loop calendar second free₀ i₀ free i = length calendar - i

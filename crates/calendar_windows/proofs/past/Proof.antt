@@ -16,7 +16,8 @@ returns-2 : tie.Need-returns-2
 unfolding within
 returns-2 c =
     let a = c .before .args in
-    ⊎-elim (λ w. rw (le-leb (a .start) (a .second) (w .0 .taken), le-ltb (a .second) (a .end) (ltb-false (a .second) (a .end) (w .1 .left)))) (λ w. rw (lt-leb (a .start) (a .second) (w .left))) (c .if1 .came)
+    ⊎-elim (λ w. rw (le-leb (a .start) (a .second) (w .0 .taken), le-ltb (a .second) (a .end) (ltb-false (a .second) (a .end) (w .1 .left))))
+    (λ w. rw (lt-leb (a .start) (a .second) (w .left))) (c .if1 .came)
 
 pub past-spec : {M : Type 1} → statement M
 past-spec = tie.close (tie.spec returns returns-2)

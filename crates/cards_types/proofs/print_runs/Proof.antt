@@ -48,7 +48,8 @@ loop-less c =
     let k = t .before .before in
     let l = k .before in
     let r = l .before .before .before .args .rec .now in
-    let on : FurtherOn r (l .loop .cursor .index) (Run (t .start .given .0 .0) (t .start .given .0 .1 .0) (t .start .given .0 .1 .1 .0)) = rw (t .start .given .1) at (k .next-shared-range .ensures .1) in
+    let on : FurtherOn r (l .loop .cursor .index) (Run (t .start .given .0 .0) (t .start .given .0 .1 .0) (t .start .given .0 .1 .1 .0)) = rw
+    (t .start .given .1) at (k .next-shared-range .ensures .1) in
     omega (arith, on .0, on .1 .0)
 
 loop-again : tie.Need-loop-again Inv-loop μ-loop
@@ -58,7 +59,8 @@ loop-again c =
     let k = t .before .before in
     let l = k .before in
     let r = l .before .before .before .args .rec .now in
-    let on : FurtherOn r (l .loop .cursor .index) (Run (t .start .given .0 .0) (t .start .given .0 .1 .0) (t .start .given .0 .1 .1 .0)) = rw (t .start .given .1) at (k .next-shared-range .ensures .1) in
+    let on : FurtherOn r (l .loop .cursor .index) (Run (t .start .given .0 .0) (t .start .given .0 .1 .0) (t .start .given .0 .1 .1 .0)) = rw
+    (t .start .given .1) at (k .next-shared-range .ensures .1) in
     (on .1 .1, on .1 .0)
 
 pub print-runs-spec : {M : Type 1} → statement M

@@ -32,7 +32,12 @@ returns-3 : tie.Need-returns-3
 unfolding asNewCommittee newCommittee committeeChecks checked passes refusal allOf
 returns-3 c =
     let l = c .before .before .before .before .before .args .stakes .now in
-    rw (ne-eqb (length l) 0 (c .before .before .before .if1 .left), sym (c .before .before .has-zero .ensures) ∙ c .before .if2 .left, lt-ltb 128 (length l) (c .if3 .taken))
+    rw (
+      ne-eqb (length l) 0 (c .before .before .before .if1 .left),
+      sym (c .before .before .has-zero .ensures) ∙ c .before .if2 .left,
+      lt-ltb 128 (length l)
+          (c .if3 .taken),
+    )
 
 total-stake-requires : tie.Need-total-stake-requires
 total-stake-requires c κs = search needs
@@ -41,10 +46,17 @@ returns-4 : tie.Need-returns-4
 unfolding asNewCommittee newCommittee committeeChecks checked passes refusal allOf totalFound
 returns-4 c =
     let l = c .before .before .before .before .before .before .args .stakes .now in
-    rw (c .total-stake .ensures, ne-eqb (length l) 0 (c .before .before .before .before .if1 .left), sym (c .before .before .before .has-zero .ensures) ∙ c .before .before .if2 .left, le-ltb 128 (length l) (c .before .if3 .left))
+    rw (
+      c .total-stake .ensures,
+      ne-eqb (length l) 0 (c .before .before .before .before .if1 .left),
+      sym (c .before .before .before .has-zero .ensures) ∙ c
+          .before .before .if2 .left,
+      le-ltb 128 (length l) (c .before .if3 .left),
+    )
     (either (ltb 9223372036854775807 (totalStake l)) (totalStake l))
   where
-    either : (t : Bool) (s : Stake) → asNewCommittee (pick t (Broken 4) (Taken (stakeValue s))) ≡ checked ((false ⇒ 1) ∷ (false ⇒ 2) ∷ (false ⇒ 3) ∷ (t ⇒ 4) ∷ []) s
+    either : (t : Bool) (s : Stake) → asNewCommittee (pick t (Broken 4) (Taken (stakeValue s))) ≡ checked
+        ((false ⇒ 1) ∷ (false ⇒ 2) ∷ (false ⇒ 3) ∷ (t ⇒ 4) ∷ []) s
     either true s = refl
     either false s = refl
 

@@ -26,7 +26,8 @@ returns : tie.Need-returns Inv-loop μ-loop
 returns c =
     let start = c .before .before .before .before .before in
     let at = c .before .before .before .loop in
-    sym (members-unknown (start .args .stakes .now) (start .args .votes) (at .i) (at .inv .0) (c .before .before .loop-test .taken) (sym (c .before .contains .ensures) ∙ c .if1 .taken))
+    sym (members-unknown (start .args .stakes .now) (start .args .votes) (at .i) (at .inv .0) (c .before .before .loop-test .taken)
+    (sym (c .before .contains .ensures) ∙ c .if1 .taken))
 
 add-i : tie.Need-add-i Inv-loop μ-loop
 add-i c = search needs
@@ -39,7 +40,8 @@ loop-again c =
     let at = c .before .before .before .loop in
     (omega arith, λ a h k. each a h k (decLt a (at .i)))
   where
-    each : (a : ℕ) → length (c .before .before .before .before .before .args .stakes .now) ≤ a → a < c .before .before .before .loop .i + 1 → Dec (a < c .before .before .before .loop .i)
+    each : (a : ℕ) → length (c .before .before .before .before .before .args .stakes .now) ≤ a → a < c .before .before .before .loop .i + 1 → Dec
+        (a < c .before .before .before .loop .i)
         → member (c .before .before .before .before .before .args .votes) a ≡ false
     each a h k (yes l) = c .before .before .before .loop .inv .1 a h l
     each a h k (no l) =

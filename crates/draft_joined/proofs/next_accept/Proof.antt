@@ -48,7 +48,8 @@ returns-2 c =
     let s = o .args .s .now in
     let st = c .before .before .before .before .statement .given .0 .0 in
     let next = c .before .before .before .before .statement .given .0 .1 .0 in
-    let told : TookGiven s (o .args .at) (Statement st next) = rw (c .before .before .before .before .statement .given .1) at (c .before .before .before .before .before .before .take-given .ensures) in
+    let told : TookGiven s (o .args .at) (Statement st next) = rw (c .before .before .before .before .statement .given .1) at
+    (c .before .before .before .before .before .before .take-given .ensures) in
     (rw (c .before .statement2 .given .1) at (told .0), (told .1 .0, told .1 .1 .0))
 
 returns-3 : tie.Need-returns-3
@@ -58,8 +59,10 @@ returns-3 c =
     let s = o .args .s .now in
     let st = c .before .before .before .statement .given .0 .0 in
     let next = c .before .before .before .statement .given .0 .1 .0 in
-    let told : TookGiven s (o .args .at) (Statement st next) = rw (c .before .before .before .statement .given .1) at (c .before .before .before .before .before .take-given .ensures) in
-    other-there s (o .args .at) st next (bytes-of s (λ j h. omega (arith, c .before .before .before .before .before .before .shared-slice-known .given j))) told (rw (c .enum-told2 .given .1))
+    let told : TookGiven s (o .args .at) (Statement st next) = rw (c .before .before .before .statement .given .1) at
+    (c .before .before .before .before .before .take-given .ensures) in
+    other-there s (o .args .at) st next (bytes-of s (λ j h. omega (arith, c .before .before .before .before .before .before .shared-slice-known .given j)))
+    told (rw (c .enum-told2 .given .1))
 
 returns-4 : tie.Need-returns-4
 unfolding asStatement isAccept
@@ -68,8 +71,10 @@ returns-4 c =
     let s = o .args .s .now in
     let st = c .before .before .before .statement .given .0 .0 in
     let next = c .before .before .before .statement .given .0 .1 .0 in
-    let told : TookGiven s (o .args .at) (Statement st next) = rw (c .before .before .before .statement .given .1) at (c .before .before .before .before .before .take-given .ensures) in
-    other-there s (o .args .at) st next (bytes-of s (λ j h. omega (arith, c .before .before .before .before .before .before .shared-slice-known .given j))) told (rw (c .enum-told3 .given .1))
+    let told : TookGiven s (o .args .at) (Statement st next) = rw (c .before .before .before .statement .given .1) at
+    (c .before .before .before .before .before .take-given .ensures) in
+    other-there s (o .args .at) st next (bytes-of s (λ j h. omega (arith, c .before .before .before .before .before .before .shared-slice-known .given j)))
+    told (rw (c .enum-told3 .given .1))
 
 returns-5 : tie.Need-returns-5
 unfolding asStatement isAccept
@@ -78,8 +83,10 @@ returns-5 c =
     let s = o .args .s .now in
     let st = c .before .before .before .statement .given .0 .0 in
     let next = c .before .before .before .statement .given .0 .1 .0 in
-    let told : TookGiven s (o .args .at) (Statement st next) = rw (c .before .before .before .statement .given .1) at (c .before .before .before .before .before .take-given .ensures) in
-    other-there s (o .args .at) st next (bytes-of s (λ j h. omega (arith, c .before .before .before .before .before .before .shared-slice-known .given j))) told (rw (c .enum-told4 .given .1))
+    let told : TookGiven s (o .args .at) (Statement st next) = rw (c .before .before .before .statement .given .1) at
+    (c .before .before .before .before .before .take-given .ensures) in
+    other-there s (o .args .at) st next (bytes-of s (λ j h. omega (arith, c .before .before .before .before .before .before .shared-slice-known .given j)))
+    told (rw (c .enum-told4 .given .1))
 
 returns-6 : tie.Need-returns-6
 unfolding asStatement isAccept
@@ -88,8 +95,10 @@ returns-6 c =
     let s = o .args .s .now in
     let st = c .before .before .before .statement .given .0 .0 in
     let next = c .before .before .before .statement .given .0 .1 .0 in
-    let told : TookGiven s (o .args .at) (Statement st next) = rw (c .before .before .before .statement .given .1) at (c .before .before .before .before .before .take-given .ensures) in
-    other-there s (o .args .at) st next (bytes-of s (λ j h. omega (arith, c .before .before .before .before .before .before .shared-slice-known .given j))) told (rw (c .enum-told5 .given .1))
+    let told : TookGiven s (o .args .at) (Statement st next) = rw (c .before .before .before .statement .given .1) at
+    (c .before .before .before .before .before .take-given .ensures) in
+    other-there s (o .args .at) st next (bytes-of s (λ j h. omega (arith, c .before .before .before .before .before .before .shared-slice-known .given j)))
+    told (rw (c .enum-told5 .given .1))
 
 pub next-accept-spec : {M : Type 1} → statement M
 next-accept-spec =

@@ -40,8 +40,10 @@ returns-2 c =
     let s = o .args .s .now in
     let st = c .before .before .statement .given .0 .0 in
     let next = c .before .before .statement .given .0 .1 .0 in
-    let told : TookGiven s (o .args .at) (Statement st next) = rw (c .before .before .statement .given .1) at (c .before .before .before .before .take-given .ensures) in
-    joined-there s (o .args .at) st next (bytes-of s (λ j h. omega (arith, c .before .before .before .before .before .shared-slice-known .given j))) told (no-accept s st (c .match2 .keys2))
+    let told : TookGiven s (o .args .at) (Statement st next) = rw (c .before .before .statement .given .1) at
+    (c .before .before .before .before .take-given .ensures) in
+    joined-there s (o .args .at) st next (bytes-of s (λ j h. omega (arith, c .before .before .before .before .before .shared-slice-known .given j))) told
+    (no-accept s st (c .match2 .keys2))
 
 run-of-requires : tie.Need-run-of-requires
 unfolding TookGiven
@@ -50,7 +52,8 @@ run-of-requires c κs =
     let s = o .args .s .now in
     let st = c .before .before .before .before .statement .given .0 .0 in
     let next = c .before .before .before .before .statement .given .0 .1 .0 in
-    let told : TookGiven s (o .args .at) (Statement st next) = rw (c .before .before .before .before .statement .given .1) at (c .before .before .before .before .before .before .take-given .ensures) in
+    let told : TookGiven s (o .args .at) (Statement st next) = rw (c .before .before .before .before .statement .given .1) at
+    (c .before .before .before .before .before .before .take-given .ensures) in
     told .1 .1 .0
 
 run-statement-requires : tie.Need-run-statement-requires
@@ -65,9 +68,15 @@ returns-3 c =
     let st = c .before .before .before .before .before .before .statement .given .0 .0 in
     let next = c .before .before .before .before .before .before .statement .given .0 .1 .0 in
     let first = c .before .before .before .statement2 .given .0 .0 in
-    let told : TookGiven s (o .args .at) (Statement (Accept first) next) = rw (c .before .before .before .before .before .before .statement .given .1, c .before .before .before .statement2 .given .1) at (c .before .before .before .before .before .before .before .before .take-given .ensures) in
+    let told : TookGiven s (o .args .at) (Statement (Accept first) next) = rw
+    (c .before .before .before .before .before .before .statement .given .1, c .before .before .before .statement2 .given .1) at
+    (c .before .before .before .before .before .before .before .before .take-given .ensures) in
     let r = c .before .run-of .ensures in (
-      joined-accept s (o .args .at) (bytes-of s (λ j h. omega (arith, c .before .before .before .before .before .before .before .before .before .shared-slice-known .given j))) next (asLocator first) (told .0) ∙ rw (c .run-statement .ensures .0 s) (r .says),
+      joined-accept s (o .args .at) (bytes-of s (λ j h. omega (
+        arith,
+        c .before .before .before .before .before .before .before .before .before
+            .shared-slice-known .given j,
+      ))) next (asLocator first) (told .0) ∙ rw (c .run-statement .ensures .0 s) (r .says),
       (omega (arith, told .1 .0, r .onward), (r .inside, inside-none (length s) (c .run-statement .result) (c .run-statement .ensures .1))),
     )
 

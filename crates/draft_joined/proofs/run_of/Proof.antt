@@ -46,7 +46,13 @@ returns c =
     let s = o .args .s .now in
     let first = o .args .first in
     let told : TookAccept s (l .at) Other = rw (c .enum-told .given .1) at (c .before .before .next-accept .ensures) in
-    record { onward = l .inv .0; inside = l .inv .1 .0; right = l .inv .1 .1 .0; says = l .inv .1 .1 .1 ∙ told (newRange (asReference (first .block)) (first .offset) (l .last + 1)) }
+    record {
+      onward = l .inv .0;
+      inside = l .inv .1 .0;
+      right = l .inv .1 .1 .0;
+      says = l .inv .1 .1 .1 ∙ told
+          (newRange (asReference (first .block)) (first .offset) (l .last + 1));
+    }
 
 goes-on-requires : tie.Need-goes-on-requires Inv-loop μ-loop
 goes-on-requires c κs = search needs
@@ -60,10 +66,18 @@ returns-2 c =
     let first = o .args .first in
     let other = c .before .before .before .other .given .0 .0 in
     let next = c .before .before .before .other .given .0 .1 .0 in
-    let told : TookAccept s (l .at) (At other next) = rw (c .before .before .before .other .given .1) at (c .before .before .before .before .before .next-accept .ensures) in
+    let told : TookAccept s (l .at) (At other next) = rw (c .before .before .before .other .given .1) at
+    (c .before .before .before .before .before .next-accept .ensures) in
     let r = newRange (asReference (first .block)) (first .offset) (l .last + 1) in
     let apart : touches r (oneRange (asLocator other)) ≡ false = sym (c .before .goes-on .ensures) ∙ not-true (c .before .goes-on .result) (c .if1 .taken) in
-    record { onward = l .inv .0; inside = l .inv .1 .0; right = l .inv .1 .1 .0; says = l .inv .1 .1 .1 ∙ stays-apart s (l .at) (bytes-of s (λ j h. omega (arith, c .before .before .before .before .before .before .before .shared-slice-known .given j))) next (asLocator other) (told .0) r apart }
+    record {
+      onward = l .inv .0;
+      inside = l .inv .1 .0;
+      right = l .inv .1 .1 .0;
+      says = l .inv .1 .1 .1 ∙ stays-apart s (l .at)
+          (bytes-of s (λ j h. omega (arith, c .before .before .before .before .before .before .before .shared-slice-known .given j))) next (asLocator other)
+          (told .0) r apart;
+    }
 
 loop-less : tie.Need-loop-less Inv-loop μ-loop
 unfolding TookAccept
@@ -73,7 +87,8 @@ loop-less c =
     let s = o .args .s .now in
     let other = c .before .before .before .other .given .0 .0 in
     let next = c .before .before .before .other .given .0 .1 .0 in
-    let told : TookAccept s (l .at) (At other next) = rw (c .before .before .before .other .given .1) at (c .before .before .before .before .before .next-accept .ensures) in
+    let told : TookAccept s (l .at) (At other next) = rw (c .before .before .before .other .given .1) at
+    (c .before .before .before .before .before .next-accept .ensures) in
     omega (arith, told .1 .0, told .1 .1)
 
 loop-again : tie.Need-loop-again Inv-loop μ-loop
@@ -85,10 +100,21 @@ loop-again c =
     let first = o .args .first in
     let other = c .before .before .before .other .given .0 .0 in
     let next = c .before .before .before .other .given .0 .1 .0 in
-    let told : TookAccept s (l .at) (At other next) = rw (c .before .before .before .other .given .1) at (c .before .before .before .before .before .next-accept .ensures) in
+    let told : TookAccept s (l .at) (At other next) = rw (c .before .before .before .other .given .1) at
+    (c .before .before .before .before .before .next-accept .ensures) in
     let r = newRange (asReference (first .block)) (first .offset) (l .last + 1) in
-    let near : touches r (oneRange (asLocator other)) ≡ true = sym (c .before .goes-on .ensures) ∙ not-false (c .before .goes-on .result) (c .if1 .left) in
-    (omega (arith, l .inv .0, told .1 .0), (told .1 .1, (longer-right r (asLocator other) (l .inv .1 .1 .0) near, l .inv .1 .1 .1 ∙ goes-on s (l .at) (bytes-of s (λ j h. omega (arith, c .before .before .before .before .before .before .before .shared-slice-known .given j))) next (asLocator other) (told .0) r near)))
+    let near : touches r (oneRange (asLocator other)) ≡ true = sym (c .before .goes-on .ensures) ∙ not-false (c .before .goes-on .result) (c .if1 .left) in (
+      omega (arith, l .inv .0, told .1 .0),
+      (
+        told .1 .1,
+        (
+          longer-right r (asLocator other) (l .inv .1 .1 .0) near,
+          l .inv .1 .1 .1 ∙ goes-on s (l .at)
+              (bytes-of s (λ j h. omega (arith, c .before .before .before .before .before .before .before .shared-slice-known .given j))) next (asLocator other)
+              (told .0) r near,
+        ),
+      ),
+    )
 
 pub run-of-spec : {M : Type 1} → statement M
 run-of-spec =

@@ -28,7 +28,8 @@ returns-3 : tie.Need-returns-3
 returns-3 c =
     let o = c .before .before .before .before .before in
     let s = o .args .s .now in
-    took-given s (o .args .at) (c .take-statement .result) (bytes-of s (λ j h. omega (arith, c .before .before .shared-slice-known2 .given j))) (omega arith) (c .before .if2 .left) (c .take-statement .ensures)
+    took-given s (o .args .at) (c .take-statement .result) (bytes-of s (λ j h. omega (arith, c .before .before .shared-slice-known2 .given j))) (omega arith)
+    (c .before .if2 .left) (c .take-statement .ensures)
 
 pub take-given-spec : {M : Type 1} → statement M
 take-given-spec =

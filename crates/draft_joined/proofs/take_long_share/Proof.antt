@@ -53,8 +53,10 @@ returns-3 c =
     let o = c .before .before .before .before in
     let s = o .args .s .now in
     let p = o .args .at in
-    let n = c .before .read-u32 .result in
-    (share-reads s p (o .pre .0) (o .pre .1) n (c .before .read-u32 .ensures) (omega arith), (omega arith, (omega arith, le-leb (p + 5 + n) (length s) (omega arith))))
+    let n = c .before .read-u32 .result in (
+      share-reads s p (o .pre .0) (o .pre .1) n (c .before .read-u32 .ensures) (omega arith),
+      (omega arith, (omega arith, le-leb (p + 5 + n) (length s) (omega arith))),
+    )
 
 pub take-long-share-spec : {M : Type 1} → statement M
 take-long-share-spec =

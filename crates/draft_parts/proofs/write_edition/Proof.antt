@@ -46,15 +46,27 @@ write-u64-requires : tie.Need-write-u64-requires
 unfolding asTime timeBytes
 write-u64-requires c κs =
     let a = c .before .before .before .before .before .args in
-    let long : 72 ≤ length (a .out .now) = omega (arith, c .before .before .before .before .before .pre, ap (λ (x : CreationTime). length (timeBytes (asTime x))) (c .before .before .time .given .1) ∙ length-leBytes 16 (c .before .before .time .given .0 .0)) in
+    let long : 72 ≤ length (a .out .now) = omega (
+      arith,
+      c .before .before .before .before .before .pre,
+      ap
+          (λ (x : CreationTime). length (timeBytes (asTime x))) (c .before .before .time .given .1) ∙ length-leBytes 16 (c .before .before .time .given .0 .0),
+    ) in
     simp length-set (omega (arith, long))
 
 write-u64-requires-2 : tie.Need-write-u64-requires-2
 unfolding asTime timeBytes
 write-u64-requires-2 c κs =
     let a = c .before .before .before .before .before .before .before .before .before .args in
-    let long : 72 ≤ length (a .out .now) = omega (arith, c .before .before .before .before .before .before .before .before .before .pre, ap (λ (x : CreationTime). length (timeBytes (asTime x))) (c .before .before .before .before .before .before .time .given .1) ∙ length-leBytes 16 (c .before .before .before .before .before .before .time .given .0 .0)) in
-    let kept : length (c .before .before .before .write-u64 .last .0) ≡ length (a .out .now) = c .before .before .before .write-u64 .kept .0 ∙ simp length-set in
+    let long : 72 ≤ length (a .out .now) = omega (
+      arith,
+      c .before .before .before .before .before .before .before .before .before .pre,
+      ap
+          (λ (x : CreationTime). length (timeBytes (asTime x))) (c .before .before .before .before .before .before .time .given .1) ∙ length-leBytes 16
+          (c .before .before .before .before .before .before .time .given .0 .0),
+    ) in
+    let kept : length (c .before .before .before .write-u64 .last .0) ≡ length (a .out .now) = c .before .before .before .write-u64 .kept .0 ∙ simp length-set
+    in
     omega (arith, long, kept)
 
 same-length-2 : tie.Need-same-length-2
@@ -65,7 +77,11 @@ unfolding asTime
 returns-2 c =
     let a = c .before .before .before .before .before .before .before .before .before .before .before .before .args in
     let x = c .before .before .before .before .before .before .before .before .before .time .given .0 .0 in
-    c .before .before .write-u642 .ensures ∙ rw (c .before .before .before .before .before .before .write-u64 .ensures, c .before .before .before .before .before .before .before .before .before .time .given .1) (time-written (a .out .now) x (omega arith))
+    c .before .before .write-u642 .ensures ∙ rw (
+      c .before .before .before .before .before .before .write-u64 .ensures,
+      c .before .before .before .before
+          .before .before .before .before .before .time .given .1,
+    ) (time-written (a .out .now) x (omega arith))
 
 pub write-edition-spec : {M : Type 1} → statement M
 write-edition-spec =

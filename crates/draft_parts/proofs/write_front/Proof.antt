@@ -27,7 +27,11 @@ unfolding frontBytes
 returns c =
     let a = c .before .before .before .before .before .before .before .before .before .before .before .before .before .before .args in
     c .before .before .copy-to .ensures
-    ∙ rw (c .before .before .before .before .before .before .write-u642 .ensures, c .before .before .before .before .before .before .before .before .before .before .write-u64 .ensures) (front-written (a .out .now) (a .author .0) (a .round .0) (a .digest .now))
+    ∙ rw (
+      c .before .before .before .before .before .before .write-u642 .ensures,
+      c .before .before .before .before .before .before .before .before .before
+          .before .write-u64 .ensures,
+    ) (front-written (a .out .now) (a .author .0) (a .round .0) (a .digest .now))
 
 pub write-front-spec : {M : Type 1} → statement M
 write-front-spec =

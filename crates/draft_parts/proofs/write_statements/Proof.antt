@@ -81,10 +81,12 @@ returns-2 c =
     let s = a .s .now in
     let st = c .before .before .before .before .statement .given .0 .0 in
     let next = c .before .before .before .before .statement .given .0 .1 .0 in
-    let told : TookJoined s (l .at) (Statement st next) = rw (c .before .before .before .before .statement .given .1) at (c .before .before .before .before .before .before .next-joined .ensures) in
+    let told : TookJoined s (l .at) (Statement st next) = rw (c .before .before .before .before .statement .given .1) at
+    (c .before .before .before .before .before .before .next-joined .ensures) in
     let w = asStatement s st in
     let fits : writable (followed w (joinedFrom s next)) ≡ true = rw (told .0) at (l .inv .1 .0) in
-    absurd (not-both (size-long s st (told .1 .1 .1) (sym (c .before .before .statement-size .ensures) ∙ c .enum-told2 .given .1)) (writes-short w (joinedFrom s next) fits))
+    absurd (not-both (size-long s st (told .1 .1 .1) (sym (c .before .before .statement-size .ensures) ∙ c .enum-told2 .given .1))
+    (writes-short w (joinedFrom s next) fits))
 
 -- src/lib.rt:118:9
 write-statement-requires : tie.Need-write-statement-requires Inv-loop μ-loop
@@ -95,7 +97,8 @@ write-statement-requires c κs =
     let s = a .s .now in
     let st = c .before .before .before .before .before .before .statement .given .0 .0 in
     let next = c .before .before .before .before .before .before .statement .given .0 .1 .0 in
-    let told : TookJoined s (l .at) (Statement st next) = rw (c .before .before .before .before .before .before .statement .given .1) at (c .before .before .before .before .before .before .before .before .next-joined .ensures) in
+    let told : TookJoined s (l .at) (Statement st next) = rw (c .before .before .before .before .before .before .statement .given .1) at
+    (c .before .before .before .before .before .before .before .before .next-joined .ensures) in
     let w = asStatement s st in
     let fits : writable (followed w (joinedFrom s next)) ≡ true = rw (told .0) at (l .inv .1 .0) in
     let room = rw (told .0, writes-first w (joinedFrom s next) fits) at (l .inv .1 .1 .0) in
@@ -110,11 +113,13 @@ add-to c =
     let s = a .s .now in
     let st = c .before .before .before .before .before .before .before .before .before .statement .given .0 .0 in
     let next = c .before .before .before .before .before .before .before .before .before .statement .given .0 .1 .0 in
-    let told : TookJoined s (l .at) (Statement st next) = rw (c .before .before .before .before .before .before .before .before .before .statement .given .1) at (c .before .before .before .before .before .before .before .before .before .before .before .next-joined .ensures) in
+    let told : TookJoined s (l .at) (Statement st next) = rw (c .before .before .before .before .before .before .before .before .before .statement .given .1)
+    at (c .before .before .before .before .before .before .before .before .before .before .before .next-joined .ensures) in
     let w = asStatement s st in
     let fits : writable (followed w (joinedFrom s next)) ≡ true = rw (told .0) at (l .inv .1 .0) in
     let n = c .before .before .before .before .before .size .given .0 .0 in
-    let size = size-bytes s st n (told .1 .1 .1) (sym (c .before .before .before .before .before .before .before .statement-size .ensures) ∙ c .before .before .before .before .before .size .given .1) in
+    let size = size-bytes s st n (told .1 .1 .1) (sym (c .before .before .before .before .before .before .before .statement-size .ensures) ∙ c .before .before
+    .before .before .before .size .given .1) in
     let room = rw (told .0, writes-first w (joinedFrom s next) fits) at (l .inv .1 .1 .0) in
     omega (arith, room, length-append (statementBytes w) (bytesIn (joinedFrom s next)), size .1 .0, length-written s st (told .1 .1 .1))
 
@@ -127,7 +132,8 @@ loop-less c =
     let s = a .s .now in
     let st = c .before .before .before .before .before .before .before .before .before .statement .given .0 .0 in
     let next = c .before .before .before .before .before .before .before .before .before .statement .given .0 .1 .0 in
-    let told : TookJoined s (l .at) (Statement st next) = rw (c .before .before .before .before .before .before .before .before .before .statement .given .1) at (c .before .before .before .before .before .before .before .before .before .before .before .next-joined .ensures) in
+    let told : TookJoined s (l .at) (Statement st next) = rw (c .before .before .before .before .before .before .before .before .before .statement .given .1)
+    at (c .before .before .before .before .before .before .before .before .before .before .before .next-joined .ensures) in
     let w = asStatement s st in
     let fits : writable (followed w (joinedFrom s next)) ≡ true = rw (told .0) at (l .inv .1 .0) in
     omega (arith, told .1 .0, told .1 .1 .0)
@@ -141,11 +147,13 @@ loop-again c =
     let s = a .s .now in
     let st = c .before .before .before .before .before .before .before .before .before .statement .given .0 .0 in
     let next = c .before .before .before .before .before .before .before .before .before .statement .given .0 .1 .0 in
-    let told : TookJoined s (l .at) (Statement st next) = rw (c .before .before .before .before .before .before .before .before .before .statement .given .1) at (c .before .before .before .before .before .before .before .before .before .before .before .next-joined .ensures) in
+    let told : TookJoined s (l .at) (Statement st next) = rw (c .before .before .before .before .before .before .before .before .before .statement .given .1)
+    at (c .before .before .before .before .before .before .before .before .before .before .before .next-joined .ensures) in
     let w = asStatement s st in
     let fits : writable (followed w (joinedFrom s next)) ≡ true = rw (told .0) at (l .inv .1 .0) in
     let n = c .before .before .before .before .before .size .given .0 .0 in
-    let size = size-bytes s st n (told .1 .1 .1) (sym (c .before .before .before .before .before .before .before .statement-size .ensures) ∙ c .before .before .before .before .before .size .given .1) in
+    let size = size-bytes s st n (told .1 .1 .1) (sym (c .before .before .before .before .before .before .before .statement-size .ensures) ∙ c .before .before
+    .before .before .before .size .given .1) in
     let long : length (statementBytes w) ≡ n = length-written s st (told .1 .1 .1) ∙ sym (size .1 .0) in
     let room = rw (told .0, writes-first w (joinedFrom s next) fits) at (l .inv .1 .1 .0) in
     let kept : length (c .before .before .write-statement .last .0) ≡ length (l .out) = c .before .before .write-statement .kept .0 in (
@@ -156,7 +164,14 @@ loop-again c =
           omega (arith, room, length-append (statementBytes w) (bytesIn (joinedFrom s next)), long, kept),
           (
             kept ∙ l .inv .1 .1 .1 .0,
-            l .inv .1 .1 .1 .1 ∙ rw (told .0, writes-first w (joinedFrom s next) fits, sets-append (statementBytes w) (bytesIn (joinedFrom s next)) (l .out) (l .to), long, ← c .before .before .write-statement .ensures),
+            l .inv .1 .1 .1 .1 ∙ rw (
+              told .0,
+              writes-first w (joinedFrom s next) fits,
+              sets-append (statementBytes w) (bytesIn (joinedFrom s next)) (l .out)
+                  (l .to),
+              long,
+              ← c .before .before .write-statement .ensures,
+            ),
           ),
         ),
       ),

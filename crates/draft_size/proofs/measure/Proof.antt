@@ -57,8 +57,12 @@ returns-2 c =
     let s = c .before .before .before .before .before .before .before .before .before .before .args .s .now in
     let st = c .before .before .before .before .statement .given .0 .0 in
     let next = c .before .before .before .before .statement .given .0 .1 .0 in
-    let told : TookJoined s (l .at) (Statement st next) = rw (c .before .before .before .before .statement .given .1) at (c .before .before .before .before .before .before .next-joined .ensures) in
-    (sym (l .inv .1 .1 .1 ∙ rw (told .0) (measured-long (l .count) (l .bytes) (asStatement s st) (size-long s st (told .1 .1 .1) (sym (c .before .before .statement-size .ensures) ∙ c .enum-told2 .given .1)) (joinedFrom s next))), refl)
+    let told : TookJoined s (l .at) (Statement st next) = rw (c .before .before .before .before .statement .given .1) at
+    (c .before .before .before .before .before .before .next-joined .ensures) in (
+      sym (l .inv .1 .1 .1 ∙ rw (told .0) (measured-long (l .count) (l .bytes) (asStatement s st)
+          (size-long s st (told .1 .1 .1) (sym (c .before .before .statement-size .ensures) ∙ c .enum-told2 .given .1)) (joinedFrom s next))),
+      refl,
+    )
 
 returns-3 : tie.Need-returns-3 Inv-loop μ-loop
 unfolding TookJoined low
@@ -67,7 +71,8 @@ returns-3 c =
     let s = c .before .before .before .before .before .before .before .before .before .before .before .before .args .s .now in
     let st = c .before .before .before .before .before .before .statement .given .0 .0 in
     let next = c .before .before .before .before .before .before .statement .given .0 .1 .0 in
-    let told : TookJoined s (l .at) (Statement st next) = rw (c .before .before .before .before .before .before .statement .given .1) at (c .before .before .before .before .before .before .before .before .next-joined .ensures) in
+    let told : TookJoined s (l .at) (Statement st next) = rw (c .before .before .before .before .before .before .statement .given .1) at
+    (c .before .before .before .before .before .before .before .before .next-joined .ensures) in
     (sym (l .inv .1 .1 .1 ∙ rw (told .0) (measured-many (l .count) (l .bytes) (asStatement s st) (omega (arith, c .if1 .taken)) (joinedFrom s next))), refl)
 
 add-count : tie.Need-add-count Inv-loop μ-loop
@@ -80,8 +85,10 @@ add-bytes c =
     let s = c .before .before .before .before .before .before .before .before .before .before .before .before .args .s .now in
     let st = c .before .before .before .before .before .before .statement .given .0 .0 in
     let next = c .before .before .before .before .before .before .statement .given .0 .1 .0 in
-    let told : TookJoined s (l .at) (Statement st next) = rw (c .before .before .before .before .before .before .statement .given .1) at (c .before .before .before .before .before .before .before .before .next-joined .ensures) in
-    let size = size-bytes s st (c .before .before .size .given .0 .0) (told .1 .1 .1) (sym (c .before .before .before .before .statement-size .ensures) ∙ c .before .before .size .given .1) in
+    let told : TookJoined s (l .at) (Statement st next) = rw (c .before .before .before .before .before .before .statement .given .1) at
+    (c .before .before .before .before .before .before .before .before .next-joined .ensures) in
+    let size = size-bytes s st (c .before .before .size .given .0 .0) (told .1 .1 .1)
+    (sym (c .before .before .before .before .statement-size .ensures) ∙ c .before .before .size .given .1) in
     omega (arith, l .inv .1 .0, l .inv .1 .1 .0, size .1 .1)
 
 loop-less : tie.Need-loop-less Inv-loop μ-loop
@@ -91,7 +98,8 @@ loop-less c =
     let s = c .before .before .before .before .before .before .before .before .before .before .before .before .args .s .now in
     let st = c .before .before .before .before .before .before .statement .given .0 .0 in
     let next = c .before .before .before .before .before .before .statement .given .0 .1 .0 in
-    let told : TookJoined s (l .at) (Statement st next) = rw (c .before .before .before .before .before .before .statement .given .1) at (c .before .before .before .before .before .before .before .before .next-joined .ensures) in
+    let told : TookJoined s (l .at) (Statement st next) = rw (c .before .before .before .before .before .before .statement .given .1) at
+    (c .before .before .before .before .before .before .before .before .next-joined .ensures) in
     omega (arith, told .1 .0, told .1 .1 .0)
 
 loop-again : tie.Need-loop-again Inv-loop μ-loop
@@ -101,7 +109,8 @@ loop-again c =
     let s = c .before .before .before .before .before .before .before .before .before .before .before .before .args .s .now in
     let st = c .before .before .before .before .before .before .statement .given .0 .0 in
     let next = c .before .before .before .before .before .before .statement .given .0 .1 .0 in
-    let told : TookJoined s (l .at) (Statement st next) = rw (c .before .before .before .before .before .before .statement .given .1) at (c .before .before .before .before .before .before .before .before .next-joined .ensures) in
+    let told : TookJoined s (l .at) (Statement st next) = rw (c .before .before .before .before .before .before .statement .given .1) at
+    (c .before .before .before .before .before .before .before .before .next-joined .ensures) in
     let n = c .before .before .size .given .0 .0 in
     let size = size-bytes s st n (told .1 .1 .1) (sym (c .before .before .before .before .statement-size .ensures) ∙ c .before .before .size .given .1) in
     let long : n ≡ length (statementBytes (asStatement s st)) = size .1 .0 ∙ sym (length-written s st (told .1 .1 .1)) in (
@@ -119,8 +128,11 @@ returns-4 : tie.Need-returns-4 Inv-loop μ-loop
 unfolding low
 returns-4 c =
     let l = c .before .loop in
-    let s = c .before .before .before .args .s .now in
-    (sym (l .inv .1 .1 .1 ∙ rw (joined-done s (l .at) (omega arith)) (measured-done (l .count) (l .bytes) (l .inv .1 .0))), le-leb (l .bytes) 67110912 (omega (arith, l .inv .1 .0, l .inv .1 .1 .0)))
+    let s = c .before .before .before .args .s .now in (
+      sym (l .inv .1 .1 .1 ∙ rw (joined-done s (l .at) (omega arith)) (measured-done (l .count) (l .bytes) (l .inv .1 .0))),
+      le-leb (l .bytes) 67110912
+          (omega (arith, l .inv .1 .0, l .inv .1 .1 .0)),
+    )
 
 pub measure-spec : {M : Type 1} → statement M
 measure-spec =

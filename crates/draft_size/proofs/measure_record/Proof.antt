@@ -43,7 +43,8 @@ returns-4 c =
     let a = c .before .before .before .before .before .before .before .args in
     λ author round.
     let q = requested author round (a .digest .now) (a .mark) (a .includes .now) (a .statements .now) in
-    sym (sized-includes q (bytes-of (a .includes .now) (λ j h. omega (arith, c .before .before .before .before .before .shared-slice-known2 .given j))) (c .if4 .taken))
+    sym (sized-includes q (bytes-of (a .includes .now) (λ j h. omega (arith, c .before .before .before .before .before .shared-slice-known2 .given j)))
+    (c .if4 .taken))
 
 -- src/lib.rt:72:40
 measure-requires : tie.Need-measure-requires
@@ -84,7 +85,11 @@ returns-6 c =
     let a = c .before .before .before .before .before .before .before .before .before .before .before .args in
     λ author round.
     let q = requested author round (a .digest .now) (a .mark) (a .includes .now) (a .statements .now) in
-    sym (sized-fits q (bytes-of (a .includes .now) (λ j h. omega (arith, c .before .before .before .before .before .before .before .before .before .shared-slice-known2 .given j))) (c .before .count .given .0 .0) (c .before .count .given .0 .1 .0) (c .before .before .before .before .before .before .before .if1 .left) (omega (arith, c .before .before .before .before .before .before .if2 .left)) (c .before .before .before .before .before .if3 .left) (omega (arith, c .before .before .before .before .if4 .left)) (sym (c .before .before .before .measure .ensures .0) ∙ c .before .count .given .1))
+    sym (sized-fits q (bytes-of (a .includes .now) (λ j h. omega
+    (arith, c .before .before .before .before .before .before .before .before .before .shared-slice-known2 .given j))) (c .before .count .given .0 .0)
+    (c .before .count .given .0 .1 .0) (c .before .before .before .before .before .before .before .if1 .left)
+    (omega (arith, c .before .before .before .before .before .before .if2 .left)) (c .before .before .before .before .before .if3 .left)
+    (omega (arith, c .before .before .before .before .if4 .left)) (sym (c .before .before .before .measure .ensures .0) ∙ c .before .count .given .1))
 
 pub measure-record-spec : {M : Type 1} → statement M
 measure-record-spec =

@@ -41,7 +41,8 @@ copy-to-requires c κs =
     let len = o .args .len in
     let all : start + len - start ≡ len = omega arith in
     let size : length (take len (drop start (o .args .s .now))) ≡ len = share-length (o .args .s .now) start len (o .pre .0) in
-    let kept : length (c .before .before .before .before .write-u16 .last .0) ≡ length (o .args .out .now) = c .before .before .before .before .write-u16 .kept .0 ∙ simp length-set in
+    let kept : length (c .before .before .before .before .write-u16 .last .0) ≡ length (o .args .out .now) = c .before .before .before .before .write-u16
+    .kept .0 ∙ simp length-set in
     rw all (omega (arith, size, kept, o .pre .1 .1))
 
 same-length : tie.Need-same-length
@@ -55,7 +56,8 @@ returns c =
     let v = take len (drop start (o .args .s .now)) in
     let all : start + len - start ≡ len = omega arith in
     c .before .before .copy-to .ensures
-    ∙ rw (c .before .before .before .before .before .before .before .write-u16 .ensures, all) (share-written (o .args .out .now) (o .args .at) v len (share-length (o .args .s .now) start len (o .pre .0)))
+    ∙ rw (c .before .before .before .before .before .before .before .write-u16 .ensures, all)
+    (share-written (o .args .out .now) (o .args .at) v len (share-length (o .args .s .now) start len (o .pre .0)))
 
 pub write-share-spec : {M : Type 1} → statement M
 write-share-spec =

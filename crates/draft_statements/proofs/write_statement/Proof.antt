@@ -54,7 +54,12 @@ slice-write-out c =
     let s = o .args .s .now in
     let out = o .args .out .now in
     let st = c .before .before .before .before .before .statement3 in
-    omega (arith, c .before .before .write-marked2 .kept .0, room-for s (o .args .statement) (o .args .at) (length out) (o .pre .0) (o .pre .1 .1) (Reject (st .given .0 .0)) (st .given .1))
+    omega (
+      arith,
+      c .before .before .write-marked2 .kept .0,
+      room-for s (o .args .statement) (o .args .at) (length out) (o .pre .0) (o .pre .1 .1)
+          (Reject (st .given .0 .0)) (st .given .1),
+    )
 
 enum-known-statement-4 : tie.Need-enum-known-statement-4
 enum-known-statement-4 c = search needs
@@ -66,7 +71,11 @@ write-marked-requires-3 c κs =
     let s = o .args .s .now in
     let out = o .args .out .now in
     let st = c .before .before .statement4 in
-    omega (arith, room-for s (o .args .statement) (o .args .at) (length out) (o .pre .0) (o .pre .1 .1) (RejectFor (st .given .0 .0) (st .given .0 .1 .0)) (st .given .1))
+    omega (
+      arith,
+      room-for s (o .args .statement) (o .args .at) (length out) (o .pre .0) (o .pre .1 .1) (RejectFor (st .given .0 .0) (st .given .0 .1 .0))
+          (st .given .1),
+    )
 
 add-write-marked : tie.Need-add-write-marked
 add-write-marked c = search needs
@@ -78,7 +87,12 @@ write-marked-requires-4 c κs =
     let s = o .args .s .now in
     let out = o .args .out .now in
     let st = c .before .before .before .before .before .before .statement4 in
-    omega (arith, c .before .before .before .write-marked3 .kept .0, room-for s (o .args .statement) (o .args .at) (length out) (o .pre .0) (o .pre .1 .1) (RejectFor (st .given .0 .0) (st .given .0 .1 .0)) (st .given .1))
+    omega (
+      arith,
+      c .before .before .before .write-marked3 .kept .0,
+      room-for s (o .args .statement) (o .args .at) (length out) (o .pre .0) (o .pre .1 .1)
+          (RejectFor (st .given .0 .0) (st .given .0 .1 .0)) (st .given .1),
+    )
 
 enum-known-statement-5 : tie.Need-enum-known-statement-5
 enum-known-statement-5 c = search needs
@@ -113,7 +127,8 @@ returns-3 : tie.Need-returns-3
 unfolding asStatement
 returns-3 c =
     let a = c .before .before .before .before .before .before .before .before .before .args in
-    rw (c .before .before .before .before .before .statement3 .given .1, c .before .before .write-marked2 .ensures) (reject-written (a .out .now) (a .at) (c .before .before .before .before .before .statement3 .given .0 .0))
+    rw (c .before .before .before .before .before .statement3 .given .1, c .before .before .write-marked2 .ensures)
+    (reject-written (a .out .now) (a .at) (c .before .before .before .before .before .statement3 .given .0 .0))
 
 same-length-4 : tie.Need-same-length-4
 same-length-4 c = search needs
@@ -123,7 +138,8 @@ unfolding asStatement
 returns-4 c =
     let a = c .before .before .before .before .before .before .before .before .before .before .before .before .before .args in
     let st = c .before .before .before .before .before .before .before .before .before .statement4 .given in
-    c .before .before .write-marked4 .ensures ∙ rw (st .1, c .before .before .before .before .before .before .write-marked3 .ensures) (reject-for-written (a .out .now) (a .at) (st .0 .0) (st .0 .1 .0))
+    c .before .before .write-marked4 .ensures ∙ rw (st .1, c .before .before .before .before .before .before .write-marked3 .ensures)
+    (reject-for-written (a .out .now) (a .at) (st .0 .0) (st .0 .1 .0))
 
 same-length-5 : tie.Need-same-length-5
 same-length-5 c = search needs

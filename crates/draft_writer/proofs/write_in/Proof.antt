@@ -30,7 +30,8 @@ unfolding asWriteAnswer
 returns c =
     let a = c .before .before .before .before .before .before .before .args in
     let q = requested (a .author .0) (a .round .0) (a .digest .now) (a .mark) (a .includes .now) (a .statements .now) in
-    let e = refuses-form (asTime (a .time)) q (a .out .now) (sym (c .before .before .measure-record .ensures (a .author .0) (a .round .0)) ∙ c .enum-told .given .1) in
+    let e = refuses-form (asTime (a .time)) q (a .out .now) (sym (c .before .before .measure-record .ensures (a .author .0) (a .round .0)) ∙ c .enum-told
+    .given .1) in
     (sym (ap (λ (w : Written). w .answer) e), sym (ap (λ (w : Written). w .out) e))
 
 time-size-requires : tie.Need-time-size-requires
@@ -43,8 +44,13 @@ returns-2 c =
     let q = requested (a .author .0) (a .round .0) (a .digest .now) (a .mark) (a .includes .now) (a .statements .now) in
     let count = c .before .before .before .count .given .0 .0 in
     let bytes = c .before .before .before .count .given .0 .1 .0 in
-    let all = bytes-of (a .includes .now) (λ j h. omega (arith, c .before .before .before .before .before .before .before .before .shared-slice-known2 .given j)) in
-    let plan : Plan q count bytes = planned q all count bytes (sym (c .before .before .before .before .before .measure-record .ensures (a .author .0) (a .round .0)) ∙ c .before .before .before .count .given .1) in
+    let all = bytes-of (a .includes .now) (λ j h. omega (
+      arith,
+      c .before .before .before .before .before .before .before .before .shared-slice-known2 .given
+          j,
+    )) in
+    let plan : Plan q count bytes = planned q all count bytes (sym
+    (c .before .before .before .before .before .measure-record .ensures (a .author .0) (a .round .0)) ∙ c .before .before .before .count .given .1) in
     let e = refuses-short (asTime (a .time)) q (a .out .now) count bytes plan (omega (arith, c .if1 .taken)) in
     (sym (ap (λ (w : Written). w .answer) e), sym (ap (λ (w : Written). w .out) e))
 
@@ -58,9 +64,16 @@ returns-3 c =
     let q = requested (a .author .0) (a .round .0) (a .digest .now) (a .mark) (a .includes .now) (a .statements .now) in
     let count = c .before .before .before .before .count .given .0 .0 in
     let bytes = c .before .before .before .before .count .given .0 .1 .0 in
-    let all = bytes-of (a .includes .now) (λ j h. omega (arith, c .before .before .before .before .before .before .before .before .before .shared-slice-known2 .given j)) in
-    let plan : Plan q count bytes = planned q all count bytes (sym (c .before .before .before .before .before .before .measure-record .ensures (a .author .0) (a .round .0)) ∙ c .before .before .before .before .count .given .1) in
-    let e = refuses-short (asTime (a .time)) q (a .out .now) count bytes plan (omega (arith, c .if2 .taken, c .before .if1 .left, c .before .before .time-size .ensures)) in
+    let all = bytes-of (a .includes .now) (λ j h. omega (
+      arith,
+      c .before .before .before .before .before .before .before .before .before .shared-slice-known2
+          .given j,
+    )) in
+    let plan : Plan q count bytes = planned q all count bytes (sym
+    (c .before .before .before .before .before .before .measure-record .ensures (a .author .0) (a .round .0)) ∙ c .before .before .before .before .count
+    .given .1) in
+    let e = refuses-short (asTime (a .time)) q (a .out .now) count bytes plan
+    (omega (arith, c .if2 .taken, c .before .if1 .left, c .before .before .time-size .ensures)) in
     (sym (ap (λ (w : Written). w .answer) e), sym (ap (λ (w : Written). w .out) e))
 
 write-front-requires : tie.Need-write-front-requires
@@ -70,8 +83,14 @@ write-front-requires c κs =
     let q = requested (a .author .0) (a .round .0) (a .digest .now) (a .mark) (a .includes .now) (a .statements .now) in
     let count = c .before .before .before .before .before .count .given .0 .0 in
     let bytes = c .before .before .before .before .before .count .given .0 .1 .0 in
-    let all = bytes-of (a .includes .now) (λ j h. omega (arith, c .before .before .before .before .before .before .before .before .before .before .shared-slice-known2 .given j)) in
-    let plan : Plan q count bytes = planned q all count bytes (sym (c .before .before .before .before .before .before .before .measure-record .ensures (a .author .0) (a .round .0)) ∙ c .before .before .before .before .before .count .given .1) in
+    let all = bytes-of (a .includes .now) (λ j h. omega (
+      arith,
+      c .before .before .before .before .before .before .before .before .before .before
+          .shared-slice-known2 .given j,
+    )) in
+    let plan : Plan q count bytes = planned q all count bytes (sym
+    (c .before .before .before .before .before .before .before .measure-record .ensures (a .author .0) (a .round .0)) ∙ c .before .before .before .before
+    .before .count .given .1) in
     (plan .digest, omega (arith, plan .size, c .before .before .if1 .left))
 
 cast-write-counts : tie.Need-cast-write-counts
@@ -81,8 +100,14 @@ cast-write-counts c =
     let q = requested (a .author .0) (a .round .0) (a .digest .now) (a .mark) (a .includes .now) (a .statements .now) in
     let count = c .before .before .before .before .before .before .before .before .before .count .given .0 .0 in
     let bytes = c .before .before .before .before .before .before .before .before .before .count .given .0 .1 .0 in
-    let all = bytes-of (a .includes .now) (λ j h. omega (arith, c .before .before .before .before .before .before .before .before .before .before .before .before .before .before .shared-slice-known2 .given j)) in
-    let plan : Plan q count bytes = planned q all count bytes (sym (c .before .before .before .before .before .before .before .before .before .before .before .measure-record .ensures (a .author .0) (a .round .0)) ∙ c .before .before .before .before .before .before .before .before .before .count .given .1) in
+    let all = bytes-of (a .includes .now) (λ j h. omega (
+      arith,
+      c .before .before .before .before .before .before .before .before .before .before .before
+          .before .before .before .shared-slice-known2 .given j,
+    )) in
+    let plan : Plan q count bytes = planned q all count bytes (sym
+    (c .before .before .before .before .before .before .before .before .before .before .before .measure-record .ensures (a .author .0) (a .round .0)) ∙ c
+    .before .before .before .before .before .before .before .before .before .count .given .1) in
     omega (arith, plan .mark)
 
 cast-write-counts-2 : tie.Need-cast-write-counts-2
@@ -92,8 +117,14 @@ cast-write-counts-2 c =
     let q = requested (a .author .0) (a .round .0) (a .digest .now) (a .mark) (a .includes .now) (a .statements .now) in
     let count = c .before .before .before .before .before .before .before .before .before .count .given .0 .0 in
     let bytes = c .before .before .before .before .before .before .before .before .before .count .given .0 .1 .0 in
-    let all = bytes-of (a .includes .now) (λ j h. omega (arith, c .before .before .before .before .before .before .before .before .before .before .before .before .before .before .shared-slice-known2 .given j)) in
-    let plan : Plan q count bytes = planned q all count bytes (sym (c .before .before .before .before .before .before .before .before .before .before .before .measure-record .ensures (a .author .0) (a .round .0)) ∙ c .before .before .before .before .before .before .before .before .before .count .given .1) in
+    let all = bytes-of (a .includes .now) (λ j h. omega (
+      arith,
+      c .before .before .before .before .before .before .before .before .before .before .before
+          .before .before .before .shared-slice-known2 .given j,
+    )) in
+    let plan : Plan q count bytes = planned q all count bytes (sym
+    (c .before .before .before .before .before .before .before .before .before .before .before .measure-record .ensures (a .author .0) (a .round .0)) ∙ c
+    .before .before .before .before .before .before .before .before .before .count .given .1) in
     omega (arith, plan .includes)
 
 cast-write-counts-3 : tie.Need-cast-write-counts-3
@@ -103,8 +134,14 @@ cast-write-counts-3 c =
     let q = requested (a .author .0) (a .round .0) (a .digest .now) (a .mark) (a .includes .now) (a .statements .now) in
     let count = c .before .before .before .before .before .before .before .before .before .count .given .0 .0 in
     let bytes = c .before .before .before .before .before .before .before .before .before .count .given .0 .1 .0 in
-    let all = bytes-of (a .includes .now) (λ j h. omega (arith, c .before .before .before .before .before .before .before .before .before .before .before .before .before .before .shared-slice-known2 .given j)) in
-    let plan : Plan q count bytes = planned q all count bytes (sym (c .before .before .before .before .before .before .before .before .before .before .before .measure-record .ensures (a .author .0) (a .round .0)) ∙ c .before .before .before .before .before .before .before .before .before .count .given .1) in
+    let all = bytes-of (a .includes .now) (λ j h. omega (
+      arith,
+      c .before .before .before .before .before .before .before .before .before .before .before
+          .before .before .before .shared-slice-known2 .given j,
+    )) in
+    let plan : Plan q count bytes = planned q all count bytes (sym
+    (c .before .before .before .before .before .before .before .before .before .before .before .measure-record .ensures (a .author .0) (a .round .0)) ∙ c
+    .before .before .before .before .before .before .before .before .before .count .given .1) in
     omega (arith, plan .few)
 
 write-counts-requires : tie.Need-write-counts-requires
@@ -114,86 +151,243 @@ write-counts-requires c κs =
     let q = requested (a .author .0) (a .round .0) (a .digest .now) (a .mark) (a .includes .now) (a .statements .now) in
     let count = c .before .before .before .before .before .before .before .before .before .count .given .0 .0 in
     let bytes = c .before .before .before .before .before .before .before .before .before .count .given .0 .1 .0 in
-    let all = bytes-of (a .includes .now) (λ j h. omega (arith, c .before .before .before .before .before .before .before .before .before .before .before .before .before .before .shared-slice-known2 .given j)) in
-    let plan : Plan q count bytes = planned q all count bytes (sym (c .before .before .before .before .before .before .before .before .before .before .before .measure-record .ensures (a .author .0) (a .round .0)) ∙ c .before .before .before .before .before .before .before .before .before .count .given .1) in
+    let all = bytes-of (a .includes .now) (λ j h. omega (
+      arith,
+      c .before .before .before .before .before .before .before .before .before .before .before
+          .before .before .before .shared-slice-known2 .given j,
+    )) in
+    let plan : Plan q count bytes = planned q all count bytes (sym
+    (c .before .before .before .before .before .before .before .before .before .before .before .measure-record .ensures (a .author .0) (a .round .0)) ∙ c
+    .before .before .before .before .before .before .before .before .before .count .given .1) in
     omega (arith, plan .size, c .before .before .before .before .before .before .if1 .left, c .before .before .before .write-front .kept .0)
 
 write-edition-requires : tie.Need-write-edition-requires
 unfolding requested
 write-edition-requires c κs =
-    let a = c .before .before .before .before .before .before .before .before .before .before .before .before .before .before .before .before .before .before .before .before .args in
+    let a = c .before .before .before .before .before .before .before .before .before .before .before .before .before .before .before .before .before .before
+    .before .before .args in
     let q = requested (a .author .0) (a .round .0) (a .digest .now) (a .mark) (a .includes .now) (a .statements .now) in
     let count = c .before .before .before .before .before .before .before .before .before .before .before .before .before .count .given .0 .0 in
     let bytes = c .before .before .before .before .before .before .before .before .before .before .before .before .before .count .given .0 .1 .0 in
-    let all = bytes-of (a .includes .now) (λ j h. omega (arith, c .before .before .before .before .before .before .before .before .before .before .before .before .before .before .before .before .before .before .shared-slice-known2 .given j)) in
-    let plan : Plan q count bytes = planned q all count bytes (sym (c .before .before .before .before .before .before .before .before .before .before .before .before .before .before .before .measure-record .ensures (a .author .0) (a .round .0)) ∙ c .before .before .before .before .before .before .before .before .before .before .before .before .before .count .given .1) in
-    omega (arith, plan .size, c .before .before .before .before .before .before .before .before .before .before .before .time-size .ensures, c .before .before .before .before .before .before .before .before .before .before .if1 .left, c .before .before .before .before .before .before .before .before .before .if2 .left, c .before .before .before .write-counts .kept .0, c .before .before .before .before .before .before .before .write-front .kept .0)
+    let all = bytes-of (a .includes .now) (λ j h. omega (
+      arith,
+      c .before .before .before .before .before .before .before .before .before .before .before
+          .before .before .before .before .before .before .before .shared-slice-known2 .given j,
+    )) in
+    let plan : Plan q count bytes = planned q all count bytes (sym
+    (c .before .before .before .before .before .before .before .before .before .before .before .before .before .before .before .measure-record .ensures
+    (a .author .0) (a .round .0)) ∙ c .before .before .before .before .before .before .before .before .before .before .before .before .before .count
+    .given .1) in
+    omega (
+      arith,
+      plan .size,
+      c .before .before .before .before .before .before .before .before .before .before .before .time-size .ensures,
+      c .before .before
+          .before .before .before .before .before .before .before .before .if1 .left,
+      c .before .before .before .before .before .before .before .before .before
+          .if2 .left,
+      c .before .before .before .write-counts .kept .0,
+      c .before .before .before .before .before .before .before .write-front .kept .0,
+    )
 
 add-copy-to : tie.Need-add-copy-to
 unfolding requested
 add-copy-to c =
-    let a = c .before .before .before .before .before .before .before .before .before .before .before .before .before .before .before .before .before .before .before .before .before .before .before .before .args in
+    let a = c .before .before .before .before .before .before .before .before .before .before .before .before .before .before .before .before .before .before
+    .before .before .before .before .before .before .args in
     let q = requested (a .author .0) (a .round .0) (a .digest .now) (a .mark) (a .includes .now) (a .statements .now) in
-    let count = c .before .before .before .before .before .before .before .before .before .before .before .before .before .before .before .before .before .count .given .0 .0 in
-    let bytes = c .before .before .before .before .before .before .before .before .before .before .before .before .before .before .before .before .before .count .given .0 .1 .0 in
-    let all = bytes-of (a .includes .now) (λ j h. omega (arith, c .before .before .before .before .before .before .before .before .before .before .before .before .before .before .before .before .before .before .before .before .before .before .shared-slice-known2 .given j)) in
-    let plan : Plan q count bytes = planned q all count bytes (sym (c .before .before .before .before .before .before .before .before .before .before .before .before .before .before .before .before .before .before .before .measure-record .ensures (a .author .0) (a .round .0)) ∙ c .before .before .before .before .before .before .before .before .before .before .before .before .before .before .before .before .before .count .given .1) in
-    omega (arith, plan .size, c .before .before .before .before .before .before .before .before .before .before .before .before .before .before .before .before .before .before .before .before .before .before .before .before .good .1 .1 .1 .1 .1 .1 .1 .0 .0, c .before .before .before .before .before .before .before .before .before .before .before .before .before .before .if1 .left, c .before .before .before .before .before .before .before .before .before .before .before .before .before .if2 .left)
+    let count = c .before .before .before .before .before .before .before .before .before .before .before .before .before .before .before .before .before
+    .count .given .0 .0 in
+    let bytes = c .before .before .before .before .before .before .before .before .before .before .before .before .before .before .before .before .before
+    .count .given .0 .1 .0 in
+    let all = bytes-of (a .includes .now) (λ j h. omega (
+      arith,
+      c .before .before .before .before .before .before .before .before .before .before .before
+          .before .before .before .before .before .before .before .before .before .before .before .shared-slice-known2 .given j,
+    )) in
+    let plan : Plan q count bytes = planned q all count bytes (sym
+    (c .before .before .before .before .before .before .before .before .before .before .before .before .before .before .before .before .before .before
+    .before .measure-record .ensures (a .author .0) (a .round .0)) ∙ c .before .before .before .before .before .before .before .before .before .before
+    .before .before .before .before .before .before .before .count .given .1) in
+    omega (
+      arith,
+      plan .size,
+      c .before .before .before .before .before .before .before .before .before .before .before .before .before .before .before
+          .before .before .before .before .before .before .before .before .before .good .1 .1 .1 .1 .1 .1 .1 .0 .0,
+      c .before .before .before .before .before
+          .before .before .before .before .before .before .before .before .before .if1 .left,
+      c .before .before .before .before .before .before .before .before
+          .before .before .before .before .before .if2 .left,
+    )
 
 copy-to-requires : tie.Need-copy-to-requires
 unfolding requested
 copy-to-requires c κs =
-    let a = c .before .before .before .before .before .before .before .before .before .before .before .before .before .before .before .before .before .before .before .before .before .before .before .before .args in
+    let a = c .before .before .before .before .before .before .before .before .before .before .before .before .before .before .before .before .before .before
+    .before .before .before .before .before .before .args in
     let q = requested (a .author .0) (a .round .0) (a .digest .now) (a .mark) (a .includes .now) (a .statements .now) in
-    let count = c .before .before .before .before .before .before .before .before .before .before .before .before .before .before .before .before .before .count .given .0 .0 in
-    let bytes = c .before .before .before .before .before .before .before .before .before .before .before .before .before .before .before .before .before .count .given .0 .1 .0 in
-    let all = bytes-of (a .includes .now) (λ j h. omega (arith, c .before .before .before .before .before .before .before .before .before .before .before .before .before .before .before .before .before .before .before .before .before .before .shared-slice-known2 .given j)) in
-    let plan : Plan q count bytes = planned q all count bytes (sym (c .before .before .before .before .before .before .before .before .before .before .before .before .before .before .before .before .before .before .before .measure-record .ensures (a .author .0) (a .round .0)) ∙ c .before .before .before .before .before .before .before .before .before .before .before .before .before .before .before .before .before .count .given .1) in
-    omega (arith, plan .size, c .before .before .before .before .before .before .before .before .before .before .before .before .before .before .before .time-size .ensures, c .before .before .before .before .before .before .before .before .before .before .before .before .before .before .if1 .left, c .before .before .before .before .before .before .before .before .before .before .before .before .before .if2 .left, c .before .before .before .write-edition .kept .0, c .before .before .before .before .before .before .before .write-counts .kept .0, c .before .before .before .before .before .before .before .before .before .before .before .write-front .kept .0)
+    let count = c .before .before .before .before .before .before .before .before .before .before .before .before .before .before .before .before .before
+    .count .given .0 .0 in
+    let bytes = c .before .before .before .before .before .before .before .before .before .before .before .before .before .before .before .before .before
+    .count .given .0 .1 .0 in
+    let all = bytes-of (a .includes .now) (λ j h. omega (
+      arith,
+      c .before .before .before .before .before .before .before .before .before .before .before
+          .before .before .before .before .before .before .before .before .before .before .before .shared-slice-known2 .given j,
+    )) in
+    let plan : Plan q count bytes = planned q all count bytes (sym
+    (c .before .before .before .before .before .before .before .before .before .before .before .before .before .before .before .before .before .before
+    .before .measure-record .ensures (a .author .0) (a .round .0)) ∙ c .before .before .before .before .before .before .before .before .before .before
+    .before .before .before .before .before .before .before .count .given .1) in
+    omega (
+      arith,
+      plan .size,
+      c .before .before .before .before .before .before .before .before .before .before .before .before .before .before .before
+          .time-size .ensures,
+      c .before .before .before .before .before .before .before .before .before .before .before .before .before .before .if1 .left,
+      c
+          .before .before .before .before .before .before .before .before .before .before .before .before .before .if2 .left,
+      c .before .before .before
+          .write-edition .kept .0,
+      c .before .before .before .before .before .before .before .write-counts .kept .0,
+      c .before .before .before .before .before
+          .before .before .before .before .before .before .write-front .kept .0,
+    )
 
 add-write-statements : tie.Need-add-write-statements
 unfolding requested
 add-write-statements c =
-    let a = c .before .before .before .before .before .before .before .before .before .before .before .before .before .before .before .before .before .before .before .before .before .before .before .before .before .before .before .before .args in
+    let a = c .before .before .before .before .before .before .before .before .before .before .before .before .before .before .before .before .before .before
+    .before .before .before .before .before .before .before .before .before .before .args in
     let q = requested (a .author .0) (a .round .0) (a .digest .now) (a .mark) (a .includes .now) (a .statements .now) in
-    let count = c .before .before .before .before .before .before .before .before .before .before .before .before .before .before .before .before .before .before .before .before .before .count .given .0 .0 in
-    let bytes = c .before .before .before .before .before .before .before .before .before .before .before .before .before .before .before .before .before .before .before .before .before .count .given .0 .1 .0 in
-    let all = bytes-of (a .includes .now) (λ j h. omega (arith, c .before .before .before .before .before .before .before .before .before .before .before .before .before .before .before .before .before .before .before .before .before .before .before .before .before .before .shared-slice-known2 .given j)) in
-    let plan : Plan q count bytes = planned q all count bytes (sym (c .before .before .before .before .before .before .before .before .before .before .before .before .before .before .before .before .before .before .before .before .before .before .before .measure-record .ensures (a .author .0) (a .round .0)) ∙ c .before .before .before .before .before .before .before .before .before .before .before .before .before .before .before .before .before .before .before .before .before .count .given .1) in
-    omega (arith, plan .size, c .before .before .before .before .before .before .before .before .before .before .before .before .before .before .before .before .before .before .before .before .before .before .before .before .before .before .before .before .good .1 .1 .1 .1 .1 .1 .1 .0 .0, c .before .before .before .before .before .before .before .before .before .before .before .before .before .before .before .before .before .before .if1 .left, c .before .before .before .before .before .before .before .before .before .before .before .before .before .before .before .before .before .if2 .left)
+    let count = c .before .before .before .before .before .before .before .before .before .before .before .before .before .before .before .before .before
+    .before .before .before .before .count .given .0 .0 in
+    let bytes = c .before .before .before .before .before .before .before .before .before .before .before .before .before .before .before .before .before
+    .before .before .before .before .count .given .0 .1 .0 in
+    let all = bytes-of (a .includes .now) (λ j h. omega (
+      arith,
+      c .before .before .before .before .before .before .before .before .before .before .before
+          .before .before .before .before .before .before .before .before .before .before .before .before .before .before .before .shared-slice-known2 .given
+          j,
+    )) in
+    let plan : Plan q count bytes = planned q all count bytes (sym
+    (c .before .before .before .before .before .before .before .before .before .before .before .before .before .before .before .before .before .before
+    .before .before .before .before .before .measure-record .ensures (a .author .0) (a .round .0)) ∙ c .before .before .before .before .before .before
+    .before .before .before .before .before .before .before .before .before .before .before .before .before .before .before .count .given .1) in
+    omega (
+      arith,
+      plan .size,
+      c .before .before .before .before .before .before .before .before .before .before .before .before .before .before .before
+          .before .before .before .before .before .before .before .before .before .before .before .before .before .good .1 .1 .1 .1 .1 .1 .1 .0 .0,
+      c .before
+          .before .before .before .before .before .before .before .before .before .before .before .before .before .before .before .before .before .if1 .left,
+      c
+          .before .before .before .before .before .before .before .before .before .before .before .before .before .before .before .before .before .if2 .left,
+    )
 
 add-write-statements-2 : tie.Need-add-write-statements-2
 unfolding requested
 add-write-statements-2 c =
-    let a = c .before .before .before .before .before .before .before .before .before .before .before .before .before .before .before .before .before .before .before .before .before .before .before .before .before .before .before .before .args in
+    let a = c .before .before .before .before .before .before .before .before .before .before .before .before .before .before .before .before .before .before
+    .before .before .before .before .before .before .before .before .before .before .args in
     let q = requested (a .author .0) (a .round .0) (a .digest .now) (a .mark) (a .includes .now) (a .statements .now) in
-    let count = c .before .before .before .before .before .before .before .before .before .before .before .before .before .before .before .before .before .before .before .before .before .count .given .0 .0 in
-    let bytes = c .before .before .before .before .before .before .before .before .before .before .before .before .before .before .before .before .before .before .before .before .before .count .given .0 .1 .0 in
-    let all = bytes-of (a .includes .now) (λ j h. omega (arith, c .before .before .before .before .before .before .before .before .before .before .before .before .before .before .before .before .before .before .before .before .before .before .before .before .before .before .shared-slice-known2 .given j)) in
-    let plan : Plan q count bytes = planned q all count bytes (sym (c .before .before .before .before .before .before .before .before .before .before .before .before .before .before .before .before .before .before .before .before .before .before .before .measure-record .ensures (a .author .0) (a .round .0)) ∙ c .before .before .before .before .before .before .before .before .before .before .before .before .before .before .before .before .before .before .before .before .before .count .given .1) in
-    omega (arith, plan .size, c .before .before .before .before .before .before .before .before .before .before .before .before .before .before .before .before .before .before .before .before .before .before .before .before .before .before .before .before .good .1 .1 .1 .1 .1 .1 .1 .0 .0, c .before .before .before .before .before .before .before .before .before .before .before .before .before .before .before .before .before .before .if1 .left, c .before .before .before .before .before .before .before .before .before .before .before .before .before .before .before .before .before .if2 .left)
+    let count = c .before .before .before .before .before .before .before .before .before .before .before .before .before .before .before .before .before
+    .before .before .before .before .count .given .0 .0 in
+    let bytes = c .before .before .before .before .before .before .before .before .before .before .before .before .before .before .before .before .before
+    .before .before .before .before .count .given .0 .1 .0 in
+    let all = bytes-of (a .includes .now) (λ j h. omega (
+      arith,
+      c .before .before .before .before .before .before .before .before .before .before .before
+          .before .before .before .before .before .before .before .before .before .before .before .before .before .before .before .shared-slice-known2 .given
+          j,
+    )) in
+    let plan : Plan q count bytes = planned q all count bytes (sym
+    (c .before .before .before .before .before .before .before .before .before .before .before .before .before .before .before .before .before .before
+    .before .before .before .before .before .measure-record .ensures (a .author .0) (a .round .0)) ∙ c .before .before .before .before .before .before
+    .before .before .before .before .before .before .before .before .before .before .before .before .before .before .before .count .given .1) in
+    omega (
+      arith,
+      plan .size,
+      c .before .before .before .before .before .before .before .before .before .before .before .before .before .before .before
+          .before .before .before .before .before .before .before .before .before .before .before .before .before .good .1 .1 .1 .1 .1 .1 .1 .0 .0,
+      c .before
+          .before .before .before .before .before .before .before .before .before .before .before .before .before .before .before .before .before .if1 .left,
+      c
+          .before .before .before .before .before .before .before .before .before .before .before .before .before .before .before .before .before .if2 .left,
+    )
 
 write-statements-requires : tie.Need-write-statements-requires
 unfolding requested
 write-statements-requires c κs =
-    let a = c .before .before .before .before .before .before .before .before .before .before .before .before .before .before .before .before .before .before .before .before .before .before .before .before .before .before .before .before .args in
+    let a = c .before .before .before .before .before .before .before .before .before .before .before .before .before .before .before .before .before .before
+    .before .before .before .before .before .before .before .before .before .before .args in
     let q = requested (a .author .0) (a .round .0) (a .digest .now) (a .mark) (a .includes .now) (a .statements .now) in
-    let count = c .before .before .before .before .before .before .before .before .before .before .before .before .before .before .before .before .before .before .before .before .before .count .given .0 .0 in
-    let bytes = c .before .before .before .before .before .before .before .before .before .before .before .before .before .before .before .before .before .before .before .before .before .count .given .0 .1 .0 in
-    let all = bytes-of (a .includes .now) (λ j h. omega (arith, c .before .before .before .before .before .before .before .before .before .before .before .before .before .before .before .before .before .before .before .before .before .before .before .before .before .before .shared-slice-known2 .given j)) in
-    let plan : Plan q count bytes = planned q all count bytes (sym (c .before .before .before .before .before .before .before .before .before .before .before .before .before .before .before .before .before .before .before .before .before .before .before .measure-record .ensures (a .author .0) (a .round .0)) ∙ c .before .before .before .before .before .before .before .before .before .before .before .before .before .before .before .before .before .before .before .before .before .count .given .1) in
-    (plan .writes, omega (arith, plan .size, c .before .before .before .before .before .before .before .before .before .before .before .before .before .before .before .before .before .before .before .time-size .ensures, c .before .before .before .before .before .before .before .before .before .before .before .before .before .before .before .before .before .before .if1 .left, c .before .before .before .before .before .before .before .before .before .before .before .before .before .before .before .before .before .if2 .left, c .before .before .before .copy-to .kept .0, c .before .before .before .before .before .before .before .write-edition .kept .0, c .before .before .before .before .before .before .before .before .before .before .before .write-counts .kept .0, c .before .before .before .before .before .before .before .before .before .before .before .before .before .before .before .write-front .kept .0))
+    let count = c .before .before .before .before .before .before .before .before .before .before .before .before .before .before .before .before .before
+    .before .before .before .before .count .given .0 .0 in
+    let bytes = c .before .before .before .before .before .before .before .before .before .before .before .before .before .before .before .before .before
+    .before .before .before .before .count .given .0 .1 .0 in
+    let all = bytes-of (a .includes .now) (λ j h. omega (
+      arith,
+      c .before .before .before .before .before .before .before .before .before .before .before
+          .before .before .before .before .before .before .before .before .before .before .before .before .before .before .before .shared-slice-known2 .given
+          j,
+    )) in
+    let plan : Plan q count bytes = planned q all count bytes (sym
+    (c .before .before .before .before .before .before .before .before .before .before .before .before .before .before .before .before .before .before
+    .before .before .before .before .before .measure-record .ensures (a .author .0) (a .round .0)) ∙ c .before .before .before .before .before .before
+    .before .before .before .before .before .before .before .before .before .before .before .before .before .before .before .count .given .1) in (
+      plan .writes,
+      omega (
+        arith,
+        plan .size,
+        c .before .before .before .before .before .before .before .before .before .before .before .before .before .before
+            .before .before .before .before .before .time-size .ensures,
+        c .before .before .before .before .before .before .before .before .before .before .before
+            .before .before .before .before .before .before .before .if1 .left,
+        c .before .before .before .before .before .before .before .before .before .before
+            .before .before .before .before .before .before .before .if2 .left,
+        c .before .before .before .copy-to .kept .0,
+        c .before .before .before .before
+            .before .before .before .write-edition .kept .0,
+        c .before .before .before .before .before .before .before .before .before .before .before
+            .write-counts .kept .0,
+        c .before .before .before .before .before .before .before .before .before .before .before .before .before .before .before
+            .write-front .kept .0,
+      ),
+    )
 
 add-t15 : tie.Need-add-t15
 unfolding requested
 add-t15 c =
-    let a = c .before .before .before .before .before .before .before .before .before .before .before .before .before .before .before .before .before .before .before .before .before .before .before .before .before .before .before .before .before .before .before .args in
+    let a = c .before .before .before .before .before .before .before .before .before .before .before .before .before .before .before .before .before .before
+    .before .before .before .before .before .before .before .before .before .before .before .before .before .args in
     let q = requested (a .author .0) (a .round .0) (a .digest .now) (a .mark) (a .includes .now) (a .statements .now) in
-    let count = c .before .before .before .before .before .before .before .before .before .before .before .before .before .before .before .before .before .before .before .before .before .before .before .before .count .given .0 .0 in
-    let bytes = c .before .before .before .before .before .before .before .before .before .before .before .before .before .before .before .before .before .before .before .before .before .before .before .before .count .given .0 .1 .0 in
-    let all = bytes-of (a .includes .now) (λ j h. omega (arith, c .before .before .before .before .before .before .before .before .before .before .before .before .before .before .before .before .before .before .before .before .before .before .before .before .before .before .before .before .before .shared-slice-known2 .given j)) in
-    let plan : Plan q count bytes = planned q all count bytes (sym (c .before .before .before .before .before .before .before .before .before .before .before .before .before .before .before .before .before .before .before .before .before .before .before .before .before .before .measure-record .ensures (a .author .0) (a .round .0)) ∙ c .before .before .before .before .before .before .before .before .before .before .before .before .before .before .before .before .before .before .before .before .before .before .before .before .count .given .1) in
-    omega (arith, plan .size, c .before .before .before .before .before .before .before .before .before .before .before .before .before .before .before .before .before .before .before .before .before .before .before .before .before .before .before .before .before .before .before .good .1 .1 .1 .1 .1 .1 .1 .0 .0, c .before .before .before .before .before .before .before .before .before .before .before .before .before .before .before .before .before .before .before .before .before .if1 .left, c .before .before .before .before .before .before .before .before .before .before .before .before .before .before .before .before .before .before .before .before .if2 .left)
+    let count = c .before .before .before .before .before .before .before .before .before .before .before .before .before .before .before .before .before
+    .before .before .before .before .before .before .before .count .given .0 .0 in
+    let bytes = c .before .before .before .before .before .before .before .before .before .before .before .before .before .before .before .before .before
+    .before .before .before .before .before .before .before .count .given .0 .1 .0 in
+    let all = bytes-of (a .includes .now) (λ j h. omega (
+      arith,
+      c .before .before .before .before .before .before .before .before .before .before .before
+          .before .before .before .before .before .before .before .before .before .before .before .before .before .before .before .before .before .before
+          .shared-slice-known2 .given j,
+    )) in
+    let plan : Plan q count bytes = planned q all count bytes (sym
+    (c .before .before .before .before .before .before .before .before .before .before .before .before .before .before .before .before .before .before
+    .before .before .before .before .before .before .before .before .measure-record .ensures (a .author .0) (a .round .0)) ∙ c .before .before .before
+    .before .before .before .before .before .before .before .before .before .before .before .before .before .before .before .before .before .before
+    .before .before .before .count .given .1) in
+    omega (
+      arith,
+      plan .size,
+      c .before .before .before .before .before .before .before .before .before .before .before .before .before .before .before
+          .before .before .before .before .before .before .before .before .before .before .before .before .before .before .before .before .good .1 .1 .1 .1 .1
+          .1 .1 .0 .0,
+      c .before .before .before .before .before .before .before .before .before .before .before .before .before .before .before .before .before
+          .before .before .before .before .if1 .left,
+      c .before .before .before .before .before .before .before .before .before .before .before .before .before
+          .before .before .before .before .before .before .before .if2 .left,
+    )
 
 same-length : tie.Need-same-length
 same-length c = search needs
@@ -201,24 +395,67 @@ same-length c = search needs
 returns-4 : tie.Need-returns-4
 unfolding asWriteAnswer requested
 returns-4 c =
-    let a = c .before .before .before .before .before .before .before .before .before .before .before .before .before .before .before .before .before .before .before .before .before .before .before .before .before .before .before .before .before .before .before .args in
+    let a = c .before .before .before .before .before .before .before .before .before .before .before .before .before .before .before .before .before .before
+    .before .before .before .before .before .before .before .before .before .before .before .before .before .args in
     let q = requested (a .author .0) (a .round .0) (a .digest .now) (a .mark) (a .includes .now) (a .statements .now) in
-    let count = c .before .before .before .before .before .before .before .before .before .before .before .before .before .before .before .before .before .before .before .before .before .before .before .before .count .given .0 .0 in
-    let bytes = c .before .before .before .before .before .before .before .before .before .before .before .before .before .before .before .before .before .before .before .before .before .before .before .before .count .given .0 .1 .0 in
-    let all = bytes-of (a .includes .now) (λ j h. omega (arith, c .before .before .before .before .before .before .before .before .before .before .before .before .before .before .before .before .before .before .before .before .before .before .before .before .before .before .before .before .before .shared-slice-known2 .given j)) in
-    let plan : Plan q count bytes = planned q all count bytes (sym (c .before .before .before .before .before .before .before .before .before .before .before .before .before .before .before .before .before .before .before .before .before .before .before .before .before .before .measure-record .ensures (a .author .0) (a .round .0)) ∙ c .before .before .before .before .before .before .before .before .before .before .before .before .before .before .before .before .before .before .before .before .before .before .before .before .count .given .1) in
+    let count = c .before .before .before .before .before .before .before .before .before .before .before .before .before .before .before .before .before
+    .before .before .before .before .before .before .before .count .given .0 .0 in
+    let bytes = c .before .before .before .before .before .before .before .before .before .before .before .before .before .before .before .before .before
+    .before .before .before .before .before .before .before .count .given .0 .1 .0 in
+    let all = bytes-of (a .includes .now) (λ j h. omega (
+      arith,
+      c .before .before .before .before .before .before .before .before .before .before .before
+          .before .before .before .before .before .before .before .before .before .before .before .before .before .before .before .before .before .before
+          .shared-slice-known2 .given j,
+    )) in
+    let plan : Plan q count bytes = planned q all count bytes (sym
+    (c .before .before .before .before .before .before .before .before .before .before .before .before .before .before .before .before .before .before
+    .before .before .before .before .before .before .before .before .measure-record .ensures (a .author .0) (a .round .0)) ∙ c .before .before .before
+    .before .before .before .before .before .before .before .before .before .before .before .before .before .before .before .before .before .before
+    .before .before .before .count .given .1) in
     let o = asTime (a .time) in
     let out = a .out .now in
-    let extra = c .before .before .before .before .before .before .before .before .before .before .before .before .before .before .before .before .before .before .before .before .before .before .time-size .ensures in
-    let room : bytes + length (timeBytes o) ≤ length out = omega (arith, c .before .before .before .before .before .before .before .before .before .before .before .before .before .before .before .before .before .before .before .before .before .before .time-size .ensures, c .before .before .before .before .before .before .before .before .before .before .before .before .before .before .before .before .before .before .before .before .before .if1 .left, c .before .before .before .before .before .before .before .before .before .before .before .before .before .before .before .before .before .before .before .before .if2 .left, plan .size) in
+    let extra = c .before .before .before .before .before .before .before .before .before .before .before .before .before .before .before .before .before
+    .before .before .before .before .before .time-size .ensures in
+    let room : bytes + length (timeBytes o) ≤ length out = omega (
+      arith,
+      c .before .before .before .before .before .before .before .before .before .before .before .before .before .before .before .before .before
+          .before .before .before .before .before .time-size .ensures,
+      c .before .before .before .before .before .before .before .before .before .before .before
+          .before .before .before .before .before .before .before .before .before .before .if1 .left,
+      c .before .before .before .before .before .before .before
+          .before .before .before .before .before .before .before .before .before .before .before .before .before .if2 .left,
+      plan .size,
+    ) in
     let e = rw (plan .are o) at (writes-record o q out count bytes plan room) in
     let front = frontBytes (a .author .0) (a .round .0) (a .digest .now) in
     let counts = countBytes (a .mark) (length (a .includes .now) / 48) count in
     let body = bytesIn (joinedFrom (a .statements .now) 0) in
-    let parts = record-written out front counts (partBytes o) (a .includes .now) body (length (timeBytes o)) (length (a .includes .now)) (length-front (a .author .0) (a .round .0) (a .digest .now) (plan .digest)) (length-counts (a .mark) (length (a .includes .now) / 48) count) (length-part o) refl (omega (arith, plan .size, c .before .before .before .before .before .before .before .before .before .before .before .before .before .before .before .before .before .before .before .before .before .before .time-size .ensures, c .before .before .before .before .before .before .before .before .before .before .before .before .before .before .before .before .before .before .before .before .before .if1 .left, c .before .before .before .before .before .before .before .before .before .before .before .before .before .before .before .before .before .before .before .before .if2 .left)) in (
+    let parts = record-written out front counts (partBytes o) (a .includes .now) body (length (timeBytes o)) (length (a .includes .now))
+    (length-front (a .author .0) (a .round .0) (a .digest .now) (plan .digest)) (length-counts (a .mark) (length (a .includes .now) / 48) count)
+    (length-part o) refl (omega (
+      arith,
+      plan .size,
+      c .before .before .before .before .before .before .before .before .before .before .before .before
+          .before .before .before .before .before .before .before .before .before .before .time-size .ensures,
+      c .before .before .before .before .before .before
+          .before .before .before .before .before .before .before .before .before .before .before .before .before .before .before .if1 .left,
+      c .before .before
+          .before .before .before .before .before .before .before .before .before .before .before .before .before .before .before .before .before .before .if2
+          .left,
+    )) in (
       rw extra (sym (ap (λ (w : Written). w .answer) e)),
       c .before .before .write-statements .ensures
-          ∙ rw (c .before .before .before .before .before .before .copy-to .ensures, c .before .before .before .before .before .before .before .before .before .before .write-edition .ensures, c .before .before .before .before .before .before .before .before .before .before .before .before .before .before .write-counts .ensures, c .before .before .before .before .before .before .before .before .before .before .before .before .before .before .before .before .before .before .write-front .ensures, extra) parts
+          ∙ rw (
+            c .before .before .before .before .before .before .copy-to .ensures,
+            c .before .before .before .before .before .before .before .before .before
+                .before .write-edition .ensures,
+            c .before .before .before .before .before .before .before .before .before .before .before .before .before
+                .before .write-counts .ensures,
+            c .before .before .before .before .before .before .before .before .before .before .before .before .before
+                .before .before .before .before .before .write-front .ensures,
+            extra,
+          ) parts
           ∙ sym (ap (λ (w : Written). w .out) e),
     )
 

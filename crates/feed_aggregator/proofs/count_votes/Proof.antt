@@ -39,7 +39,11 @@ loop-holds c =
     (rw z (counting-start _ _ _ _ _ _ _ (h .author-known) (h .table) (o .pre .1 .1 .0)), placed r (c .first-statement .result) 0 e, omega (arith, z))
 
 next-statement-requires : tie.Need-next-statement-requires Inv-loop μ-loop
-next-statement-requires c κs = let l = c .before .before in (c .before .before .before .before .before .before .before .before .before .before .before .pre .0 .formed, (l .loop .inv .1, omega (arith, c .before .before .before .before .statement-count .ensures, c .if1 .taken)))
+next-statement-requires c κs = let l = c .before .before in (
+  c .before .before .before .before .before .before .before .before .before .before .before .pre .0
+      .formed,
+  (l .loop .inv .1, omega (arith, c .before .before .before .before .statement-count .ensures, c .if1 .taken)),
+)
 
 vote-statement-requires : tie.Need-vote-statement-requires Inv-loop μ-loop
 vote-statement-requires c κs =
@@ -49,55 +53,114 @@ vote-statement-requires c κs =
     let s = o .args .rec .now in
     let ss = blockIn s .statements in
     let i = l .loop .cursor .index in
-    let inside : i < length ss = omega (arith, c .before .before .before .before .before .before .before .statement-count .ensures, c .before .before .before .if1 .taken) in
+    let inside : i < length ss = omega (
+      arith,
+      c .before .before .before .before .before .before .before .statement-count .ensures,
+      c .before .before .before
+          .if1 .taken,
+    ) in
     let n = c .before .before .next-statement in (
-      record { committee = h .committee; stake = h .stake; store = h .store; formed = h .formed; new = h .new; author-known = h .author-known; table = counting-order _ _ _ _ _ _ _ (h .author-known) (h .table) _ _ _ _ (l .loop .inv .0) },
+      record {
+        committee = h .committee;
+        stake = h .stake;
+        store = h .store;
+        formed = h .formed;
+        new = h .new;
+        author-known = h .author-known;
+        table =
+            counting-order _ _ _ _ _ _ _ (h .author-known) (h .table) _ _ _ _ (l .loop .inv .0);
+      },
       (
         rw (← checks-any s (n .result .statement), n .ensures .0) (passes-at ss i (o .pre .1 .0) inside),
-        (λ q. omega (arith, l .loop .inv .0 .enough q, counted-on ss i inside, ap (λ (x : Statement). countedOffsets (votedRange x)) (n .ensures .0), stated-long _ _ _ _ _ (l .loop .inv .0 .stated)), o .pre .1 .1 .1),
+        (
+          λ q. omega (
+            arith,
+            l .loop .inv .0 .enough q,
+            counted-on ss i inside,
+            ap (λ (x : Statement). countedOffsets (votedRange x)) (n .ensures .0),
+            stated-long _ _ _ _ _ (l .loop .inv .0 .stated),
+          ),
+          o .pre .1 .1 .1,
+        ),
       ),
     )
 
 same-length : tie.Need-same-length Inv-loop μ-loop
-same-length c = let h = c .before .before .before .before .before .before .before .before .before .before .before .before .before .before .before .before .before .before .before .before .before .pre .0 in c .before .before .before .before .before .before .vote-statement .kept .1 .1 .1 .1 .1 .0 ∙ counting-long _ _ _ _ _ _ _ (h .author-known) (h .table) _ _ _ _ (c .before .before .before .before .before .before .before .before .before .before .before .before .loop .inv .0)
+same-length c = let h = c .before .before .before .before .before .before .before .before .before .before .before .before .before .before .before .before
+    .before .before .before .before .before .pre .0 in c .before .before .before .before .before .before .vote-statement .kept .1 .1 .1 .1 .1 .0 ∙
+    counting-long _ _ _ _ _ _ _ (h .author-known) (h .table) _ _ _ _
+    (c .before .before .before .before .before .before .before .before .before .before .before .before .loop .inv .0)
 
 same-length-2 : tie.Need-same-length-2 Inv-loop μ-loop
-same-length-2 c = c .before .before .before .before .before .before .vote-statement .kept .1 .1 .1 .1 .1 .1 .0 ∙ stated-long _ _ _ _ _ (c .before .before .before .before .before .before .before .before .before .before .before .before .loop .inv .0 .stated)
+same-length-2 c = c .before .before .before .before .before .before .vote-statement .kept .1 .1 .1 .1 .1 .1 .0 ∙ stated-long _ _ _ _ _
+    (c .before .before .before .before .before .before .before .before .before .before .before .before .loop .inv .0 .stated)
 
 returns : tie.Need-returns Inv-loop μ-loop
 returns c =
-    let o = c .before .before .before .before .before .before .before .before .before .before .before .before .before .before .before .before .before .before .before .before .before in
+    let o = c .before .before .before .before .before .before .before .before .before .before .before .before .before .before .before .before .before .before
+    .before .before .before in
     let h = o .pre .0 in
     let l = c .before .before .before .before .before .before .before .before .before .before .before .before in
     let ss = blockIn (o .args .rec .now) .statements in
-    let inside : l .loop .cursor .index < length ss = omega (arith, c .before .before .before .before .before .before .before .before .before .before .before .before .before .before .statement-count .ensures, c .before .before .before .before .before .before .before .before .before .before .if1 .taken) in
-    counting-stop _ _ _ _ _ _ _ (h .author-known) (h .table) _ _ _ _ (l .loop .inv .0) _ inside (c .before .before .before .before .before .before .before .before .before .next-statement .ensures .0) _ _ _ (c .before .before .before .before .before .before .vote-statement .ensures) (not-true _ (c .if2 .taken))
+    let inside : l .loop .cursor .index < length ss = omega (
+      arith,
+      c .before .before .before .before .before .before .before .before .before .before .before
+          .before .before .before .statement-count .ensures,
+      c .before .before .before .before .before .before .before .before .before .before .if1 .taken,
+    ) in
+    counting-stop _ _ _ _ _ _ _ (h .author-known) (h .table) _ _ _ _ (l .loop .inv .0) _ inside
+    (c .before .before .before .before .before .before .before .before .before .next-statement .ensures .0) _ _ _
+    (c .before .before .before .before .before .before .vote-statement .ensures) (not-true _ (c .if2 .taken))
 
 loop-less : tie.Need-loop-less Inv-loop μ-loop
 loop-less c =
-    let r = c .before .before .before .before .before .before .before .before .before .before .before .before .before .before .before .before .before .before .before .before .before .before .args .rec .now in
-    omega (arith, placed-index r (c .before .before .before .before .before .before .before .before .before .before .next-statement .result .next) (c .before .before .before .before .before .before .before .before .before .before .before .before .before .loop .cursor .index + 1) (c .before .before .before .before .before .before .before .before .before .before .next-statement .ensures .1 .0), c .before .before .before .before .before .before .before .before .before .before .before .before .before .before .before .statement-count .ensures, c .before .before .before .before .before .before .before .before .before .before .before .if1 .taken)
+    let r = c .before .before .before .before .before .before .before .before .before .before .before .before .before .before .before .before .before .before
+    .before .before .before .before .args .rec .now in
+    omega (
+      arith,
+      placed-index r (c .before .before .before .before .before .before .before .before .before .before .next-statement .result .next)
+          (c .before .before .before .before .before .before .before .before .before .before .before .before .before .loop .cursor .index + 1)
+          (c .before .before .before .before .before .before .before .before .before .before .next-statement .ensures .1 .0),
+      c .before .before .before .before
+          .before .before .before .before .before .before .before .before .before .before .before .statement-count .ensures,
+      c .before .before .before .before
+          .before .before .before .before .before .before .before .if1 .taken,
+    )
 
 loop-again : tie.Need-loop-again Inv-loop μ-loop
 loop-again c =
-    let o = c .before .before .before .before .before .before .before .before .before .before .before .before .before .before .before .before .before .before .before .before .before .before in
+    let o = c .before .before .before .before .before .before .before .before .before .before .before .before .before .before .before .before .before .before
+    .before .before .before .before in
     let h = o .pre .0 in
     let l = c .before .before .before .before .before .before .before .before .before .before .before .before .before in
     let r = o .args .rec .now in
     let n = c .before .before .before .before .before .before .before .before .before .before .next-statement in
-    let inside : l .loop .cursor .index < length (blockIn r .statements) = omega (arith, c .before .before .before .before .before .before .before .before .before .before .before .before .before .before .before .statement-count .ensures, c .before .before .before .before .before .before .before .before .before .before .before .if1 .taken) in
+    let inside : l .loop .cursor .index < length (blockIn r .statements) = omega (
+      arith,
+      c .before .before .before .before .before .before .before .before .before .before .before .before .before .before .before .statement-count
+          .ensures,
+      c .before .before .before .before .before .before .before .before .before .before .before .if1 .taken,
+    ) in
     let e = n .ensures .1 .0 in
-    let index = placed-index r (n .result .next) (l .loop .cursor .index + 1) e in
-    (rw index (counting-on _ _ _ _ _ _ _ (h .author-known) (h .table) _ _ _ _ (l .loop .inv .0) _ inside (n .ensures .0) _ _ _ (c .before .before .before .before .before .before .before .vote-statement .ensures) (not-false _ (c .before .if2 .left))), placed r (n .result .next) (l .loop .cursor .index + 1) e, omega (arith, index, inside))
+    let index = placed-index r (n .result .next) (l .loop .cursor .index + 1) e in (
+      rw index (counting-on _ _ _ _ _ _ _ (h .author-known) (h .table) _ _ _ _ (l .loop .inv .0) _ inside (n .ensures .0) _ _ _
+          (c .before .before .before .before .before .before .before .vote-statement .ensures) (not-false _ (c .before .if2 .left))),
+      placed r (n .result .next)
+          (l .loop .cursor .index + 1) e,
+      omega (arith, index, inside),
+    )
 
 same-length-3 : tie.Need-same-length-3 Inv-loop μ-loop
-same-length-3 c = let h = c .before .before .before .before .before .before .before .before .before .before .before .pre .0 in counting-long _ _ _ _ _ _ _ (h .author-known) (h .table) _ _ _ _ (c .before .before .loop .inv .0)
+same-length-3 c = let h = c .before .before .before .before .before .before .before .before .before .before .before .pre .0 in counting-long _ _ _ _ _ _ _
+    (h .author-known) (h .table) _ _ _ _ (c .before .before .loop .inv .0)
 
 same-length-4 : tie.Need-same-length-4 Inv-loop μ-loop
 same-length-4 c = stated-long _ _ _ _ _ (c .before .before .loop .inv .0 .stated)
 
 returns-2 : tie.Need-returns-2 Inv-loop μ-loop
-returns-2 c = let h = c .before .before .before .before .before .before .before .before .before .before .before .pre .0 in counting-end _ _ _ _ _ _ _ (h .author-known) (h .table) _ _ _ _ (c .before .before .loop .inv .0) (omega (arith, c .before .before .before .before .statement-count .ensures, c .if1 .left)) _ refl refl
+returns-2 c = let h = c .before .before .before .before .before .before .before .before .before .before .before .pre .0 in counting-end _ _ _ _ _ _ _
+    (h .author-known) (h .table) _ _ _ _ (c .before .before .loop .inv .0)
+    (omega (arith, c .before .before .before .before .statement-count .ensures, c .if1 .left)) _ refl refl
 
 pub count-votes-spec : {M : Type 1} → statement M
 count-votes-spec =

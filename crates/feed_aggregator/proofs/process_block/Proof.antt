@@ -25,10 +25,16 @@ enum-told : tie.Need-enum-told
 enum-told c = search needs
 
 returns : tie.Need-returns
-returns c = let told = c .enum-told .given in absurd (not-both (broken-sound _ (told .0 .0) (ap asNewCommittee (sym (told .1)) ∙ c .before .before .new-committee .ensures)) (c .before .before .before .before .before .before .before .before .before .pre .0 .committee))
+returns c = let told = c .enum-told .given in absurd (not-both
+    (broken-sound _ (told .0 .0) (ap asNewCommittee (sym (told .1)) ∙ c .before .before .new-committee .ensures))
+    (c .before .before .before .before .before .before .before .before .before .pre .0 .committee))
 
 read-u32-requires : tie.Need-read-u32-requires
-read-u32-requires c κs = omega (arith, is-readable _ (laid-readable _ (c .before .before .before .before .before .before .before .before .before .before .pre .0 .store)) .header .long)
+read-u32-requires c κs = omega (
+  arith,
+  is-readable _ (laid-readable _
+      (c .before .before .before .before .before .before .before .before .before .before .pre .0 .store)) .header .long,
+)
 
 cast-p : tie.Need-cast-p
 cast-p c = search needs
@@ -49,7 +55,8 @@ unfolding usedLength
 returns-2 c =
     let o = c .before .before .before .before .before .before .before .before .before .before .before .before .before .before .before .before in
     let p = c .before .before .before .before .before .read-u32 .ensures ∙ sym (is-readable _ (laid-readable _ (o .pre .0 .store)) .used) in
-    process-stop _ _ _ _ (o .pre .0) _ _ _ (rw (p, not-true (c .before .before .before .register-shares .result) (c .if1 .taken)) at (c .before .before .before .register-shares .ensures)) _ refl
+    process-stop _ _ _ _ (o .pre .0) _ _ _ (rw (p, not-true (c .before .before .before .register-shares .result) (c .if1 .taken)) at
+    (c .before .before .before .register-shares .ensures)) _ refl
 
 count-votes-requires : tie.Need-count-votes-requires
 unfolding usedLength
@@ -58,8 +65,13 @@ count-votes-requires c κs =
     let h = o .pre .0 in
     let p = c .before .before .before .before .before .before .before .read-u32 .ensures ∙ sym (is-readable _ (laid-readable _ (o .pre .0 .store)) .used) in
     let told = c .before .before .before .before .before .before .before .before .before .total .given in
-    let total = taken-sound _ (told .0 .0) (ap asNewCommittee (sym (told .1)) ∙ c .before .before .before .before .before .before .before .before .before .before .before .new-committee .ensures) .1 in
-    (process-voting _ _ _ _ h (o .args .telling) (o .args .events .now) _ _ (not-false (c .before .before .before .before .before .register-shares .result) (c .before .before .if1 .left)) (rw p at (c .before .before .before .before .before .register-shares .ensures)) _ total, (statements-pass _ _ _ (h .checks), o .pre .1))
+    let total = taken-sound _ (told .0 .0) (ap asNewCommittee (sym (told .1)) ∙ c .before .before .before .before .before .before .before .before .before
+    .before .before .new-committee .ensures) .1 in (
+      process-voting _ _ _ _ h (o .args .telling) (o .args .events .now) _ _
+          (not-false (c .before .before .before .before .before .register-shares .result) (c .before .before .if1 .left))
+          (rw p at (c .before .before .before .before .before .register-shares .ensures)) _ total,
+      (statements-pass _ _ _ (h .checks), o .pre .1),
+    )
 
 same-length-2 : tie.Need-same-length-2
 same-length-2 c = search needs
@@ -70,9 +82,14 @@ same-length-3 c = search needs
 returns-3 : tie.Need-returns-3
 unfolding usedLength
 returns-3 c =
-    let o = c .before .before .before .before .before .before .before .before .before .before .before .before .before .before .before .before .before .before .before .before .before .before .before in
-    let p = c .before .before .before .before .before .before .before .before .before .before .before .before .read-u32 .ensures ∙ sym (is-readable _ (laid-readable _ (o .pre .0 .store)) .used) in
-    process-done _ _ _ _ (o .pre .0) _ _ _ _ (not-false (c .before .before .before .before .before .before .before .before .before .before .register-shares .result) (c .before .before .before .before .before .before .before .if1 .left)) (rw p at (c .before .before .before .before .before .before .before .before .before .before .register-shares .ensures)) _ _ _ (c .before .before .before .before .count-votes .ensures)
+    let o = c .before .before .before .before .before .before .before .before .before .before .before .before .before .before .before .before .before .before
+    .before .before .before .before .before in
+    let p = c .before .before .before .before .before .before .before .before .before .before .before .before .read-u32 .ensures ∙ sym
+    (is-readable _ (laid-readable _ (o .pre .0 .store)) .used) in
+    process-done _ _ _ _ (o .pre .0) _ _ _ _ (not-false (c .before .before .before .before .before .before .before .before .before .before .register-shares
+    .result) (c .before .before .before .before .before .before .before .if1 .left))
+    (rw p at (c .before .before .before .before .before .before .before .before .before .before .register-shares .ensures)) _ _ _
+    (c .before .before .before .before .count-votes .ensures)
 
 pub process-block-spec : {M : Type 1} → statement M
 process-block-spec =

@@ -48,47 +48,83 @@ enum-told : tie.Need-enum-told Inv-loop μ-loop
 enum-told c = search needs
 
 same-length : tie.Need-same-length Inv-loop μ-loop
-same-length c = let o = c .before .before .before .before .before .before .before .before .before .before in adding-written _ _ _ _ _ (o .pre .1 .1 .0) (o .pre .1 .1 .1) _ _ (c .before .before .before .loop .inv .0) .long
+same-length c = let o = c .before .before .before .before .before .before .before .before .before .before in adding-written _ _ _ _ _ (o .pre .1 .1 .0)
+    (o .pre .1 .1 .1) _ _ (c .before .before .before .loop .inv .0) .long
 
 returns : tie.Need-returns Inv-loop μ-loop
-returns c = let o = c .before .before .before .before .before .before .before .before .before .before in adding-end _ _ _ _ _ (o .pre .1 .1 .0) (o .pre .1 .1 .1) _ _ (c .before .before .before .loop .inv .0) (c .before .before .next-shared-range .ensures .0 ∙ ap (runsTold _) (c .enum-told .given .1))
+returns c = let o = c .before .before .before .before .before .before .before .before .before .before in adding-end _ _ _ _ _ (o .pre .1 .1 .0)
+    (o .pre .1 .1 .1) _ _ (c .before .before .before .loop .inv .0)
+    (c .before .before .next-shared-range .ensures .0 ∙ ap (runsTold _) (c .enum-told .given .1))
 
 room-of-requires : tie.Need-room-of-requires Inv-loop μ-loop
 room-of-requires c κs = search needs
 
 item-count-requires : tie.Need-item-count-requires Inv-loop μ-loop
-item-count-requires c κs = let o = c .before .before .before .before .before .before .before .before .before .before .before .before .before .before in adding-written _ _ _ _ _ (o .pre .1 .1 .0) (o .pre .1 .1 .1) _ _ (c .before .before .before .before .before .before .before .loop .inv .0) .holds .laid
+item-count-requires c κs = let o = c .before .before .before .before .before .before .before .before .before .before .before .before .before .before in
+    adding-written _ _ _ _ _ (o .pre .1 .1 .0) (o .pre .1 .1 .1) _ _ (c .before .before .before .before .before .before .before .loop .inv .0) .holds .laid
 
 same-length-2 : tie.Need-same-length-2 Inv-loop μ-loop
-same-length-2 c = let o = c .before .before .before .before .before .before .before .before .before .before .before .before .before .before .before .before in adding-written _ _ _ _ _ (o .pre .1 .1 .0) (o .pre .1 .1 .1) _ _ (c .before .before .before .before .before .before .before .before .before .loop .inv .0) .long
+same-length-2 c = let o = c .before .before .before .before .before .before .before .before .before .before .before .before .before .before .before .before in
+    adding-written _ _ _ _ _ (o .pre .1 .1 .0) (o .pre .1 .1 .1) _ _ (c .before .before .before .before .before .before .before .before .before .loop .inv .0)
+    .long
 
 returns-2 : tie.Need-returns-2 Inv-loop μ-loop
 returns-2 c =
     let o = c .before .before .before .before .before .before .before .before .before .before .before .before .before .before .before .before in
-    adding-stop _ _ _ _ _ (o .pre .1 .1 .0) (o .pre .1 .1 .1) _ _ (c .before .before .before .before .before .before .before .before .before .loop .inv .0) _ _ _ (c .before .before .before .before .before .before .before .before .next-shared-range .ensures .0 ∙ ap (runsTold _) (c .before .before .before .before .before .before .start .given .1)) (omega (arith, c .if1 .taken, c .before .before .before .room-of .ensures, c .before .item-count .ensures)) _
+    adding-stop _ _ _ _ _ (o .pre .1 .1 .0) (o .pre .1 .1 .1) _ _ (c .before .before .before .before .before .before .before .before .before .loop .inv .0) _
+    _ _ (c .before .before .before .before .before .before .before .before .next-shared-range .ensures .0 ∙ ap (runsTold _)
+    (c .before .before .before .before .before .before .start .given .1))
+    (omega (arith, c .if1 .taken, c .before .before .before .room-of .ensures, c .before .item-count .ensures)) _
 
 register-requires : tie.Need-register-requires Inv-loop μ-loop
 unfolding asReference
 register-requires c κs =
     let o = c .before .before .before .before .before .before .before .before .before .before .before .before .before .before .before .before .before in
-    let who = ap (λ (z : BlockReference). z .authority) (c .before .before .before .before .before .before .before .before .before .before .before .before .before .reference .ensures) in
-    (o .pre .0 .0, (subst (λ (a : ℕ). known (o .args .stakes .now) a ≡ true) (sym who) (o .pre .0 .1), (adding-written _ _ _ _ _ (o .pre .1 .1 .0) (o .pre .1 .1 .1) _ _ (c .before .before .before .before .before .before .before .before .before .before .loop .inv .0) .holds, omega (arith, c .before .if1 .left, c .before .before .before .before .room-of .ensures, c .before .before .item-count .ensures))))
+    let who = ap (λ (z : BlockReference). z .authority) (c .before .before .before .before .before .before .before .before .before .before .before .before
+    .before .reference .ensures) in (
+      o .pre .0 .0,
+      (
+        subst (λ (a : ℕ). known (o .args .stakes .now) a ≡ true) (sym who) (o .pre .0 .1),
+        (
+          adding-written _ _ _ _ _ (o .pre .1 .1 .0) (o .pre .1 .1 .1) _ _
+              (c .before .before .before .before .before .before .before .before .before .before .loop .inv .0) .holds,
+          omega
+              (arith, c .before .if1 .left, c .before .before .before .before .room-of .ensures, c .before .before .item-count .ensures),
+        ),
+      ),
+    )
 
 loop-less : tie.Need-loop-less Inv-loop μ-loop
 unfolding FurtherOn
 loop-less c =
     let l = c .before .before .before .before .before .before .before .before .before .before .before .before .before in
-    let on = subst (FurtherOn _ _) (c .before .before .before .before .before .before .before .before .before .before .start .given .1) (c .before .before .before .before .before .before .before .before .before .before .before .before .next-shared-range .ensures .1) in
+    let on = subst (FurtherOn _ _) (c .before .before .before .before .before .before .before .before .before .before .start .given .1)
+    (c .before .before .before .before .before .before .before .before .before .before .before .before .next-shared-range .ensures .1) in
     omega (arith, on .0, on .1 .0)
 
 loop-again : tie.Need-loop-again Inv-loop μ-loop
 unfolding asReference FurtherOn
 loop-again c =
-    let o = c .before .before .before .before .before .before .before .before .before .before .before .before .before .before .before .before .before .before .before .before in
+    let o = c .before .before .before .before .before .before .before .before .before .before .before .before .before .before .before .before .before .before
+    .before .before in
     let l = c .before .before .before .before .before .before .before .before .before .before .before .before .before in
-    let who = ap (λ (z : BlockReference). z .authority) (c .before .before .before .before .before .before .before .before .before .before .before .before .before .before .before .before .reference .ensures) in
-    let on = subst (FurtherOn _ _) (c .before .before .before .before .before .before .before .before .before .before .start .given .1) (c .before .before .before .before .before .before .before .before .before .before .before .before .next-shared-range .ensures .1) in
-    (adding-on _ _ _ _ _ (o .pre .1 .1 .0) (o .pre .1 .1 .1) _ _ (l .loop .inv .0) _ _ _ (c .before .before .before .before .before .before .before .before .before .before .before .before .next-shared-range .ensures .0 ∙ ap (runsTold _) (c .before .before .before .before .before .before .before .before .before .before .start .given .1)) (omega (arith, c .before .before .before .before .if1 .left, c .before .before .before .before .before .before .before .room-of .ensures, c .before .before .before .before .before .item-count .ensures)) _ (rw who at (c .before .before .register .ensures)), on .1 .1, on .1 .0)
+    let who = ap (λ (z : BlockReference). z .authority) (c .before .before .before .before .before .before .before .before .before .before .before .before
+    .before .before .before .before .reference .ensures) in
+    let on = subst (FurtherOn _ _) (c .before .before .before .before .before .before .before .before .before .before .start .given .1)
+    (c .before .before .before .before .before .before .before .before .before .before .before .before .next-shared-range .ensures .1) in (
+      adding-on _ _ _ _ _ (o .pre .1 .1 .0) (o .pre .1 .1 .1) _ _ (l .loop .inv .0) _ _ _
+          (c .before .before .before .before .before .before .before .before .before .before .before .before .next-shared-range .ensures .0 ∙ ap (runsTold _)
+          (c .before .before .before .before .before .before .before .before .before .before .start .given .1))
+          (omega (
+            arith,
+            c .before .before .before .before .if1 .left,
+            c .before .before .before .before .before .before .before .room-of .ensures,
+            c .before
+                .before .before .before .before .item-count .ensures,
+          )) _ (rw who at (c .before .before .register .ensures)),
+      on .1 .1,
+      on .1 .0,
+    )
 
 pub register-shares-spec : {M : Type 1} → statement M
 register-shares-spec =

@@ -24,7 +24,10 @@ same-length c = search needs
 
 returns : tie.Need-returns
 unfolding asRange newRange
-returns c = let o = c .before .before .before .before .before .before .before .before .before .before .before .before .before in vote-stop _ _ _ _ _ (o .pre .0) (asRange (o .args .range)) (o .args .statement) (o .args .telling) (o .args .n) (o .args .events .now) _ (c .before .before .before .before .before .voted-position .ensures) (omega (arith, c .if1 .taken, c .before .before .before .room-of .ensures, c .before .count-after-cuts .ensures)) _ refl
+returns c = let o = c .before .before .before .before .before .before .before .before .before .before .before .before .before in vote-stop _ _ _ _ _
+    (o .pre .0) (asRange (o .args .range)) (o .args .statement) (o .args .telling) (o .args .n) (o .args .events .now) _
+    (c .before .before .before .before .before .voted-position .ensures)
+    (omega (arith, c .if1 .taken, c .before .before .before .room-of .ensures, c .before .count-after-cuts .ensures)) _ refl
 
 reference-requires : tie.Need-reference-requires
 reference-requires c κs = search needs
@@ -34,21 +37,67 @@ unfolding asReference
 vote-over-requires c κs =
     let o = c .before .before .before .before .before .before .before .before .before .before .before .before .before .before .before .before in
     let h = o .pre .0 in
-    let who = ap (λ (z : BlockReference). z .authority) (c .before .before .reference .ensures) in
-    (h .committee, (subst (λ (a : ℕ). known (o .args .stakes .now) a ≡ true) (sym who) (h .author-known), (order-formed _ _ _ (h .table), (omega (arith, c .before .before .before .if1 .left, c .before .before .before .before .before .before .room-of .ensures, c .before .before .before .before .count-after-cuts .ensures)))))
+    let who = ap (λ (z : BlockReference). z .authority) (c .before .before .reference .ensures) in (
+      h .committee,
+      (
+        subst (λ (a : ℕ). known (o .args .stakes .now) a ≡ true) (sym who) (h .author-known),
+        (
+          order-formed _ _ _ (h .table),
+          (omega (
+            arith,
+            c .before .before .before .if1 .left,
+            c .before .before .before .before .before .before .room-of
+                .ensures,
+            c .before .before .before .before .count-after-cuts .ensures,
+          )),
+        ),
+      ),
+    )
 
 announced-requires : tie.Need-announced-requires
 unfolding asReference asRange newRange
 announced-requires c κs =
-    let o = c .before .before .before .before .before .before .before .before .before .before .before .before .before .before .before .before .before .before .before .before .before in
-    let h = o .pre .0 in
-    ((h .store, h .formed, c .before .before .before .before .before .before .before .before .before .before .before .before .before .voted-position .ensures, h .new), (vote-written _ _ _ _ _ (o .pre .0) (asRange (o .args .range)) (o .args .statement) (o .args .telling) (o .args .n) (o .args .events .now) _ (c .before .before .before .before .before .before .before .before .before .before .before .before .before .voted-position .ensures) (omega (arith, c .before .before .before .before .before .before .before .before .if1 .left, c .before .before .before .before .before .before .before .before .before .before .before .room-of .ensures, c .before .before .before .before .before .before .before .before .before .count-after-cuts .ensures)) _ (rw (ap (λ (z : BlockReference). z .authority) (c .before .before .before .before .before .before .before .reference .ensures)) at (c .before .before .before .before .vote-over .ensures)) .holds, o .pre .1 .0))
+    let o = c .before .before .before .before .before .before .before .before .before .before .before .before .before .before .before .before .before .before
+    .before .before .before in
+    let h = o .pre .0 in (
+      (
+        h .store,
+        h .formed,
+        c .before .before .before .before .before .before .before .before .before .before .before .before .before .voted-position .ensures,
+        h .new,
+      ),
+      (
+        vote-written _ _ _ _ _ (o .pre .0) (asRange (o .args .range)) (o .args .statement) (o .args .telling) (o .args .n) (o .args .events .now) _
+            (c .before .before .before .before .before .before .before .before .before .before .before .before .before .voted-position .ensures)
+            (omega (
+              arith,
+              c .before .before .before .before .before .before .before .before .if1 .left,
+              c .before .before .before .before .before .before .before
+                  .before .before .before .before .room-of .ensures,
+              c .before .before .before .before .before .before .before .before .before .count-after-cuts
+                  .ensures,
+            )) _ (rw (ap (λ (z : BlockReference). z .authority) (c .before .before .before .before .before .before .before .reference .ensures)) at
+            (c .before .before .before .before .vote-over .ensures)) .holds,
+        o .pre .1 .0,
+      ),
+    )
 
 leave-requires : tie.Need-leave-requires
 unfolding asReference asRange newRange
 leave-requires c κs =
-    let o = c .before .before .before .before .before .before .before .before .before .before .before .before .before .before .before .before .before .before .before .before .before .before .before .before .before in
-    vote-written _ _ _ _ _ (o .pre .0) (asRange (o .args .range)) (o .args .statement) (o .args .telling) (o .args .n) (o .args .events .now) _ (c .before .before .before .before .before .before .before .before .before .before .before .before .before .before .before .before .before .voted-position .ensures) (omega (arith, c .before .before .before .before .before .before .before .before .before .before .before .before .if1 .left, c .before .before .before .before .before .before .before .before .before .before .before .before .before .before .before .room-of .ensures, c .before .before .before .before .before .before .before .before .before .before .before .before .before .count-after-cuts .ensures)) _ (rw (ap (λ (z : BlockReference). z .authority) (c .before .before .before .before .before .before .before .before .before .before .before .reference .ensures)) at (c .before .before .before .before .before .before .before .before .vote-over .ensures)) .holds
+    let o = c .before .before .before .before .before .before .before .before .before .before .before .before .before .before .before .before .before .before
+    .before .before .before .before .before .before .before in
+    vote-written _ _ _ _ _ (o .pre .0) (asRange (o .args .range)) (o .args .statement) (o .args .telling) (o .args .n) (o .args .events .now) _
+    (c .before .before .before .before .before .before .before .before .before .before .before .before .before .before .before .before .before
+    .voted-position .ensures) (omega (
+      arith,
+      c .before .before .before .before .before .before .before .before .before .before .before .before .if1 .left,
+      c .before .before .before .before .before .before .before .before .before .before .before .before .before .before .before .room-of .ensures,
+      c .before
+          .before .before .before .before .before .before .before .before .before .before .before .before .count-after-cuts .ensures,
+    )) _
+    (rw (ap (λ (z : BlockReference). z .authority) (c .before .before .before .before .before .before .before .before .before .before .before .reference
+    .ensures)) at (c .before .before .before .before .before .before .before .before .vote-over .ensures)) .holds
 
 same-length-2 : tie.Need-same-length-2
 same-length-2 c = search needs
@@ -59,8 +108,22 @@ same-length-3 c = search needs
 returns-2 : tie.Need-returns-2
 unfolding asReference asRange newRange
 returns-2 c =
-    let o = c .before .before .before .before .before .before .before .before .before .before .before .before .before .before .before .before .before .before .before .before .before .before .before .before .before .before .before .before in
-    vote-done _ _ _ _ _ (o .pre .0) (asRange (o .args .range)) (o .args .statement) (o .args .telling) (o .args .n) (o .args .events .now) _ (c .before .before .before .before .before .before .before .before .before .before .before .before .before .before .before .before .before .before .before .before .voted-position .ensures) (omega (arith, c .before .before .before .before .before .before .before .before .before .before .before .before .before .before .before .if1 .left, c .before .before .before .before .before .before .before .before .before .before .before .before .before .before .before .before .before .before .room-of .ensures, c .before .before .before .before .before .before .before .before .before .before .before .before .before .before .before .before .count-after-cuts .ensures)) _ _ _ _ (rw (ap (λ (z : BlockReference). z .authority) (c .before .before .before .before .before .before .before .before .before .before .before .before .before .before .reference .ensures)) at (c .before .before .before .before .before .before .before .before .before .before .before .vote-over .ensures)) (c .before .before .before .before .before .before .announced .ensures) (c .before .before .leave .ensures) _ refl refl
+    let o = c .before .before .before .before .before .before .before .before .before .before .before .before .before .before .before .before .before .before
+    .before .before .before .before .before .before .before .before .before .before in
+    vote-done _ _ _ _ _ (o .pre .0) (asRange (o .args .range)) (o .args .statement) (o .args .telling) (o .args .n) (o .args .events .now) _
+    (c .before .before .before .before .before .before .before .before .before .before .before .before .before .before .before .before .before .before
+    .before .before .voted-position .ensures) (omega (
+      arith,
+      c .before .before .before .before .before .before .before .before .before .before .before
+          .before .before .before .before .if1 .left,
+      c .before .before .before .before .before .before .before .before .before .before .before .before .before
+          .before .before .before .before .before .room-of .ensures,
+      c .before .before .before .before .before .before .before .before .before .before .before
+          .before .before .before .before .before .count-after-cuts .ensures,
+    )) _ _ _ _
+    (rw (ap (λ (z : BlockReference). z .authority) (c .before .before .before .before .before .before .before .before .before .before .before .before
+    .before .before .reference .ensures)) at (c .before .before .before .before .before .before .before .before .before .before .before .vote-over
+    .ensures)) (c .before .before .before .before .before .before .announced .ensures) (c .before .before .leave .ensures) _ refl refl
 
 pub vote-spec : {M : Type 1} → statement M
 vote-spec =

@@ -22,13 +22,15 @@ returns : tie.Need-returns
 unfolding asVoted
 returns c =
     let o = c .before .before .before .before .before .before .before .before .before in
-    vote-nothing _ _ _ _ _ _ _ _ _ (sym (c .before .before .voted-range .ensures (o .args .rec .now)) ∙ ap asVoted (c .enum-told .given .1)) (order-holds _ _ _ (o .pre .0 .table) .laid) _ refl refl
+    vote-nothing _ _ _ _ _ _ _ _ _ (sym (c .before .before .voted-range .ensures (o .args .rec .now)) ∙ ap asVoted (c .enum-told .given .1))
+    (order-holds _ _ _ (o .pre .0 .table) .laid) _ refl refl
 
 vote-requires : tie.Need-vote-requires
 unfolding asVoted countedOffsets asRange newRange
 vote-requires c κs =
     let o = c .before .before .before .before .before .before .before .before .before .before .before .before in
-    let v = sym (c .before .before .before .before .before .voted-range .ensures (o .args .rec .now)) ∙ ap asVoted (c .before .before .before .range .given .1) in
+    let v = sym (c .before .before .before .before .before .voted-range .ensures (o .args .rec .now)) ∙ ap asVoted
+    (c .before .before .before .range .given .1) in
     (o .pre .0, (rw v at (o .pre .1 .1 .0), o .pre .1 .1 .1))
 
 same-length : tie.Need-same-length
@@ -41,7 +43,8 @@ returns-2 : tie.Need-returns-2
 unfolding asVoted
 returns-2 c =
     let o = c .before .before .before .before .before .before .before .before .before .before .before .before .before .before .before .before .before in
-    let v = sym (c .before .before .before .before .before .before .before .before .before .before .voted-range .ensures (o .args .rec .now)) ∙ ap asVoted (c .before .before .before .before .before .before .before .before .range .given .1) in
+    let v = sym (c .before .before .before .before .before .before .before .before .before .before .voted-range .ensures (o .args .rec .now)) ∙ ap asVoted
+    (c .before .before .before .before .before .before .before .before .range .given .1) in
     rw v (c .before .before .before .before .vote .ensures)
 
 pub vote-statement-spec : {M : Type 1} → statement M

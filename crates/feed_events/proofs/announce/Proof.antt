@@ -8,7 +8,8 @@ use Rattle.feed_events.proofs.announce.Statement.{statement}
 use Rattle.feed_events.proofs.announce.Tie as tie
 
 abbrev Inv-loop : tie.InvT-loop
-Inv-loop total store rec table events₀ n statement block p start end k₀ o₀ events k o = Announcing (total .0) (withNew store rec) (asReference block) statement (itemsOf table) p start end n events₀ o k events
+Inv-loop total store rec table events₀ n statement block p start end k₀ o₀ events k o = Announcing (total .0) (withNew store rec) (asReference block)
+    statement (itemsOf table) p start end n events₀ o k events
 
 abbrev μ-loop : tie.MeasureT-loop
 μ-loop total store rec table events₀ n statement block p start end k₀ o₀ events k o = end - o
@@ -23,8 +24,17 @@ stretch-events-requires : tie.Need-stretch-events-requires Inv-loop μ-loop
 stretch-events-requires c κs =
     let o = c .before .before .before .before .before .before .before .before in
     let l = c .before .before .before in
-    let s = c .before .stretch-at .ensures in
-    (o .pre .0, ((o .pre .1 .0, s .found, s .same), (omega (arith, s .onward), omega (arith, s .onward, s .most, l .loop .inv .enough, stated-long _ _ _ _ _ (l .loop .inv .stated)))))
+    let s = c .before .stretch-at .ensures in (
+      o .pre .0,
+      (
+        (o .pre .1 .0, s .found, s .same),
+        (
+          omega (arith, s .onward),
+          omega
+              (arith, s .onward, s .most, l .loop .inv .enough, stated-long _ _ _ _ _ (l .loop .inv .stated)),
+        ),
+      ),
+    )
 
 loop-less : tie.Need-loop-less Inv-loop μ-loop
 loop-less c = omega (arith, c .before .before .before .before .stretch-at .ensures .onward, c .before .before .before .before .stretch-at .ensures .most)

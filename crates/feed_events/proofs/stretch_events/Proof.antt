@@ -26,10 +26,12 @@ returns c =
     let o = c .before .before .before .before .before .before .before .before .before .before in
     let t = o .pre .1 .0 in
     let e = at-none _ (holds-ordered _ (t .0)) _ _ _ (t .1) (c .before .before .before .before .enum-told .given .1) in
-    stated-by _ _ _ _ _ _ _ _ _ (between-missed _ _ _ _ _ _ _ _ (t .2) e) (c .before .before .missed-events .ensures .0) (c .before .before .missed-events .ensures .1)
+    stated-by _ _ _ _ _ _ _ _ _ (between-missed _ _ _ _ _ _ _ _ (t .2) e) (c .before .before .missed-events .ensures .0)
+    (c .before .before .missed-events .ensures .1)
 
 item-at-requires : tie.Need-item-at-requires
-item-at-requires c κs = let t = c .before .before .before .before .before .before .before .pre .1 .0 in (t .0 .laid, index-found _ _ _ _ (t .1) (c .before .found .given .1))
+item-at-requires c κs = let t = c .before .before .before .before .before .before .before .pre .1 .0 in
+    (t .0 .laid, index-found _ _ _ _ (t .1) (c .before .found .given .1))
 
 is-quorum-requires : tie.Need-is-quorum-requires
 is-quorum-requires c κs = search needs
@@ -39,8 +41,10 @@ unfolding asItem
 returns-2 c =
     let o = c .before .before .before .before .before .before .before .before .before .before .before in
     let t = o .pre .1 .0 in
-    let e = at-some _ (holds-ordered _ (t .0)) _ _ _ (t .1) _ (c .before .before .before .before .before .found .given .1) ∙ ap some (sym (c .before .before .before .item-at .ensures)) in
-    stated-none _ _ _ (between-silent _ _ _ _ _ _ _ _ (t .2) (asItem (c .before .before .before .item-at .result)) e (sym (c .before .is-quorum .ensures) ∙ not-true _ (c .if1 .taken)))
+    let e = at-some _ (holds-ordered _ (t .0)) _ _ _ (t .1) _ (c .before .before .before .before .before .found .given .1) ∙ ap some
+    (sym (c .before .before .before .item-at .ensures)) in
+    stated-none _ _ _ (between-silent _ _ _ _ _ _ _ _ (t .2) (asItem (c .before .before .before .item-at .result)) e
+    (sym (c .before .is-quorum .ensures) ∙ not-true _ (c .if1 .taken)))
 
 put-events-requires : tie.Need-put-events-requires
 put-events-requires c κs = search needs
@@ -53,8 +57,12 @@ unfolding asItem
 returns-3 c =
     let o = c .before .before .before .before .before .before .before .before .before .before .before .before .before .before .before in
     let t = o .pre .1 .0 in
-    let e = at-some _ (holds-ordered _ (t .0)) _ _ _ (t .1) _ (c .before .before .before .before .before .before .before .before .before .found .given .1) ∙ ap some (sym (c .before .before .before .before .before .before .before .item-at .ensures)) in
-    stated-by _ _ _ _ _ _ _ _ _ (between-processed _ _ _ _ _ _ _ _ (t .2) (asItem (c .before .before .before .before .before .before .before .item-at .result)) e (sym (c .before .before .before .before .before .is-quorum .ensures) ∙ not-false _ (c .before .before .before .before .if1 .left))) (c .before .before .put-events .ensures .0) (c .before .before .put-events .ensures .1)
+    let e = at-some _ (holds-ordered _ (t .0)) _ _ _ (t .1) _ (c .before .before .before .before .before .before .before .before .before .found .given .1) ∙
+    ap some (sym (c .before .before .before .before .before .before .before .item-at .ensures)) in
+    stated-by _ _ _ _ _ _ _ _ _ (between-processed _ _ _ _ _ _ _ _ (t .2)
+    (asItem (c .before .before .before .before .before .before .before .item-at .result)) e
+    (sym (c .before .before .before .before .before .is-quorum .ensures) ∙ not-false _ (c .before .before .before .before .if1 .left)))
+    (c .before .before .put-events .ensures .0) (c .before .before .put-events .ensures .1)
 
 pub stretch-events-spec : {M : Type 1} → statement M
 stretch-events-spec =

@@ -41,19 +41,22 @@ returns : tie.Need-returns
 unfolding usedLength
 returns c =
     let o = c .before .before .before .before .before .before .before .before in
-    let order = sym (ap (λ (z : BlockReference). referenceOrder z (asReference (o .args .block))) (c .before .before .before .before .reference .ensures)) ∙ sym (c .before .before .before .compare .ensures) ∙ c .before .enum-told .given .1 in
+    let order = sym (ap (λ (z : BlockReference). referenceOrder z (asReference (o .args .block))) (c .before .before .before .before .reference .ensures)) ∙
+    sym (c .before .before .before .compare .ensures) ∙ c .before .enum-told .given .1 in
     c .read-u32 .ensures ∙ sym (is-readable _ (laid-readable _ (o .pre .0)) .used) ∙ sym (position-own _ _ _ order)
 
 returns-2 : tie.Need-returns-2
 returns-2 c =
     let o = c .before .before .before .before .before .before .before .before in
-    let order = sym (ap (λ (z : BlockReference). referenceOrder z (asReference (o .args .block))) (c .before .before .before .before .reference .ensures)) ∙ sym (c .before .before .before .compare .ensures) ∙ c .before .enum-told2 .given .1 in
+    let order = sym (ap (λ (z : BlockReference). referenceOrder z (asReference (o .args .block))) (c .before .before .before .before .reference .ensures)) ∙
+    sym (c .before .before .before .compare .ensures) ∙ c .before .enum-told2 .given .1 in
     c .find-ordered .ensures ∙ sym (position-less _ _ _ order)
 
 returns-3 : tie.Need-returns-3
 returns-3 c =
     let o = c .before .before .before .before .before .before .before .before in
-    let order = sym (ap (λ (z : BlockReference). referenceOrder z (asReference (o .args .block))) (c .before .before .before .before .reference .ensures)) ∙ sym (c .before .before .before .compare .ensures) ∙ c .before .enum-told3 .given .1 in
+    let order = sym (ap (λ (z : BlockReference). referenceOrder z (asReference (o .args .block))) (c .before .before .before .before .reference .ensures)) ∙
+    sym (c .before .before .before .compare .ensures) ∙ c .before .enum-told3 .given .1 in
     c .find-ordered2 .ensures ∙ sym (position-greater _ _ _ order)
 
 pub voted-position-spec : {M : Type 1} → statement M

@@ -31,7 +31,15 @@ slice-aggregate-process-block : tie.Need-slice-aggregate-process-block
 slice-aggregate-process-block c = sym (ap (λ (l : List ℕ). length l) (copied-front _ _ _ (c .before .before .before .copy-words .ensures)))
 
 process-block-requires : tie.Need-process-block-requires
-process-block-requires c κs = (subst (λ (t : List ℕ). Feeding (c .before .before .before .before .before .before .before .before .before .before .before .before .before .args .stakes .now) (c .before .before .before .before .before .before .before .before .before .before .before .before .before .args .store .now) (c .before .before .before .before .before .before .before .before .before .before .before .before .before .args .rec .now) t) (sym (copied-front _ _ _ (c .before .before .before .before .copy-words .ensures))) (c .before .before .before .before .before .before .before .before .before .before .before .before .before .pre .0), (λ q. absurd (not-both q refl), c .before .before .before .before .before .before .before .before .before .before .before .before .before .pre .1 .1))
+process-block-requires c κs = (
+  subst (λ (t : List ℕ). Feeding
+      (c .before .before .before .before .before .before .before .before .before .before .before .before .before .args .stakes .now)
+      (c .before .before .before .before .before .before .before .before .before .before .before .before .before .args .store .now)
+      (c .before .before .before .before .before .before .before .before .before .before .before .before .before .args .rec .now) t)
+      (sym (copied-front _ _ _ (c .before .before .before .before .copy-words .ensures)))
+      (c .before .before .before .before .before .before .before .before .before .before .before .before .before .pre .0),
+  (λ q. absurd (not-both q refl), c .before .before .before .before .before .before .before .before .before .before .before .before .before .pre .1 .1),
+)
 
 same-length : tie.Need-same-length
 same-length c = search needs
@@ -41,11 +49,16 @@ same-length-2 c = search needs
 
 returns : tie.Need-returns
 returns c =
-    let a = c .before .before .before .before .before .before .before .before .before .before .before .before .before .before .before .before .before .before .args in
+    let a = c .before .before .before .before .before .before .before .before .before .before .before .before .before .before .before .before .before .before
+    .args in
     let s = a .store .now in
     let r = a .rec .now in
-    let w = c .before .before .before .before .process-block .ensures in
-    (subst (λ (t : List ℕ). c .before .before .before .before .process-block .result .fits ≡ leb (processBlock (a .stakes .now) (withNew s r) (blockIn r) (itemsOf t) .most) (room t)) (copied-front _ _ _ (c .before .before .before .before .before .before .before .before .before .copy-words .ensures)) (w .fits), w .silent refl)
+    let w = c .before .before .before .before .process-block .ensures in (
+      subst (λ (t : List ℕ). c .before .before .before .before .process-block .result .fits ≡ leb
+          (processBlock (a .stakes .now) (withNew s r) (blockIn r) (itemsOf t) .most) (room t))
+          (copied-front _ _ _ (c .before .before .before .before .before .before .before .before .before .copy-words .ensures)) (w .fits),
+      w .silent refl,
+    )
 
 pub items-fit-spec : {M : Type 1} → statement M
 items-fit-spec =

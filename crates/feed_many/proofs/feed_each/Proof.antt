@@ -14,7 +14,8 @@ use Rattle.feed_many.proofs.feed_each.Tie as tie
 
 abbrev Inv-loop : tie.InvT-loop
 Inv-loop stakes store₀ table₀ work₀ events₀ outcomes₀ records at₀ used₀ k₀ store table work events outcomes at used k =
-    ((length store ≡ length store₀) × ((length table ≡ length table₀) × ((length work ≡ length work₀) × ((length events ≡ length events₀) × (length outcomes ≡ length outcomes₀)))))
+    ((length store ≡ length store₀) × ((length table ≡ length table₀) ×
+    ((length work ≡ length work₀) × ((length events ≡ length events₀) × (length outcomes ≡ length outcomes₀)))))
     × (Ready stakes store table work
     × Walked stakes work₀ (feedAll stakes (lentOf store₀ table₀ work₀ events₀) (recordsIn records)) outcomes₀ records store table events outcomes at used k)
 
@@ -25,8 +26,14 @@ abbrev μ-loop : tie.MeasureT-loop
 loop-holds : tie.Need-loop-holds Inv-loop μ-loop
 loop-holds c =
     let o = c .before .before .before .before .before .before .before in
-    let a = o .args in
-    ((refl, (refl, (refl, (refl, refl)))), (o .pre .0, walked-none (a .stakes .now) (a .work .now) (a .outcomes .now) (a .records .now) (a .store .now) (a .table .now) (a .events .now)))
+    let a = o .args in (
+      (refl, (refl, (refl, (refl, refl)))),
+      (
+        o .pre .0,
+        walked-none (a .stakes .now) (a .work .now) (a .outcomes .now) (a .records .now) (a .store .now)
+            (a .table .now) (a .events .now),
+      ),
+    )
 
 next-record-requires : tie.Need-next-record-requires Inv-loop μ-loop
 next-record-requires c κs = search needs
@@ -57,29 +64,49 @@ feed-next-requires c κs = search needs
 
 mul-outcomes : tie.Need-mul-outcomes Inv-loop μ-loop
 mul-outcomes c =
-    let o = c .before .before .before .before .before .before .before .before .before .before .before .before .before .before .before .before .before .before .before .before .before .before .before .before in
+    let o = c .before .before .before .before .before .before .before .before .before .before .before .before .before .before .before .before .before .before
+    .before .before .before .before .before .before in
     let g = c .before .before .before .before .before .before .before .before .before .before .before .before .before .before .before .before .loop in
-    let left : g .k < length (g .outcomes) = word-left (g .inv .1 .1) (c .before .before .before .before .before .before .before .before .before .before .before .before .before .before .next-record .ensures) (omega (arith, o .pre .1, g .inv .0)) in
+    let left : g .k < length (g .outcomes) = word-left (g .inv .1 .1)
+    (c .before .before .before .before .before .before .before .before .before .before .before .before .before .before .next-record .ensures)
+    (omega (arith, o .pre .1, g .inv .0)) in
     omega (arith, left, g .inv .0, o .good)
 
 slice-write-outcomes : tie.Need-slice-write-outcomes Inv-loop μ-loop
 slice-write-outcomes c =
-    let o = c .before .before .before .before .before .before .before .before .before .before .before .before .before .before .before .before .before .before .before .before .before .before .before .before in
+    let o = c .before .before .before .before .before .before .before .before .before .before .before .before .before .before .before .before .before .before
+    .before .before .before .before .before .before in
     let g = c .before .before .before .before .before .before .before .before .before .before .before .before .before .before .before .before .loop in
-    let left : g .k < length (g .outcomes) = word-left (g .inv .1 .1) (c .before .before .before .before .before .before .before .before .before .before .before .before .before .before .next-record .ensures) (omega (arith, o .pre .1, g .inv .0)) in
+    let left : g .k < length (g .outcomes) = word-left (g .inv .1 .1)
+    (c .before .before .before .before .before .before .before .before .before .before .before .before .before .before .next-record .ensures)
+    (omega (arith, o .pre .1, g .inv .0)) in
     search needs
 
 add-used : tie.Need-add-used Inv-loop μ-loop
 add-used c =
     let g = c .before .before .before .before .before .before .before .before .before .before .before .before .before .before .before .before .before .loop in
     let d = c .before .before .before .before .before .before .before .before .before .feed-next in
-    omega (arith, d .ensures .room, d .kept .1 .1 .1 .1 .0, ap length (rest-whole (g .events) (g .used)), length-drop (g .used) (g .events), g .inv .1 .1 .room, g .inv .0, c .before .before .before .before .before .before .before .before .before .before .before .before .before .before .before .before .before .before .before .before .before .before .before .before .before .good)
+    omega (
+      arith,
+      d .ensures .room,
+      d .kept .1 .1 .1 .1 .0,
+      ap length (rest-whole (g .events) (g .used)),
+      length-drop (g .used) (g .events),
+      g .inv .1 .1
+          .room,
+      g .inv .0,
+      c .before .before .before .before .before .before .before .before .before .before .before .before .before .before .before .before
+          .before .before .before .before .before .before .before .before .before .good,
+    )
 
 add-k : tie.Need-add-k Inv-loop μ-loop
 add-k c =
-    let o = c .before .before .before .before .before .before .before .before .before .before .before .before .before .before .before .before .before .before .before .before .before .before .before .before .before in
+    let o = c .before .before .before .before .before .before .before .before .before .before .before .before .before .before .before .before .before .before
+    .before .before .before .before .before .before .before in
     let g = c .before .before .before .before .before .before .before .before .before .before .before .before .before .before .before .before .before .loop in
-    let left : g .k < length (g .outcomes) = word-left (g .inv .1 .1) (c .before .before .before .before .before .before .before .before .before .before .before .before .before .before .before .next-record .ensures) (omega (arith, o .pre .1, g .inv .0)) in
+    let left : g .k < length (g .outcomes) = word-left (g .inv .1 .1)
+    (c .before .before .before .before .before .before .before .before .before .before .before .before .before .before .before .next-record .ensures)
+    (omega (arith, o .pre .1, g .inv .0)) in
     omega (arith, left, g .inv .0, o .good)
 
 loop-less : tie.Need-loop-less Inv-loop μ-loop
@@ -87,7 +114,8 @@ loop-less c = search needs
 
 loop-again : tie.Need-loop-again Inv-loop μ-loop
 loop-again c =
-    let o = c .before .before .before .before .before .before .before .before .before .before .before .before .before .before .before .before .before .before .before .before .before .before .before .before .before in
+    let o = c .before .before .before .before .before .before .before .before .before .before .before .before .before .before .before .before .before .before
+    .before .before .before .before .before .before .before in
     let a = o .args in
     let g = c .before .before .before .before .before .before .before .before .before .before .before .before .before .before .before .before .before .loop in
     let next = c .before .before .before .before .before .before .before .before .before .before .before .before .before .before .before .next-record in
@@ -95,10 +123,24 @@ loop-again c =
     let d = c .before .before .before .before .before .before .before .before .before .feed-next in
     let fed = rw (rest-whole (g .events) (g .used)) at (d .ensures) in
     let left : g .k < length (g .outcomes) = word-left (g .inv .1 .1) n (omega (arith, o .pre .1, g .inv .0)) in (
-      (search needs, (search needs, (search needs, (rest-length (g .events) (d .last .1 .1 .1 .1 .0) (g .used) (g .inv .1 .1 .room) (d .kept .1 .1 .1 .1 .0) ∙ g .inv .0 .1 .1 .1 .0, length-set (g .outcomes) (g .k) (d .result .outcome) ∙ g .inv .0 .1 .1 .1 .1)))),
+      (
+        search needs,
+        (
+          search needs,
+          (
+            search needs,
+            (
+              rest-length (g .events) (d .last .1 .1 .1 .1 .0) (g .used) (g .inv .1 .1 .room) (d .kept .1 .1 .1 .1 .0) ∙
+                  g .inv .0 .1 .1 .1 .0,
+              length-set (g .outcomes) (g .k) (d .result .outcome) ∙ g .inv .0 .1 .1 .1 .1,
+            ),
+          ),
+        ),
+      ),
       (
         ready-next (a .stakes .now) (lentOf (g .store) (g .table) (g .work) (drop (g .used) (g .events))) _ (g .inv .1 .0) _ _ _ _ _ fed (search needs),
-        walked-on (a .stakes .now) (a .work .now) (g .work) _ (a .outcomes .now) (a .records .now) (g .store) _ (g .table) _ (g .events) _ (g .outcomes) (g .at) (g .used) (g .k) (next .result) _ (g .inv .1 .1) n (search needs) fed left _ (rest-back (g .events) _ (g .used)),
+        walked-on (a .stakes .now) (a .work .now) (g .work) _ (a .outcomes .now) (a .records .now) (g .store) _ (g .table) _ (g .events) _ (g .outcomes)
+            (g .at) (g .used) (g .k) (next .result) _ (g .inv .1 .1) n (search needs) fed left _ (rest-back (g .events) _ (g .used)),
       ),
     )
 
@@ -120,7 +162,8 @@ same-length-5 c = search needs
 returns : tie.Need-returns Inv-loop μ-loop
 returns c =
     let g = c .before .loop in
-    walked-all _ _ _ _ _ _ _ _ _ _ _ _ (g .inv .1 .1) (omega arith) (omega (arith, g .inv .1 .1 .many, c .before .before .before .before .before .before .before .before .before .pre .1))
+    walked-all _ _ _ _ _ _ _ _ _ _ _ _ (g .inv .1 .1) (omega arith)
+    (omega (arith, g .inv .1 .1 .many, c .before .before .before .before .before .before .before .before .before .pre .1))
 
 pub feed-each-spec : {M : Type 1} → statement M
 feed-each-spec =

@@ -23,7 +23,8 @@ enum-known-answer c = search needs
 mul-t20 : tie.Need-mul-t20
 unfolding asFeedAnswer
 mul-t20 c =
-    let o = c .before .before .before .before .before .before .before .before .before .before .before .before .before .before .before .before .before .before .before .before .before .before in
+    let o = c .before .before .before .before .before .before .before .before .before .before .before .before .before .before .before .before .before .before
+    .before .before .before .before in
     let a = o .args in
     let m : Lent = lentOf (a .store .now) (a .table .now) (a .work .now) (a .events .now) in
     let f = c .before .before .before .before .before .before .before .before .before .before .before .feed-in-order in
@@ -36,7 +37,8 @@ enum-known-answer-2 c = search needs
 add-t21 : tie.Need-add-t21
 unfolding asFeedAnswer
 add-t21 c =
-    let o = c .before .before .before .before .before .before .before .before .before .before .before .before .before .before .before .before .before .before .before .before .before .before in
+    let o = c .before .before .before .before .before .before .before .before .before .before .before .before .before .before .before .before .before .before
+    .before .before .before .before in
     let a = o .args in
     let m : Lent = lentOf (a .store .now) (a .table .now) (a .work .now) (a .events .now) in
     let f = c .before .before .before .before .before .before .before .before .before .before .before .feed-in-order in
@@ -58,7 +60,8 @@ same-length-4 c = search needs
 returns : tie.Need-returns
 unfolding asFeedAnswer
 returns c =
-    let o = c .before .before .before .before .before .before .before .before .before .before .before .before .before .before .before .before .before .before .before .before .before .before in
+    let o = c .before .before .before .before .before .before .before .before .before .before .before .before .before .before .before .before .before .before
+    .before .before .before .before in
     let a = o .args in
     let m : Lent = lentOf (a .store .now) (a .table .now) (a .work .now) (a .events .now) in
     let f = c .before .before .before .before .before .before .before .before .before .before .before .feed-in-order in
@@ -80,7 +83,8 @@ same-length-8 c = search needs
 returns-2 : tie.Need-returns-2
 unfolding asFeedAnswer
 returns-2 c =
-    let o = c .before .before .before .before .before .before .before .before .before .before .before .before .before .before .before .before .before .before .before .before .before .before in
+    let o = c .before .before .before .before .before .before .before .before .before .before .before .before .before .before .before .before .before .before
+    .before .before .before .before in
     let a = o .args in
     let m : Lent = lentOf (a .store .now) (a .table .now) (a .work .now) (a .events .now) in
     let f = c .before .before .before .before .before .before .before .before .before .before .before .feed-in-order in

@@ -64,7 +64,8 @@ returns-3 c =
     let o = a .outcomes .now in
     let r = a .records .now in
     let h = sym (c .before .before .before .before .lent-refusal .ensures .0) ∙ c .before .before .before .if1 .left in
-    calls-refusal k m o r 64 (sym (refuses-outcomes k m o (recordsIn r) h (omega (arith, c .before .before .if2 .left)) (omega (arith, c .if3 .taken, c .before .record-count .ensures)))) (λ (z : _≡_ {A = ℕ} 64 0). omega arith)
+    calls-refusal k m o r 64 (sym (refuses-outcomes k m o (recordsIn r) h (omega (arith, c .before .before .if2 .left))
+    (omega (arith, c .if3 .taken, c .before .record-count .ensures)))) (λ (z : _≡_ {A = ℕ} 64 0). omega arith)
 
 feed-each-requires : tie.Need-feed-each-requires
 feed-each-requires c κs = search needs
@@ -87,13 +88,28 @@ same-length-11 c = search needs
 returns-4 : tie.Need-returns-4
 unfolding asRecordsAnswer
 returns-4 c =
-    let a = c .before .before .before .before .before .before .before .before .before .before .before .before .before .before .before .before .before .before .before .before .before .before .before .before .before .before .before .before .before .before .args in
+    let a = c .before .before .before .before .before .before .before .before .before .before .before .before .before .before .before .before .before .before
+    .before .before .before .before .before .before .before .before .before .before .before .before .args in
     let k = a .stakes .now in
     let m : Lent = lentOf (a .store .now) (a .table .now) (a .work .now) (a .events .now) in
     let o = a .outcomes .now in
     let r = a .records .now in
-    let h = sym (c .before .before .before .before .before .before .before .before .before .before .before .before .before .before .before .before .before .before .before .before .lent-refusal .ensures .0) ∙ c .before .before .before .before .before .before .before .before .before .before .before .before .before .before .before .before .before .before .before .if1 .left in
-    calls-feeds k m o r _ _ _ _ _ (refuses-nothing k m o (recordsIn r) h (omega (arith, c .before .before .before .before .before .before .before .before .before .before .before .before .before .before .before .before .before .before .if2 .left)) (omega (arith, c .before .before .before .before .before .before .before .before .before .before .before .before .before .before .before .before .if3 .left, c .before .before .before .before .before .before .before .before .before .before .before .before .before .before .before .before .before .record-count .ensures))) (c .before .before .before .before .before .before .before .before .before .before .feed-each .ensures)
+    let h = sym (c .before .before .before .before .before .before .before .before .before .before .before .before .before .before .before .before .before
+    .before .before .before .lent-refusal .ensures .0) ∙ c .before .before .before .before .before .before .before .before .before .before .before .before
+    .before .before .before .before .before .before .before .if1 .left in
+    calls-feeds k m o r _ _ _ _ _ (refuses-nothing k m o (recordsIn r) h
+    (omega (
+      arith,
+      c .before .before .before .before .before .before .before .before .before .before .before .before .before .before .before .before
+          .before .before .if2 .left,
+    )) (omega (
+      arith,
+      c .before .before .before .before .before .before .before .before .before .before .before .before .before
+          .before .before .before .if3 .left,
+      c .before .before .before .before .before .before .before .before .before .before .before .before .before .before
+          .before .before .before .record-count .ensures,
+    ))) (c .before .before .before .before .before .before .before .before .before .before .feed-each
+    .ensures)
 
 pub feed-records-spec : {M : Type 1} → statement M
 feed-records-spec =

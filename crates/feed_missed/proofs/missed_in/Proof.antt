@@ -13,7 +13,8 @@ use Rattle.feed_missed.proofs.missed_in.Statement.{statement}
 use Rattle.feed_missed.proofs.missed_in.Tie as tie
 
 abbrev Inv-loop : tie.InvT-loop
-Inv-loop rec events₀ n statement start end cursor₀ k₀ o₀ events cursor k o = Telling (λ q. pick (isShareAt (blockIn rec) q) 2 3) statement start end n events₀ o k events × NotPast rec o cursor
+Inv-loop rec events₀ n statement start end cursor₀ k₀ o₀ events cursor k o = Telling (λ q. pick (isShareAt (blockIn rec) q) 2 3) statement start end n events₀
+    o k events × NotPast rec o cursor
 
 abbrev μ-loop : tie.MeasureT-loop
 μ-loop rec events₀ n statement start end cursor₀ k₀ o₀ events cursor k o = end - o
@@ -34,12 +35,27 @@ put-event-requires : tie.Need-put-event-requires Inv-loop μ-loop
 put-event-requires c κs =
     let l = c .before .before .before .before .before in
     let o = c .before .before .before .before .before .before .before .before .before in
-    omega (arith, telling-long _ _ _ _ _ _ _ _ _ (l .loop .inv .0), l .loop .inv .0 .many, l .loop .inv .0 .from, c .before .before .before .before .loop-test .taken, o .pre .2)
+    omega (
+      arith,
+      telling-long _ _ _ _ _ _ _ _ _ (l .loop .inv .0),
+      l .loop .inv .0 .many,
+      l .loop .inv .0 .from,
+      c .before .before .before .before .loop-test
+          .taken,
+      o .pre .2,
+    )
 
 add-k : tie.Need-add-k Inv-loop μ-loop
 add-k c =
     let l = c .before .before .before .before .before .before .before .before in
-    omega (arith, l .loop .inv .0 .many, l .loop .inv .0 .from, c .before .before .before .before .before .before .before .loop-test .taken, c .before .before .before .before .before .before .before .before .before .before .before .before .pre .2)
+    omega (
+      arith,
+      l .loop .inv .0 .many,
+      l .loop .inv .0 .from,
+      c .before .before .before .before .before .before .before .loop-test .taken,
+      c .before .before
+          .before .before .before .before .before .before .before .before .before .before .pre .2,
+    )
 
 add-o : tie.Need-add-o Inv-loop μ-loop
 add-o c = search needs
@@ -50,8 +66,12 @@ loop-less c = search needs
 loop-again : tie.Need-loop-again Inv-loop μ-loop
 loop-again c =
     let l = c .before .before .before .before .before .before .before .before in
-    let kind = c .before .before .before .missed-kind .ensures ∙ ap (λ (z : Bool). pick z 2 3) (c .before .before .before .before .before .before .share-at .ensures .0) in
-    (telling-on _ _ _ _ _ _ _ _ _ _ _ (l .loop .inv .0) (c .before .before .before .before .before .before .before .loop-test .taken) kind (c .before .before .put-event .ensures), placed-later _ _ _ _ (omega arith) (c .before .before .before .before .before .before .share-at .ensures .1))
+    let kind = c .before .before .before .missed-kind .ensures ∙ ap (λ (z : Bool). pick z 2 3)
+    (c .before .before .before .before .before .before .share-at .ensures .0) in (
+      telling-on _ _ _ _ _ _ _ _ _ _ _ (l .loop .inv .0) (c .before .before .before .before .before .before .before .loop-test .taken) kind
+          (c .before .before .put-event .ensures),
+      placed-later _ _ _ _ (omega arith) (c .before .before .before .before .before .before .share-at .ensures .1),
+    )
 
 same-length : tie.Need-same-length Inv-loop μ-loop
 same-length c = telling-long _ _ _ _ _ _ _ _ _ (c .before .loop .inv .0)

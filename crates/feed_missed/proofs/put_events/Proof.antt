@@ -24,7 +24,14 @@ put-event-requires c κs =
 add-k : tie.Need-add-k Inv-loop μ-loop
 add-k c =
     let l = c .before .before .before .before .before in
-    omega (arith, l .loop .inv .many, l .loop .inv .from, c .before .before .before .before .loop-test .taken, c .before .before .before .before .before .before .before .pre .1)
+    omega (
+      arith,
+      l .loop .inv .many,
+      l .loop .inv .from,
+      c .before .before .before .before .loop-test .taken,
+      c .before .before .before .before .before
+          .before .before .pre .1,
+    )
 
 add-o : tie.Need-add-o Inv-loop μ-loop
 add-o c = search needs

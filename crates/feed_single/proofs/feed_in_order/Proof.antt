@@ -20,7 +20,8 @@ array-share-prefix-order c = search needs
 slice-aggregate-record-refusal : tie.Need-slice-aggregate-record-refusal
 slice-aggregate-record-refusal c =
     let q = c .before .before .before .sorted-positions .ensures in
-    q .1 .0 ∙ sym (ap length (q .1 .1) ∙ sorted-count _ (c .before .before .before .before .before .before .before .before .before .before .before .before .pre .1))
+    q .1 .0 ∙ sym (ap length (q .1 .1) ∙ sorted-count _ (c .before .before .before .before .before .before .before .before .before .before .before .before
+    .pre .1))
 
 record-refusal-requires : tie.Need-record-refusal-requires
 record-refusal-requires c κs = search needs
@@ -40,7 +41,8 @@ same-length-4 c = search needs
 returns : tie.Need-returns
 unfolding asFeedAnswer
 returns c =
-    let a = c .before .before .before .before .before .before .before .before .before .before .before .before .before .before .before .before .before .before .before .before .before .args in
+    let a = c .before .before .before .before .before .before .before .before .before .before .before .before .before .before .before .before .before .before
+    .before .before .before .args in
     let m : Lent = lentOf (a .store .now) (a .table .now) (a .work .now) (a .events .now) in
     let e = c .before .before .before .before .before .record-refusal .ensures in
     rw (e .1 .1) (gives-refusal (a .stakes .now) m (a .rec .now) _ (e .0) (c .if1 .taken))
@@ -51,12 +53,16 @@ array-share-prefix-order-2 c = search needs
 slice-aggregate-accept : tie.Need-slice-aggregate-accept
 slice-aggregate-accept c =
     let q = c .before .before .before .before .before .before .before .before .before .before .before .before .before .before .sorted-positions .ensures in
-    q .1 .0 ∙ sym (ap length (q .1 .1) ∙ sorted-count _ (c .before .before .before .before .before .before .before .before .before .before .before .before .before .before .before .before .before .before .before .before .before .before .before .pre .1))
+    q .1 .0 ∙ sym (ap length (q .1 .1) ∙ sorted-count _ (c .before .before .before .before .before .before .before .before .before .before .before .before
+    .before .before .before .before .before .before .before .before .before .before .before .pre .1))
 
 accept-requires : tie.Need-accept-requires
 accept-requires c κs =
-    let e = c .before .before .before .before .before .before .before .before .before .record-refusal .ensures in
-    (rw (e .1 .1) (e .1 .0 (c .before .before .before .before .if1 .left)), c .before .before .before .before .before .before .before .before .before .before .before .before .before .before .before .before .sorted-positions .ensures .1 .1)
+    let e = c .before .before .before .before .before .before .before .before .before .record-refusal .ensures in (
+      rw (e .1 .1) (e .1 .0 (c .before .before .before .before .if1 .left)),
+      c .before .before .before .before .before .before .before .before .before .before
+          .before .before .before .before .before .before .sorted-positions .ensures .1 .1,
+    )
 
 same-length-5 : tie.Need-same-length-5
 same-length-5 c = search needs
@@ -73,9 +79,11 @@ same-length-8 c = search needs
 returns-2 : tie.Need-returns-2
 unfolding asFeedAnswer
 returns-2 c =
-    let a = c .before .before .before .before .before .before .before .before .before .before .before .before .before .before .before .before .before .before .before .before .before .before .before .before .before .before .before .before .before .before .before .before .args in
+    let a = c .before .before .before .before .before .before .before .before .before .before .before .before .before .before .before .before .before .before
+    .before .before .before .before .before .before .before .before .before .before .before .before .before .before .args in
     let m : Lent = lentOf (a .store .now) (a .table .now) (a .work .now) (a .events .now) in
-    let e = c .before .before .before .before .before .before .before .before .before .before .before .before .before .before .before .before .record-refusal .ensures in
+    let e = c .before .before .before .before .before .before .before .before .before .before .before .before .before .before .before .before .record-refusal
+    .ensures in
     let none = c .before .before .before .before .before .before .before .before .before .before .before .if1 .left in
     let w = c .before .before .before .before .before .before .accept .ensures in
     gives-acceptance (a .stakes .now) m (a .rec .now) _ _ _ _ (e .1 .0 none .checked .formed) (sym (e .0) ∙ none) (rw (e .1 .1) at w)

@@ -16,7 +16,8 @@ new-requires c κs = search needs
 
 returns : tie.Need-returns
 returns c = let a = c .before .before .before .before .args in
-    c .new .ensures ∙ sym (own-no (blockAt (a .store .now) (a .at)) (asLocator (a .locator)) (sym (c .before .before .rejects-at .ensures) ∙ not-true _ (c .before .if1 .taken)))
+    c .new .ensures ∙ sym (own-no (blockAt (a .store .now) (a .at)) (asLocator (a .locator))
+    (sym (c .before .before .rejects-at .ensures) ∙ not-true _ (c .before .if1 .taken)))
 
 reference-at-requires : tie.Need-reference-at-requires
 reference-at-requires c κs = search needs
@@ -32,7 +33,8 @@ returns-2 : tie.Need-returns-2
 unfolding asReference
 returns-2 c = let a = c .before .before .before .before .before .before .args in
     c .insert .ensures ∙ rw (c .before .new2 .ensures) (ap (λ r. inserted nobody (r .authority)) (c .before .before .reference-at .ensures))
-    ∙ sym (own-yes (blockAt (a .store .now) (a .at)) (asLocator (a .locator)) (sym (c .before .before .before .before .rejects-at .ensures) ∙ not-false _ (c .before .before .before .if1 .left)))
+    ∙ sym (own-yes (blockAt (a .store .now) (a .at)) (asLocator (a .locator))
+    (sym (c .before .before .before .before .rejects-at .ensures) ∙ not-false _ (c .before .before .before .if1 .left)))
 
 pub own-reject-at-spec : {M : Type 1} → statement M
 own-reject-at-spec =

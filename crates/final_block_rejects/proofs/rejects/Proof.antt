@@ -14,7 +14,9 @@ use Rattle.final_block_rejects.proofs.rejects.Statement.{statement}
 use Rattle.final_block_rejects.proofs.rejects.Tie as tie
 
 abbrev Inv-loop : tie.InvT-loop
-Inv-loop rec locator count cursor₀ cursor = (cursor ≡ cursorAt rec (cursor .index)) × ((cursor .index ≤ length (blockIn rec .statements)) × (rejects (blockIn rec) (asLocator locator) ≡ rejectsFrom (blockIn rec) (asLocator locator) (cursor .index)))
+Inv-loop rec locator count cursor₀ cursor = (cursor ≡ cursorAt rec (cursor .index)) ×
+    ((cursor .index ≤ length (blockIn rec .statements)) × (rejects (blockIn rec) (asLocator locator) ≡ rejectsFrom (blockIn rec) (asLocator locator)
+    (cursor .index)))
 
 abbrev μ-loop : tie.MeasureT-loop
 μ-loop rec locator count cursor₀ cursor = length (blockIn rec .statements) - cursor .index
@@ -32,7 +34,10 @@ loop-holds c = let a = c .before .before .before .args in
     rw e (refl, (omega arith, rejects-start (blockIn (a .rec .now)) (asLocator (a .locator))))
 
 next-statement-requires : tie.Need-next-statement-requires Inv-loop μ-loop
-next-statement-requires c κs = (c .before .before .before .before .before .before .pre, (c .before .before .loop .inv .0, omega (arith, c .if1 .taken, c .before .before .before .before .statement-count .ensures)))
+next-statement-requires c κs = (
+  c .before .before .before .before .before .before .pre,
+  (c .before .before .loop .inv .0, omega (arith, c .if1 .taken, c .before .before .before .before .statement-count .ensures)),
+)
 
 statement-rejects-requires : tie.Need-statement-rejects-requires Inv-loop μ-loop
 statement-rejects-requires c κs = search needs
@@ -42,7 +47,12 @@ returns c = let a = c .before .before .before .before .before .before .before .b
     let b = blockIn (a .rec .now) in
     let i = c .before .before .before .before .before .loop .cursor .index in
     let st = c .before .before .next-statement .result .statement in
-    let h : i < length (b .statements) = omega (arith, c .before .before .before .if1 .taken, c .before .before .before .before .before .before .before .statement-count .ensures) in
+    let h : i < length (b .statements) = omega (
+      arith,
+      c .before .before .before .if1 .taken,
+      c .before .before .before .before .before .before .before
+          .statement-count .ensures,
+    ) in
     let e : statementRejects (getD (b .statements) i noStatement) (asLocator (a .locator)) ≡ true =
     rw (← c .before .before .next-statement .ensures .0) (sym (c .before .statement-rejects .ensures (a .rec .now)) ∙ c .if2 .taken) in
     rejects-found b (asLocator (a .locator)) i h e ∙ sym (c .before .before .before .before .before .loop .inv .1 .1)
@@ -51,23 +61,36 @@ loop-less : tie.Need-loop-less Inv-loop μ-loop
 unfolding cursorAt
 loop-less c = let a = c .before .before .before .before .before .before .before .before .before .before .args in
     let i = c .before .before .before .before .before .before .loop .cursor .index in
-    rw (c .before .before .before .next-statement .ensures .1 .0) (omega (arith, c .before .before .before .before .if1 .taken, c .before .before .before .before .before .before .before .before .statement-count .ensures))
+    rw (c .before .before .before .next-statement .ensures .1 .0)
+    (omega (
+      arith,
+      c .before .before .before .before .if1 .taken,
+      c .before .before .before .before .before .before .before .before .statement-count
+          .ensures,
+    ))
 
 loop-again : tie.Need-loop-again Inv-loop μ-loop
 unfolding cursorAt
 loop-again c = let a = c .before .before .before .before .before .before .before .before .before .before .args in
     let b = blockIn (a .rec .now) in
     let i = c .before .before .before .before .before .before .loop .cursor .index in
-    let h : i < length (b .statements) = omega (arith, c .before .before .before .before .if1 .taken, c .before .before .before .before .before .before .before .before .statement-count .ensures) in
+    let h : i < length (b .statements) = omega (
+      arith,
+      c .before .before .before .before .if1 .taken,
+      c .before .before .before .before .before .before
+          .before .before .statement-count .ensures,
+    ) in
     let e : statementRejects (getD (b .statements) i noStatement) (asLocator (a .locator)) ≡ false =
     rw (← c .before .before .before .next-statement .ensures .0) (sym (c .before .before .statement-rejects .ensures (a .rec .now)) ∙ c .before .if2 .left) in
-    rw (c .before .before .before .next-statement .ensures .1 .0) (refl, (omega arith, c .before .before .before .before .before .before .loop .inv .1 .1 ∙ rejects-passed b (asLocator (a .locator)) i h e))
+    rw (c .before .before .before .next-statement .ensures .1 .0)
+    (refl, (omega arith, c .before .before .before .before .before .before .loop .inv .1 .1 ∙ rejects-passed b (asLocator (a .locator)) i h e))
 
 returns-2 : tie.Need-returns-2 Inv-loop μ-loop
 returns-2 c = let a = c .before .before .before .before .before .before .args in
     let b = blockIn (a .rec .now) in
     let i = c .before .before .loop .cursor .index in
-    sym (c .before .before .loop .inv .1 .1 ∙ rejects-end b (asLocator (a .locator)) i (omega (arith, c .if1 .left, c .before .before .before .before .statement-count .ensures)))
+    sym (c .before .before .loop .inv .1 .1 ∙ rejects-end b (asLocator (a .locator)) i
+    (omega (arith, c .if1 .left, c .before .before .before .before .statement-count .ensures)))
 
 pub rejects-spec : {M : Type 1} → statement M
 rejects-spec =

@@ -23,16 +23,23 @@ part-rejects-start : tie.Need-part-rejects-start
 part-rejects-start c = search needs
 
 part-rejects-end : tie.Need-part-rejects-end
-part-rejects-end c = omega (arith, entry-room (c .before .before .args .store .now) (c .before .before .args .at) (c .before .before .pre) .inside, c .record-end .ensures)
+part-rejects-end c = omega (
+  arith,
+  entry-room (c .before .before .args .store .now) (c .before .before .args .at) (c .before .before .pre) .inside,
+  c
+      .record-end .ensures,
+)
 
 rejects-requires : tie.Need-rejects-requires
 rejects-requires c κs = let a = c .before .before .before .args in
-    rw (record-part (a .store .now) (a .at) (c .before .record-end .result) (c .before .record-end .ensures)) (entry-room (a .store .now) (a .at) (c .before .before .before .pre) .formed)
+    rw (record-part (a .store .now) (a .at) (c .before .record-end .result) (c .before .record-end .ensures))
+    (entry-room (a .store .now) (a .at) (c .before .before .before .pre) .formed)
 
 returns : tie.Need-returns
 unfolding blockAt
 returns c = let a = c .before .before .before .before .args in
-    c .rejects .ensures ∙ ap (λ (x : Bytes). rejects (blockIn x) (asLocator (a .locator))) (record-part (a .store .now) (a .at) (c .before .before .record-end .result) (c .before .before .record-end .ensures))
+    c .rejects .ensures ∙ ap (λ (x : Bytes). rejects (blockIn x) (asLocator (a .locator)))
+    (record-part (a .store .now) (a .at) (c .before .before .record-end .result) (c .before .before .record-end .ensures))
 
 pub rejects-at-spec : {M : Type 1} → statement M
 rejects-at-spec =

@@ -26,7 +26,9 @@ returns-3 : tie.Need-returns-3
 unfolding asLocator asRange locator newRange
 returns-3 c = let a = c .before .before .before .before .before .before .before .args in
     let h : a .range .«offset_start_inclusive» ≤ a .locator .offset = omega (arith, c .before .before .if2 .left) in
-    sym (covers-from (asRange (a .range)) (asLocator (a .locator)) (sym (c .before .before .before .before .before .before .same-reference .ensures) ∙ not-false _ (c .before .before .before .before .before .if1 .left)) h)
+    sym (covers-from (asRange (a .range)) (asLocator (a .locator))
+    (sym (c .before .before .before .before .before .before .same-reference .ensures) ∙ not-false _
+    (c .before .before .before .before .before .if1 .left)) h)
 
 pub covers-spec : {M : Type 1} → statement M
 covers-spec = tie.close (tie.spec same-reference-requires returns returns-2 returns-3)

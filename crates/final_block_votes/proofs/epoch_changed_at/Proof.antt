@@ -21,16 +21,23 @@ part-epoch-changed-start : tie.Need-part-epoch-changed-start
 part-epoch-changed-start c = search needs
 
 part-epoch-changed-end : tie.Need-part-epoch-changed-end
-part-epoch-changed-end c = omega (arith, entry-room (c .before .before .args .store .now) (c .before .before .args .at) (c .before .before .pre) .inside, c .record-end .ensures)
+part-epoch-changed-end c = omega (
+  arith,
+  entry-room (c .before .before .args .store .now) (c .before .before .args .at) (c .before .before .pre) .inside,
+  c
+      .record-end .ensures,
+)
 
 epoch-changed-requires : tie.Need-epoch-changed-requires
 epoch-changed-requires c κs = let a = c .before .before .before .args in
-    rw (record-part (a .store .now) (a .at) (c .before .record-end .result) (c .before .record-end .ensures)) (entry-room (a .store .now) (a .at) (c .before .before .before .pre) .formed)
+    rw (record-part (a .store .now) (a .at) (c .before .record-end .result) (c .before .record-end .ensures))
+    (entry-room (a .store .now) (a .at) (c .before .before .before .pre) .formed)
 
 returns : tie.Need-returns
 unfolding blockAt
 returns c = let a = c .before .before .before .before .args in
-    c .epoch-changed .ensures ∙ ap (λ (x : Bytes). blockIn x .marked) (record-part (a .store .now) (a .at) (c .before .before .record-end .result) (c .before .before .record-end .ensures))
+    c .epoch-changed .ensures ∙ ap (λ (x : Bytes). blockIn x .marked)
+    (record-part (a .store .now) (a .at) (c .before .before .record-end .result) (c .before .before .record-end .ensures))
 
 pub epoch-changed-at-spec : {M : Type 1} → statement M
 epoch-changed-at-spec =

@@ -22,17 +22,24 @@ part-include-start : tie.Need-part-include-start
 part-include-start c = search needs
 
 part-include-end : tie.Need-part-include-end
-part-include-end c = omega (arith, entry-room (c .before .before .args .store .now) (c .before .before .args .at) (c .before .before .pre .0) .inside, c .record-end .ensures)
+part-include-end c = omega (
+  arith,
+  entry-room (c .before .before .args .store .now) (c .before .before .args .at) (c .before .before .pre .0) .inside,
+  c
+      .record-end .ensures,
+)
 
 include-requires : tie.Need-include-requires
 unfolding blockAt
 include-requires c κs = let a = c .before .before .before .args in
-    rw (record-part (a .store .now) (a .at) (c .before .record-end .result) (c .before .record-end .ensures)) (entry-room (a .store .now) (a .at) (c .before .before .before .pre .0) .formed, c .before .before .before .pre .1)
+    rw (record-part (a .store .now) (a .at) (c .before .record-end .result) (c .before .record-end .ensures))
+    (entry-room (a .store .now) (a .at) (c .before .before .before .pre .0) .formed, c .before .before .before .pre .1)
 
 returns : tie.Need-returns
 unfolding blockAt
 returns c = let a = c .before .before .before .before .args in
-    c .include .ensures ∙ ap (λ (x : Bytes). getD (blockIn x .includes) (a .j) noReference) (record-part (a .store .now) (a .at) (c .before .before .record-end .result) (c .before .before .record-end .ensures))
+    c .include .ensures ∙ ap (λ (x : Bytes). getD (blockIn x .includes) (a .j) noReference)
+    (record-part (a .store .now) (a .at) (c .before .before .record-end .result) (c .before .before .record-end .ensures))
 
 pub include-at-spec : {M : Type 1} → statement M
 include-at-spec =

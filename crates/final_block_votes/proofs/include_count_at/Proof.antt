@@ -22,16 +22,23 @@ part-include-count-start : tie.Need-part-include-count-start
 part-include-count-start c = search needs
 
 part-include-count-end : tie.Need-part-include-count-end
-part-include-count-end c = omega (arith, entry-room (c .before .before .args .store .now) (c .before .before .args .at) (c .before .before .pre) .inside, c .record-end .ensures)
+part-include-count-end c = omega (
+  arith,
+  entry-room (c .before .before .args .store .now) (c .before .before .args .at) (c .before .before .pre) .inside,
+  c
+      .record-end .ensures,
+)
 
 include-count-requires : tie.Need-include-count-requires
 include-count-requires c κs = let a = c .before .before .before .args in
-    rw (record-part (a .store .now) (a .at) (c .before .record-end .result) (c .before .record-end .ensures)) (entry-room (a .store .now) (a .at) (c .before .before .before .pre) .formed)
+    rw (record-part (a .store .now) (a .at) (c .before .record-end .result) (c .before .record-end .ensures))
+    (entry-room (a .store .now) (a .at) (c .before .before .before .pre) .formed)
 
 returns : tie.Need-returns
 unfolding blockAt
 returns c = let a = c .before .before .before .before .args in
-    c .include-count .ensures ∙ ap (λ (x : Bytes). length (blockIn x .includes)) (record-part (a .store .now) (a .at) (c .before .before .record-end .result) (c .before .before .record-end .ensures))
+    c .include-count .ensures ∙ ap (λ (x : Bytes). length (blockIn x .includes))
+    (record-part (a .store .now) (a .at) (c .before .before .record-end .result) (c .before .before .record-end .ensures))
 
 pub include-count-at-spec : {M : Type 1} → statement M
 include-count-at-spec =

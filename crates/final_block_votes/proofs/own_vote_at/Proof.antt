@@ -18,7 +18,8 @@ new-requires c κs = search needs
 
 returns : tie.Need-returns
 returns c = let a = c .before .before .before .before .args in
-    c .new .ensures ∙ sym (own-no (blockAt (a .store .now) (a .at)) (asLocator (a .locator)) (sym (c .before .before .votes-at .ensures) ∙ not-true _ (c .before .if1 .taken)))
+    c .new .ensures ∙ sym (own-no (blockAt (a .store .now) (a .at)) (asLocator (a .locator))
+    (sym (c .before .before .votes-at .ensures) ∙ not-true _ (c .before .if1 .taken)))
 
 reference-at-requires : tie.Need-reference-at-requires
 reference-at-requires c κs = search needs
@@ -33,8 +34,10 @@ insert-requires c κs = let p = c .before .before .before .before .before in rw 
 returns-2 : tie.Need-returns-2
 unfolding asReference
 returns-2 c = let a = c .before .before .before .before .before .before .args in
-    let e : votesFor (blockAt (a .store .now) (a .at)) (asLocator (a .locator)) ≡ true = sym (c .before .before .before .before .votes-at .ensures) ∙ not-false _ (c .before .before .before .if1 .left) in
-    c .insert .ensures ∙ rw (c .before .new2 .ensures) (ap (λ r. inserted nobody (r .authority)) (c .before .before .reference-at .ensures)) ∙ sym (own-yes (blockAt (a .store .now) (a .at)) (asLocator (a .locator)) e)
+    let e : votesFor (blockAt (a .store .now) (a .at)) (asLocator (a .locator)) ≡ true = sym (c .before .before .before .before .votes-at .ensures) ∙
+    not-false _ (c .before .before .before .if1 .left) in
+    c .insert .ensures ∙ rw (c .before .new2 .ensures) (ap (λ r. inserted nobody (r .authority)) (c .before .before .reference-at .ensures)) ∙ sym
+    (own-yes (blockAt (a .store .now) (a .at)) (asLocator (a .locator)) e)
 
 pub own-vote-at-spec : {M : Type 1} → statement M
 own-vote-at-spec =

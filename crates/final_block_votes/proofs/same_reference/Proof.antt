@@ -21,17 +21,20 @@ enum-told-3 c = search needs
 returns : tie.Need-returns
 unfolding referenceOrder
 returns c = let a = c .before .before .before .args in
-    sym (order-less (sameReference (asReference (a .a)) (asReference (a .b))) (referenceBefore (asReference (a .a)) (asReference (a .b))) (sym (c .before .before .compare .ensures) ∙ c .enum-told .given .1) .0)
+    sym (order-less (sameReference (asReference (a .a)) (asReference (a .b))) (referenceBefore (asReference (a .a)) (asReference (a .b)))
+    (sym (c .before .before .compare .ensures) ∙ c .enum-told .given .1) .0)
 
 returns-2 : tie.Need-returns-2
 unfolding referenceOrder
 returns-2 c = let a = c .before .before .before .args in
-    sym (order-equal (sameReference (asReference (a .a)) (asReference (a .b))) (referenceBefore (asReference (a .a)) (asReference (a .b))) (sym (c .before .before .compare .ensures) ∙ c .enum-told2 .given .1))
+    sym (order-equal (sameReference (asReference (a .a)) (asReference (a .b))) (referenceBefore (asReference (a .a)) (asReference (a .b)))
+    (sym (c .before .before .compare .ensures) ∙ c .enum-told2 .given .1))
 
 returns-3 : tie.Need-returns-3
 unfolding referenceOrder
 returns-3 c = let a = c .before .before .before .args in
-    sym (order-greater (sameReference (asReference (a .a)) (asReference (a .b))) (referenceBefore (asReference (a .a)) (asReference (a .b))) (sym (c .before .before .compare .ensures) ∙ c .enum-told3 .given .1) .0)
+    sym (order-greater (sameReference (asReference (a .a)) (asReference (a .b))) (referenceBefore (asReference (a .a)) (asReference (a .b)))
+    (sym (c .before .before .compare .ensures) ∙ c .enum-told3 .given .1) .0)
 
 pub same-reference-spec : {M : Type 1} → statement M
 same-reference-spec =

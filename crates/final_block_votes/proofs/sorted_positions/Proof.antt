@@ -40,18 +40,38 @@ loop-holds c = record {
 mul-order : tie.Need-mul-order Inv-loop μ-loop
 unfolding blockCount
 mul-order c = let s = c .before .before .before .before .before .before .args .store .now in
-    omega (arith, c .loop-test .taken, laid-out s (c .before .before .before .before .before .before .pre .0) .reads .header .few, c .before .before .before .read-u16 .ensures)
+    omega (
+      arith,
+      c .loop-test .taken,
+      laid-out s (c .before .before .before .before .before .before .pre .0) .reads .header .few,
+      c .before .before .before
+          .read-u16 .ensures,
+    )
 
 slice-write-order : tie.Need-slice-write-order Inv-loop μ-loop
 unfolding blockCount
 slice-write-order c = let s = c .before .before .before .before .before .before .args .store .now in
-    omega (arith, c .loop-test .taken, c .before .loop .inv .same-size, c .before .before .before .before .before .before .pre .1, laid-out s (c .before .before .before .before .before .before .pre .0) .reads .header .few, c .before .before .before .read-u16 .ensures)
+    omega (
+      arith,
+      c .loop-test .taken,
+      c .before .loop .inv .same-size,
+      c .before .before .before .before .before .before .pre .1,
+      laid-out s
+          (c .before .before .before .before .before .before .pre .0) .reads .header .few,
+      c .before .before .before .read-u16 .ensures,
+    )
 
 read-u32-requires-2 : tie.Need-read-u32-requires-2 Inv-loop μ-loop
 unfolding blockCount
 read-u32-requires-2 c κs = let s = c .before .before .before .before .before .before .args .store .now in
     let l = c .before .loop in
-    let n : l .k < length (sortedPositions (recordsOf s)) = omega (arith, c .loop-test .taken, c .before .before .before .read-u16 .ensures, sorted-count s (c .before .before .before .before .before .before .pre .0), block-count s (c .before .before .before .before .before .before .pre .0)) in
+    let n : l .k < length (sortedPositions (recordsOf s)) = omega (
+      arith,
+      c .loop-test .taken,
+      c .before .before .before .read-u16 .ensures,
+      sorted-count s (c .before .before .before .before .before .before .pre .0),
+      block-count s (c .before .before .before .before .before .before .pre .0),
+    ) in
     rw (l .inv .there) (omega (arith, entry-room s _ (sorted-entry s (c .before .before .before .before .before .before .pre .0) (l .k) n) .inside))
 
 cast-at-2 : tie.Need-cast-at-2 Inv-loop μ-loop
@@ -60,7 +80,13 @@ cast-at-2 c = search needs
 add-k : tie.Need-add-k Inv-loop μ-loop
 unfolding blockCount
 add-k c = let s = c .before .before .before .before .before .before .before .args .store .now in
-    omega (arith, c .before .loop-test .taken, laid-out s (c .before .before .before .before .before .before .before .pre .0) .reads .header .few, c .before .before .before .before .read-u16 .ensures)
+    omega (
+      arith,
+      c .before .loop-test .taken,
+      laid-out s (c .before .before .before .before .before .before .before .pre .0) .reads .header .few,
+      c .before
+          .before .before .before .read-u16 .ensures,
+    )
 
 loop-less : tie.Need-loop-less Inv-loop μ-loop
 loop-less c = search needs
@@ -69,7 +95,18 @@ loop-again : tie.Need-loop-again Inv-loop μ-loop
 unfolding blockCount
 loop-again c = let s = c .before .before .before .before .before .before .before .args .store .now in
     let l = c .before .before .loop in
-    walked-step s (c .before .before .before .before .before .before .before .pre .0) _ (l .order) (l .at) (l .k) (l .inv) (omega (arith, c .before .loop-test .taken, c .before .before .before .before .read-u16 .ensures)) (omega (arith, c .before .loop-test .taken, l .inv .same-size, c .before .before .before .before .before .before .before .pre .1, laid-out s (c .before .before .before .before .before .before .before .pre .0) .reads .header .few, c .before .before .before .before .read-u16 .ensures)) _ (c .read-u322 .ensures)
+    walked-step s (c .before .before .before .before .before .before .before .pre .0) _ (l .order) (l .at) (l .k) (l .inv)
+    (omega (arith, c .before .loop-test .taken, c .before .before .before .before .read-u16 .ensures))
+    (omega (
+      arith,
+      c .before .loop-test .taken,
+      l .inv .same-size,
+      c .before .before .before .before .before .before .before .pre .1,
+      laid-out s
+          (c .before .before .before .before .before .before .before .pre .0) .reads .header .few,
+      c .before .before .before .before .read-u16 .ensures,
+    )) _
+    (c .read-u322 .ensures)
 
 same-length : tie.Need-same-length Inv-loop μ-loop
 same-length c = c .before .loop .inv .same-size
@@ -79,8 +116,14 @@ unfolding blockCount
 returns c = let s = c .before .before .before .before .before .before .args .store .now in
     let l = c .before .loop in
     let e : c .before .before .before .read-u16 .result ≡ blockCount s = c .before .before .before .read-u16 .ensures in
-    let k : l .k ≡ blockCount s = omega (arith, c .loop-test .left, l .inv .inside, e) in
-    (omega (arith, e, laid-out s (c .before .before .before .before .before .before .pre .0) .reads .header .few), (e ∙ block-count s (c .before .before .before .before .before .before .pre .0), ap (λ n. take n (l .order)) e ∙ walked-end s (c .before .before .before .before .before .before .pre .0) _ (l .order) (l .at) (rw k at (l .inv))))
+    let k : l .k ≡ blockCount s = omega (arith, c .loop-test .left, l .inv .inside, e) in (
+      omega (arith, e, laid-out s (c .before .before .before .before .before .before .pre .0) .reads .header .few),
+      (
+        e ∙ block-count s (c .before .before .before .before .before .before .pre .0),
+        ap (λ n. take n (l .order)) e ∙ walked-end s
+            (c .before .before .before .before .before .before .pre .0) _ (l .order) (l .at) (rw k at (l .inv)),
+      ),
+    )
 
 pub sorted-positions-spec : {M : Type 1} → statement M
 sorted-positions-spec =

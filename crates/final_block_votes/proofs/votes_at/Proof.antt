@@ -23,16 +23,23 @@ part-votes-for-start : tie.Need-part-votes-for-start
 part-votes-for-start c = search needs
 
 part-votes-for-end : tie.Need-part-votes-for-end
-part-votes-for-end c = omega (arith, entry-room (c .before .before .args .store .now) (c .before .before .args .at) (c .before .before .pre) .inside, c .record-end .ensures)
+part-votes-for-end c = omega (
+  arith,
+  entry-room (c .before .before .args .store .now) (c .before .before .args .at) (c .before .before .pre) .inside,
+  c
+      .record-end .ensures,
+)
 
 votes-for-requires : tie.Need-votes-for-requires
 votes-for-requires c κs = let a = c .before .before .before .args in
-    rw (record-part (a .store .now) (a .at) (c .before .record-end .result) (c .before .record-end .ensures)) (entry-room (a .store .now) (a .at) (c .before .before .before .pre) .formed)
+    rw (record-part (a .store .now) (a .at) (c .before .record-end .result) (c .before .record-end .ensures))
+    (entry-room (a .store .now) (a .at) (c .before .before .before .pre) .formed)
 
 returns : tie.Need-returns
 unfolding blockAt
 returns c = let a = c .before .before .before .before .args in
-    c .votes-for .ensures ∙ ap (λ (x : Bytes). votesFor (blockIn x) (asLocator (a .locator))) (record-part (a .store .now) (a .at) (c .before .before .record-end .result) (c .before .before .record-end .ensures))
+    c .votes-for .ensures ∙ ap (λ (x : Bytes). votesFor (blockIn x) (asLocator (a .locator)))
+    (record-part (a .store .now) (a .at) (c .before .before .record-end .result) (c .before .before .record-end .ensures))
 
 pub votes-at-spec : {M : Type 1} → statement M
 votes-at-spec =

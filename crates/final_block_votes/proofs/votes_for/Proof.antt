@@ -14,7 +14,9 @@ use Rattle.final_block_votes.proofs.votes_for.Statement.{statement}
 use Rattle.final_block_votes.proofs.votes_for.Tie as tie
 
 abbrev Inv-loop : tie.InvT-loop
-Inv-loop rec locator count block cursor₀ cursor = (cursor ≡ cursorAt rec (cursor .index)) × ((cursor .index ≤ length (blockIn rec .statements)) × (votesFor (blockIn rec) (asLocator locator) ≡ votesFrom (blockIn rec) (asLocator locator) (cursor .index)))
+Inv-loop rec locator count block cursor₀ cursor = (cursor ≡ cursorAt rec (cursor .index)) ×
+    ((cursor .index ≤ length (blockIn rec .statements)) × (votesFor (blockIn rec) (asLocator locator) ≡ votesFrom (blockIn rec) (asLocator locator)
+    (cursor .index)))
 
 abbrev μ-loop : tie.MeasureT-loop
 μ-loop rec locator count block cursor₀ cursor = length (blockIn rec .statements) - cursor .index
@@ -35,7 +37,10 @@ loop-holds c = let a = c .before .before .before .before .args in
     rw e (refl, (omega arith, votes-start (blockIn (a .rec .now)) (asLocator (a .locator))))
 
 next-statement-requires : tie.Need-next-statement-requires Inv-loop μ-loop
-next-statement-requires c κs = (c .before .before .before .before .before .before .before .pre, (c .before .before .loop .inv .0, omega (arith, c .if1 .taken, c .before .before .before .before .before .statement-count .ensures)))
+next-statement-requires c κs = (
+  c .before .before .before .before .before .before .before .pre,
+  (c .before .before .loop .inv .0, omega (arith, c .if1 .taken, c .before .before .before .before .before .statement-count .ensures)),
+)
 
 statement-votes-for-requires : tie.Need-statement-votes-for-requires Inv-loop μ-loop
 statement-votes-for-requires c κs = search needs
@@ -45,32 +50,52 @@ returns c = let a = c .before .before .before .before .before .before .before .b
     let b = blockIn (a .rec .now) in
     let i = c .before .before .before .before .before .loop .cursor .index in
     let st = c .before .before .next-statement .result .statement in
-    let h : i < length (b .statements) = omega (arith, c .before .before .before .if1 .taken, c .before .before .before .before .before .before .before .before .statement-count .ensures) in
+    let h : i < length (b .statements) = omega (
+      arith,
+      c .before .before .before .if1 .taken,
+      c .before .before .before .before .before .before .before
+          .before .statement-count .ensures,
+    ) in
     let e : statementVotes (b .reference) i (getD (b .statements) i noStatement) (asLocator (a .locator)) ≡ true =
-    rw (← c .before .before .before .before .before .before .before .reference .ensures, ← c .before .before .next-statement .ensures .0) (sym (c .before .statement-votes-for .ensures (a .rec .now)) ∙ c .if2 .taken) in
+    rw (← c .before .before .before .before .before .before .before .reference .ensures, ← c .before .before .next-statement .ensures .0)
+    (sym (c .before .statement-votes-for .ensures (a .rec .now)) ∙ c .if2 .taken) in
     votes-found b (asLocator (a .locator)) i h e ∙ sym (c .before .before .before .before .before .loop .inv .1 .1)
 
 loop-less : tie.Need-loop-less Inv-loop μ-loop
 unfolding cursorAt
 loop-less c = let a = c .before .before .before .before .before .before .before .before .before .before .before .args in
     let i = c .before .before .before .before .before .before .loop .cursor .index in
-    rw (c .before .before .before .next-statement .ensures .1 .0) (omega (arith, c .before .before .before .before .if1 .taken, c .before .before .before .before .before .before .before .before .before .statement-count .ensures))
+    rw (c .before .before .before .next-statement .ensures .1 .0)
+    (omega (
+      arith,
+      c .before .before .before .before .if1 .taken,
+      c .before .before .before .before .before .before .before .before .before
+          .statement-count .ensures,
+    ))
 
 loop-again : tie.Need-loop-again Inv-loop μ-loop
 unfolding cursorAt
 loop-again c = let a = c .before .before .before .before .before .before .before .before .before .before .before .args in
     let b = blockIn (a .rec .now) in
     let i = c .before .before .before .before .before .before .loop .cursor .index in
-    let h : i < length (b .statements) = omega (arith, c .before .before .before .before .if1 .taken, c .before .before .before .before .before .before .before .before .before .statement-count .ensures) in
+    let h : i < length (b .statements) = omega (
+      arith,
+      c .before .before .before .before .if1 .taken,
+      c .before .before .before .before .before .before
+          .before .before .before .statement-count .ensures,
+    ) in
     let e : statementVotes (b .reference) i (getD (b .statements) i noStatement) (asLocator (a .locator)) ≡ false =
-    rw (← c .before .before .before .before .before .before .before .before .reference .ensures, ← c .before .before .before .next-statement .ensures .0) (sym (c .before .before .statement-votes-for .ensures (a .rec .now)) ∙ c .before .if2 .left) in
-    rw (c .before .before .before .next-statement .ensures .1 .0) (refl, (omega arith, c .before .before .before .before .before .before .loop .inv .1 .1 ∙ votes-passed b (asLocator (a .locator)) i h e))
+    rw (← c .before .before .before .before .before .before .before .before .reference .ensures, ← c .before .before .before .next-statement .ensures .0)
+    (sym (c .before .before .statement-votes-for .ensures (a .rec .now)) ∙ c .before .if2 .left) in
+    rw (c .before .before .before .next-statement .ensures .1 .0)
+    (refl, (omega arith, c .before .before .before .before .before .before .loop .inv .1 .1 ∙ votes-passed b (asLocator (a .locator)) i h e))
 
 returns-2 : tie.Need-returns-2 Inv-loop μ-loop
 returns-2 c = let a = c .before .before .before .before .before .before .before .args in
     let b = blockIn (a .rec .now) in
     let i = c .before .before .loop .cursor .index in
-    sym (c .before .before .loop .inv .1 .1 ∙ votes-end b (asLocator (a .locator)) i (omega (arith, c .if1 .left, c .before .before .before .before .before .statement-count .ensures)))
+    sym (c .before .before .loop .inv .1 .1 ∙ votes-end b (asLocator (a .locator)) i
+    (omega (arith, c .if1 .left, c .before .before .before .before .before .statement-count .ensures)))
 
 pub votes-for-spec : {M : Type 1} → statement M
 votes-for-spec =

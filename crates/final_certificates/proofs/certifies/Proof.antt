@@ -17,7 +17,13 @@ is-quorum-requires c κs = search needs
 
 returns-2 : tie.Need-returns-2
 unfolding isQuorum
-returns-2 c = rw (← c .before .before .before .epoch-changed-at .ensures, c .before .before .if1 .left, ← c .before .before .before .before .before .before .pre .0 .1, ← c .before .stake-of .ensures) (c .is-quorum .ensures)
+returns-2 c = rw (
+  ← c .before .before .before .epoch-changed-at .ensures,
+  c .before .before .if1 .left,
+  ← c .before .before .before .before .before .before
+      .pre .0 .1,
+  ← c .before .stake-of .ensures,
+) (c .is-quorum .ensures)
 
 pub certifies-spec : {M : Type 1} → statement M
 certifies-spec =

@@ -1,4 +1,5 @@
--- `interpreter::next_final` meets its contract: a walk of its MIR, by hand. The struct is taken apart, and `next_final::next_final` is called on the stakes, the slice that it holds and the place to go on from. What the
+-- `interpreter::next_final` meets its contract: a walk of its MIR, by hand. The struct is taken apart, and `next_final::next_final` is called on the
+-- stakes, the slice that it holds and the place to go on from. What the
 -- stakes and the struct own is had twice, and one copy is kept for the exit. All that the proof knows of the callee is that it meets its contract.
 -- Assumes nothing.
 use mathlib.Core.Path.{_≡_, refl}
@@ -18,9 +19,11 @@ use ghost.Atoms.{Atoms, sem}
 use contract.Lifetimes.{Lfts}
 use contract.Monad.{Fun, fact}
 use contract.Running.{givenOf, tables, tablesOf}
-use types.Kit.{Given, ‵, raw, _⊛_, given, ⋆, some, later, _$_, _∵_, !, qed, by, move, keep, drop, use1, use2, split, join, learn, pick, fsplit, fjoin, suffices, frame, await, done}
+use types.Kit.{Given, ‵, raw, _⊛_, given, ⋆, some, later, _$_, _∵_, !, qed, by, move, keep, drop, use1, use2, split, join, learn, pick, fsplit, fjoin, suffices}
+use types.Kit.{frame, await, done}
 use types.Part.{whole, sub, look-in}
-use types.Run.{look, init, forget, stop, fld, from, load, of-opd, and-then, no-more, assigns, land, returns, enter, alloc1, alloc0, params1, pass1, pass0, free1, free0}
+use types.Run.{look, init, forget, stop, fld, from, load, of-opd, and-then, no-more, assigns, land, returns, enter, alloc1, alloc0, params1, pass1, pass0}
+use types.Run.{free1, free0}
 use sound.WpLaws.{FmC, fmOf, WpFn-mono}
 use denote.RattleType.{RattleType, owns}
 use denote.Laws.{Is, shows}
@@ -80,7 +83,8 @@ stayed = (stay-none-slice (0 ∷ []) tt (plain (λ _. u64)) yes, (stay-none B ye
 abbrev Asks : {M : Type 1} (𝓤 : URA M) (H : Heap 𝓤) (A : Atoms 𝓤) (mem : Memory → SProp 𝓤) (run : Routine → Fun 𝓤) → Contract 𝓤
 Asks 𝓤 H A mem run = tripleOf 𝓤 H A question.signature (question.spec 𝓤 H A mem run)
 
-module _ {M : Type 1} (𝓤 : URA M) (H : Heap 𝓤) (A : Atoms 𝓤) (W : Given 𝓤 H A) (mem : Memory → SProp 𝓤) (run : Routine → Fun 𝓤) (κ κ′ : Lft) (q q′ : Share) (c : RefT (List ℕ)) (d : Interpreter) (m : MaybeLocator) where
+module _ {M : Type 1} (𝓤 : URA M) (H : Heap 𝓤) (A : Atoms 𝓤) (W : Given 𝓤 H A) (mem : Memory → SProp 𝓤) (run : Routine → Fun 𝓤) (κ κ′ : Lft) (q q′ : Share)
+    (c : RefT (List ℕ)) (d : Interpreter) (m : MaybeLocator) where
   abbrev κs : Lfts 2
   κs = (κ, (κ′, tt))
 
@@ -132,7 +136,8 @@ module _ {M : Type 1} (𝓤 : URA M) (H : Heap 𝓤) (A : Atoms 𝓤) (W : Given
   to = ((κs, qs, tt, given-to, passed), tt)
 
   asked : ent 𝓤 (onEntry 𝓤 H A question.signature κs qs given-to passed) (Asks 𝓤 H A mem run .pre to)
-  asked = qed W ((‵ (flft κ q) ⊛ ‵ (flft κ′ q′) ⊛ ‵ ftrue) ∷ ‵ (owns (ShrSlice (named 0) κ u64 ∷ ShrSlice (named 1) κ′ u8 ∷ G.the-row ∷ []) given-to passed) ∷ []) ∵ join ! $ frame ! $ done !
+  asked = qed W ((‵ (flft κ q) ⊛ ‵ (flft κ′ q′) ⊛ ‵ ftrue) ∷ ‵ (owns (ShrSlice (named 0) κ u64 ∷ ShrSlice (named 1) κ′ u8 ∷ G.the-row ∷ []) given-to passed) ∷
+      []) ∵ join ! $ frame ! $ done !
 
   apart : ent 𝓤 (onEntry 𝓤 H A next.signature κs qs a vals) (sep 𝓤 (Asks 𝓤 H A mem run .pre to) (sep 𝓤 (sem 𝓤 H A Shr) (sem 𝓤 H A Own)))
   apart =
@@ -154,31 +159,39 @@ module _ {M : Type 1} (𝓤 : URA M) (H : Heap 𝓤) (A : Atoms 𝓤) (W : Given
   said : (r : NextFinalAnswer) → ent 𝓤 (ensured 𝓤 H A question.ended (question.clauses 𝓤 H A mem run) κs given-to tt r) (fact 𝓤 (Answers r))
   said r = exE 𝓤 _ (λ ws. snd∗ 𝓤 (sem 𝓤 H A (lasts question.ended κs given-to ws)) (fact 𝓤 (Answers r)))
 
-  exits : (r : NextFinalAnswer) (w : Val) → Is G.the-row m (vm ∷ []) → Answers r → ent 𝓤 (⋆ 𝓤 H A ((‵ (flft κ q) ⊛ ‵ (flft κ′ q′) ⊛ ‵ ftrue) ∷ ‵ (E.the-row .own r (w ∷ [])) ∷ ‵ Shr ∷ ‵ Own ∷ [])) (Post w)
+  exits : (r : NextFinalAnswer) (w : Val) → Is G.the-row m (vm ∷ []) → Answers r → ent 𝓤
+      (⋆ 𝓤 H A ((‵ (flft κ q) ⊛ ‵ (flft κ′ q′) ⊛ ‵ ftrue) ∷ ‵ (E.the-row .own r (w ∷ [])) ∷ ‵ Shr ∷ ‵ Own ∷ [])) (Post w)
   exits r w gm e =
       qed W ((‵ (flft κ q) ⊛ ‵ (flft κ′ q′) ⊛ ‵ ftrue) ∷ ‵ (E.the-row .own r (w ∷ [])) ∷ ‵ Shr ∷ ‵ Own ∷ []) ∵
-      suffices ! _ (ends-at 𝓤 H A next.ended stayed (next.clauses 𝓤 H A mem run) W ((κs, qs, tt, a, vals), tt) w r (tt, (tt, (tt, tt))) (tt, (tt, (tt, tt)))) $ says ! e $ frame ! $
+      suffices ! _ (ends-at 𝓤 H A next.ended stayed (next.clauses 𝓤 H A mem run) W ((κs, qs, tt, a, vals), tt) w r (tt, (tt, (tt, tt))) (tt, (tt, (tt, tt))))
+      $ says ! e $ frame ! $
       nothing ! $ owned ! G.the-row (Is G.the-row) (EL.makes G.the-type G′.the-plain 𝓤 H A) m _ gm $ fjoin ! $
       -- [what the place owns; the result; what the stakes own; what the struct owns]
       move ! (3 ∷ 0 ∷ []) $ fjoin ! $ move ! (2 ∷ 0 ∷ []) $ fjoin ! $ done !
 
   module _ (C : Calls 𝓤 H) (Λ : Loops 𝓤 H) (fm : FmC 𝓤 H (W .laws) C) (known : Triple 𝓤 (C #question) (Asks 𝓤 H A mem run)) where
-    walk : Is (ShrSlice (named 0) κ u64) c (vc ∷ []) → Holds (hasTy (T′.mir (named 1)) mach) × WT mach → Is G.the-row m (vm ∷ []) → ent 𝓤 (onEntry 𝓤 H A next.signature κs qs a vals) (WpFn 𝓤 H C Λ code.function (vc ∷ mach ∷ vm ∷ []) Post)
+    walk : Is (ShrSlice (named 0) κ u64) c (vc ∷ []) → Holds (hasTy (T′.mir (named 1)) mach) × WT mach → Is G.the-row m (vm ∷ []) → ent 𝓤
+        (onEntry 𝓤 H A next.signature κs qs a vals) (WpFn 𝓤 H C Λ code.function (vc ∷ mach ∷ vm ∷ []) Post)
     walk pc wt gm =
         qed W (raw (onEntry 𝓤 H A next.signature κs qs a vals) ∷ []) ∵ enter ! C Λ code.function (vc ∷ mach ∷ vm ∷ []) _ $
         alloc1 ! (λ l₀. alloc1 ! (λ l₁. alloc1 ! (λ l₂. alloc1 ! (λ l₃. alloc1 ! (λ l₄. alloc0 ! $ params1 ! $
-        pass1 ! (init ! 6 refl (shr-slice-lawful 𝓤 H A W (named 0) κ u64 .typed c (vc ∷ []) pc .0)) $ pass1 ! (init ! 4 refl wt) $ pass1 ! (init ! 2 refl (EL.lawful G.the-type G′.the-laws 𝓤 H A W tt .typed m _ gm .0)) $ pass0 ! $
+        pass1 ! (init ! 6 refl (shr-slice-lawful 𝓤 H A W (named 0) κ u64 .typed c (vc ∷ []) pc .0)) $ pass1 ! (init ! 4 refl wt) $ pass1 !
+        (init ! 2 refl (EL.lawful G.the-type G′.the-laws 𝓤 H A W tt .typed m _ gm .0)) $ pass0 ! $
         -- [_4; …; _3; …; _2; …; _1; …; room for _0; …; what is had at entry]
         assigns ! (of-opd ! (load ! (from ! (fld ! refl (stop !))) (look-in ! 4 (sub ! 0 refl (whole !))))) (from ! (stop !)) (init ! 0 refl (tt, wt .1 .0)) $
         move ! (10 ∷ []) $ use1 W (raw (Asks 𝓤 H A mem run .pre to) ⊛ (‵ Shr ⊛ ‵ Own)) apart $ split ! $ move ! (1 ∷ []) $ split ! $ move ! (2 ∷ []) $
         -- [what the callee asks; what the stakes own; what the struct owns; _4; …]
-        calls-at ! fm (Asks 𝓤 H A mem run) known to (and-then ! (load ! (from ! (stop !)) (look ! 9 refl)) (and-then ! (load ! (from ! (stop !)) (look ! 3 refl)) (and-then ! (load ! (from ! (stop !)) (look ! 5 refl)) (no-more !)))) (λ w.
-        use1 W (later (some (λ (r : NextFinalAnswer). ((‵ (flft κ q) ⊛ ‵ (flft κ′ q′) ⊛ ‵ ftrue) ⊛ ‵ (E.the-row .own r (w ∷ []))) ⊛ raw (ensured 𝓤 H A question.ended (question.clauses 𝓤 H A mem run) κs given-to tt r)))) (id⊢ 𝓤 _) $ await ! tt $ pick ! (λ r.
-        split ! $ move ! (1 ∷ []) $ use1 W (raw (fact 𝓤 (Answers r))) (said r) $ heard ! (Answers r) (λ e. split ! $ move ! (1 ∷ []) $ peeks ! E.the-row (Is E.the-row) (shows 𝓤 H A E.the-row) r (w ∷ []) (λ is.
+        calls-at ! fm (Asks 𝓤 H A mem run) known to (and-then ! (load ! (from ! (stop !)) (look ! 9 refl))
+        (and-then ! (load ! (from ! (stop !)) (look ! 3 refl)) (and-then ! (load ! (from ! (stop !)) (look ! 5 refl)) (no-more !)))) (λ w.
+        use1 W (later (some (λ (r : NextFinalAnswer). ((‵ (flft κ q) ⊛ ‵ (flft κ′ q′) ⊛ ‵ ftrue) ⊛ ‵ (E.the-row .own r (w ∷ []))) ⊛ raw
+        (ensured 𝓤 H A question.ended (question.clauses 𝓤 H A mem run) κs given-to tt r)))) (id⊢ 𝓤 _) $ await ! tt $ pick ! (λ r.
+        split ! $ move ! (1 ∷ []) $ use1 W (raw (fact 𝓤 (Answers r))) (said r) $ heard ! (Answers r)
+        (λ e. split ! $ move ! (1 ∷ []) $ peeks ! E.the-row (Is E.the-row) (shows 𝓤 H A E.the-row) r (w ∷ []) (λ is.
         -- [the result; the tokens; what the stakes own; what the struct owns; _4; …]
         land ! (from ! (stop !)) (init ! 12 refl (EL.lawful E.the-type E′.the-laws 𝓤 H A W tt .typed r _ is .0)) $
         returns ! (look ! 12 refl) $ forget ! 4 refl $ forget ! 6 refl $ forget ! 8 refl $ forget ! 10 refl $ forget ! 12 refl $
-        move ! (12 ∷ 13 ∷ []) $ free1 ! $ move ! (10 ∷ 11 ∷ []) $ free1 ! $ move ! (8 ∷ 9 ∷ []) $ free1 ! $ move ! (6 ∷ 7 ∷ []) $ free1 ! $ move ! (4 ∷ 5 ∷ []) $ free1 ! $ free0 ! $
+        move ! (12 ∷ 13 ∷ []) $ free1 ! $ move ! (10 ∷ 11 ∷ []) $ free1 ! $ move ! (8 ∷ 9 ∷ []) $ free1 ! $ move ! (6 ∷ 7 ∷ []) $ free1 ! $ move !
+        (4 ∷ 5 ∷ []) $ free1 ! $ free0 ! $
         keep ! (1 ∷ 0 ∷ 2 ∷ 3 ∷ []) $ by ! (exits r w gm e))))))))))
 
 module _ {M : Type 1} (𝓤 : URA M) (H : Heap 𝓤) (A : Atoms 𝓤) (W : Given 𝓤 H A) (mem : Memory → SProp 𝓤) (run : Routine → Fun 𝓤) where
@@ -188,13 +201,17 @@ module _ {M : Type 1} (𝓤 : URA M) (H : Heap 𝓤) (A : Atoms 𝓤) (W : Given
       (λ κs. (slice-vals, (LL.vals (D κs) (L κs), (EL.vals G.the-type G′.the-laws, tt))))
       (λ κs. (shr-slice-tells (named 0) (κs .0) u64, (LL.tells (D κs) (L κs), (EL.tells G.the-type G′.the-laws, tt))))
       (λ κs qs bounds a g are. via 𝓤 _ (fst∗ 𝓤 _ (emp 𝓤))
-      (walk 𝓤 H A W mem run (κs .0) (κs .1 .0) (qs .0) (qs .1 .0) (a .0) (a .1 .0) (a .1 .1 .0) C Λ fm known (are .0) (LL.lawful (D κs) (L κs) 𝓤 H A W .typed (a .1 .0) _ (are .1 .0) .0) (are .1 .1 .0)))
+      (walk 𝓤 H A W mem run (κs .0) (κs .1 .0) (qs .0) (qs .1 .0) (a .0) (a .1 .0) (a .1 .1 .0) C Λ fm known (are .0)
+      (LL.lawful (D κs) (L κs) 𝓤 H A W .typed (a .1 .0) _ (are .1 .0) .0) (are .1 .1 .0)))
 
 next-meets : {M : Type 1} (𝓤 : URA M) (H : Heap 𝓤) (A : Atoms 𝓤) (W : Given 𝓤 H A) (mem : Memory → SProp 𝓤) (run : Routine → Fun 𝓤) (𝓣 : Tables 𝓤 H)
     → Triple 𝓤 (𝓣 .C #question) (Asks 𝓤 H A mem run)
     → Meets 𝓤 H A next.signature (WpFn 𝓤 H (𝓣 .C) (𝓣 .Λ) code.function) (next.spec 𝓤 H A mem run)
 next-meets 𝓤 H A W mem run 𝓣 known =
-    walk-meets 𝓤 H A next.ended stayed W (goes-none-slice 𝓤 H A W 2 (0 ∷ []) tt (plain (λ _. u64)) yes, (goes-none 𝓤 H A W 2 B yes (λ κs x f. refl), (goes-none 𝓤 H A W 2 (λ _. G.the-row) yes (λ κs x f. refl), tt)))
+    walk-meets 𝓤 H A next.ended stayed W (
+      goes-none-slice 𝓤 H A W 2 (0 ∷ []) tt (plain (λ _. u64)) yes,
+      (goes-none 𝓤 H A W 2 B yes (λ κs x f. refl), (goes-none 𝓤 H A W 2 (λ _. G.the-row) yes (λ κs x f. refl), tt)),
+    )
     (next.clauses 𝓤 H A mem run) (WpFn 𝓤 H (𝓣 .C) (𝓣 .Λ) code.function) (WpFn-mono 𝓤 H (W .laws) 𝓣 code.function)
     (next-walks 𝓤 H A W mem run (𝓣 .C) (𝓣 .Λ) (fmOf 𝓤 H (W .laws) 𝓣) known)
 

@@ -1,5 +1,7 @@
--- `interpreter::next_final_held` meets its contract: a walk of its MIR, by hand. The struct that `new` returns is held in a local, and passed to `next_final` with the stakes and the place to go on from. What the stakes and the store
--- own is had twice, and one copy is kept for the exit. In a local of a body MIR erases the lifetime of the struct's type. All that the proof knows of the two callees is that each meets its contract.
+-- `interpreter::next_final_held` meets its contract: a walk of its MIR, by hand. The struct that `new` returns is held in a local, and passed to
+-- `next_final` with the stakes and the place to go on from. What the stakes and the store
+-- own is had twice, and one copy is kept for the exit. In a local of a body MIR erases the lifetime of the struct's type. All that the proof knows of
+-- the two callees is that each meets its contract.
 -- Assumes nothing.
 use mathlib.Core.Path.{_≡_, refl, ap, _∙_}
 use Prim.Native.Nat.{ℕ}
@@ -72,7 +74,8 @@ New 𝓤 H A mem run = tripleOf 𝓤 H A new.signature (new.spec 𝓤 H A mem ru
 abbrev Asks : {M : Type 1} (𝓤 : URA M) (H : Heap 𝓤) (A : Atoms 𝓤) (mem : Memory → SProp 𝓤) (run : Routine → Fun 𝓤) → Contract 𝓤
 Asks 𝓤 H A mem run = tripleOf 𝓤 H A question.signature (question.spec 𝓤 H A mem run)
 
-module _ {M : Type 1} (𝓤 : URA M) (H : Heap 𝓤) (A : Atoms 𝓤) (W : Given 𝓤 H A) (mem : Memory → SProp 𝓤) (run : Routine → Fun 𝓤) (κ κ′ : Lft) (q q′ : Share) (c p : RefT (List ℕ)) (m : MaybeLocator) where
+module _ {M : Type 1} (𝓤 : URA M) (H : Heap 𝓤) (A : Atoms 𝓤) (W : Given 𝓤 H A) (mem : Memory → SProp 𝓤) (run : Routine → Fun 𝓤) (κ κ′ : Lft) (q q′ : Share)
+    (c p : RefT (List ℕ)) (m : MaybeLocator) where
   abbrev κs : Lfts 2
   κs = (κ, (κ′, tt))
 
@@ -135,25 +138,32 @@ module _ {M : Type 1} (𝓤 : URA M) (H : Heap 𝓤) (A : Atoms 𝓤) (W : Given
   abbrev to : Interpreter → Val → Asks 𝓤 H A mem run .Ghost
   to r u = ((κs, qs, tt, given-to r, passed u), tt)
 
-  asks : (r : Interpreter) (u : Val) → ent 𝓤 (⋆ 𝓤 H A ((‵ (flft κ q) ⊛ ‵ (flft κ′ q′) ⊛ ‵ ftrue) ∷ ‵ (owns (ShrSlice (named 0) κ u64 ∷ B ∷ G.the-row ∷ []) (given-to r) (passed u)) ∷ [])) (Asks 𝓤 H A mem run .pre (to r u))
-  asks r u = qed W ((‵ (flft κ q) ⊛ ‵ (flft κ′ q′) ⊛ ‵ ftrue) ∷ ‵ (owns (ShrSlice (named 0) κ u64 ∷ B ∷ G.the-row ∷ []) (given-to r) (passed u)) ∷ []) ∵ join ! $ frame ! $ done !
+  asks : (r : Interpreter) (u : Val) → ent 𝓤 (⋆ 𝓤 H A ((‵ (flft κ q) ⊛ ‵ (flft κ′ q′) ⊛ ‵ ftrue) ∷ ‵
+      (owns (ShrSlice (named 0) κ u64 ∷ B ∷ G.the-row ∷ []) (given-to r) (passed u)) ∷ [])) (Asks 𝓤 H A mem run .pre (to r u))
+  asks r u = qed W ((‵ (flft κ q) ⊛ ‵ (flft κ′ q′) ⊛ ‵ ftrue) ∷ ‵ (owns (ShrSlice (named 0) κ u64 ∷ B ∷ G.the-row ∷ []) (given-to r) (passed u)) ∷ []) ∵ join
+      ! $ frame ! $ done !
 
   abbrev Said : RefT (List ℕ) → NextFinalAnswer → Type 0
   Said y r = asNextFinal r ≡ meant.nextFinalShare (now c) (now y) (asMaybe m)
 
-  said : (r : Interpreter) (t : NextFinalAnswer) → ent 𝓤 (ensured 𝓤 H A question.ended (question.clauses 𝓤 H A mem run) κs (given-to r) tt t) (fact 𝓤 (Said (r .store) t))
+  said : (r : Interpreter) (t : NextFinalAnswer) → ent 𝓤 (ensured 𝓤 H A question.ended (question.clauses 𝓤 H A mem run) κs (given-to r) tt t)
+      (fact 𝓤 (Said (r .store) t))
   said r t = exE 𝓤 _ (λ ws. snd∗ 𝓤 (sem 𝓤 H A (lasts question.ended κs (given-to r) ws)) (fact 𝓤 (Said (r .store) t)))
 
-  exits : (t : NextFinalAnswer) (w : Val) → Is G.the-row m (vm ∷ []) → Said p t → ent 𝓤 (⋆ 𝓤 H A ((‵ (flft κ q) ⊛ ‵ (flft κ′ q′) ⊛ ‵ ftrue) ∷ ‵ (E.the-row .own t (w ∷ [])) ∷ ‵ Stakes ∷ ‵ Store ∷ [])) (Post w)
+  exits : (t : NextFinalAnswer) (w : Val) → Is G.the-row m (vm ∷ []) → Said p t → ent 𝓤
+      (⋆ 𝓤 H A ((‵ (flft κ q) ⊛ ‵ (flft κ′ q′) ⊛ ‵ ftrue) ∷ ‵ (E.the-row .own t (w ∷ [])) ∷ ‵ Stakes ∷ ‵ Store ∷ [])) (Post w)
   exits t w gm e =
       qed W ((‵ (flft κ q) ⊛ ‵ (flft κ′ q′) ⊛ ‵ ftrue) ∷ ‵ (E.the-row .own t (w ∷ [])) ∷ ‵ Stakes ∷ ‵ Store ∷ []) ∵
-      suffices ! _ (ends-at 𝓤 H A held.ended stayed (held.clauses 𝓤 H A mem run) W ((κs, qs, tt, a, vals), tt) w t (tt, (tt, (tt, tt))) (tt, (tt, (tt, tt)))) $ says ! e $ frame ! $
+      suffices ! _ (ends-at 𝓤 H A held.ended stayed (held.clauses 𝓤 H A mem run) W ((κs, qs, tt, a, vals), tt) w t (tt, (tt, (tt, tt))) (tt, (tt, (tt, tt))))
+      $ says ! e $ frame ! $
       nothing ! $ owned ! G.the-row (Is G.the-row) (EL.makes G.the-type G′.the-plain 𝓤 H A) m _ gm $ fjoin ! $
       -- [what the place owns; the result; what the stakes own; what the store owns]
       move ! (3 ∷ 0 ∷ []) $ fjoin ! $ move ! (2 ∷ 0 ∷ []) $ fjoin ! $ done !
 
-  module _ (C : Calls 𝓤 H) (Λ : Loops 𝓤 H) (fm : FmC 𝓤 H (W .laws) C) (known-new : Triple 𝓤 (C #interpreter·new) (New 𝓤 H A mem run)) (known : Triple 𝓤 (C #interpreter·next-final) (Asks 𝓤 H A mem run)) where
-    walk : Is (ShrSlice (named 0) κ u64) c (vc ∷ []) → Is (ShrSlice (named 1) κ′ u8) p (v ∷ []) → Is G.the-row m (vm ∷ []) → ent 𝓤 (onEntry 𝓤 H A held.signature κs qs a vals) (WpFn 𝓤 H C Λ code.function (vc ∷ v ∷ vm ∷ []) Post)
+  module _ (C : Calls 𝓤 H) (Λ : Loops 𝓤 H) (fm : FmC 𝓤 H (W .laws) C) (known-new : Triple 𝓤 (C #interpreter·new) (New 𝓤 H A mem run))
+      (known : Triple 𝓤 (C #interpreter·next-final) (Asks 𝓤 H A mem run)) where
+    walk : Is (ShrSlice (named 0) κ u64) c (vc ∷ []) → Is (ShrSlice (named 1) κ′ u8) p (v ∷ []) → Is G.the-row m (vm ∷ []) → ent 𝓤
+        (onEntry 𝓤 H A held.signature κs qs a vals) (WpFn 𝓤 H C Λ code.function (vc ∷ v ∷ vm ∷ []) Post)
     walk pc pp gm =
         qed W ((‵ (flft κ q) ⊛ ‵ (flft κ′ q′) ⊛ ‵ ftrue) ∷ ‵ (owns (ShrSlice (named 0) κ u64 ∷ ShrSlice (named 1) κ′ u8 ∷ G.the-row ∷ []) a vals) ∷ []) ∵
         move ! (1 ∷ []) $ fsplit ! $ use1 W (‵ Stakes ⊛ ‵ Stakes) (shr-slice-copy 𝓤 H A W (named 0) κ u64 .twice c (vc ∷ [])) $ split ! $
@@ -163,37 +173,50 @@ module _ {M : Type 1} (𝓤 : URA M) (H : Heap 𝓤) (A : Atoms 𝓤) (W : Given
         -- [what `new` asks; the stakes' token; the store; what the place owns; the stakes, twice]
         enter ! C Λ code.function (vc ∷ v ∷ vm ∷ []) _ $
         alloc1 ! (λ l₀. alloc1 ! (λ l₁. alloc1 ! (λ l₂. alloc1 ! (λ l₃. alloc1 ! (λ l₄. alloc0 ! $ params1 ! $
-        pass1 ! (init ! 6 refl (shr-slice-lawful 𝓤 H A W (named 0) κ u64 .typed c (vc ∷ []) pc .0)) $ pass1 ! (init ! 4 refl (shr-slice-lawful 𝓤 H A W (named 1) κ′ u8 .typed p (v ∷ []) pp .0)) $ pass1 ! (init ! 2 refl (EL.lawful G.the-type G′.the-laws 𝓤 H A W tt .typed m _ gm .0)) $ pass0 ! $
+        pass1 ! (init ! 6 refl (shr-slice-lawful 𝓤 H A W (named 0) κ u64 .typed c (vc ∷ []) pc .0)) $ pass1 !
+        (init ! 4 refl (shr-slice-lawful 𝓤 H A W (named 1) κ′ u8 .typed p (v ∷ []) pp .0)) $ pass1 !
+        (init ! 2 refl (EL.lawful G.the-type G′.the-laws 𝓤 H A W tt .typed m _ gm .0)) $ pass0 ! $
         move ! (10 ∷ []) $ calls-at ! fm (New 𝓤 H A mem run) known-new to-new (and-then ! (load ! (from ! (stop !)) (look ! 5 refl)) (no-more !)) (λ u.
-        use1 W (later (some (λ (r : Interpreter). ((‵ (flft κ′ q′) ⊛ ‵ ftrue) ⊛ ‵ (B .own r (u ∷ []))) ⊛ raw (ensured 𝓤 H A new.ended (new.clauses 𝓤 H A mem run) (κ′, tt) (p, tt) tt r)))) (id⊢ 𝓤 _) $ await ! tt $ pick ! (λ r.
+        use1 W (later (some (λ (r : Interpreter). ((‵ (flft κ′ q′) ⊛ ‵ ftrue) ⊛ ‵ (B .own r (u ∷ []))) ⊛ raw
+        (ensured 𝓤 H A new.ended (new.clauses 𝓤 H A mem run) (κ′, tt) (p, tt) tt r)))) (id⊢ 𝓤 _) $ await ! tt $ pick ! (λ r.
         split ! $ move ! (1 ∷ []) $ use1 W (raw (fact 𝓤 (r .store ≡ p))) (new-said r) $ heard ! (r .store ≡ p) (λ e. split ! $ move ! (1 ∷ []) $
         -- [what the struct owns; the store's token; room for _4; …; the stakes' token; the store; what the place owns; the stakes, twice]
         peeks ! B (Is B) (shows 𝓤 H A B) r (u ∷ []) (λ is.
         land ! (from ! (stop !)) (init ! 2 refl (LL.lawful (T.the-type αᵉ) (T′.the-laws αᵉ) 𝓤 H A W .typed r _ is .0)) $
-        move ! (12 ∷ 1 ∷ []) $ join ! $ move ! (1 ∷ 13 ∷ []) $ fjoin ! $ move ! (13 ∷ 0 ∷ []) $ fjoin ! $ move ! (1 ∷ 0 ∷ []) $ use2 W (raw (Asks 𝓤 H A mem run .pre (to r u))) (asks r u) $
+        move ! (12 ∷ 1 ∷ []) $ join ! $ move ! (1 ∷ 13 ∷ []) $ fjoin ! $ move ! (13 ∷ 0 ∷ []) $ fjoin ! $ move ! (1 ∷ 0 ∷ []) $ use2 W
+        (raw (Asks 𝓤 H A mem run .pre (to r u))) (asks r u) $
         -- [what `next_final` asks; _4; …; the store; the stakes]
-        calls-at ! fm (Asks 𝓤 H A mem run) known (to r u) (and-then ! (load ! (from ! (stop !)) (look ! 7 refl)) (and-then ! (load ! (from ! (stop !)) (look ! 1 refl)) (and-then ! (load ! (from ! (stop !)) (look ! 3 refl)) (no-more !)))) (λ w.
-        use1 W (later (some (λ (t : NextFinalAnswer). ((‵ (flft κ q) ⊛ ‵ (flft κ′ q′) ⊛ ‵ ftrue) ⊛ ‵ (E.the-row .own t (w ∷ []))) ⊛ raw (ensured 𝓤 H A question.ended (question.clauses 𝓤 H A mem run) κs (given-to r) tt t)))) (id⊢ 𝓤 _) $ await ! tt $ pick ! (λ t.
-        split ! $ move ! (1 ∷ []) $ use1 W (raw (fact 𝓤 (Said (r .store) t))) (said r t) $ heard ! (Said (r .store) t) (λ f. split ! $ move ! (1 ∷ []) $ peeks ! E.the-row (Is E.the-row) (shows 𝓤 H A E.the-row) t (w ∷ []) (λ is′.
+        calls-at ! fm (Asks 𝓤 H A mem run) known (to r u) (and-then ! (load ! (from ! (stop !)) (look ! 7 refl))
+        (and-then ! (load ! (from ! (stop !)) (look ! 1 refl)) (and-then ! (load ! (from ! (stop !)) (look ! 3 refl)) (no-more !)))) (λ w.
+        use1 W (later (some (λ (t : NextFinalAnswer). ((‵ (flft κ q) ⊛ ‵ (flft κ′ q′) ⊛ ‵ ftrue) ⊛ ‵ (E.the-row .own t (w ∷ []))) ⊛ raw
+        (ensured 𝓤 H A question.ended (question.clauses 𝓤 H A mem run) κs (given-to r) tt t)))) (id⊢ 𝓤 _) $ await ! tt $ pick ! (λ t.
+        split ! $ move ! (1 ∷ []) $ use1 W (raw (fact 𝓤 (Said (r .store) t))) (said r t) $ heard ! (Said (r .store) t)
+        (λ f. split ! $ move ! (1 ∷ []) $ peeks ! E.the-row (Is E.the-row) (shows 𝓤 H A E.the-row) t (w ∷ []) (λ is′.
         -- [the result; the tokens; _4; …; the store; the stakes]
         land ! (from ! (stop !)) (init ! 10 refl (EL.lawful E.the-type E′.the-laws 𝓤 H A W tt .typed t _ is′ .0)) $
         returns ! (look ! 10 refl) $ forget ! 2 refl $ forget ! 4 refl $ forget ! 6 refl $ forget ! 8 refl $ forget ! 10 refl $
-        move ! (10 ∷ 11 ∷ []) $ free1 ! $ move ! (8 ∷ 9 ∷ []) $ free1 ! $ move ! (6 ∷ 7 ∷ []) $ free1 ! $ move ! (4 ∷ 5 ∷ []) $ free1 ! $ move ! (2 ∷ 3 ∷ []) $ free1 ! $ free0 ! $
+        move ! (10 ∷ 11 ∷ []) $ free1 ! $ move ! (8 ∷ 9 ∷ []) $ free1 ! $ move ! (6 ∷ 7 ∷ []) $ free1 ! $ move ! (4 ∷ 5 ∷ []) $ free1 ! $ move ! (2 ∷ 3 ∷ [])
+        $ free1 ! $ free0 ! $
         keep ! (1 ∷ 0 ∷ 3 ∷ 2 ∷ []) $ by ! (exits t w gm (f ∙ ap (λ (y : RefT (List ℕ)). meant.nextFinalShare (now c) (now y) (asMaybe m)) e)))))))))))))))
 
 module _ {M : Type 1} (𝓤 : URA M) (H : Heap 𝓤) (A : Atoms 𝓤) (W : Given 𝓤 H A) (mem : Memory → SProp 𝓤) (run : Routine → Fun 𝓤) where
-  held-walks : (C : Calls 𝓤 H) (Λ : Loops 𝓤 H) → FmC 𝓤 H (W .laws) C → Triple 𝓤 (C #interpreter·new) (New 𝓤 H A mem run) → Triple 𝓤 (C #interpreter·next-final) (Asks 𝓤 H A mem run)
+  held-walks : (C : Calls 𝓤 H) (Λ : Loops 𝓤 H) → FmC 𝓤 H (W .laws) C → Triple 𝓤 (C #interpreter·new) (New 𝓤 H A mem run) → Triple 𝓤
+      (C #interpreter·next-final) (Asks 𝓤 H A mem run)
       → Walks 𝓤 H A held.ended stayed (WpFn 𝓤 H C Λ code.function) (held.clauses 𝓤 H A mem run)
   held-walks C Λ fm known-new known = walked 𝓤 H A held.ended stayed (held.clauses 𝓤 H A mem run) (WpFn 𝓤 H C Λ code.function)
       (λ κs. (slice-vals, (slice-vals, (EL.vals G.the-type G′.the-laws, tt))))
       (λ κs. (shr-slice-tells (named 0) (κs .0) u64, (shr-slice-tells (named 1) (κs .1 .0) u8, (EL.tells G.the-type G′.the-laws, tt))))
-      (λ κs qs bounds a g are. via 𝓤 _ (fst∗ 𝓤 _ (emp 𝓤)) (walk 𝓤 H A W mem run (κs .0) (κs .1 .0) (qs .0) (qs .1 .0) (a .0) (a .1 .0) (a .1 .1 .0) C Λ fm known-new known (are .0) (are .1 .0) (are .1 .1 .0)))
+      (λ κs qs bounds a g are. via 𝓤 _ (fst∗ 𝓤 _ (emp 𝓤)) (walk 𝓤 H A W mem run (κs .0) (κs .1 .0) (qs .0) (qs .1 .0) (a .0) (a .1 .0) (a .1 .1 .0) C Λ fm
+      known-new known (are .0) (are .1 .0) (are .1 .1 .0)))
 
 held-meets : {M : Type 1} (𝓤 : URA M) (H : Heap 𝓤) (A : Atoms 𝓤) (W : Given 𝓤 H A) (mem : Memory → SProp 𝓤) (run : Routine → Fun 𝓤) (𝓣 : Tables 𝓤 H)
     → Triple 𝓤 (𝓣 .C #interpreter·new) (New 𝓤 H A mem run) → Triple 𝓤 (𝓣 .C #interpreter·next-final) (Asks 𝓤 H A mem run)
     → Meets 𝓤 H A held.signature (WpFn 𝓤 H (𝓣 .C) (𝓣 .Λ) code.function) (held.spec 𝓤 H A mem run)
 held-meets 𝓤 H A W mem run 𝓣 known-new known =
-    walk-meets 𝓤 H A held.ended stayed W (goes-none-slice 𝓤 H A W 2 (0 ∷ []) tt (plain (λ _. u64)) yes, (goes-none-slice 𝓤 H A W 2 (1 ∷ []) tt (plain (λ _. u8)) yes, (goes-none 𝓤 H A W 2 (λ _. G.the-row) yes (λ κs x f. refl), tt)))
+    walk-meets 𝓤 H A held.ended stayed W (
+      goes-none-slice 𝓤 H A W 2 (0 ∷ []) tt (plain (λ _. u64)) yes,
+      (goes-none-slice 𝓤 H A W 2 (1 ∷ []) tt (plain (λ _. u8)) yes, (goes-none 𝓤 H A W 2 (λ _. G.the-row) yes (λ κs x f. refl), tt)),
+    )
     (held.clauses 𝓤 H A mem run) (WpFn 𝓤 H (𝓣 .C) (𝓣 .Λ) code.function) (WpFn-mono 𝓤 H (W .laws) 𝓣 code.function)
     (held-walks 𝓤 H A W mem run (𝓣 .C) (𝓣 .Λ) (fmOf 𝓤 H (W .laws) 𝓣) known-new known)
 
@@ -204,4 +227,5 @@ next-final-held-spec 𝓤 H 𝓜 𝓖 𝓡 =
     (tables 𝓤 H 𝓜 𝓡 code.env .C) (tables 𝓤 H 𝓜 𝓡 code.env .Λ) #interpreter·next-final-held code.function (code.unfolded 𝓤 H 𝓜 𝓡)
     (held-meets 𝓤 H (𝓖 .A) (givenOf 𝓤 H 𝓜 𝓖) (𝓜 .mem) (𝓡 .run) (tablesOf 𝓤 H 𝓜 (tables 𝓤 H 𝓜 𝓡 code.env))
     (cited 𝓤 H (New 𝓤 H (𝓖 .A) (𝓜 .mem) (𝓡 .run)) 𝓜 𝓡 code.env #interpreter·new new-def.routine code.calls-final-interpreter·new (new-thm.met 𝓤 H 𝓜 𝓖 𝓡))
-    (cited 𝓤 H (Asks 𝓤 H (𝓖 .A) (𝓜 .mem) (𝓡 .run)) 𝓜 𝓡 code.env #interpreter·next-final question-def.routine code.calls-final-interpreter·next-final (question-thm.met 𝓤 H 𝓜 𝓖 𝓡)))
+    (cited 𝓤 H (Asks 𝓤 H (𝓖 .A) (𝓜 .mem) (𝓡 .run)) 𝓜 𝓡 code.env #interpreter·next-final question-def.routine code.calls-final-interpreter·next-final
+    (question-thm.met 𝓤 H 𝓜 𝓖 𝓡)))

@@ -1,4 +1,6 @@
-use Rattle.final_readings_spec.proofs.Claimed.{old-reading, rejecters-meant, voters-in-meant, final-in-meant, least-final-in-meant, least-stands-there, final-list-in-meant, are-less, final-in-both, same-without-rejects, same-answered, voters-in-of-ancestry, in-any-order, voters-of-records, cut-at-rejects}
+use Rattle.final_readings_spec.proofs.Claimed.{old-reading, rejecters-meant, voters-in-meant, final-in-meant, least-final-in-meant, least-stands-there}
+use Rattle.final_readings_spec.proofs.Claimed.{final-list-in-meant, are-less, final-in-both, same-without-rejects, same-answered, voters-in-of-ancestry}
+use Rattle.final_readings_spec.proofs.Claimed.{in-any-order, voters-of-records, cut-at-rejects}
 use Rattle.final_readings_spec.proofs.claims.Statement.{statement}
 use Rattle.final_readings_spec.proofs.claims.Tie as tie
 

@@ -126,8 +126,11 @@ visit-returns : (t : ℕ) → visit-lts.Need-returns (
   remember-reads.Learnt,
 ) (visit-at t) visit.Post
 unfolding Remembers
-visit-returns t c = let p = c .before .before .before .before .before .before .before .before .pre .1 in
-    (c .recall .ensures ∙ p .1 .1 (c .before .before .before .before .before .before .before .before .args .k) (p .0 .1) (eqb-true _ _ (sym (c .before .before .before .is-known .ensures) ∙ c .before .before .if1 .taken)), p .1 .1)
+visit-returns t c = let p = c .before .before .before .before .before .before .before .before .pre .1 in (
+  c .recall .ensures ∙ p .1 .1 (c .before .before .before .before .before .before .before .before .args .k) (p .0 .1)
+      (eqb-true _ _ (sym (c .before .before .before .is-known .ensures) ∙ c .before .before .if1 .taken)),
+  p .1 .1,
+)
 
 visit-visit-includes-requires : (t : ℕ) → visit-lts.Need-visit-includes-requires (
   is-known-reads.Asked,
@@ -143,7 +146,11 @@ visit-visit-includes-requires : (t : ℕ) → visit-lts.Need-visit-includes-requ
   remember-reads.Asked,
   remember-reads.Learnt,
 ) (visit-at t) visit.Post
-visit-visit-includes-requires t c κs = (omega (arith, c .before .before .before .before .before .before .before .pre .0), c .before .before .before .before .before .before .before .pre .1)
+visit-visit-includes-requires t c κs = (
+  omega (arith, c .before .before .before .before .before .before .before .pre .0),
+  c .before .before .before .before
+      .before .before .before .pre .1,
+)
 
 visit-mul-own-at : (t : ℕ) → visit-lts.Need-mul-own-at (
   is-known-reads.Asked,
@@ -226,7 +233,12 @@ visit-remember-requires : (t : ℕ) → visit-lts.Need-remember-requires (
   remember-reads.Asked,
   remember-reads.Learnt,
 ) (visit-at t) visit.Post
-visit-remember-requires t c κs = omega (arith, c .before .before .before .before .before .before .before .before .before .before .before .before .before .before .pre .1, c .before .before .before .before .before .before .visit-includes .kept .1 .1 .1 .1 .1 .0)
+visit-remember-requires t c κs = omega (
+  arith,
+  c .before .before .before .before .before .before .before .before .before .before .before .before .before
+      .before .pre .1,
+  c .before .before .before .before .before .before .visit-includes .kept .1 .1 .1 .1 .1 .0,
+)
 
 visit-same-length-2 : (t : ℕ) → visit-lts.Need-same-length-2 (
   is-known-reads.Asked,
@@ -242,7 +254,8 @@ visit-same-length-2 : (t : ℕ) → visit-lts.Need-same-length-2 (
   remember-reads.Asked,
   remember-reads.Learnt,
 ) (visit-at t) visit.Post
-visit-same-length-2 t c = c .before .before .remember .kept .0 ∙ c .before .before .before .before .before .before .before .before .before .visit-includes .kept .1 .1 .1 .1 .1 .0
+visit-same-length-2 t c = c .before .before .remember .kept .0 ∙ c .before .before .before .before .before .before .before .before .before .visit-includes
+    .kept .1 .1 .1 .1 .1 .0
 
 visit-returns-2 : (t : ℕ) → visit-lts.Need-returns-2 (
   is-known-reads.Asked,
@@ -259,17 +272,28 @@ visit-returns-2 : (t : ℕ) → visit-lts.Need-returns-2 (
   remember-reads.Learnt,
 ) (visit-at t) visit.Post
 unfolding blockAtPlace
-visit-returns-2 t c = let p = c .before .before .before .before .before .before .before .before .before .before .before .before .before .before .before .before .before .pre .1 in
+visit-returns-2 t c = let p = c .before .before .before .before .before .before .before .before .before .before .before .before .before .before .before
+    .before .before .pre .1 in
     let a = c .before .before .before .before .before .before .before .before .before .before .before .before .before .before .before .before .before .args in
     let s = a .store .now in
     let o = a .order .now in
     let l = asLocator (a .locator) in
     let e : c .before .before .before .before .union .result ≡ spokenAt (speechOf (isRejecting (a .speech))) s o l (a .k) =
-    c .before .before .before .before .union .ensures ∙ rw (c .before .before .before .before .before .own-at .ensures, c .before .before .before .before .before .before .before .before .before .visit-includes .ensures .0) (sym (place-spoken (speechOf (isRejecting (a .speech))) s o (p .0 .0) (a .k) (p .0 .1) l)) in
-    (e, rw (c .before .before .remember .ensures) (remembers-more (speechOf (isRejecting (a .speech))) s o l _ (a .k) _ (omega (arith, p, c .before .before .before .before .before .before .before .before .before .visit-includes .kept .1 .1 .1 .1 .1 .0)) e (c .before .before .before .before .before .before .before .before .before .visit-includes .ensures .1)))
+    c .before .before .before .before .union .ensures ∙ rw (
+      c .before .before .before .before .before .own-at .ensures,
+      c .before .before .before .before
+          .before .before .before .before .before .visit-includes .ensures .0,
+    )
+    (sym (place-spoken (speechOf (isRejecting (a .speech))) s o (p .0 .0) (a .k) (p .0 .1) l)) in (
+      e,
+      rw (c .before .before .remember .ensures) (remembers-more (speechOf (isRejecting (a .speech))) s o l _ (a .k) _
+          (omega (arith, p, c .before .before .before .before .before .before .before .before .before .visit-includes .kept .1 .1 .1 .1 .1 .0)) e
+          (c .before .before .before .before .before .before .before .before .before .visit-includes .ensures .1)),
+    )
 
 abbrev visit-includes-Inv-loop : visit-includes-lts.InvT-loop
-visit-includes-Inv-loop store order locator speech k memo₀ at count found₀ j₀ memo found j = VisitedIncludes (speechOf (isRejecting speech)) store order (asLocator locator) k memo₀ memo found j
+visit-includes-Inv-loop store order locator speech k memo₀ at count found₀ j₀ memo found j = VisitedIncludes (speechOf (isRejecting speech)) store order
+    (asLocator locator) k memo₀ memo found j
 
 abbrev visit-includes-μ-loop : visit-includes-lts.MeasureT-loop
 visit-includes-μ-loop store order locator speech k memo₀ at count found₀ j₀ memo found j = count - j
@@ -322,7 +346,8 @@ visit-includes-include-count-at-requires :
       union-reads.Learnt,
     ) (visit-includes-at t) visit-includes.Post visit-includes-Inv-loop visit-includes-μ-loop
 visit-includes-include-count-at-requires t c κs = let p = c .before .before .before .before .pre .1 in
-    place-entry (c .before .before .before .before .args .store .now) (c .before .before .before .before .args .order .now) (p .0 .0) (c .before .before .before .before .args .k) (p .0 .1)
+    place-entry (c .before .before .before .before .args .store .now) (c .before .before .before .before .args .order .now) (p .0 .0)
+    (c .before .before .before .before .args .k) (p .0 .1)
 
 visit-includes-new-requires : (t : ℕ) → visit-includes-lts.Need-new-requires (
   include-count-at-reads.Asked,
@@ -360,7 +385,8 @@ visit-includes-loop-holds t c = let p = c .before .before .before .before .befor
       some-read = omega arith;
       long = refl;
       remembers = p .1 .1;
-      together = rw (c .new .ensures) (unions-start (spoken (speechOf (isRejecting (a .speech))) (blocksOf (a .store .now)) (asLocator (a .locator))) (blockAtPlace (a .store .now) (a .order .now) (a .k) .includes));
+      together = rw (c .new .ensures) (unions-start (spoken (speechOf (isRejecting (a .speech))) (blocksOf (a .store .now)) (asLocator (a .locator)))
+          (blockAtPlace (a .store .now) (a .order .now) (a .k) .includes));
     }
 
 visit-includes-include-at-requires : (t : ℕ) → visit-includes-lts.Need-include-at-requires (
@@ -378,8 +404,13 @@ visit-includes-include-at-requires : (t : ℕ) → visit-includes-lts.Need-inclu
   union-reads.Learnt,
 ) (visit-includes-at t) visit-includes.Post visit-includes-Inv-loop visit-includes-μ-loop
 unfolding blockAtPlace
-visit-includes-include-at-requires t c κs = let p = c .before .before .before .before .before .before .before .before .pre .1 in
-    (place-entry (c .before .before .before .before .before .before .before .before .args .store .now) (c .before .before .before .before .before .before .before .before .args .order .now) (p .0 .0) (c .before .before .before .before .before .before .before .before .args .k) (p .0 .1), omega (arith, c .loop-test .taken, c .before .before .before .include-count-at .ensures))
+visit-includes-include-at-requires t c κs = let p = c .before .before .before .before .before .before .before .before .pre .1 in (
+  place-entry (c .before .before .before .before .before .before .before .before .args .store .now)
+      (c .before .before .before .before .before .before .before .before .args .order .now) (p .0 .0)
+      (c .before .before .before .before .before .before .before .before .args .k) (p .0 .1),
+  omega
+      (arith, c .loop-test .taken, c .before .before .before .include-count-at .ensures),
+)
 
 visit-includes-place-of-requires : (t : ℕ) → visit-includes-lts.Need-place-of-requires (
   include-count-at-reads.Asked,
@@ -397,8 +428,11 @@ visit-includes-place-of-requires : (t : ℕ) → visit-includes-lts.Need-place-o
 ) (visit-includes-at t) visit-includes.Post visit-includes-Inv-loop visit-includes-μ-loop
 unfolding blockAtPlace
 visit-includes-place-of-requires t c κs = let p = c .before .before .before .before .before .before .before .before .before .pre .1 in
-    let a = c .before .before .before .before .before .before .before .before .before .args in
-    (p .0 .0, rw (c .include-at .ensures) (include-found (a .store .now) (a .order .now) (p .0 .0) (a .k) (p .0 .1) (c .before .before .loop .j) (omega (arith, c .before .loop-test .taken, c .before .before .before .before .include-count-at .ensures))))
+    let a = c .before .before .before .before .before .before .before .before .before .args in (
+      p .0 .0,
+      rw (c .include-at .ensures) (include-found (a .store .now) (a .order .now) (p .0 .0) (a .k) (p .0 .1) (c .before .before .loop .j)
+          (omega (arith, c .before .loop-test .taken, c .before .before .before .before .include-count-at .ensures))),
+    )
 
 visit-includes-visit-requires : (t : ℕ) → visit-includes-lts.Need-visit-requires (
   include-count-at-reads.Asked,
@@ -419,8 +453,19 @@ visit-includes-visit-requires t c κs = let p = c .before .before .before .befor
     let a = c .before .before .before .before .before .before .before .before .before .before .before .args in
     let i = c .before .place-of .result in
     let e = c .before .place-of .ensures in
-    let low : i < a .k = include-lower (a .store .now) (a .order .now) (p .0 .0) (a .k) (p .0 .1) (c .before .before .before .before .loop .j) (omega (arith, c .before .before .before .loop-test .taken, c .before .before .before .before .before .before .include-count-at .ensures)) i (e .0) (e .1 ∙ c .before .before .include-at .ensures) in
-    (omega (arith, low, c .before .before .before .before .before .before .before .before .before .before .before .pre .0), ((p .0 .0, e .0), (omega (arith, p .1 .0, c .before .before .before .before .loop .inv .long), c .before .before .before .before .loop .inv .remembers)))
+    let low : i < a .k = include-lower (a .store .now) (a .order .now) (p .0 .0) (a .k) (p .0 .1) (c .before .before .before .before .loop .j)
+    (omega (arith, c .before .before .before .loop-test .taken, c .before .before .before .before .before .before .include-count-at .ensures)) i (e .0)
+    (e .1 ∙ c .before .before .include-at .ensures) in (
+      omega (arith, low, c .before .before .before .before .before .before .before .before .before .before .before .pre .0),
+      (
+        (p .0 .0, e .0),
+        (
+          omega (arith, p .1 .0, c .before .before .before .before .loop .inv .long),
+          c .before .before .before .before .loop .inv
+              .remembers,
+        ),
+      ),
+    )
 
 visit-includes-union-requires : (t : ℕ) → visit-includes-lts.Need-union-requires (
   include-count-at-reads.Asked,
@@ -485,17 +530,27 @@ visit-includes-loop-again : (t : ℕ) → visit-includes-lts.Need-loop-again (
   union-reads.Learnt,
 ) (visit-includes-at t) visit-includes.Post visit-includes-Inv-loop visit-includes-μ-loop
 unfolding blockAtPlace spokenAt
-visit-includes-loop-again t c = let a = c .before .before .before .before .before .before .before .before .before .before .before .before .before .before .before .args in
+visit-includes-loop-again t c = let a = c .before .before .before .before .before .before .before .before .before .before .before .before .before .before
+    .before .args in
     let j = c .before .before .before .before .before .before .before .before .loop .j in
     let is = blockAtPlace (a .store .now) (a .order .now) (a .k) .includes in
-    let h : j < length is = omega (arith, c .before .before .before .before .before .before .before .loop-test .taken, c .before .before .before .before .before .before .before .before .before .before .include-count-at .ensures) in
-    let e : c .before .before .before .visit .result ≡ spoken (speechOf (isRejecting (a .speech))) (blocksOf (a .store .now)) (asLocator (a .locator)) (getD is j noReference) =
-    c .before .before .before .visit .ensures .0 ∙ ap (spoken (speechOf (isRejecting (a .speech))) (blocksOf (a .store .now)) (asLocator (a .locator))) (c .before .before .before .before .before .place-of .ensures .1 ∙ c .before .before .before .before .before .before .include-at .ensures) in
+    let h : j < length is = omega (
+      arith,
+      c .before .before .before .before .before .before .before .loop-test .taken,
+      c .before .before .before .before
+          .before .before .before .before .before .before .include-count-at .ensures,
+    ) in
+    let e : c .before .before .before .visit .result ≡ spoken (speechOf (isRejecting (a .speech))) (blocksOf (a .store .now)) (asLocator (a .locator))
+    (getD is j noReference) =
+    c .before .before .before .visit .ensures .0 ∙ ap (spoken (speechOf (isRejecting (a .speech))) (blocksOf (a .store .now)) (asLocator (a .locator)))
+    (c .before .before .before .before .before .place-of .ensures .1 ∙ c .before .before .before .before .before .before .include-at .ensures) in
     record {
       some-read = omega arith;
       long = c .before .before .before .visit .kept .1 .1 .1 .1 .1 .0 ∙ c .before .before .before .before .before .before .before .before .loop .inv .long;
       remembers = c .before .before .before .visit .ensures .1;
-      together = rw (c .union .ensures, e) (sym (unions-on (spoken (speechOf (isRejecting (a .speech))) (blocksOf (a .store .now)) (asLocator (a .locator))) is j (c .before .before .before .before .before .before .before .before .loop .found) h) ∙ c .before .before .before .before .before .before .before .before .loop .inv .together);
+      together = rw (c .union .ensures, e) (sym (unions-on (spoken (speechOf (isRejecting (a .speech))) (blocksOf (a .store .now)) (asLocator (a .locator)))
+          is j (c .before .before .before .before .before .before .before .before .loop .found) h) ∙ c .before .before .before .before .before .before .before
+          .before .loop .inv .together);
     }
 
 visit-includes-same-length : (t : ℕ) → visit-includes-lts.Need-same-length (
@@ -532,8 +587,11 @@ unfolding blockAtPlace
 visit-includes-returns t c = let a = c .before .before .before .before .before .before .before .before .args in
     let is = blockAtPlace (a .store .now) (a .order .now) (a .k) .includes in
     let l = c .before .loop in
-    let h : length is ≤ l .j = omega (arith, c .loop-test .left, c .before .before .before .include-count-at .ensures) in
-    (sym (unions-end (spoken (speechOf (isRejecting (a .speech))) (blocksOf (a .store .now)) (asLocator (a .locator))) is (l .j) (l .found) h) ∙ l .inv .together, l .inv .remembers)
+    let h : length is ≤ l .j = omega (arith, c .loop-test .left, c .before .before .before .include-count-at .ensures) in (
+      sym (unions-end (spoken (speechOf (isRejecting (a .speech))) (blocksOf (a .store .now)) (asLocator (a .locator))) is (l .j) (l .found) h) ∙ l .inv
+          .together,
+      l .inv .remembers,
+    )
 
 pub +visit+visit-includes-spec : {M : Type 1} → statement M
 +visit+visit-includes-spec = close μ-visit μ-visit-includes (λ t. visit-lts.spec (

@@ -21,8 +21,14 @@ part-visit-end c = omega (arith, c .before .before .before .before .before .pre 
 
 visit-requires : tie.Need-visit-requires
 unfolding isRejecting
-visit-requires c κs = let p = c .before .before .before .before .before .before .pre in
-    (p .0, (omega (arith, p .1 .few, mid-len 0 3072 (c .before .before .before .before .before .before .args .memo .now) (omega (arith, p .1 .long))), rw (c .before .enum-told .given .1) (p .1 .votes)))
+visit-requires c κs = let p = c .before .before .before .before .before .before .pre in (
+  p .0,
+  (
+    omega (arith, p .1 .few, mid-len 0 3072 (c .before .before .before .before .before .before .args .memo .now) (omega (arith, p .1 .long))),
+    rw
+        (c .before .enum-told .given .1) (p .1 .votes),
+  ),
+)
 
 enum-told-2 : tie.Need-enum-told-2
 enum-told-2 c = search needs
@@ -38,8 +44,14 @@ part-visit-end-2 c = omega (arith, c .before .before .before .before .before .pr
 
 visit-requires-2 : tie.Need-visit-requires-2
 unfolding isRejecting
-visit-requires-2 c κs = let p = c .before .before .before .before .before .before .pre in
-    (p .0, (omega (arith, p .1 .few, mid-len 3072 6144 (c .before .before .before .before .before .before .args .memo .now) (omega (arith, p .1 .long))), rw (c .before .enum-told2 .given .1) (p .1 .rejects)))
+visit-requires-2 c κs = let p = c .before .before .before .before .before .before .pre in (
+  p .0,
+  (
+    omega (arith, p .1 .few, mid-len 3072 6144 (c .before .before .before .before .before .before .args .memo .now) (omega (arith, p .1 .long))),
+    rw
+        (c .before .enum-told2 .given .1) (p .1 .rejects),
+  ),
+)
 
 same-length : tie.Need-same-length
 same-length c = search needs
@@ -47,8 +59,12 @@ same-length c = search needs
 returns : tie.Need-returns
 unfolding isRejecting
 returns c = let a = c .before .before .before .before .before .before .before .before .before .args in
-    let v = c .before .before .visit in
-    (v .ensures .0, votes-back (a .store .now) (a .order .now) (asLocator (a .locator)) (a .memo .now) (c .before .before .before .before .before .before .before .before .before .pre .1) _ (v .kept .1 .1 .1 .1 .1 .0) (rw (c .before .before .before .before .enum-told .given .1) at (v .ensures .1)))
+    let v = c .before .before .visit in (
+      v .ensures .0,
+      votes-back (a .store .now) (a .order .now) (asLocator (a .locator)) (a .memo .now)
+          (c .before .before .before .before .before .before .before .before .before .pre .1) _ (v .kept .1 .1 .1 .1 .1 .0)
+          (rw (c .before .before .before .before .enum-told .given .1) at (v .ensures .1)),
+    )
 
 same-length-2 : tie.Need-same-length-2
 same-length-2 c = search needs
@@ -56,8 +72,12 @@ same-length-2 c = search needs
 returns-2 : tie.Need-returns-2
 unfolding isRejecting
 returns-2 c = let a = c .before .before .before .before .before .before .before .before .before .args in
-    let v = c .before .before .visit2 in
-    (v .ensures .0, rejects-back (a .store .now) (a .order .now) (asLocator (a .locator)) (a .memo .now) (c .before .before .before .before .before .before .before .before .before .pre .1) _ (v .kept .1 .1 .1 .1 .1 .0) (rw (c .before .before .before .before .enum-told2 .given .1) at (v .ensures .1)))
+    let v = c .before .before .visit2 in (
+      v .ensures .0,
+      rejects-back (a .store .now) (a .order .now) (asLocator (a .locator)) (a .memo .now)
+          (c .before .before .before .before .before .before .before .before .before .pre .1) _ (v .kept .1 .1 .1 .1 .1 .0)
+          (rw (c .before .before .before .before .enum-told2 .given .1) at (v .ensures .1)),
+    )
 
 pub speakers-at-spec : {M : Type 1} → statement M
 speakers-at-spec =

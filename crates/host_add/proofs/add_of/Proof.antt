@@ -34,10 +34,14 @@ returns-2 : tie.Need-returns-2
 unfolding asAdded
 returns-2 c =
     let start = c .before .before .before .before .before .before .before .before .before .before .before .args in
-    let e = added-sized (start .stakes .now) (start .aggregator .now) (start .voter) (c .before .before .before .before .before .before .before .before .if1 .left) in
+    let e = added-sized (start .stakes .now) (start .aggregator .now) (start .voter)
+    (c .before .before .before .before .before .before .before .before .if1 .left) in
     let held = c .before .before .before .before .before .before .read-aggregator .ensures in
-    let told = c .before .before .before .before .before .add .ensures in
-    (ap (λ (x : Added). numbered (x .answer)) told ∙ rw held (sym (ap (λ (x : AddCall). x .answer) e)), c .before .before .write-aggregator .ensures ∙ ap (λ (x : Added). aggregatorBytes (x .aggregator)) told ∙ rw held (sym (ap (λ (x : AddCall). x .aggregator) e)))
+    let told = c .before .before .before .before .before .add .ensures in (
+      ap (λ (x : Added). numbered (x .answer)) told ∙ rw held (sym (ap (λ (x : AddCall). x .answer) e)),
+      c .before .before .write-aggregator .ensures ∙ ap
+          (λ (x : Added). aggregatorBytes (x .aggregator)) told ∙ rw held (sym (ap (λ (x : AddCall). x .aggregator) e)),
+    )
 
 pub add-of-spec : {M : Type 1} → statement M
 add-of-spec =

@@ -17,11 +17,13 @@ enum-told-2 c = search needs
 
 returns : tie.Need-returns
 unfolding refusal
-returns c = rw (broken-sound (c .before .before .before .before .args .stakes .now) (c .enum-told2 .given .0 .0) (ap asNewCommittee (sym (c .enum-told2 .given .1)) ∙ c .before .before .new-committee .ensures))
+returns c = rw (broken-sound (c .before .before .before .before .args .stakes .now) (c .enum-told2 .given .0 .0)
+    (ap asNewCommittee (sym (c .enum-told2 .given .1)) ∙ c .before .before .new-committee .ensures))
 
 returns-2 : tie.Need-returns-2
 unfolding refusal
-returns-2 c = rw (taken-sound (c .before .before .before .before .args .stakes .now) (c .enum-told .given .0 .0) (ap asNewCommittee (sym (c .enum-told .given .1)) ∙ c .before .before .new-committee .ensures) .0)
+returns-2 c = rw (taken-sound (c .before .before .before .before .args .stakes .now) (c .enum-told .given .0 .0)
+    (ap asNewCommittee (sym (c .enum-told .given .1)) ∙ c .before .before .new-committee .ensures) .0)
 
 pub no-aggregator-spec : {M : Type 1} → statement M
 no-aggregator-spec =

@@ -19,7 +19,13 @@ same-length c = search needs
 
 returns : tie.Need-returns
 unfolding aggregatorBytes
-returns c = c .before .before .write-u643 .ensures ∙ rw (c .before .before .before .before .before .before .write-u642 .ensures, c .before .before .before .before .before .before .before .before .before .before .write-u64 .ensures) (three-written _ _ _ (c .before .before .before .before .before .before .before .before .before .before .before .before .before .args .bytes .now) (c .before .before .before .before .before .before .before .before .before .before .before .before .before .pre))
+returns c = c .before .before .write-u643 .ensures ∙ rw (
+  c .before .before .before .before .before .before .write-u642 .ensures,
+  c .before .before .before
+      .before .before .before .before .before .before .before .write-u64 .ensures,
+)
+    (three-written _ _ _ (c .before .before .before .before .before .before .before .before .before .before .before .before .before .args .bytes .now)
+    (c .before .before .before .before .before .before .before .before .before .before .before .before .before .pre))
 
 pub write-aggregator-spec : {M : Type 1} → statement M
 write-aggregator-spec =

@@ -58,7 +58,8 @@ add-result-2 : tie.Need-add-result-2
 unfolding asOpen
 add-result-2 c =
     let start = c .before .before .before .before .before .before .before .before .before .before .before .before .args in
-    let told = rw (c .before .before .before .before .before .before .n .given .1) at (c .before .before .before .before .before .before .before .before .before .words-in .ensures) in
+    let told = rw (c .before .before .before .before .before .before .n .given .1) at
+    (c .before .before .before .before .before .before .before .before .before .words-in .ensures) in
     let asked = sym (rw (told .1 .1) at (c .before .before .before .is-open .ensures)) ∙ ap asOpen (c .before .number .given .1) in
     absurd (open-never (start .calendar .now) (start .time) (told .0) _ asked)
 
@@ -66,7 +67,8 @@ returns-2 : tie.Need-returns-2
 unfolding encoded flag asOpen
 returns-2 c =
     let start = c .before .before .before .before .before .before .before .before .before .before .before .args in
-    let told = rw (c .before .before .before .before .before .n .given .1) at (c .before .before .before .before .before .before .before .before .words-in .ensures) in
+    let told = rw (c .before .before .before .before .before .n .given .1) at
+    (c .before .before .before .before .before .before .before .before .words-in .ensures) in
     let asked = sym (rw (told .1 .1) at (c .before .before .is-open .ensures)) ∙ ap asOpen (c .enum-told2 .given .1) in
     sym (ap encoded (open-told (start .calendar .now) (start .time) (told .0) true asked))
 
@@ -74,7 +76,8 @@ returns-3 : tie.Need-returns-3
 unfolding encoded flag asOpen
 returns-3 c =
     let start = c .before .before .before .before .before .before .before .before .before .before .before .args in
-    let told = rw (c .before .before .before .before .before .n .given .1) at (c .before .before .before .before .before .before .before .before .words-in .ensures) in
+    let told = rw (c .before .before .before .before .before .n .given .1) at
+    (c .before .before .before .before .before .before .before .before .words-in .ensures) in
     let asked = sym (rw (told .1 .1) at (c .before .before .is-open .ensures)) ∙ ap asOpen (c .enum-told3 .given .1) in
     sym (ap encoded (open-told (start .calendar .now) (start .time) (told .0) false asked))
 
@@ -82,7 +85,8 @@ returns-4 : tie.Need-returns-4
 unfolding asOpen
 returns-4 c =
     let start = c .before .before .before .before .before .before .before .before .before .before .before .before .args in
-    let told = rw (c .before .before .before .before .before .before .n .given .1) at (c .before .before .before .before .before .before .before .before .before .words-in .ensures) in
+    let told = rw (c .before .before .before .before .before .before .n .given .1) at
+    (c .before .before .before .before .before .before .before .before .before .words-in .ensures) in
     let asked = sym (rw (told .1 .1) at (c .before .before .before .is-open .ensures)) ∙ ap asOpen (c .before .number .given .1) in
     absurd (open-never (start .calendar .now) (start .time) (told .0) _ asked)
 

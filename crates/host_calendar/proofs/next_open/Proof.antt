@@ -31,7 +31,8 @@ returns : tie.Need-returns
 unfolding encoded
 returns c =
     let start = c .before .before .before .before .before .before .before .args in
-    let e = next-refused (start .calendar .now) (start .time) (start .found .now) (rw (c .enum-told .given .1) at (c .before .before .before .words-in .ensures)) in
+    let e = next-refused (start .calendar .now) (start .time) (start .found .now)
+    (rw (c .enum-told .given .1) at (c .before .before .before .words-in .ensures)) in
     (sym (ap (λ (x : NextOpenCall). encoded (x .answer)) e), sym (ap (λ (x : NextOpenCall). x .found) e))
 
 add-result-2 : tie.Need-add-result-2
@@ -55,7 +56,8 @@ slice-aggregate-next-open : tie.Need-slice-aggregate-next-open
 slice-aggregate-next-open c =
     let told = rw (c .before .before .before .n .given .1) at (c .before .before .before .before .before .before .words-in .ensures) in
     let kept = c .before .before .before .before .before .before .words-in .kept .1 .0 in
-    sym (length-take-le (c .before .before .before .n .given .0 .0) (c .before .before .before .before .before .before .words-in .last .1 .0) (omega (arith, told .1 .0, kept)))
+    sym (length-take-le (c .before .before .before .n .given .0 .0) (c .before .before .before .before .before .before .words-in .last .1 .0)
+    (omega (arith, told .1 .0, kept)))
 
 next-open-requires : tie.Need-next-open-requires
 next-open-requires c κs = search needs
@@ -76,7 +78,8 @@ add-result-3 : tie.Need-add-result-3
 unfolding asNextOpen
 add-result-3 c =
     let start = c .before .before .before .before .before .before .before .before .before .before .before .before .before .before .args in
-    let told = rw (c .before .before .before .before .before .before .before .n .given .1) at (c .before .before .before .before .before .before .before .before .before .before .words-in .ensures) in
+    let told = rw (c .before .before .before .before .before .before .before .n .given .1) at
+    (c .before .before .before .before .before .before .before .before .before .before .words-in .ensures) in
     let asked = sym (rw (told .1 .1) at (c .before .before .before .next-open .ensures)) ∙ ap asNextOpen (c .before .number .given .1) in
     absurd (next-never (start .calendar .now) (start .time) (start .found .now) (told .0) _ asked)
 
@@ -86,18 +89,27 @@ same-length c = search needs
 returns-3 : tie.Need-returns-3
 unfolding encoded foundIn asNextOpen
 returns-3 c =
-    let start = c .before .before .before .before .before .before .before .before .before .before .before .before .before .before .before .before .before .before .args in
-    let told = rw (c .before .before .before .before .before .before .before .before .before .before .before .n .given .1) at (c .before .before .before .before .before .before .before .before .before .before .before .before .before .before .words-in .ensures) in
-    let asked = sym (rw (told .1 .1) at (c .before .before .before .before .before .before .before .next-open .ensures)) ∙ ap asNextOpen (c .before .before .before .before .before .second .given .1) in
+    let start = c .before .before .before .before .before .before .before .before .before .before .before .before .before .before .before .before .before
+    .before .args in
+    let told = rw (c .before .before .before .before .before .before .before .before .before .before .before .n .given .1) at
+    (c .before .before .before .before .before .before .before .before .before .before .before .before .before .before .words-in .ensures) in
+    let asked = sym (rw (told .1 .1) at (c .before .before .before .before .before .before .before .next-open .ensures)) ∙ ap asNextOpen
+    (c .before .before .before .before .before .second .given .1) in
     let r = c .before .before .before .before .before .second .given .0 .0 in
-    let e = next-told (start .calendar .now) (start .time) (start .found .now) (told .0) (c .before .before .before .before .before .before .before .before .before .if1 .left) (some r) asked in
-    (sym (ap (λ (x : NextOpenCall). encoded (x .answer)) e), c .before .before .write-u64 .ensures ∙ sets-complete (start .found .now) _ (length-leBytes 8 r ∙ sym (c .before .before .before .before .before .before .before .before .before .if1 .left)) ∙ sym (ap (λ (x : NextOpenCall). x .found) e))
+    let e = next-told (start .calendar .now) (start .time) (start .found .now) (told .0)
+    (c .before .before .before .before .before .before .before .before .before .if1 .left) (some r) asked in (
+      sym (ap (λ (x : NextOpenCall). encoded (x .answer)) e),
+      c .before .before .write-u64 .ensures ∙ sets-complete (start .found .now) _
+          (length-leBytes 8 r ∙ sym (c .before .before .before .before .before .before .before .before .before .if1 .left)) ∙ sym
+          (ap (λ (x : NextOpenCall). x .found) e),
+    )
 
 returns-4 : tie.Need-returns-4
 unfolding encoded foundIn asNextOpen
 returns-4 c =
     let start = c .before .before .before .before .before .before .before .before .before .before .before .before .before .args in
-    let told = rw (c .before .before .before .before .before .before .n .given .1) at (c .before .before .before .before .before .before .before .before .before .words-in .ensures) in
+    let told = rw (c .before .before .before .before .before .before .n .given .1) at
+    (c .before .before .before .before .before .before .before .before .before .words-in .ensures) in
     let asked = sym (rw (told .1 .1) at (c .before .before .next-open .ensures)) ∙ ap asNextOpen (c .enum-told2 .given .1) in
     let e = next-told (start .calendar .now) (start .time) (start .found .now) (told .0) (c .before .before .before .before .if1 .left) none asked in
     (sym (ap (λ (x : NextOpenCall). encoded (x .answer)) e), sym (ap (λ (x : NextOpenCall). x .found) e))
@@ -106,7 +118,8 @@ returns-5 : tie.Need-returns-5
 unfolding asNextOpen
 returns-5 c =
     let start = c .before .before .before .before .before .before .before .before .before .before .before .before .before .before .args in
-    let told = rw (c .before .before .before .before .before .before .before .n .given .1) at (c .before .before .before .before .before .before .before .before .before .before .words-in .ensures) in
+    let told = rw (c .before .before .before .before .before .before .before .n .given .1) at
+    (c .before .before .before .before .before .before .before .before .before .before .words-in .ensures) in
     let asked = sym (rw (told .1 .1) at (c .before .before .before .next-open .ensures)) ∙ ap asNextOpen (c .before .number .given .1) in
     absurd (next-never (start .calendar .now) (start .time) (start .found .now) (told .0) _ asked)
 

@@ -47,7 +47,8 @@ returns c =
     let s = c .before .before .before .before .before .args .bytes .now in
     let b = c .before .before .before .loop in
     let i = b .i in
-    sym (b .inv .1 ∙ any-found (λ w. eqb w 0) (wordsOf s) i (within s i (omega arith)) (rw (word s i (omega arith)) (eq-eqb _ 0 (sym (c .before .word-at .ensures) ∙ c .if1 .taken))))
+    sym (b .inv .1 ∙ any-found (λ w. eqb w 0) (wordsOf s) i (within s i (omega arith))
+    (rw (word s i (omega arith)) (eq-eqb _ 0 (sym (c .before .word-at .ensures) ∙ c .if1 .taken))))
 
 add-i : tie.Need-add-i Inv-loop μ-loop
 add-i c = search needs
@@ -59,8 +60,11 @@ loop-again : tie.Need-loop-again Inv-loop μ-loop
 loop-again c =
     let s = c .before .before .before .before .before .args .bytes .now in
     let b = c .before .before .before .loop in
-    let i = b .i in
-    (search needs, b .inv .1 ∙ any-on (λ w. eqb w 0) (wordsOf s) i (within s i (omega arith)) (rw (word s i (omega arith)) (ne-eqb _ 0 (λ z. c .if1 .left (c .before .word-at .ensures ∙ z)))))
+    let i = b .i in (
+      search needs,
+      b .inv .1 ∙ any-on (λ w. eqb w 0) (wordsOf s) i (within s i (omega arith))
+          (rw (word s i (omega arith)) (ne-eqb _ 0 (λ z. c .if1 .left (c .before .word-at .ensures ∙ z)))),
+    )
 
 returns-2 : tie.Need-returns-2 Inv-loop μ-loop
 returns-2 c =

@@ -28,14 +28,16 @@ add-result-2 c = search needs
 
 returns-2 : tie.Need-returns-2
 unfolding encoded
-returns-2 c = rw (call-many (c .before .before .before .before .before .args .stakes .now) (omega arith) (c .before .before .if2 .taken) true (sym (c .before .has-zero-word .ensures) ∙ c .if3 .taken))
+returns-2 c = rw (call-many (c .before .before .before .before .before .args .stakes .now) (omega arith) (c .before .before .if2 .taken) true
+    (sym (c .before .has-zero-word .ensures) ∙ c .if3 .taken))
 
 add-result-3 : tie.Need-add-result-3
 add-result-3 c = search needs
 
 returns-3 : tie.Need-returns-3
 unfolding encoded
-returns-3 c = rw (call-many (c .before .before .before .before .before .args .stakes .now) (omega arith) (c .before .before .if2 .taken) false (sym (c .before .has-zero-word .ensures) ∙ c .if3 .left))
+returns-3 c = rw (call-many (c .before .before .before .before .before .args .stakes .now) (omega arith) (c .before .before .if2 .taken) false
+    (sym (c .before .has-zero-word .ensures) ∙ c .if3 .left))
 
 slice-aggregate-stakes-of : tie.Need-slice-aggregate-stakes-of
 slice-aggregate-stakes-of c = search needs
@@ -47,7 +49,8 @@ array-share-prefix-held : tie.Need-array-share-prefix-held
 array-share-prefix-held c = search needs
 
 slice-aggregate-new-committee : tie.Need-slice-aggregate-new-committee
-slice-aggregate-new-committee c = sym (length-take-le (c .before .before .stakes-of .result) (c .before .before .stakes-of .last .1 .0) (omega (arith, c .before .before .stakes-of .kept .1 .0, c .before .before .stakes-of .ensures .0)))
+slice-aggregate-new-committee c = sym (length-take-le (c .before .before .stakes-of .result) (c .before .before .stakes-of .last .1 .0)
+    (omega (arith, c .before .before .stakes-of .kept .1 .0, c .before .before .stakes-of .ensures .0)))
 
 new-committee-requires : tie.Need-new-committee-requires
 new-committee-requires c κs = search needs
@@ -61,7 +64,8 @@ enum-known-number c = search needs
 add-result-4 : tie.Need-add-result-4
 unfolding asNewCommittee
 add-result-4 c =
-    let held = take (c .before .before .before .before .before .before .stakes-of .result) (c .before .before .before .before .before .before .stakes-of .last .1 .0) in
+    let held = take (c .before .before .before .before .before .before .stakes-of .result)
+    (c .before .before .before .before .before .before .stakes-of .last .1 .0) in
     let n = c .before .number .given .0 .0 in
     let e : newCommittee held ≡ refused n = sym (c .before .before .before .new-committee .ensures) ∙ ap asNewCommittee (c .before .number .given .1) in
     omega (arith, committee-refusals held n e)
@@ -71,14 +75,26 @@ unfolding encoded asNewCommittee
 returns-4 c =
     let s = c .before .before .before .before .before .before .before .before .before .before .before .args .stakes .now in
     let told = c .before .before .before .new-committee .ensures in
-    rw (call-held s (omega arith) (c .before .before .before .before .before .before .before .before .if2 .left), ← c .before .before .before .before .before .before .stakes-of .ensures .1, ← told, c .before .total .given .1)
+    rw (
+      call-held s (omega arith) (c .before .before .before .before .before .before .before .before .if2 .left),
+      ← c .before .before .before .before .before
+          .before .stakes-of .ensures .1,
+      ← told,
+      c .before .total .given .1,
+    )
 
 returns-5 : tie.Need-returns-5
 unfolding encoded asNewCommittee
 returns-5 c =
     let s = c .before .before .before .before .before .before .before .before .before .before .before .args .stakes .now in
     let told = c .before .before .before .new-committee .ensures in
-    rw (call-held s (omega arith) (c .before .before .before .before .before .before .before .before .if2 .left), ← c .before .before .before .before .before .before .stakes-of .ensures .1, ← told, c .before .number .given .1)
+    rw (
+      call-held s (omega arith) (c .before .before .before .before .before .before .before .before .if2 .left),
+      ← c .before .before .before .before .before
+          .before .stakes-of .ensures .1,
+      ← told,
+      c .before .number .given .1,
+    )
 
 pub new-committee-spec : {M : Type 1} → statement M
 new-committee-spec =

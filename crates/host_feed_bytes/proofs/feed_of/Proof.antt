@@ -19,8 +19,11 @@ returns : tie.Need-returns
 unfolding asFeedAnswer refusedCall
 returns c =
     let start = c .before .before .before .before .before .before .before .before .args in
-    let e = feed-unsized (start .stakes .now) (start .store .now) (start .table .now) (start .events .now) (start .rec .now) (c .before .before .if1 .taken) in
-    (ap refused (c .refusal-before .ensures) ∙ sym (ap (λ (x : FeedCall). x .answer) e), (sym (ap (λ (x : FeedCall). x .store) e), (sym (ap (λ (x : FeedCall). x .table) e), sym (ap (λ (x : FeedCall). x .events) e))))
+    let e = feed-unsized (start .stakes .now) (start .store .now) (start .table .now) (start .events .now) (start .rec .now) (c .before .before .if1 .taken)
+    in (
+      ap refused (c .refusal-before .ensures) ∙ sym (ap (λ (x : FeedCall). x .answer) e),
+      (sym (ap (λ (x : FeedCall). x .store) e), (sym (ap (λ (x : FeedCall). x .table) e), sym (ap (λ (x : FeedCall). x .events) e))),
+    )
 
 slice-aggregate-words-of : tie.Need-slice-aggregate-words-of
 slice-aggregate-words-of c = search needs
@@ -44,8 +47,11 @@ returns-2 : tie.Need-returns-2
 unfolding asFeedAnswer refusedCall
 returns-2 c =
     let start = c .before .before .before .before .before .before .before .before .before .before .before .before .before .before .args in
-    let e = feed-eventless (start .stakes .now) (start .store .now) (start .table .now) (start .events .now) (start .rec .now) (c .before .before .before .before .before .before .before .before .if1 .left) (c .before .before .before .if2 .taken) in
-    (rw (c .no-events .ensures, c .before .before .before .before .before .words-of .ensures) (sym (ap (λ (x : FeedCall). x .answer) e)), (sym (ap (λ (x : FeedCall). x .store) e), (sym (ap (λ (x : FeedCall). x .table) e), sym (ap (λ (x : FeedCall). x .events) e))))
+    let e = feed-eventless (start .stakes .now) (start .store .now) (start .table .now) (start .events .now) (start .rec .now)
+    (c .before .before .before .before .before .before .before .before .if1 .left) (c .before .before .before .if2 .taken) in (
+      rw (c .no-events .ensures, c .before .before .before .before .before .words-of .ensures) (sym (ap (λ (x : FeedCall). x .answer) e)),
+      (sym (ap (λ (x : FeedCall). x .store) e), (sym (ap (λ (x : FeedCall). x .table) e), sym (ap (λ (x : FeedCall). x .events) e))),
+    )
 
 slice-aggregate-feed-words : tie.Need-slice-aggregate-feed-words
 slice-aggregate-feed-words c = search needs
@@ -71,11 +77,25 @@ same-length-6 c = search needs
 returns-3 : tie.Need-returns-3
 unfolding fedCall
 returns-3 c =
-    let start = c .before .before .before .before .before .before .before .before .before .before .before .before .before .before .before .before .before .before .before .before .before .before .before .before .before .args in
-    let e = feed-sized (start .stakes .now) (start .store .now) (start .table .now) (start .events .now) (start .rec .now) (c .before .before .before .before .before .before .before .before .before .before .before .before .before .before .before .before .before .before .before .if1 .left) (c .before .before .before .before .before .before .before .before .before .before .before .before .before .before .if2 .left) in
-    let w = ap (λ ws. fedWith (start .stakes .now) (start .store .now) ws (wordsOf (start .events .now)) (start .rec .now)) (c .before .before .before .before .before .before .before .before .before .before .before .before .before .before .before .before .words-of .ensures) in
-    let f = c .before .before .before .before .before .before .before .before .before .before .feed-words .ensures in
-    (f .0 ∙ ap (λ (x : Fed). x .answer) w ∙ sym (ap (λ (x : FeedCall). x .answer) e), (f .1 .0 ∙ ap (λ (x : Fed). x .store) w ∙ sym (ap (λ (x : FeedCall). x .store) e), (c .before .before .bytes-of .ensures ∙ ap bytesOf (f .1 .1 .0 ∙ ap (λ (x : Fed). x .table) w) ∙ sym (ap (λ (x : FeedCall). x .table) e), f .1 .1 .1 ∙ ap (λ (x : Fed). bytesOf (x .events)) w ∙ sym (ap (λ (x : FeedCall). x .events) e))))
+    let start = c .before .before .before .before .before .before .before .before .before .before .before .before .before .before .before .before .before
+    .before .before .before .before .before .before .before .before .args in
+    let e = feed-sized (start .stakes .now) (start .store .now) (start .table .now) (start .events .now) (start .rec .now)
+    (c .before .before .before .before .before .before .before .before .before .before .before .before .before .before .before .before .before .before
+    .before .if1 .left) (c .before .before .before .before .before .before .before .before .before .before .before .before .before .before .if2 .left) in
+    let w = ap (λ ws. fedWith (start .stakes .now) (start .store .now) ws (wordsOf (start .events .now)) (start .rec .now))
+    (c .before .before .before .before .before .before .before .before .before .before .before .before .before .before .before .before .words-of .ensures)
+    in
+    let f = c .before .before .before .before .before .before .before .before .before .before .feed-words .ensures in (
+      f .0 ∙ ap (λ (x : Fed). x .answer) w ∙ sym (ap (λ (x : FeedCall). x .answer) e),
+      (
+        f .1 .0 ∙ ap (λ (x : Fed). x .store) w ∙ sym (ap (λ (x : FeedCall). x .store) e),
+        (
+          c .before .before .bytes-of .ensures ∙ ap bytesOf (f .1 .1 .0 ∙ ap (λ (x : Fed). x .table) w) ∙ sym (ap (λ (x : FeedCall). x .table) e),
+          f .1 .1 .1 ∙
+              ap (λ (x : Fed). bytesOf (x .events)) w ∙ sym (ap (λ (x : FeedCall). x .events) e),
+        ),
+      ),
+    )
 
 pub feed-of-spec : {M : Type 1} → statement M
 feed-of-spec =

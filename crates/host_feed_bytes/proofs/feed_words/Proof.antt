@@ -40,10 +40,22 @@ same-length-3 c = search needs
 
 returns : tie.Need-returns
 returns c =
-    let start = c .before .before .before .before .before .before .before .before .before .before .before .before .before .before .before .before .before .before .before .before .before .before .before .before .before .args in
+    let start = c .before .before .before .before .before .before .before .before .before .before .before .before .before .before .before .before .before
+    .before .before .before .before .before .before .before .before .args in
     let f = c .before .before .before .before .before .before .before .before .before .before .before .feed .ensures in
-    let e = fed-lent (start .stakes .now) (start .store .now) (start .table .now) _ _ (start .events .now) (start .rec .now) (length-replicate {A = ℕ} 6145 0 ∙ sym (c .before .before .before .before .before .before .before .before .before .before .before .before .before .before .before .before .before .before .before .before .before .before .before .before .before .pre .0)) (c .before .before .before .before .before .before .before .before .before .before .before .before .before .before .before .before .before .before .before .before .before .before .before .before .before .pre .1) (c .before .before .before .before .before .before .before .before .before .before .before .before .before .before .before .before .before .words-of .ensures) in
-    (f .0 ∙ ap (λ (x : Fed). x .answer) e, (f .1 .0 ∙ ap (λ (x : Fed). x .store) e, (f .1 .1 .0 ∙ ap (λ (x : Fed). x .table) e, c .before .before .bytes-of .ensures ∙ ap bytesOf (f .1 .1 .1 ∙ ap (λ (x : Fed). x .events) e))))
+    let e = fed-lent (start .stakes .now) (start .store .now) (start .table .now) _ _ (start .events .now) (start .rec .now)
+    (length-replicate {A = ℕ} 6145 0 ∙ sym (c .before .before .before .before .before .before .before .before .before .before .before .before .before
+    .before .before .before .before .before .before .before .before .before .before .before .before .pre .0))
+    (c .before .before .before .before .before .before .before .before .before .before .before .before .before .before .before .before .before .before
+    .before .before .before .before .before .before .before .pre .1)
+    (c .before .before .before .before .before .before .before .before .before .before .before .before .before .before .before .before .before .words-of
+    .ensures) in (
+      f .0 ∙ ap (λ (x : Fed). x .answer) e,
+      (
+        f .1 .0 ∙ ap (λ (x : Fed). x .store) e,
+        (f .1 .1 .0 ∙ ap (λ (x : Fed). x .table) e, c .before .before .bytes-of .ensures ∙ ap bytesOf (f .1 .1 .1 ∙ ap (λ (x : Fed). x .events) e)),
+      ),
+    )
 
 pub feed-words-spec : {M : Type 1} → statement M
 feed-words-spec =

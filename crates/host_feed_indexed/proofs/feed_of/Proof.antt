@@ -19,8 +19,16 @@ returns : tie.Need-returns
 unfolding asFeedAnswer refusedCall
 returns c =
     let a = c .before .before .before .before .before .before .before .before .before .args in
-    let e = feed-unsized (a .stakes .now) (a .store .now) (a .table .now) (a .index .now) (a .events .now) (a .rec .now) (c .before .before .if1 .taken) in
-    (ap refused (c .refusal-before .ensures) ∙ sym (ap (λ (x : IndexedCall). x .answer) e), (sym (ap (λ (x : IndexedCall). x .store) e), (sym (ap (λ (x : IndexedCall). x .table) e), (sym (ap (λ (x : IndexedCall). x .index) e), sym (ap (λ (x : IndexedCall). x .events) e)))))
+    let e = feed-unsized (a .stakes .now) (a .store .now) (a .table .now) (a .index .now) (a .events .now) (a .rec .now) (c .before .before .if1 .taken) in (
+      ap refused (c .refusal-before .ensures) ∙ sym (ap (λ (x : IndexedCall). x .answer) e),
+      (
+        sym (ap (λ (x : IndexedCall). x .store) e),
+        (
+          sym (ap (λ (x : IndexedCall). x .table) e),
+          (sym (ap (λ (x : IndexedCall). x .index) e), sym (ap (λ (x : IndexedCall). x .events) e)),
+        ),
+      ),
+    )
 
 slice-aggregate-words-of : tie.Need-slice-aggregate-words-of
 slice-aggregate-words-of c = search needs
@@ -47,8 +55,17 @@ returns-2 : tie.Need-returns-2
 unfolding asFeedAnswer refusedCall
 returns-2 c =
     let a = c .before .before .before .before .before .before .before .before .before .before .before .before .before .before .before .before .args in
-    let e = feed-eventless (a .stakes .now) (a .store .now) (a .table .now) (a .index .now) (a .events .now) (a .rec .now) (c .before .before .before .before .before .before .before .before .before .if1 .left) (c .before .before .before .before .if2 .taken) in
-    (rw (c .no-events .ensures, c .before .before .before .before .before .before .words-of .ensures) (sym (ap (λ (x : IndexedCall). x .answer) e)), (sym (ap (λ (x : IndexedCall). x .store) e), (sym (ap (λ (x : IndexedCall). x .table) e), (sym (ap (λ (x : IndexedCall). x .index) e), sym (ap (λ (x : IndexedCall). x .events) e)))))
+    let e = feed-eventless (a .stakes .now) (a .store .now) (a .table .now) (a .index .now) (a .events .now) (a .rec .now)
+    (c .before .before .before .before .before .before .before .before .before .if1 .left) (c .before .before .before .before .if2 .taken) in (
+      rw (c .no-events .ensures, c .before .before .before .before .before .before .words-of .ensures) (sym (ap (λ (x : IndexedCall). x .answer) e)),
+      (
+        sym (ap (λ (x : IndexedCall). x .store) e),
+        (
+          sym (ap (λ (x : IndexedCall). x .table) e),
+          (sym (ap (λ (x : IndexedCall). x .index) e), sym (ap (λ (x : IndexedCall). x .events) e)),
+        ),
+      ),
+    )
 
 slice-aggregate-feed-words : tie.Need-slice-aggregate-feed-words
 slice-aggregate-feed-words c = search needs
@@ -77,11 +94,30 @@ same-length-8 c = search needs
 returns-3 : tie.Need-returns-3
 unfolding fedCall
 returns-3 c =
-    let a = c .before .before .before .before .before .before .before .before .before .before .before .before .before .before .before .before .before .before .before .before .before .before .before .before .before .before .before .before .before .args in
-    let e = feed-sized (a .stakes .now) (a .store .now) (a .table .now) (a .index .now) (a .events .now) (a .rec .now) (c .before .before .before .before .before .before .before .before .before .before .before .before .before .before .before .before .before .before .before .before .before .before .if1 .left) (c .before .before .before .before .before .before .before .before .before .before .before .before .before .before .before .before .before .if2 .left) in
-    let w = ap (λ ws. fedWith (a .stakes .now) (a .store .now) ws (a .index .now) (wordsOf (a .events .now)) (a .rec .now)) (c .before .before .before .before .before .before .before .before .before .before .before .before .before .before .before .before .before .before .before .words-of .ensures) in
-    let f = c .before .before .before .before .before .before .before .before .before .before .before .before .feed-words .ensures in
-    (f .0 ∙ ap (λ (x : IndexedFed). x .fed .answer) w ∙ sym (ap (λ (x : IndexedCall). x .answer) e), (f .1 .0 ∙ ap (λ (x : IndexedFed). x .fed .store) w ∙ sym (ap (λ (x : IndexedCall). x .store) e), (c .before .before .bytes-of .ensures ∙ ap bytesOf (f .1 .1 .0 ∙ ap (λ (x : IndexedFed). x .fed .table) w) ∙ sym (ap (λ (x : IndexedCall). x .table) e), (f .1 .1 .1 .0 ∙ ap (λ (x : IndexedFed). x .index) w ∙ sym (ap (λ (x : IndexedCall). x .index) e), f .1 .1 .1 .1 ∙ ap (λ (x : IndexedFed). bytesOf (x .fed .events)) w ∙ sym (ap (λ (x : IndexedCall). x .events) e)))))
+    let a = c .before .before .before .before .before .before .before .before .before .before .before .before .before .before .before .before .before .before
+    .before .before .before .before .before .before .before .before .before .before .before .args in
+    let e = feed-sized (a .stakes .now) (a .store .now) (a .table .now) (a .index .now) (a .events .now) (a .rec .now)
+    (c .before .before .before .before .before .before .before .before .before .before .before .before .before .before .before .before .before .before
+    .before .before .before .before .if1 .left) (c .before .before .before .before .before .before .before .before .before .before .before .before .before
+    .before .before .before .before .if2 .left) in
+    let w = ap (λ ws. fedWith (a .stakes .now) (a .store .now) ws (a .index .now) (wordsOf (a .events .now)) (a .rec .now))
+    (c .before .before .before .before .before .before .before .before .before .before .before .before .before .before .before .before .before .before
+    .before .words-of .ensures) in
+    let f = c .before .before .before .before .before .before .before .before .before .before .before .before .feed-words .ensures in (
+      f .0 ∙ ap (λ (x : IndexedFed). x .fed .answer) w ∙ sym (ap (λ (x : IndexedCall). x .answer) e),
+      (
+        f .1 .0 ∙ ap (λ (x : IndexedFed). x .fed .store) w ∙ sym (ap (λ (x : IndexedCall). x .store) e),
+        (
+          c .before .before .bytes-of .ensures ∙ ap bytesOf (f .1 .1 .0 ∙ ap (λ (x : IndexedFed). x .fed .table) w) ∙ sym
+              (ap (λ (x : IndexedCall). x .table) e),
+          (
+            f .1 .1 .1 .0 ∙ ap (λ (x : IndexedFed). x .index) w ∙ sym (ap (λ (x : IndexedCall). x .index) e),
+            f .1 .1 .1
+                .1 ∙ ap (λ (x : IndexedFed). bytesOf (x .fed .events)) w ∙ sym (ap (λ (x : IndexedCall). x .events) e),
+          ),
+        ),
+      ),
+    )
 
 pub feed-of-spec : {M : Type 1} → statement M
 feed-of-spec =

@@ -43,10 +43,29 @@ same-length-4 c = search needs
 
 returns : tie.Need-returns
 returns c =
-    let a = c .before .before .before .before .before .before .before .before .before .before .before .before .before .before .before .before .before .before .before .before .before .before .before .before .before .before .before .before .before .args in
+    let a = c .before .before .before .before .before .before .before .before .before .before .before .before .before .before .before .before .before .before
+    .before .before .before .before .before .before .before .before .before .before .before .args in
     let f = c .before .before .before .before .before .before .before .before .before .before .before .before .before .feed-indexed .ensures in
-    let e = fed-lent (a .stakes .now) (a .store .now) (a .table .now) _ _ (a .index .now) (a .events .now) (a .rec .now) (length-replicate {A = ℕ} 6145 0 ∙ sym (c .before .before .before .before .before .before .before .before .before .before .before .before .before .before .before .before .before .before .before .before .before .before .before .before .before .before .before .before .before .pre .0)) (c .before .before .before .before .before .before .before .before .before .before .before .before .before .before .before .before .before .before .before .before .before .before .before .before .before .before .before .before .before .pre .1) (c .before .before .before .before .before .before .before .before .before .before .before .before .before .before .before .before .before .before .before .before .words-of .ensures) in
-    (f .0 ∙ ap (λ (x : IndexedFed). x .fed .answer) e, (f .1 .0 ∙ ap (λ (x : IndexedFed). x .fed .store) e, (f .1 .1 .0 ∙ ap (λ (x : IndexedFed). x .fed .table) e, (f .1 .1 .1 .0 ∙ ap (λ (x : IndexedFed). x .index) e, c .before .before .bytes-of .ensures ∙ ap bytesOf (f .1 .1 .1 .1 ∙ ap (λ (x : IndexedFed). x .fed .events) e)))))
+    let e = fed-lent (a .stakes .now) (a .store .now) (a .table .now) _ _ (a .index .now) (a .events .now) (a .rec .now)
+    (length-replicate {A = ℕ} 6145 0 ∙ sym (c .before .before .before .before .before .before .before .before .before .before .before .before .before
+    .before .before .before .before .before .before .before .before .before .before .before .before .before .before .before .before .pre .0))
+    (c .before .before .before .before .before .before .before .before .before .before .before .before .before .before .before .before .before .before
+    .before .before .before .before .before .before .before .before .before .before .before .pre .1)
+    (c .before .before .before .before .before .before .before .before .before .before .before .before .before .before .before .before .before .before
+    .before .before .words-of .ensures) in (
+      f .0 ∙ ap (λ (x : IndexedFed). x .fed .answer) e,
+      (
+        f .1 .0 ∙ ap (λ (x : IndexedFed). x .fed .store) e,
+        (
+          f .1 .1 .0 ∙ ap (λ (x : IndexedFed). x .fed .table) e,
+          (
+            f .1 .1 .1 .0 ∙ ap (λ (x : IndexedFed). x .index) e,
+            c .before .before .bytes-of .ensures ∙
+                ap bytesOf (f .1 .1 .1 .1 ∙ ap (λ (x : IndexedFed). x .fed .events) e),
+          ),
+        ),
+      ),
+    )
 
 pub feed-words-spec : {M : Type 1} → statement M
 feed-words-spec =

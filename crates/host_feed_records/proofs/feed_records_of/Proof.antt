@@ -20,9 +20,16 @@ returns : tie.Need-returns
 unfolding asRecordsAnswer refusedHost
 returns c =
     let a = c .before .before .before .before .before .before .before .before .before .args in
-    let e = host-unsized (a .stakes .now) (a .store .now) (a .table .now) (a .events .now) (a .outcomes .now) (a .records .now) (c .before .before .if1 .taken) in (
+    let e = host-unsized (a .stakes .now) (a .store .now) (a .table .now) (a .events .now) (a .outcomes .now) (a .records .now)
+    (c .before .before .if1 .taken) in (
       ap refused (c .refusal-before .ensures) ∙ sym (ap (λ (x : HostCall). x .answer) e),
-      (sym (ap (λ (x : HostCall). x .store) e), (sym (ap (λ (x : HostCall). x .table) e), (sym (ap (λ (x : HostCall). x .events) e), sym (ap (λ (x : HostCall). x .outcomes) e)))),
+      (
+        sym (ap (λ (x : HostCall). x .store) e),
+        (
+          sym (ap (λ (x : HostCall). x .table) e),
+          (sym (ap (λ (x : HostCall). x .events) e), sym (ap (λ (x : HostCall). x .outcomes) e)),
+        ),
+      ),
     )
 
 slice-aggregate-words-of : tie.Need-slice-aggregate-words-of
@@ -61,10 +68,14 @@ same-length-5 c = search needs
 returns-2 : tie.Need-returns-2
 unfolding toldHost
 returns-2 c =
-    let a = c .before .before .before .before .before .before .before .before .before .before .before .before .before .before .before .before .before .before .before .before .before .before .before .before .before .before .before .before .before .before .args in
-    let w = c .before .before .before .before .before .before .before .before .before .before .before .before .before .before .before .before .before .before .before .before .words-of in
+    let a = c .before .before .before .before .before .before .before .before .before .before .before .before .before .before .before .before .before .before
+    .before .before .before .before .before .before .before .before .before .before .before .before .args in
+    let w = c .before .before .before .before .before .before .before .before .before .before .before .before .before .before .before .before .before .before
+    .before .before .words-of in
     let e =
-    host-fed (a .stakes .now) (a .store .now) (a .table .now) (a .events .now) (a .outcomes .now) (a .records .now) (w .last .1 .0) _ (c .before .before .before .before .before .before .before .before .before .before .before .before .before .before .before .before .before .before .before .before .before .before .before .if1 .left)
+    host-fed (a .stakes .now) (a .store .now) (a .table .now) (a .events .now) (a .outcomes .now) (a .records .now) (w .last .1 .0) _
+    (c .before .before .before .before .before .before .before .before .before .before .before .before .before .before .before .before .before .before
+    .before .before .before .before .before .if1 .left)
     (w .ensures) (length-replicate {A = ℕ} 6145 0 ∙ sym (w .kept .1 .0)) in
     let f = c .before .before .before .before .before .before .before .before .before .before .before .before .before .feed-records .ensures in (
       f .0 ∙ sym (ap (λ (x : HostCall). x .answer) e),

@@ -20,9 +20,16 @@ returns : tie.Need-returns
 unfolding asRecordsAnswer refusedHost
 returns c =
     let a = c .before .before .before .before .before .before .before .before .before .before .args in
-    let e = host-unsized (a .stakes .now) (a .store .now) (a .table .now) (a .index .now) (a .events .now) (a .outcomes .now) (a .records .now) (c .before .before .if1 .taken) in (
+    let e = host-unsized (a .stakes .now) (a .store .now) (a .table .now) (a .index .now) (a .events .now) (a .outcomes .now) (a .records .now)
+    (c .before .before .if1 .taken) in (
       ap refused (c .refusal-before .ensures) ∙ sym (ap (λ (x : HostCall). x .answer) e),
-      (sym (ap (λ (x : HostCall). x .store) e), (sym (ap (λ (x : HostCall). x .table) e), (sym (ap (λ (x : HostCall). x .index) e), (sym (ap (λ (x : HostCall). x .events) e), sym (ap (λ (x : HostCall). x .outcomes) e))))),
+      (
+        sym (ap (λ (x : HostCall). x .store) e),
+        (
+          sym (ap (λ (x : HostCall). x .table) e),
+          (sym (ap (λ (x : HostCall). x .index) e), (sym (ap (λ (x : HostCall). x .events) e), sym (ap (λ (x : HostCall). x .outcomes) e))),
+        ),
+      ),
     )
 
 slice-aggregate-words-of : tie.Need-slice-aggregate-words-of
@@ -64,18 +71,30 @@ same-length-6 c = search needs
 returns-2 : tie.Need-returns-2
 unfolding toldHost
 returns-2 c =
-    let a = c .before .before .before .before .before .before .before .before .before .before .before .before .before .before .before .before .before .before .before .before .before .before .before .before .before .before .before .before .before .before .before .before .before .before .args in
-    let w = c .before .before .before .before .before .before .before .before .before .before .before .before .before .before .before .before .before .before .before .before .before .before .before .words-of in
+    let a = c .before .before .before .before .before .before .before .before .before .before .before .before .before .before .before .before .before .before
+    .before .before .before .before .before .before .before .before .before .before .before .before .before .before .before .before .args in
+    let w = c .before .before .before .before .before .before .before .before .before .before .before .before .before .before .before .before .before .before
+    .before .before .before .before .before .words-of in
     let e =
-    host-fed (a .stakes .now) (a .store .now) (a .table .now) (a .index .now) (a .events .now) (a .outcomes .now) (a .records .now) (w .last .1 .0) _ (c .before .before .before .before .before .before .before .before .before .before .before .before .before .before .before .before .before .before .before .before .before .before .before .before .before .before .if1 .left)
+    host-fed (a .stakes .now) (a .store .now) (a .table .now) (a .index .now) (a .events .now) (a .outcomes .now) (a .records .now) (w .last .1 .0) _
+    (c .before .before .before .before .before .before .before .before .before .before .before .before .before .before .before .before .before .before
+    .before .before .before .before .before .before .before .before .if1 .left)
     (w .ensures) (length-replicate {A = ℕ} 6145 0 ∙ sym (w .kept .1 .0)) in
-    let f = c .before .before .before .before .before .before .before .before .before .before .before .before .before .before .before .feed-records-indexed .ensures in (
+    let f = c .before .before .before .before .before .before .before .before .before .before .before .before .before .before .before .feed-records-indexed
+    .ensures in (
       f .0 ∙ sym (ap (λ (x : HostCall). x .answer) e),
       (
         f .1 .0 ∙ sym (ap (λ (x : HostCall). x .store) e),
         (
           c .before .before .bytes-of .ensures ∙ ap bytesOf (f .1 .1 .0) ∙ sym (ap (λ (x : HostCall). x .table) e),
-          (f .1 .1 .1 .0 ∙ sym (ap (λ (x : HostCall). x .index) e), (f .1 .1 .1 .1 .0 ∙ sym (ap (λ (x : HostCall). x .events) e), f .1 .1 .1 .1 .1 ∙ sym (ap (λ (x : HostCall). x .outcomes) e))),
+          (
+            f .1 .1 .1 .0 ∙ sym (ap (λ (x : HostCall). x .index) e),
+            (
+              f .1 .1 .1 .1 .0 ∙ sym (ap (λ (x : HostCall). x .events) e),
+              f .1 .1 .1 .1 .1 ∙ sym
+                  (ap (λ (x : HostCall). x .outcomes) e),
+            ),
+          ),
         ),
       ),
     )

@@ -35,8 +35,12 @@ unfolding encoded foundIn asNextFinal
 returns c =
     let a = c .before .before .before .before .before .before .before .before .args in
     let l = c .before .before .before .before .before .answer .given .0 .0 in
-    let whole = sets-complete (a .found .now) (locatorBytes (asLocator l)) (omega (arith, length-locatorBytes l, c .before .before .before .before .before .before .before .before .pre .0)) in
-    (rw (c .before .before .before .before .before .answer .given .1), c .before .before .write-locator .ensures ∙ whole ∙ rw (c .before .before .before .before .before .answer .given .1))
+    let whole = sets-complete (a .found .now) (locatorBytes (asLocator l))
+    (omega (arith, length-locatorBytes l, c .before .before .before .before .before .before .before .before .pre .0)) in (
+      rw (c .before .before .before .before .before .answer .given .1),
+      c .before .before .write-locator .ensures ∙ whole ∙ rw
+          (c .before .before .before .before .before .answer .given .1),
+    )
 
 returns-2 : tie.Need-returns-2
 unfolding encoded foundIn asNextFinal

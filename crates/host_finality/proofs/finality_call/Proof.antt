@@ -18,7 +18,8 @@ array-share-prefix-held : tie.Need-array-share-prefix-held
 array-share-prefix-held c = search needs
 
 slice-aggregate-finality-of : tie.Need-slice-aggregate-finality-of
-slice-aggregate-finality-of c = sym (length-take-le (c .before .before .stakes-of .result) (c .before .before .stakes-of .last .1 .0) (omega (arith, c .before .before .stakes-of .kept .1 .0, c .before .before .stakes-of .ensures .0)))
+slice-aggregate-finality-of c = sym (length-take-le (c .before .before .stakes-of .result) (c .before .before .stakes-of .last .1 .0)
+    (omega (arith, c .before .before .stakes-of .kept .1 .0, c .before .before .stakes-of .ensures .0)))
 
 finality-of-requires : tie.Need-finality-of-requires
 finality-of-requires c κs = search needs
@@ -49,21 +50,51 @@ same-length c = search needs
 
 returns : tie.Need-returns
 unfolding encoded finalityCall finalityNumber asFinality
-returns c = (rw (← c .before .before .before .before .before .before .before .before .before .stakes-of .ensures .1, ← c .before .before .before .before .before .finality-of .ensures .0 .0, c .before .count .given .1), rw (← c .before .before .before .before .before .before .before .before .before .stakes-of .ensures .1) (c .before .before .before .before .before .finality-of .ensures .0 .1))
+returns c = (
+  rw (
+    ← c .before .before .before .before .before .before .before .before .before .stakes-of .ensures .1,
+    ← c .before .before .before .before
+        .before .finality-of .ensures .0 .0,
+    c .before .count .given .1,
+  ),
+  rw
+      (← c .before .before .before .before .before .before .before .before .before .stakes-of .ensures .1)
+      (c .before .before .before .before .before .finality-of .ensures .0 .1),
+)
 
 same-length-2 : tie.Need-same-length-2
 same-length-2 c = search needs
 
 returns-2 : tie.Need-returns-2
 unfolding encoded finalityCall finalityNumber asFinality
-returns-2 c = (rw (← c .before .before .before .before .before .before .before .before .before .stakes-of .ensures .1, ← c .before .before .before .before .before .finality-of .ensures .0 .0, c .before .count2 .given .1) (omega arith), rw (← c .before .before .before .before .before .before .before .before .before .stakes-of .ensures .1) (c .before .before .before .before .before .finality-of .ensures .0 .1))
+returns-2 c = (
+  rw (
+    ← c .before .before .before .before .before .before .before .before .before .stakes-of .ensures .1,
+    ← c .before .before .before .before
+        .before .finality-of .ensures .0 .0,
+    c .before .count2 .given .1,
+  ) (omega arith),
+  rw
+      (← c .before .before .before .before .before .before .before .before .before .stakes-of .ensures .1)
+      (c .before .before .before .before .before .finality-of .ensures .0 .1),
+)
 
 same-length-3 : tie.Need-same-length-3
 same-length-3 c = search needs
 
 returns-3 : tie.Need-returns-3
 unfolding encoded finalityCall finalityNumber asFinality
-returns-3 c = (rw (← c .before .before .before .before .before .before .before .before .before .stakes-of .ensures .1, ← c .before .before .before .before .before .finality-of .ensures .0 .0, c .before .number .given .1), rw (← c .before .before .before .before .before .before .before .before .before .stakes-of .ensures .1) (c .before .before .before .before .before .finality-of .ensures .0 .1))
+returns-3 c = (
+  rw (
+    ← c .before .before .before .before .before .before .before .before .before .stakes-of .ensures .1,
+    ← c .before .before .before .before
+        .before .finality-of .ensures .0 .0,
+    c .before .number .given .1,
+  ),
+  rw
+      (← c .before .before .before .before .before .before .before .before .before .stakes-of .ensures .1)
+      (c .before .before .before .before .before .finality-of .ensures .0 .1),
+)
 
 pub finality-call-spec : {M : Type 1} → statement M
 finality-call-spec =

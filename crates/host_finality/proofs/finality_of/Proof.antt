@@ -16,9 +16,13 @@ returns : tie.Need-returns
 unfolding finalityNumber asFinality
 returns c =
     let start = c .before .before .before .before .before .before .args in
-    let e = asked-none (asReading (start .reading)) (start .stakes .now) (start .store .now) (start .positions .now) (start .locator .now) (c .before .if1 .taken) in
-    let number = c .refusal-before .ensures in
-    ((rw number (sym (ap (λ (x : FinalityCall). x .answer) e)), sym (ap (λ (x : FinalityCall). x .positions) e)), omega (arith, number, before-most 20 (start .stakes .now) (start .store .now) (omega arith)))
+    let e = asked-none (asReading (start .reading)) (start .stakes .now) (start .store .now) (start .positions .now) (start .locator .now)
+    (c .before .if1 .taken) in
+    let number = c .refusal-before .ensures in (
+      (rw number (sym (ap (λ (x : FinalityCall). x .answer) e)), sym (ap (λ (x : FinalityCall). x .positions) e)),
+      omega
+          (arith, number, before-most 20 (start .stakes .now) (start .store .now) (omega arith)),
+    )
 
 refusal-before-requires-2 : tie.Need-refusal-before-requires-2
 refusal-before-requires-2 c κs = search needs
@@ -27,9 +31,13 @@ returns-2 : tie.Need-returns-2
 unfolding finalityNumber asFinality
 returns-2 c =
     let start = c .before .before .before .before .before .before .before .args in
-    let e = asked-ragged (asReading (start .reading)) (start .stakes .now) (start .store .now) (start .positions .now) (start .locator .now) (c .before .before .if1 .left) (c .before .if2 .taken) in
-    let number = c .refusal-before2 .ensures in
-    ((rw number (sym (ap (λ (x : FinalityCall). x .answer) e)), sym (ap (λ (x : FinalityCall). x .positions) e)), omega (arith, number, before-most 40 (start .stakes .now) (start .store .now) (omega arith)))
+    let e = asked-ragged (asReading (start .reading)) (start .stakes .now) (start .store .now) (start .positions .now) (start .locator .now)
+    (c .before .before .if1 .left) (c .before .if2 .taken) in
+    let number = c .refusal-before2 .ensures in (
+      (rw number (sym (ap (λ (x : FinalityCall). x .answer) e)), sym (ap (λ (x : FinalityCall). x .positions) e)),
+      omega
+          (arith, number, before-most 40 (start .stakes .now) (start .store .now) (omega arith)),
+    )
 
 finality-words-requires : tie.Need-finality-words-requires
 finality-words-requires c κs = search needs

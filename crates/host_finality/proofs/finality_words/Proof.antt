@@ -33,12 +33,23 @@ same-length c = search needs
 
 returns : tie.Need-returns
 returns c =
-    let start = c .before .before .before .before .before .before .before .before .before .before .before .before .before .before .before .before .before .args in
-    let e = asked-words (asReading (start .reading)) (start .stakes .now) (start .store .now) (start .positions .now) (start .locator .now) (c .before .before .before .before .before .before .before .before .before .before .before .before .before .before .before .before .before .pre .0) (c .before .before .before .before .before .before .before .before .before .before .before .before .before .before .before .before .before .pre .1) in
+    let start = c .before .before .before .before .before .before .before .before .before .before .before .before .before .before .before .before .before
+    .args in
+    let e = asked-words (asReading (start .reading)) (start .stakes .now) (start .store .now) (start .positions .now) (start .locator .now)
+    (c .before .before .before .before .before .before .before .before .before .before .before .before .before .before .before .before .before .pre .0)
+    (c .before .before .before .before .before .before .before .before .before .before .before .before .before .before .before .before .before .pre .1) in
     let words = c .before .before .before .before .before .before .before .before .before .before .words-of .ensures in
     let place = c .before .before .before .before .before .before .before .before .read-locator .ensures in
-    let told = c .before .before .before .before .before .before .finality-in in
-    ((ap finalityNumber (told .ensures .0) ∙ rw (words, place) (sym (ap (λ (x : FinalityCall). x .answer) e)), c .before .before .bytes-of .ensures ∙ rw (told .ensures .1, words, place) (sym (ap (λ (x : FinalityCall). x .positions) e))), finality-fits (asReading (start .reading)) (start .stakes .now) (start .store .now) _ _ (told .result) (c .before .before .before .before .before .before .before .before .before .before .words-of .kept .1 .0) (told .ensures .0) (ap length (sym (told .ensures .1)) ∙ told .kept .1 .1 .0))
+    let told = c .before .before .before .before .before .before .finality-in in (
+      (
+        ap finalityNumber (told .ensures .0) ∙ rw (words, place) (sym (ap (λ (x : FinalityCall). x .answer) e)),
+        c .before .before .bytes-of .ensures ∙ rw
+            (told .ensures .1, words, place) (sym (ap (λ (x : FinalityCall). x .positions) e)),
+      ),
+      finality-fits (asReading (start .reading)) (start .stakes .now)
+          (start .store .now) _ _ (told .result) (c .before .before .before .before .before .before .before .before .before .before .words-of .kept .1 .0)
+          (told .ensures .0) (ap length (sym (told .ensures .1)) ∙ told .kept .1 .1 .0),
+    )
 
 pub finality-words-spec : {M : Type 1} → statement M
 finality-words-spec =

@@ -27,14 +27,21 @@ refusal-before-requires : tie.Need-refusal-before-requires
 refusal-before-requires c κs = search needs
 
 add-result : tie.Need-add-result
-add-result c = omega (arith, c .refusal-before .ensures, before-most 20 (c .before .before .before .before .before .before .before .before .args .stakes .now) (c .before .before .before .before .before .before .before .before .args .store .now) (omega arith))
+add-result c = omega (
+  arith,
+  c .refusal-before .ensures,
+  before-most 20 (c .before .before .before .before .before .before .before .before .args .stakes .now)
+      (c .before .before .before .before .before .before .before .before .args .store .now) (omega arith),
+)
 
 returns : tie.Need-returns
 unfolding encoded asAfter
 returns c =
     let start = c .before .before .before .before .before .before .before .before .args in
     let place = sym (c .before .before .before .after-of .ensures) ∙ ap asAfter (c .before .enum-told .given .1) in
-    let e = next-malformed (start .stakes .now) (start .store .now) (listing (isOrdinary (start .list)) (asReading (start .reading)) (start .stakes .now) (blocksOf (start .store .now))) (afterOf (start .after .now)) (start .found .now) place in
+    let e = next-malformed (start .stakes .now) (start .store .now)
+    (listing (isOrdinary (start .list)) (asReading (start .reading)) (start .stakes .now) (blocksOf (start .store .now))) (afterOf (start .after .now))
+    (start .found .now) place in
     (rw (c .refusal-before .ensures) (sym (ap (λ (x : NextFinalCall). encoded (x .answer)) e)), sym (ap (λ (x : NextFinalCall). x .found) e))
 
 holds-locator-requires : tie.Need-holds-locator-requires
@@ -44,7 +51,13 @@ refusal-before-requires-2 : tie.Need-refusal-before-requires-2
 refusal-before-requires-2 c κs = search needs
 
 add-result-2 : tie.Need-add-result-2
-add-result-2 c = omega (arith, c .refusal-before2 .ensures, before-most 40 (c .before .before .before .before .before .before .before .before .before .before .before .before .args .stakes .now) (c .before .before .before .before .before .before .before .before .before .before .before .before .args .store .now) (omega arith))
+add-result-2 c = omega (
+  arith,
+  c .refusal-before2 .ensures,
+  before-most 40
+      (c .before .before .before .before .before .before .before .before .before .before .before .before .args .stakes .now)
+      (c .before .before .before .before .before .before .before .before .before .before .before .before .args .store .now) (omega arith),
+)
 
 same-length : tie.Need-same-length
 same-length c = search needs
@@ -53,9 +66,12 @@ returns-2 : tie.Need-returns-2
 unfolding encoded asAfter
 returns-2 c =
     let start = c .before .before .before .before .before .before .before .before .before .before .before .before .args in
-    let place = sym (c .before .before .before .before .before .before .before .after-of .ensures) ∙ ap asAfter (c .before .before .before .before .before .place .given .1) in
+    let place = sym (c .before .before .before .before .before .before .before .after-of .ensures) ∙ ap asAfter
+    (c .before .before .before .before .before .place .given .1) in
     let room = sym (c .before .before .holds-locator .ensures) ∙ not-true _ (c .before .if1 .taken) in
-    let e = next-unsized (start .stakes .now) (start .store .now) (listing (isOrdinary (start .list)) (asReading (start .reading)) (start .stakes .now) (blocksOf (start .store .now))) (afterOf (start .after .now)) (start .found .now) _ place room in
+    let e = next-unsized (start .stakes .now) (start .store .now)
+    (listing (isOrdinary (start .list)) (asReading (start .reading)) (start .stakes .now) (blocksOf (start .store .now))) (afterOf (start .after .now))
+    (start .found .now) _ place room in
     (rw (c .refusal-before2 .ensures) (sym (ap (λ (x : NextFinalCall). encoded (x .answer)) e)), sym (ap (λ (x : NextFinalCall). x .found) e))
 
 next-listed-requires : tie.Need-next-listed-requires
@@ -64,8 +80,12 @@ next-listed-requires c κs = search needs
 found-in-requires : tie.Need-found-in-requires
 found-in-requires c κs =
     let start = c .before .before .before .before .before .before .before .before .before .before .before .before .before .args in
-    let room = sym (c .before .before .before .holds-locator .ensures) ∙ not-false _ (c .before .before .if1 .left) in
-    (eqb-true (length (start .found .now)) 56 room, λ n e. next-fits (start .stakes .now) (start .store .now) (listing (isOrdinary (start .list)) (asReading (start .reading)) (start .stakes .now) (blocksOf (start .store .now))) _ n (sym (c .before .next-listed .ensures) ∙ e))
+    let room = sym (c .before .before .before .holds-locator .ensures) ∙ not-false _ (c .before .before .if1 .left) in (
+      eqb-true (length (start .found .now)) 56 room,
+      λ n e. next-fits (start .stakes .now) (start .store .now)
+          (listing (isOrdinary (start .list)) (asReading (start .reading)) (start .stakes .now) (blocksOf (start .store .now))) _ n
+          (sym (c .before .next-listed .ensures) ∙ e),
+    )
 
 same-length-2 : tie.Need-same-length-2
 same-length-2 c = search needs
@@ -74,9 +94,13 @@ returns-3 : tie.Need-returns-3
 unfolding asAfter
 returns-3 c =
     let start = c .before .before .before .before .before .before .before .before .before .before .before .before .before .before .before .before .args in
-    let place = sym (c .before .before .before .before .before .before .before .before .before .before .before .after-of .ensures) ∙ ap asAfter (c .before .before .before .before .before .before .before .before .before .place .given .1) in
-    let room = sym (c .before .before .before .before .before .before .holds-locator .ensures) ∙ not-false _ (c .before .before .before .before .before .if1 .left) in
-    let e = next-asked (start .stakes .now) (start .store .now) (listing (isOrdinary (start .list)) (asReading (start .reading)) (start .stakes .now) (blocksOf (start .store .now))) (afterOf (start .after .now)) (start .found .now) _ _ place room (sym (c .before .before .before .before .next-listed .ensures)) in
+    let place = sym (c .before .before .before .before .before .before .before .before .before .before .before .after-of .ensures) ∙ ap asAfter
+    (c .before .before .before .before .before .before .before .before .before .place .given .1) in
+    let room = sym (c .before .before .before .before .before .before .holds-locator .ensures) ∙ not-false _
+    (c .before .before .before .before .before .if1 .left) in
+    let e = next-asked (start .stakes .now) (start .store .now) (listing (isOrdinary (start .list)) (asReading (start .reading)) (start .stakes .now)
+    (blocksOf (start .store .now))) (afterOf (start .after .now)) (start .found .now) _ _ place room
+    (sym (c .before .before .before .before .next-listed .ensures)) in
     let told = c .before .before .found-in .ensures in
     (told .0 ∙ sym (ap (λ (x : NextFinalCall). encoded (x .answer)) e), told .1 ∙ sym (ap (λ (x : NextFinalCall). x .found) e))
 

@@ -27,14 +27,21 @@ refusal-before-requires : tie.Need-refusal-before-requires
 refusal-before-requires c κs = search needs
 
 add-result : tie.Need-add-result
-add-result c = omega (arith, c .refusal-before .ensures, before-most 20 (c .before .before .before .before .before .before .before .before .args .stakes .now) (c .before .before .before .before .before .before .before .before .args .store .now) (omega arith))
+add-result c = omega (
+  arith,
+  c .refusal-before .ensures,
+  before-most 20 (c .before .before .before .before .before .before .before .before .args .stakes .now)
+      (c .before .before .before .before .before .before .before .before .args .store .now) (omega arith),
+)
 
 returns : tie.Need-returns
 unfolding encoded asAfter
 returns c =
     let start = c .before .before .before .before .before .before .before .before .args in
     let place = sym (c .before .before .before .after-of .ensures) ∙ ap asAfter (c .before .enum-told .given .1) in
-    let e = stretches-malformed (start .stakes .now) (start .store .now) (listing (isOrdinary (start .list)) (asReading (start .reading)) (start .stakes .now) (blocksOf (start .store .now))) (afterOf (start .after .now)) (start .out .now) place in
+    let e = stretches-malformed (start .stakes .now) (start .store .now)
+    (listing (isOrdinary (start .list)) (asReading (start .reading)) (start .stakes .now) (blocksOf (start .store .now))) (afterOf (start .after .now))
+    (start .out .now) place in
     (rw (c .refusal-before .ensures) (sym (ap (λ (x : StretchesCall). encoded (x .answer)) e)), sym (ap (λ (x : StretchesCall). x .stretches) e))
 
 holds-stretches-requires : tie.Need-holds-stretches-requires
@@ -44,7 +51,13 @@ refusal-before-requires-2 : tie.Need-refusal-before-requires-2
 refusal-before-requires-2 c κs = search needs
 
 add-result-2 : tie.Need-add-result-2
-add-result-2 c = omega (arith, c .refusal-before2 .ensures, before-most 40 (c .before .before .before .before .before .before .before .before .before .before .before .before .args .stakes .now) (c .before .before .before .before .before .before .before .before .before .before .before .before .args .store .now) (omega arith))
+add-result-2 c = omega (
+  arith,
+  c .refusal-before2 .ensures,
+  before-most 40
+      (c .before .before .before .before .before .before .before .before .before .before .before .before .args .stakes .now)
+      (c .before .before .before .before .before .before .before .before .before .before .before .before .args .store .now) (omega arith),
+)
 
 same-length : tie.Need-same-length
 same-length c = search needs
@@ -53,9 +66,12 @@ returns-2 : tie.Need-returns-2
 unfolding encoded asAfter
 returns-2 c =
     let start = c .before .before .before .before .before .before .before .before .before .before .before .before .args in
-    let place = sym (c .before .before .before .before .before .before .before .after-of .ensures) ∙ ap asAfter (c .before .before .before .before .before .place .given .1) in
+    let place = sym (c .before .before .before .before .before .before .before .after-of .ensures) ∙ ap asAfter
+    (c .before .before .before .before .before .place .given .1) in
     let room = sym (c .before .before .holds-stretches .ensures) ∙ not-true _ (c .before .if1 .taken) in
-    let e = stretches-unsized (start .stakes .now) (start .store .now) (listing (isOrdinary (start .list)) (asReading (start .reading)) (start .stakes .now) (blocksOf (start .store .now))) (afterOf (start .after .now)) (start .out .now) _ place room in
+    let e = stretches-unsized (start .stakes .now) (start .store .now)
+    (listing (isOrdinary (start .list)) (asReading (start .reading)) (start .stakes .now) (blocksOf (start .store .now))) (afterOf (start .after .now))
+    (start .out .now) _ place room in
     (rw (c .refusal-before2 .ensures) (sym (ap (λ (x : StretchesCall). encoded (x .answer)) e)), sym (ap (λ (x : StretchesCall). x .stretches) e))
 
 list-stretches-requires : tie.Need-list-stretches-requires
@@ -65,8 +81,10 @@ stretches-number-requires : tie.Need-stretches-number-requires
 stretches-number-requires c κs =
     let start = c .before .before .before .before .before .before .before .before .before .before .before .before .before .before .before .args in
     let told = c .before .before .list-stretches in
-    counts-fit (start .stakes .now) (start .store .now) (start .out .now) (listing (isOrdinary (start .list)) (asReading (start .reading)) (start .stakes .now) (blocksOf (start .store .now))) _ (told .result)
-    (omega (arith, c .before .before .before .before .before .before .before .before .before .before .before .before .before .before .before .good)) (told .ensures .0)
+    counts-fit (start .stakes .now) (start .store .now) (start .out .now)
+    (listing (isOrdinary (start .list)) (asReading (start .reading)) (start .stakes .now) (blocksOf (start .store .now))) _ (told .result)
+    (omega (arith, c .before .before .before .before .before .before .before .before .before .before .before .before .before .before .before .good))
+    (told .ensures .0)
 
 same-length-2 : tie.Need-same-length-2
 same-length-2 c = search needs
@@ -75,9 +93,13 @@ returns-3 : tie.Need-returns-3
 unfolding asAfter stretchesIn
 returns-3 c =
     let start = c .before .before .before .before .before .before .before .before .before .before .before .before .before .before .before .before .args in
-    let place = sym (c .before .before .before .before .before .before .before .before .before .before .before .after-of .ensures) ∙ ap asAfter (c .before .before .before .before .before .before .before .before .before .place .given .1) in
-    let room = sym (c .before .before .before .before .before .before .holds-stretches .ensures) ∙ not-false _ (c .before .before .before .before .before .if1 .left) in
-    let e = stretches-asked (start .stakes .now) (start .store .now) (listing (isOrdinary (start .list)) (asReading (start .reading)) (start .stakes .now) (blocksOf (start .store .now))) (afterOf (start .after .now)) (start .out .now) _ place room in
+    let place = sym (c .before .before .before .before .before .before .before .before .before .before .before .after-of .ensures) ∙ ap asAfter
+    (c .before .before .before .before .before .before .before .before .before .place .given .1) in
+    let room = sym (c .before .before .before .before .before .before .holds-stretches .ensures) ∙ not-false _
+    (c .before .before .before .before .before .if1 .left) in
+    let e = stretches-asked (start .stakes .now) (start .store .now)
+    (listing (isOrdinary (start .list)) (asReading (start .reading)) (start .stakes .now) (blocksOf (start .store .now))) (afterOf (start .after .now))
+    (start .out .now) _ place room in
     let told = c .before .before .before .list-stretches .ensures in (
       c .stretches-number .ensures ∙ ap encoded (ap stretchesNumber (told .0) ∙ sym (ap (λ (x : StretchesCall). x .answer) e)),
       told .1 ∙ sym (ap (λ (x : StretchesCall). x .stretches) e),

@@ -27,14 +27,22 @@ refusal-indexed-requires : tie.Need-refusal-indexed-requires
 refusal-indexed-requires c κs = search needs
 
 add-result : tie.Need-add-result
-add-result c = omega (arith, c .refusal-indexed .ensures, indexed-most 20 (c .before .before .before .before .before .before .before .before .before .args .stakes .now) (c .before .before .before .before .before .before .before .before .before .args .store .now) (c .before .before .before .before .before .before .before .before .before .args .index .now) (omega arith))
+add-result c = omega (
+  arith,
+  c .refusal-indexed .ensures,
+  indexed-most 20
+      (c .before .before .before .before .before .before .before .before .before .args .stakes .now)
+      (c .before .before .before .before .before .before .before .before .before .args .store .now)
+      (c .before .before .before .before .before .before .before .before .before .args .index .now) (omega arith),
+)
 
 returns : tie.Need-returns
 unfolding encoded asAfter
 returns c =
     let start = c .before .before .before .before .before .before .before .before .before .args in
     let place = sym (c .before .before .before .after-of .ensures) ∙ ap asAfter (c .before .enum-told .given .1) in
-    let e = stretches-malformed (start .stakes .now) (start .store .now) (start .index .now) (listing (isOrdinary (start .list)) old (start .stakes .now) (blocksOf (start .store .now))) (afterOf (start .after .now)) (start .out .now) place in
+    let e = stretches-malformed (start .stakes .now) (start .store .now) (start .index .now)
+    (listing (isOrdinary (start .list)) old (start .stakes .now) (blocksOf (start .store .now))) (afterOf (start .after .now)) (start .out .now) place in
     (rw (c .refusal-indexed .ensures) (sym (ap (λ (x : StretchesCall). encoded (x .answer)) e)), sym (ap (λ (x : StretchesCall). x .stretches) e))
 
 holds-stretches-requires : tie.Need-holds-stretches-requires
@@ -44,7 +52,14 @@ refusal-indexed-requires-2 : tie.Need-refusal-indexed-requires-2
 refusal-indexed-requires-2 c κs = search needs
 
 add-result-2 : tie.Need-add-result-2
-add-result-2 c = omega (arith, c .refusal-indexed2 .ensures, indexed-most 40 (c .before .before .before .before .before .before .before .before .before .before .before .before .before .args .stakes .now) (c .before .before .before .before .before .before .before .before .before .before .before .before .before .args .store .now) (c .before .before .before .before .before .before .before .before .before .before .before .before .before .args .index .now) (omega arith))
+add-result-2 c = omega (
+  arith,
+  c .refusal-indexed2 .ensures,
+  indexed-most 40
+      (c .before .before .before .before .before .before .before .before .before .before .before .before .before .args .stakes .now)
+      (c .before .before .before .before .before .before .before .before .before .before .before .before .before .args .store .now)
+      (c .before .before .before .before .before .before .before .before .before .before .before .before .before .args .index .now) (omega arith),
+)
 
 same-length : tie.Need-same-length
 same-length c = search needs
@@ -53,9 +68,12 @@ returns-2 : tie.Need-returns-2
 unfolding encoded asAfter
 returns-2 c =
     let start = c .before .before .before .before .before .before .before .before .before .before .before .before .before .args in
-    let place = sym (c .before .before .before .before .before .before .before .after-of .ensures) ∙ ap asAfter (c .before .before .before .before .before .place .given .1) in
+    let place = sym (c .before .before .before .before .before .before .before .after-of .ensures) ∙ ap asAfter
+    (c .before .before .before .before .before .place .given .1) in
     let room = sym (c .before .before .holds-stretches .ensures) ∙ not-true _ (c .before .if1 .taken) in
-    let e = stretches-unsized (start .stakes .now) (start .store .now) (start .index .now) (listing (isOrdinary (start .list)) old (start .stakes .now) (blocksOf (start .store .now))) (afterOf (start .after .now)) (start .out .now) _ place room in
+    let e = stretches-unsized (start .stakes .now) (start .store .now) (start .index .now)
+    (listing (isOrdinary (start .list)) old (start .stakes .now) (blocksOf (start .store .now))) (afterOf (start .after .now)) (start .out .now) _ place
+    room in
     (rw (c .refusal-indexed2 .ensures) (sym (ap (λ (x : StretchesCall). encoded (x .answer)) e)), sym (ap (λ (x : StretchesCall). x .stretches) e))
 
 list-stretches-indexed-requires : tie.Need-list-stretches-indexed-requires
@@ -65,8 +83,10 @@ stretches-number-requires : tie.Need-stretches-number-requires
 stretches-number-requires c κs =
     let start = c .before .before .before .before .before .before .before .before .before .before .before .before .before .before .before .before .args in
     let told = c .before .before .list-stretches-indexed in
-    counts-fit (start .stakes .now) (start .store .now) (start .index .now) (start .out .now) (listing (isOrdinary (start .list)) old (start .stakes .now) (blocksOf (start .store .now))) _ (told .result)
-    (omega (arith, c .before .before .before .before .before .before .before .before .before .before .before .before .before .before .before .before .good)) (told .ensures .0)
+    counts-fit (start .stakes .now) (start .store .now) (start .index .now) (start .out .now)
+    (listing (isOrdinary (start .list)) old (start .stakes .now) (blocksOf (start .store .now))) _ (told .result)
+    (omega (arith, c .before .before .before .before .before .before .before .before .before .before .before .before .before .before .before .before .good))
+    (told .ensures .0)
 
 same-length-2 : tie.Need-same-length-2
 same-length-2 c = search needs
@@ -74,10 +94,15 @@ same-length-2 c = search needs
 returns-3 : tie.Need-returns-3
 unfolding asAfter stretchesIndexedIn
 returns-3 c =
-    let start = c .before .before .before .before .before .before .before .before .before .before .before .before .before .before .before .before .before .args in
-    let place = sym (c .before .before .before .before .before .before .before .before .before .before .before .after-of .ensures) ∙ ap asAfter (c .before .before .before .before .before .before .before .before .before .place .given .1) in
-    let room = sym (c .before .before .before .before .before .before .holds-stretches .ensures) ∙ not-false _ (c .before .before .before .before .before .if1 .left) in
-    let e = stretches-asked (start .stakes .now) (start .store .now) (start .index .now) (listing (isOrdinary (start .list)) old (start .stakes .now) (blocksOf (start .store .now))) (afterOf (start .after .now)) (start .out .now) _ place room in
+    let start = c .before .before .before .before .before .before .before .before .before .before .before .before .before .before .before .before .before
+    .args in
+    let place = sym (c .before .before .before .before .before .before .before .before .before .before .before .after-of .ensures) ∙ ap asAfter
+    (c .before .before .before .before .before .before .before .before .before .place .given .1) in
+    let room = sym (c .before .before .before .before .before .before .holds-stretches .ensures) ∙ not-false _
+    (c .before .before .before .before .before .if1 .left) in
+    let e = stretches-asked (start .stakes .now) (start .store .now) (start .index .now)
+    (listing (isOrdinary (start .list)) old (start .stakes .now) (blocksOf (start .store .now))) (afterOf (start .after .now)) (start .out .now) _ place
+    room in
     let told = c .before .before .before .list-stretches-indexed .ensures in (
       c .stretches-number .ensures ∙ ap encoded (ap stretchesNumber (told .0) ∙ sym (ap (λ (x : StretchesCall). x .answer) e)),
       told .1 ∙ sym (ap (λ (x : StretchesCall). x .stretches) e),

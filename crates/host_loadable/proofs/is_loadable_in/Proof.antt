@@ -37,25 +37,34 @@ add-result : tie.Need-add-result
 add-result c =
     let a = c .before .before .before .before .before .before .before .before .before .before .before .args in
     let w = c .before .before .before .is-loadable-of in
-    omega (arith, told-refusal (asReading (a .reading)) (a .stakes .now) (a .store .now) (a .locator .now) _ (c .before .before .before .before .before .before .stakes-of .ensures .1) (w .result) (w .ensures) (c .before .number .given .0 .0) (c .before .number .given .1) .0)
+    omega (
+      arith,
+      told-refusal (asReading (a .reading)) (a .stakes .now) (a .store .now) (a .locator .now) _
+          (c .before .before .before .before .before .before .stakes-of .ensures .1) (w .result) (w .ensures) (c .before .number .given .0 .0)
+          (c .before .number .given .1) .0,
+    )
 
 returns : tie.Need-returns
 returns c =
     let a = c .before .before .before .before .before .before .before .before .before .before .args in
     let w = c .before .before .is-loadable-of in
-    told-yes (asReading (a .reading)) (a .stakes .now) (a .store .now) (a .locator .now) _ (c .before .before .before .before .before .stakes-of .ensures .1) (w .result) (w .ensures) (c .enum-told .given .1)
+    told-yes (asReading (a .reading)) (a .stakes .now) (a .store .now) (a .locator .now) _ (c .before .before .before .before .before .stakes-of .ensures .1)
+    (w .result) (w .ensures) (c .enum-told .given .1)
 
 returns-2 : tie.Need-returns-2
 returns-2 c =
     let a = c .before .before .before .before .before .before .before .before .before .before .args in
     let w = c .before .before .is-loadable-of in
-    told-no (asReading (a .reading)) (a .stakes .now) (a .store .now) (a .locator .now) _ (c .before .before .before .before .before .stakes-of .ensures .1) (w .result) (w .ensures) (c .enum-told2 .given .1)
+    told-no (asReading (a .reading)) (a .stakes .now) (a .store .now) (a .locator .now) _ (c .before .before .before .before .before .stakes-of .ensures .1)
+    (w .result) (w .ensures) (c .enum-told2 .given .1)
 
 returns-3 : tie.Need-returns-3
 returns-3 c =
     let a = c .before .before .before .before .before .before .before .before .before .before .before .args in
     let w = c .before .before .before .is-loadable-of in
-    told-refusal (asReading (a .reading)) (a .stakes .now) (a .store .now) (a .locator .now) _ (c .before .before .before .before .before .before .stakes-of .ensures .1) (w .result) (w .ensures) (c .before .number .given .0 .0) (c .before .number .given .1) .1
+    told-refusal (asReading (a .reading)) (a .stakes .now) (a .store .now) (a .locator .now) _
+    (c .before .before .before .before .before .before .stakes-of .ensures .1) (w .result) (w .ensures) (c .before .number .given .0 .0)
+    (c .before .number .given .1) .1
 
 pub is-loadable-in-spec : {M : Type 1} → statement M
 is-loadable-in-spec =

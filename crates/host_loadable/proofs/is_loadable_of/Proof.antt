@@ -22,7 +22,11 @@ is-loadable-in-requires c κs = search needs
 
 returns-2 : tie.Need-returns-2
 unfolding asked
-returns-2 c = rw (locator-read (c .before .before .before .before .before .before .args .locator .now) (c .before .before .if1 .left), ← c .before .read-locator .ensures) (c .is-loadable-in .ensures)
+returns-2 c = rw (
+  locator-read (c .before .before .before .before .before .before .args .locator .now) (c .before .before .if1 .left),
+  ← c .before
+      .read-locator .ensures,
+) (c .is-loadable-in .ensures)
 
 pub is-loadable-of-spec : {M : Type 1} → statement M
 is-loadable-of-spec =

@@ -35,8 +35,13 @@ add-result : tie.Need-add-result
 add-result c =
     let a = c .before .before .before .before .before .before .before .before .before .before .before .before .before .before .args in
     let w = c .before .before .before .before .before .loadable-in in
-    let e = list-same (asReading (a .reading)) (a .stakes .now) (a .store .now) (a .places .now) _ (c .before .before .before .before .before .before .before .before .before .stakes-of .ensures .1) in
-    omega (arith, told-denied (asReading (a .reading)) (a .stakes .now) (a .store .now) (a .places .now) (w .result) (w .ensures .0 ∙ ap (λ (x : AskedList). x .answer) e) (c .before .number .given .0 .0) (c .before .number .given .1) .0)
+    let e = list-same (asReading (a .reading)) (a .stakes .now) (a .store .now) (a .places .now) _
+    (c .before .before .before .before .before .before .before .before .before .stakes-of .ensures .1) in
+    omega (
+      arith,
+      told-denied (asReading (a .reading)) (a .stakes .now) (a .store .now) (a .places .now) (w .result)
+          (w .ensures .0 ∙ ap (λ (x : AskedList). x .answer) e) (c .before .number .given .0 .0) (c .before .number .given .1) .0,
+    )
 
 same-length : tie.Need-same-length
 same-length c = search needs
@@ -45,8 +50,12 @@ returns : tie.Need-returns
 returns c =
     let a = c .before .before .before .before .before .before .before .before .before .before .before .before .before .before .args in
     let w = c .before .before .before .before .before .loadable-in in
-    let e = list-same (asReading (a .reading)) (a .stakes .now) (a .store .now) (a .places .now) _ (c .before .before .before .before .before .before .before .before .before .stakes-of .ensures .1) in
-    (told-number (asReading (a .reading)) (a .stakes .now) (a .store .now) (a .places .now) (w .result) (w .ensures .0 ∙ ap (λ (x : AskedList). x .answer) e) (c .before .count .given .0 .0) (c .before .count .given .1), w .ensures .1 ∙ ap (λ (x : AskedList). x .places) e)
+    let e = list-same (asReading (a .reading)) (a .stakes .now) (a .store .now) (a .places .now) _
+    (c .before .before .before .before .before .before .before .before .before .stakes-of .ensures .1) in (
+      told-number (asReading (a .reading)) (a .stakes .now) (a .store .now) (a .places .now) (w .result) (w .ensures .0 ∙ ap (λ (x : AskedList). x .answer) e)
+          (c .before .count .given .0 .0) (c .before .count .given .1),
+      w .ensures .1 ∙ ap (λ (x : AskedList). x .places) e,
+    )
 
 same-length-2 : tie.Need-same-length-2
 same-length-2 c = search needs
@@ -55,8 +64,12 @@ returns-2 : tie.Need-returns-2
 returns-2 c =
     let a = c .before .before .before .before .before .before .before .before .before .before .before .before .before .before .args in
     let w = c .before .before .before .before .before .loadable-in in
-    let e = list-same (asReading (a .reading)) (a .stakes .now) (a .store .now) (a .places .now) _ (c .before .before .before .before .before .before .before .before .before .stakes-of .ensures .1) in
-    (told-denied (asReading (a .reading)) (a .stakes .now) (a .store .now) (a .places .now) (w .result) (w .ensures .0 ∙ ap (λ (x : AskedList). x .answer) e) (c .before .number .given .0 .0) (c .before .number .given .1) .1, w .ensures .1 ∙ ap (λ (x : AskedList). x .places) e)
+    let e = list-same (asReading (a .reading)) (a .stakes .now) (a .store .now) (a .places .now) _
+    (c .before .before .before .before .before .before .before .before .before .stakes-of .ensures .1) in (
+      told-denied (asReading (a .reading)) (a .stakes .now) (a .store .now) (a .places .now) (w .result) (w .ensures .0 ∙ ap (λ (x : AskedList). x .answer) e)
+          (c .before .number .given .0 .0) (c .before .number .given .1) .1,
+      w .ensures .1 ∙ ap (λ (x : AskedList). x .places) e,
+    )
 
 pub loadable-in-spec : {M : Type 1} → statement M
 loadable-in-spec =

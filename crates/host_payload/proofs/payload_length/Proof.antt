@@ -23,7 +23,8 @@ array-share-prefix-held : tie.Need-array-share-prefix-held
 array-share-prefix-held c = search needs
 
 slice-aggregate-payload-length : tie.Need-slice-aggregate-payload-length
-slice-aggregate-payload-length c = sym (length-take-le (c .before .before .stakes-of .result) (c .before .before .stakes-of .last .1 .0) (omega (arith, c .before .before .stakes-of .kept .1 .0, c .before .before .stakes-of .ensures .0)))
+slice-aggregate-payload-length c = sym (length-take-le (c .before .before .stakes-of .result) (c .before .before .stakes-of .last .1 .0)
+    (omega (arith, c .before .before .stakes-of .kept .1 .0, c .before .before .stakes-of .ensures .0)))
 
 payload-length-requires : tie.Need-payload-length-requires
 payload-length-requires c κs = search needs
@@ -37,18 +38,33 @@ enum-known-number c = search needs
 add-result : tie.Need-add-result
 unfolding asPayloadLength
 add-result c =
-    let held = take (c .before .before .before .before .before .before .stakes-of .result) (c .before .before .before .before .before .before .stakes-of .last .1 .0) in
+    let held = take (c .before .before .before .before .before .before .stakes-of .result)
+    (c .before .before .before .before .before .before .stakes-of .last .1 .0) in
     let start = c .before .before .before .before .before .before .before .before .before .before .before .args in
     let n = c .before .number .given .0 .0 in
-    omega (arith, asked-most held (start .store .now) (payloadLength held (start .store .now)) (locatorOf (start .locator .now)) n (length-most held (start .store .now)) (sym (c .before .before .before .payload-length .ensures) ∙ ap asPayloadLength (c .before .number .given .1)))
+    omega (
+      arith,
+      asked-most held (start .store .now) (payloadLength held (start .store .now)) (locatorOf (start .locator .now)) n
+          (length-most held (start .store .now)) (sym (c .before .before .before .payload-length .ensures) ∙ ap asPayloadLength (c .before .number .given .1)),
+    )
 
 returns : tie.Need-returns
 unfolding encoded payloadLengthCall asPayloadLength
-returns c = rw (← c .before .before .before .before .before .before .stakes-of .ensures .1, ← c .before .before .before .payload-length .ensures, c .before .length .given .1)
+returns c = rw (
+  ← c .before .before .before .before .before .before .stakes-of .ensures .1,
+  ← c .before .before .before .payload-length .ensures,
+  c .before
+      .length .given .1,
+)
 
 returns-2 : tie.Need-returns-2
 unfolding encoded payloadLengthCall asPayloadLength
-returns-2 c = rw (← c .before .before .before .before .before .before .stakes-of .ensures .1, ← c .before .before .before .payload-length .ensures, c .before .number .given .1)
+returns-2 c = rw (
+  ← c .before .before .before .before .before .before .stakes-of .ensures .1,
+  ← c .before .before .before .payload-length .ensures,
+  c .before
+      .number .given .1,
+)
 
 pub payload-length-spec : {M : Type 1} → statement M
 payload-length-spec =

@@ -22,7 +22,8 @@ array-share-prefix-held : tie.Need-array-share-prefix-held
 array-share-prefix-held c = search needs
 
 slice-aggregate-payload-place : tie.Need-slice-aggregate-payload-place
-slice-aggregate-payload-place c = sym (length-take-le (c .before .before .stakes-of .result) (c .before .before .stakes-of .last .1 .0) (omega (arith, c .before .before .stakes-of .kept .1 .0, c .before .before .stakes-of .ensures .0)))
+slice-aggregate-payload-place c = sym (length-take-le (c .before .before .stakes-of .result) (c .before .before .stakes-of .last .1 .0)
+    (omega (arith, c .before .before .stakes-of .kept .1 .0, c .before .before .stakes-of .ensures .0)))
 
 payload-place-requires : tie.Need-payload-place-requires
 payload-place-requires c κs = search needs
@@ -36,18 +37,33 @@ enum-known-number c = search needs
 add-result : tie.Need-add-result
 unfolding asPlace
 add-result c =
-    let held = take (c .before .before .before .before .before .before .stakes-of .result) (c .before .before .before .before .before .before .stakes-of .last .1 .0) in
+    let held = take (c .before .before .before .before .before .before .stakes-of .result)
+    (c .before .before .before .before .before .before .stakes-of .last .1 .0) in
     let start = c .before .before .before .before .before .before .before .before .before .before .before .args in
     let n = c .before .number .given .0 .0 in
-    omega (arith, asked-most held (start .store .now) (payloadPlace held (start .store .now)) (locatorOf (start .locator .now)) n (place-most held (start .store .now)) (sym (c .before .before .before .payload-place .ensures) ∙ ap asPlace (c .before .number .given .1)))
+    omega (
+      arith,
+      asked-most held (start .store .now) (payloadPlace held (start .store .now)) (locatorOf (start .locator .now)) n
+          (place-most held (start .store .now)) (sym (c .before .before .before .payload-place .ensures) ∙ ap asPlace (c .before .number .given .1)),
+    )
 
 returns : tie.Need-returns
 unfolding encoded payloadStartCall asPlace startOf
-returns c = rw (← c .before .before .before .before .before .before .stakes-of .ensures .1, ← c .before .before .before .payload-place .ensures, c .before .start .given .1)
+returns c = rw (
+  ← c .before .before .before .before .before .before .stakes-of .ensures .1,
+  ← c .before .before .before .payload-place .ensures,
+  c .before
+      .start .given .1,
+)
 
 returns-2 : tie.Need-returns-2
 unfolding encoded payloadStartCall asPlace startOf
-returns-2 c = rw (← c .before .before .before .before .before .before .stakes-of .ensures .1, ← c .before .before .before .payload-place .ensures, c .before .number .given .1)
+returns-2 c = rw (
+  ← c .before .before .before .before .before .before .stakes-of .ensures .1,
+  ← c .before .before .before .payload-place .ensures,
+  c .before
+      .number .given .1,
+)
 
 pub payload-start-spec : {M : Type 1} → statement M
 payload-start-spec =

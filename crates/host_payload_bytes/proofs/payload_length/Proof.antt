@@ -22,7 +22,11 @@ payload-length-requires c κs = search needs
 
 returns-2 : tie.Need-returns-2
 unfolding asked
-returns-2 c = rw (locator-read (c .before .before .before .before .before .before .args .locator .now) (c .before .before .if1 .left), ← c .before .read-locator .ensures) (c .payload-length .ensures)
+returns-2 c = rw (
+  locator-read (c .before .before .before .before .before .before .args .locator .now) (c .before .before .if1 .left),
+  ← c .before
+      .read-locator .ensures,
+) (c .payload-length .ensures)
 
 pub payload-length-spec : {M : Type 1} → statement M
 payload-length-spec =

@@ -22,7 +22,11 @@ find-payload-requires c κs = search needs
 
 returns-2 : tie.Need-returns-2
 unfolding asked
-returns-2 c = rw (locator-read (c .before .before .before .before .before .before .args .locator .now) (c .before .before .if1 .left), ← c .before .read-locator .ensures) (c .find-payload .ensures .0)
+returns-2 c = rw (
+  locator-read (c .before .before .before .before .before .before .args .locator .now) (c .before .before .if1 .left),
+  ← c .before
+      .read-locator .ensures,
+) (c .find-payload .ensures .0)
 
 pub payload-place-spec : {M : Type 1} → statement M
 payload-place-spec =

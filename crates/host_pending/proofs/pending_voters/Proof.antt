@@ -21,7 +21,8 @@ array-share-prefix-held : tie.Need-array-share-prefix-held
 array-share-prefix-held c = search needs
 
 slice-aggregate-pending-of : tie.Need-slice-aggregate-pending-of
-slice-aggregate-pending-of c = sym (length-take-le (c .before .before .stakes-of .result) (c .before .before .stakes-of .last .1 .0) (omega (arith, c .before .before .stakes-of .kept .1 .0, c .before .before .stakes-of .ensures .0)))
+slice-aggregate-pending-of c = sym (length-take-le (c .before .before .stakes-of .result) (c .before .before .stakes-of .last .1 .0)
+    (omega (arith, c .before .before .stakes-of .kept .1 .0, c .before .before .stakes-of .ensures .0)))
 
 pending-of-requires : tie.Need-pending-of-requires
 pending-of-requires c κs = search needs
@@ -35,18 +36,33 @@ enum-known-number c = search needs
 add-result : tie.Need-add-result
 unfolding asPending
 add-result c =
-    let held = take (c .before .before .before .before .before .before .stakes-of .result) (c .before .before .before .before .before .before .stakes-of .last .1 .0) in
+    let held = take (c .before .before .before .before .before .before .stakes-of .result)
+    (c .before .before .before .before .before .before .stakes-of .last .1 .0) in
     let start = c .before .before .before .before .before .before .before .before .before .before .before .before .args in
     let n = c .before .number .given .0 .0 in
-    omega (arith, pending-most held (start .store .now) (start .table .now) (locatorOf (start .locator .now)) n (sym (c .before .before .before .pending-of .ensures) ∙ ap asPending (c .before .number .given .1)))
+    omega (
+      arith,
+      pending-most held (start .store .now) (start .table .now) (locatorOf (start .locator .now)) n
+          (sym (c .before .before .before .pending-of .ensures) ∙ ap asPending (c .before .number .given .1)),
+    )
 
 returns : tie.Need-returns
 unfolding encoded pendingVotersCall asPending votersOf
-returns c = rw (← c .before .before .before .before .before .before .stakes-of .ensures .1, ← c .before .before .before .pending-of .ensures, c .before .voters .given .1)
+returns c = rw (
+  ← c .before .before .before .before .before .before .stakes-of .ensures .1,
+  ← c .before .before .before .pending-of .ensures,
+  c .before
+      .voters .given .1,
+)
 
 returns-2 : tie.Need-returns-2
 unfolding encoded pendingVotersCall asPending votersOf
-returns-2 c = rw (← c .before .before .before .before .before .before .stakes-of .ensures .1, ← c .before .before .before .pending-of .ensures, c .before .number .given .1)
+returns-2 c = rw (
+  ← c .before .before .before .before .before .before .stakes-of .ensures .1,
+  ← c .before .before .before .pending-of .ensures,
+  c .before
+      .number .given .1,
+)
 
 pub pending-voters-spec : {M : Type 1} → statement M
 pending-voters-spec =

@@ -12,7 +12,8 @@ no-locator-requires c κs = search needs
 
 returns : tie.Need-returns
 unfolding asPending pendingIn
-returns c = rw (locator-none (c .before .before .before .before .before .before .args .locator .now) (c .before .if1 .taken)) (ap refused (c .no-locator .ensures))
+returns c = rw (locator-none (c .before .before .before .before .before .before .args .locator .now) (c .before .if1 .taken))
+    (ap refused (c .no-locator .ensures))
 
 read-locator-requires : tie.Need-read-locator-requires
 read-locator-requires c κs = search needs
@@ -22,7 +23,11 @@ pending-requires c κs = search needs
 
 returns-2 : tie.Need-returns-2
 unfolding pendingIn
-returns-2 c = rw (locator-read (c .before .before .before .before .before .before .before .args .locator .now) (c .before .before .if1 .left), ← c .before .read-locator .ensures) (c .pending .ensures)
+returns-2 c = rw (
+  locator-read (c .before .before .before .before .before .before .before .args .locator .now) (c .before .before .if1 .left),
+  ← c .before
+      .read-locator .ensures,
+) (c .pending .ensures)
 
 pub pending-in-spec : {M : Type 1} → statement M
 pending-in-spec =

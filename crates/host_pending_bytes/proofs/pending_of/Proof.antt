@@ -14,7 +14,8 @@ returns : tie.Need-returns
 unfolding asPending
 returns c =
     let start = c .before .before .before .before .before .before .args in
-    ap refused (c .refusal-before .ensures) ∙ sym (pending-other (start .stakes .now) (start .store .now) (start .table .now) (locatorOf (start .locator .now)) (c .before .if1 .taken))
+    ap refused (c .refusal-before .ensures) ∙ sym (pending-other (start .stakes .now) (start .store .now) (start .table .now)
+    (locatorOf (start .locator .now)) (c .before .if1 .taken))
 
 slice-aggregate-words-of : tie.Need-slice-aggregate-words-of
 slice-aggregate-words-of c = search needs
@@ -31,7 +32,9 @@ pending-in-requires c κs = search needs
 returns-2 : tie.Need-returns-2
 returns-2 c =
     let start = c .before .before .before .before .before .before .before .before .before .before .args in
-    c .pending-in .ensures ∙ rw (c .before .before .before .words-of .ensures) (sym (pending-sized (start .stakes .now) (start .store .now) (start .table .now) (locatorOf (start .locator .now)) (c .before .before .before .before .before .if1 .left)))
+    c .pending-in .ensures ∙ rw (c .before .before .before .words-of .ensures)
+    (sym (pending-sized (start .stakes .now) (start .store .now) (start .table .now) (locatorOf (start .locator .now))
+    (c .before .before .before .before .before .if1 .left)))
 
 pub pending-of-spec : {M : Type 1} → statement M
 pending-of-spec =

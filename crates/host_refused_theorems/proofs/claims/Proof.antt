@@ -10,7 +10,8 @@ use Rattle.host_refused_theorems.proofs.claims.Statement.{statement}
 use Rattle.host_refused_theorems.proofs.claims.Tie as tie
 
 returns : tie.Need-returns
-unfolding NextKept StretchesKept nextFinalCall nextWideCall nextFinalWithdrawingCall nextWideWithdrawingCall stretchesCall wideStretchesCall stretchesWithdrawingCall wideStretchesWithdrawingCall stretchesIndexedCall wideStretchesIndexedCall
+unfolding NextKept StretchesKept nextFinalCall nextWideCall nextFinalWithdrawingCall nextWideWithdrawingCall stretchesCall wideStretchesCall
+    stretchesWithdrawingCall wideStretchesWithdrawingCall stretchesIndexedCall wideStretchesIndexedCall
 returns c =
     record {
       feedIndexed = refused-feed;

@@ -18,7 +18,8 @@ array-share-prefix-held : tie.Need-array-share-prefix-held
 array-share-prefix-held c = search needs
 
 slice-aggregate-fewest-of : tie.Need-slice-aggregate-fewest-of
-slice-aggregate-fewest-of c = sym (length-take-le (c .before .before .stakes-of .result) (c .before .before .stakes-of .last .1 .0) (omega (arith, c .before .before .stakes-of .kept .1 .0, c .before .before .stakes-of .ensures .0)))
+slice-aggregate-fewest-of c = sym (length-take-le (c .before .before .stakes-of .result) (c .before .before .stakes-of .last .1 .0)
+    (omega (arith, c .before .before .stakes-of .kept .1 .0, c .before .before .stakes-of .ensures .0)))
 
 fewest-of-requires : tie.Need-fewest-of-requires
 fewest-of-requires c κs = search needs
@@ -34,8 +35,11 @@ returns c =
     let a = c .before .before .before .before .before .before .before .before .before .before .before .args in
     let e =
     fewest-told (a .stakes .now) (a .voters-low) (a .voters-high) (a .reachable-low) (a .reachable-high) (a .found .now) _ _
-    (c .before .before .before .before .before .before .before .stakes-of .ensures .1) (c .before .before .before .before .fewest-of .ensures) in
-    (c .before .before .tell .ensures .0 ∙ sym (ap (λ (x : RingCall). encoded (x .answer)) e), c .before .before .tell .ensures .1 ∙ sym (ap (λ (x : RingCall). x .found) e))
+    (c .before .before .before .before .before .before .before .stakes-of .ensures .1) (c .before .before .before .before .fewest-of .ensures) in (
+      c .before .before .tell .ensures .0 ∙ sym (ap (λ (x : RingCall). encoded (x .answer)) e),
+      c .before .before .tell .ensures .1 ∙ sym
+          (ap (λ (x : RingCall). x .found) e),
+    )
 
 pub fewest-owners-spec : {M : Type 1} → statement M
 fewest-owners-spec =

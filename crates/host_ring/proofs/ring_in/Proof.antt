@@ -45,7 +45,12 @@ returns-4 : tie.Need-returns-4
 returns-4 c =
     let o = c .before .before .before .before .before .before .before .before .before .before .args in
     let z = sym (c .before .before .before .before .before .lent-refusal .ensures .0) ∙ c .before .before .before .before .if1 .left in
-    rw (locator-read (o .locator .now) (c .before .before .before .if2 .left), in-asked (o .stakes .now) (o .store .now) (o .table .now) (o .reachable) z (o .room) _ (c .before .before .if3 .left), ← c .before .read-locator .ensures) (c .ring-at .ensures)
+    rw (
+      locator-read (o .locator .now) (c .before .before .before .if2 .left),
+      in-asked (o .stakes .now) (o .store .now) (o .table .now) (o .reachable) z
+          (o .room) _ (c .before .before .if3 .left),
+      ← c .before .read-locator .ensures,
+    ) (c .ring-at .ensures)
 
 pub ring-in-spec : {M : Type 1} → statement M
 ring-in-spec =

@@ -30,7 +30,8 @@ ring-in-requires c κs = search needs
 returns-2 : tie.Need-returns-2
 returns-2 c =
     let o = c .before .before .before .before .before .before .before .before .before .before .args in
-    c .ring-in .ensures ∙ rw (c .before .before .before .words-of .ensures) (sym (ring-sized (o .stakes .now) (o .store .now) (o .table .now) _ _ _ (c .before .before .before .before .before .if1 .left)))
+    c .ring-in .ensures ∙ rw (c .before .before .before .words-of .ensures)
+    (sym (ring-sized (o .stakes .now) (o .store .now) (o .table .now) _ _ _ (c .before .before .before .before .before .if1 .left)))
 
 pub ring-of-spec : {M : Type 1} → statement M
 ring-of-spec =

@@ -33,8 +33,13 @@ enum-known-number c = search needs
 add-result : tie.Need-add-result
 add-result c = let a = c .before .before .before .before .before .before .before .before .before .before .before .before .before .before .before .args in
     let w = c .before .before .before .before .before .write-slip-of in
-    let e = call-same (asReading (a .reading)) (a .stakes .now) (a .store .now) (a .locator .now) (a .out .now) _ (c .before .before .before .before .before .before .before .before .before .stakes-of .ensures .1) in
-    omega (arith, told-refusal (asReading (a .reading)) (a .stakes .now) (a .store .now) (a .locator .now) (a .out .now) (w .result) (w .ensures .0 ∙ ap (λ (x : Written). x .answer) e) (c .before .number .given .0 .0) (c .before .number .given .1) .0)
+    let e = call-same (asReading (a .reading)) (a .stakes .now) (a .store .now) (a .locator .now) (a .out .now) _
+    (c .before .before .before .before .before .before .before .before .before .stakes-of .ensures .1) in
+    omega (
+      arith,
+      told-refusal (asReading (a .reading)) (a .stakes .now) (a .store .now) (a .locator .now) (a .out .now) (w .result)
+          (w .ensures .0 ∙ ap (λ (x : Written). x .answer) e) (c .before .number .given .0 .0) (c .before .number .given .1) .0,
+    )
 
 same-length : tie.Need-same-length
 same-length c = search needs
@@ -42,8 +47,13 @@ same-length c = search needs
 returns : tie.Need-returns
 returns c = let a = c .before .before .before .before .before .before .before .before .before .before .before .before .before .before .before .args in
     let w = c .before .before .before .before .before .write-slip-of in
-    let e = call-same (asReading (a .reading)) (a .stakes .now) (a .store .now) (a .locator .now) (a .out .now) _ (c .before .before .before .before .before .before .before .before .before .stakes-of .ensures .1) in
-    (told-length (asReading (a .reading)) (a .stakes .now) (a .store .now) (a .locator .now) (a .out .now) (w .result) (w .ensures .0 ∙ ap (λ (x : Written). x .answer) e) (c .before .length .given .0 .0) (c .before .length .given .1), w .ensures .1 ∙ ap (λ (x : Written). x .out) e)
+    let e = call-same (asReading (a .reading)) (a .stakes .now) (a .store .now) (a .locator .now) (a .out .now) _
+    (c .before .before .before .before .before .before .before .before .before .stakes-of .ensures .1) in (
+      told-length (asReading (a .reading)) (a .stakes .now) (a .store .now) (a .locator .now) (a .out .now) (w .result)
+          (w .ensures .0 ∙ ap (λ (x : Written). x .answer) e) (c .before .length .given .0 .0) (c .before .length .given .1),
+      w .ensures .1 ∙ ap
+          (λ (x : Written). x .out) e,
+    )
 
 same-length-2 : tie.Need-same-length-2
 same-length-2 c = search needs
@@ -51,8 +61,13 @@ same-length-2 c = search needs
 returns-2 : tie.Need-returns-2
 returns-2 c = let a = c .before .before .before .before .before .before .before .before .before .before .before .before .before .before .before .args in
     let w = c .before .before .before .before .before .write-slip-of in
-    let e = call-same (asReading (a .reading)) (a .stakes .now) (a .store .now) (a .locator .now) (a .out .now) _ (c .before .before .before .before .before .before .before .before .before .stakes-of .ensures .1) in
-    (told-refusal (asReading (a .reading)) (a .stakes .now) (a .store .now) (a .locator .now) (a .out .now) (w .result) (w .ensures .0 ∙ ap (λ (x : Written). x .answer) e) (c .before .number .given .0 .0) (c .before .number .given .1) .1, w .ensures .1 ∙ ap (λ (x : Written). x .out) e)
+    let e = call-same (asReading (a .reading)) (a .stakes .now) (a .store .now) (a .locator .now) (a .out .now) _
+    (c .before .before .before .before .before .before .before .before .before .stakes-of .ensures .1) in (
+      told-refusal (asReading (a .reading)) (a .stakes .now) (a .store .now) (a .locator .now) (a .out .now) (w .result)
+          (w .ensures .0 ∙ ap (λ (x : Written). x .answer) e) (c .before .number .given .0 .0) (c .before .number .given .1) .1,
+      w .ensures .1 ∙ ap
+          (λ (x : Written). x .out) e,
+    )
 
 pub write-slip-spec : {M : Type 1} → statement M
 write-slip-spec =

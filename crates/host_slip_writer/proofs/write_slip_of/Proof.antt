@@ -12,7 +12,8 @@ refusal-before-requires c κs = search needs
 
 returns : tie.Need-returns
 unfolding asSlipAnswer askedSlip
-returns c = rw (locator-none (c .before .before .before .before .before .before .args .locator .now) (c .before .if1 .taken)) (ap refused (c .refusal-before .ensures), refl)
+returns c = rw (locator-none (c .before .before .before .before .before .before .args .locator .now) (c .before .if1 .taken))
+    (ap refused (c .refusal-before .ensures), refl)
 
 read-locator-requires : tie.Need-read-locator-requires
 read-locator-requires c κs = search needs
@@ -25,7 +26,12 @@ same-length c = search needs
 
 returns-2 : tie.Need-returns-2
 unfolding askedSlip
-returns-2 c = rw (locator-read (c .before .before .before .before .before .before .before .before .before .before .args .locator .now) (c .before .before .before .before .before .if1 .left), ← c .before .before .before .before .read-locator .ensures) (c .before .before .write-slip-in .ensures)
+returns-2 c = rw (
+  locator-read (c .before .before .before .before .before .before .before .before .before .before .args .locator .now)
+      (c .before .before .before .before .before .if1 .left),
+  ← c .before .before .before .before .read-locator .ensures,
+)
+    (c .before .before .write-slip-in .ensures)
 
 pub write-slip-of-spec : {M : Type 1} → statement M
 write-slip-of-spec =

@@ -16,7 +16,8 @@ array-share-prefix-held : tie.Need-array-share-prefix-held
 array-share-prefix-held c = search needs
 
 slice-aggregate-read-slip : tie.Need-slice-aggregate-read-slip
-slice-aggregate-read-slip c = sym (length-take-le (c .before .before .stakes-of .result) (c .before .before .stakes-of .last .1 .0) (omega (arith, c .before .before .stakes-of .kept .1 .0, c .before .before .stakes-of .ensures .0)))
+slice-aggregate-read-slip c = sym (length-take-le (c .before .before .stakes-of .result) (c .before .before .stakes-of .last .1 .0)
+    (omega (arith, c .before .before .stakes-of .kept .1 .0, c .before .before .stakes-of .ensures .0)))
 
 read-slip-requires : tie.Need-read-slip-requires
 read-slip-requires c κs = search needs
@@ -28,13 +29,21 @@ enum-known-number : tie.Need-enum-known-number
 enum-known-number c = search needs
 
 add-result : tie.Need-add-result
-add-result c = omega (arith, told-refusal _ _ _ (c .before .before .before .read-slip .result) (c .before .before .before .read-slip .ensures) (c .before .number .given .0 .0) (c .before .number .given .1) .0)
+add-result c = omega (
+  arith,
+  told-refusal _ _ _ (c .before .before .before .read-slip .result) (c .before .before .before .read-slip .ensures)
+      (c .before .number .given .0 .0) (c .before .number .given .1) .0,
+)
 
 returns : tie.Need-returns
-returns c = rw (← c .before .before .before .before .before .before .stakes-of .ensures .1) (told-number _ _ _ (c .before .before .before .read-slip .result) (c .before .before .before .read-slip .ensures) (c .before .count .given .0 .0) (c .before .count .given .1))
+returns c = rw (← c .before .before .before .before .before .before .stakes-of .ensures .1)
+    (told-number _ _ _ (c .before .before .before .read-slip .result) (c .before .before .before .read-slip .ensures) (c .before .count .given .0 .0)
+    (c .before .count .given .1))
 
 returns-2 : tie.Need-returns-2
-returns-2 c = rw (← c .before .before .before .before .before .before .stakes-of .ensures .1) (told-refusal _ _ _ (c .before .before .before .read-slip .result) (c .before .before .before .read-slip .ensures) (c .before .number .given .0 .0) (c .before .number .given .1) .1)
+returns-2 c = rw (← c .before .before .before .before .before .before .stakes-of .ensures .1)
+    (told-refusal _ _ _ (c .before .before .before .read-slip .result) (c .before .before .before .read-slip .ensures) (c .before .number .given .0 .0)
+    (c .before .number .given .1) .1)
 
 pub read-slip-spec : {M : Type 1} → statement M
 read-slip-spec =

@@ -36,7 +36,11 @@ add-result c =
     let a = c .before .before .before .before .before .before .before .before .before .before .before .before .before .before .before .before .args in
     let w = c .before .before .before .before .before .answer-sorted in
     let h = c .before .before .before .before .before .before .before .before .before .stakes-of .ensures .1 in
-    omega (arith, told-refusal (committeeOf (a .stakes .now)) (a .store .now) (a .index .now) (a .locators .now) (a .replies .now) _ h (w .result) (w .ensures .0) (c .before .number .given .0 .0) (c .before .number .given .1) .0)
+    omega (
+      arith,
+      told-refusal (committeeOf (a .stakes .now)) (a .store .now) (a .index .now) (a .locators .now) (a .replies .now) _ h (w .result)
+          (w .ensures .0) (c .before .number .given .0 .0) (c .before .number .given .1) .0,
+    )
 
 same-length : tie.Need-same-length
 same-length c = search needs
@@ -45,8 +49,12 @@ returns : tie.Need-returns
 returns c =
     let a = c .before .before .before .before .before .before .before .before .before .before .before .before .before .before .before .before .args in
     let w = c .before .before .before .before .before .answer-sorted in
-    let h = c .before .before .before .before .before .before .before .before .before .stakes-of .ensures .1 in
-    (told-count (committeeOf (a .stakes .now)) (a .store .now) (a .index .now) (a .locators .now) (a .replies .now) _ h (w .result) (w .ensures .0) (c .before .count .given .0 .0) (c .before .count .given .1), w .ensures .1 ∙ ap (λ (x : AskedSorted). x .out) (call-same (committeeOf (a .stakes .now)) (a .store .now) (a .index .now) (a .locators .now) (a .replies .now) _ h))
+    let h = c .before .before .before .before .before .before .before .before .before .stakes-of .ensures .1 in (
+      told-count (committeeOf (a .stakes .now)) (a .store .now) (a .index .now) (a .locators .now) (a .replies .now) _ h (w .result) (w .ensures .0)
+          (c .before .count .given .0 .0) (c .before .count .given .1),
+      w .ensures .1 ∙ ap (λ (x : AskedSorted). x .out)
+          (call-same (committeeOf (a .stakes .now)) (a .store .now) (a .index .now) (a .locators .now) (a .replies .now) _ h),
+    )
 
 same-length-2 : tie.Need-same-length-2
 same-length-2 c = search needs
@@ -55,8 +63,12 @@ returns-2 : tie.Need-returns-2
 returns-2 c =
     let a = c .before .before .before .before .before .before .before .before .before .before .before .before .before .before .before .before .args in
     let w = c .before .before .before .before .before .answer-sorted in
-    let h = c .before .before .before .before .before .before .before .before .before .stakes-of .ensures .1 in
-    (told-refusal (committeeOf (a .stakes .now)) (a .store .now) (a .index .now) (a .locators .now) (a .replies .now) _ h (w .result) (w .ensures .0) (c .before .number .given .0 .0) (c .before .number .given .1) .1, w .ensures .1 ∙ ap (λ (x : AskedSorted). x .out) (call-same (committeeOf (a .stakes .now)) (a .store .now) (a .index .now) (a .locators .now) (a .replies .now) _ h))
+    let h = c .before .before .before .before .before .before .before .before .before .stakes-of .ensures .1 in (
+      told-refusal (committeeOf (a .stakes .now)) (a .store .now) (a .index .now) (a .locators .now) (a .replies .now) _ h (w .result) (w .ensures .0)
+          (c .before .number .given .0 .0) (c .before .number .given .1) .1,
+      w .ensures .1 ∙ ap (λ (x : AskedSorted). x .out)
+          (call-same (committeeOf (a .stakes .now)) (a .store .now) (a .index .now) (a .locators .now) (a .replies .now) _ h),
+    )
 
 pub answer-sorted-of-spec : {M : Type 1} → statement M
 answer-sorted-of-spec =

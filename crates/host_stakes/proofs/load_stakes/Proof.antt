@@ -21,14 +21,24 @@ array-share-prefix-held : tie.Need-array-share-prefix-held
 array-share-prefix-held c =
     let start = c .before .before .before .before .before .before .before .before .args in
     let l = c .before .before .before .before .load in
-    omega (arith, held-members (start .file .now) (l .last .1 .0) (l .result) (l .ensures .0) (l .ensures .1) (c .before .n .given .0 .0) (c .before .n .given .1) .0, l .kept .1 .0)
+    omega (
+      arith,
+      held-members (start .file .now) (l .last .1 .0) (l .result) (l .ensures .0) (l .ensures .1) (c .before .n .given .0 .0)
+          (c .before .n .given .1) .0,
+      l .kept .1 .0,
+    )
 
 slice-aggregate-put-stakes : tie.Need-slice-aggregate-put-stakes
 slice-aggregate-put-stakes c =
     let start = c .before .before .before .before .before .before .before .before .before .args in
     let l = c .before .before .before .before .before .load in
     let n = c .before .before .n .given in
-    sym (length-take-le (n .0 .0) (l .last .1 .0) (omega (arith, held-members (start .file .now) (l .last .1 .0) (l .result) (l .ensures .0) (l .ensures .1) (n .0 .0) (n .1) .0, l .kept .1 .0)))
+    sym (length-take-le (n .0 .0) (l .last .1 .0) (omega (
+      arith,
+      held-members (start .file .now) (l .last .1 .0) (l .result) (l .ensures .0) (l .ensures .1)
+          (n .0 .0) (n .1) .0,
+      l .kept .1 .0,
+    )))
 
 put-stakes-requires : tie.Need-put-stakes-requires
 put-stakes-requires c κs =
@@ -45,7 +55,11 @@ add-result : tie.Need-add-result
 add-result c =
     let start = c .before .before .before .before .before .before .before .before .args in
     let l = c .before .before .before .before .load in
-    omega (arith, held-refused (start .file .now) (l .last .1 .0) (l .result) (l .ensures .0) (l .ensures .1) (c .before .number .given .0 .0) (c .before .number .given .1) .0)
+    omega (
+      arith,
+      held-refused (start .file .now) (l .last .1 .0) (l .result) (l .ensures .0) (l .ensures .1) (c .before .number .given .0 .0)
+          (c .before .number .given .1) .0,
+    )
 
 same-length : tie.Need-same-length
 same-length c = search needs
@@ -64,7 +78,8 @@ unfolding loadStakesCall loadedBytes encoded
 returns-2 c =
     let start = c .before .before .before .before .before .before .before .before .args in
     let l = c .before .before .before .before .load in
-    let e = held-refused (start .file .now) (l .last .1 .0) (l .result) (l .ensures .0) (l .ensures .1) (c .before .number .given .0 .0) (c .before .number .given .1) .1 in
+    let e = held-refused (start .file .now) (l .last .1 .0) (l .result) (l .ensures .0) (l .ensures .1) (c .before .number .given .0 .0)
+    (c .before .number .given .1) .1 in
     (rw e, rw e)
 
 pub load-stakes-spec : {M : Type 1} → statement M

@@ -17,7 +17,8 @@ refusal-before-requires : tie.Need-refusal-before-requires
 refusal-before-requires c κs = search needs
 
 add-result : tie.Need-add-result
-add-result c = let a = c .before .before .before .before .before .before .args in omega (arith, c .refusal-before .ensures, before-most 20 (a .stakes .now) (a .store .now) (omega arith))
+add-result c = let a = c .before .before .before .before .before .before .args in omega
+    (arith, c .refusal-before .ensures, before-most 20 (a .stakes .now) (a .store .now) (omega arith))
 
 returns : tie.Need-returns
 unfolding encoded
@@ -30,7 +31,8 @@ refusal-before-requires-2 : tie.Need-refusal-before-requires-2
 refusal-before-requires-2 c κs = search needs
 
 add-result-2 : tie.Need-add-result-2
-add-result-2 c = let a = c .before .before .before .before .before .before .before .args in omega (arith, c .refusal-before2 .ensures, before-most 40 (a .stakes .now) (a .store .now) (omega arith))
+add-result-2 c = let a = c .before .before .before .before .before .before .before .args in omega
+    (arith, c .refusal-before2 .ensures, before-most 40 (a .stakes .now) (a .store .now) (omega arith))
 
 returns-2 : tie.Need-returns-2
 unfolding encoded
@@ -61,7 +63,12 @@ add-result-3 : tie.Need-add-result-3
 unfolding asTimeAnswer
 add-result-3 c =
     let a = c .before .before .before .before .before .before .before .before .before .before .before .args in
-    omega (arith, time-most (a .stakes .now) (a .store .now) (referenceAt (a .reference .now) 0) (c .before .number .given .0 .0) (ap (askTime (a .stakes .now) (a .store .now)) (sym (c .before .before .before .before .read-reference .ensures)) ∙ sym (c .before .before .before .creation-time .ensures) ∙ ap asTimeAnswer (c .before .number .given .1)))
+    omega (
+      arith,
+      time-most (a .stakes .now) (a .store .now) (referenceAt (a .reference .now) 0) (c .before .number .given .0 .0)
+          (ap (askTime (a .stakes .now) (a .store .now)) (sym (c .before .before .before .before .read-reference .ensures)) ∙ sym
+          (c .before .before .before .creation-time .ensures) ∙ ap asTimeAnswer (c .before .number .given .1)),
+    )
 
 same-length : tie.Need-same-length
 same-length c = search needs
@@ -70,21 +77,36 @@ returns-3 : tie.Need-returns-3
 unfolding encoded asTimeAnswer foundIn
 returns-3 c =
     let a = c .before .before .before .before .before .before .before .before .before .before .before .before .before .before .before .args in
-    let e = time-asked (a .stakes .now) (a .store .now) (a .reference .now) (a .found .now) _ (c .before .before .before .before .before .before .before .before .before .before .if1 .left) (c .before .before .before .before .before .before .before .before .before .if2 .left) (ap (askTime (a .stakes .now) (a .store .now)) (sym (c .before .before .before .before .before .before .before .before .read-reference .ensures)) ∙ sym (c .before .before .before .before .before .before .before .creation-time .ensures) ∙ ap asTimeAnswer (c .before .before .before .before .before .time .given .1)) in
-    (sym (ap (λ (x : TimeCall). encoded (x .answer)) e), c .before .before .write-u64 .ensures ∙ sets-complete (a .found .now) _ (length-leBytes 8 (c .before .before .before .before .before .time .given .0 .0) ∙ sym (c .before .before .before .before .before .before .before .before .before .if2 .left)) ∙ sym (ap (λ (x : TimeCall). x .found) e))
+    let e = time-asked (a .stakes .now) (a .store .now) (a .reference .now) (a .found .now) _
+    (c .before .before .before .before .before .before .before .before .before .before .if1 .left)
+    (c .before .before .before .before .before .before .before .before .before .if2 .left)
+    (ap (askTime (a .stakes .now) (a .store .now)) (sym (c .before .before .before .before .before .before .before .before .read-reference .ensures)) ∙
+    sym (c .before .before .before .before .before .before .before .creation-time .ensures) ∙ ap asTimeAnswer
+    (c .before .before .before .before .before .time .given .1)) in (
+      sym (ap (λ (x : TimeCall). encoded (x .answer)) e),
+      c .before .before .write-u64 .ensures ∙ sets-complete (a .found .now) _
+          (length-leBytes 8 (c .before .before .before .before .before .time .given .0 .0) ∙ sym
+          (c .before .before .before .before .before .before .before .before .before .if2 .left)) ∙ sym (ap (λ (x : TimeCall). x .found) e),
+    )
 
 returns-4 : tie.Need-returns-4
 unfolding encoded asTimeAnswer foundIn
 returns-4 c =
     let a = c .before .before .before .before .before .before .before .before .before .before .args in
-    let e = time-asked (a .stakes .now) (a .store .now) (a .reference .now) (a .found .now) _ (c .before .before .before .before .before .if1 .left) (c .before .before .before .before .if2 .left) (ap (askTime (a .stakes .now) (a .store .now)) (sym (c .before .before .before .read-reference .ensures)) ∙ sym (c .before .before .creation-time .ensures) ∙ ap asTimeAnswer (c .enum-told .given .1)) in
+    let e = time-asked (a .stakes .now) (a .store .now) (a .reference .now) (a .found .now) _ (c .before .before .before .before .before .if1 .left)
+    (c .before .before .before .before .if2 .left) (ap (askTime (a .stakes .now) (a .store .now))
+    (sym (c .before .before .before .read-reference .ensures)) ∙ sym (c .before .before .creation-time .ensures) ∙ ap asTimeAnswer
+    (c .enum-told .given .1)) in
     (sym (ap (λ (x : TimeCall). encoded (x .answer)) e), sym (ap (λ (x : TimeCall). x .found) e))
 
 returns-5 : tie.Need-returns-5
 unfolding encoded asTimeAnswer foundIn
 returns-5 c =
     let a = c .before .before .before .before .before .before .before .before .before .before .before .args in
-    let e = time-asked (a .stakes .now) (a .store .now) (a .reference .now) (a .found .now) _ (c .before .before .before .before .before .before .if1 .left) (c .before .before .before .before .before .if2 .left) (ap (askTime (a .stakes .now) (a .store .now)) (sym (c .before .before .before .before .read-reference .ensures)) ∙ sym (c .before .before .before .creation-time .ensures) ∙ ap asTimeAnswer (c .before .number .given .1)) in
+    let e = time-asked (a .stakes .now) (a .store .now) (a .reference .now) (a .found .now) _ (c .before .before .before .before .before .before .if1 .left)
+    (c .before .before .before .before .before .if2 .left) (ap (askTime (a .stakes .now) (a .store .now))
+    (sym (c .before .before .before .before .read-reference .ensures)) ∙ sym (c .before .before .before .creation-time .ensures) ∙ ap asTimeAnswer
+    (c .before .number .given .1)) in
     (sym (ap (λ (x : TimeCall). encoded (x .answer)) e), sym (ap (λ (x : TimeCall). x .found) e))
 
 pub time-of-spec : {M : Type 1} → statement M

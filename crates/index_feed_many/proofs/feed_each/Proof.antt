@@ -15,9 +15,12 @@ use Rattle.index_feed_many.proofs.feed_each.Tie as tie
 
 abbrev Inv-loop : tie.InvT-loop
 Inv-loop stakes store₀ order₀ starts₀ table₀ index₀ work₀ events₀ outcomes₀ records at₀ used₀ k₀ store order starts table index work events outcomes at used k =
-    ((length store ≡ length store₀) × ((length order ≡ length order₀) × ((length starts ≡ length starts₀) × ((length table ≡ length table₀) × ((length index ≡ length index₀) × ((length work ≡ length work₀) × ((length events ≡ length events₀) × (length outcomes ≡ length outcomes₀))))))))
+    ((length store ≡ length store₀) × ((length order ≡ length order₀) ×
+    ((length starts ≡ length starts₀) × ((length table ≡ length table₀) ×
+    ((length index ≡ length index₀) × ((length work ≡ length work₀) × ((length events ≡ length events₀) × (length outcomes ≡ length outcomes₀))))))))
     × (ReadyIndexed stakes store table index work order starts
-    × Walked stakes work₀ (feedAllIndexed stakes (lentOf store₀ table₀ work₀ events₀) index₀ (recordsIn records)) outcomes₀ records store table index events outcomes at used k)
+    × Walked stakes work₀ (feedAllIndexed stakes (lentOf store₀ table₀ work₀ events₀) index₀ (recordsIn records)) outcomes₀ records store table index events
+    outcomes at used k)
 
 abbrev μ-loop : tie.MeasureT-loop
 μ-loop stakes store₀ order₀ starts₀ table₀ index₀ work₀ events₀ outcomes₀ records at₀ used₀ k₀ store order starts table index work events outcomes at used k =
@@ -26,8 +29,14 @@ abbrev μ-loop : tie.MeasureT-loop
 loop-holds : tie.Need-loop-holds Inv-loop μ-loop
 loop-holds c =
     let o = c .before .before .before .before .before .before .before .before .before .before in
-    let a = o .args in
-    ((refl, (refl, (refl, (refl, (refl, (refl, (refl, refl))))))), (o .pre .0, walked-none (a .stakes .now) (a .work .now) (a .outcomes .now) (a .records .now) (a .store .now) (a .table .now) (a .index .now) (a .events .now)))
+    let a = o .args in (
+      (refl, (refl, (refl, (refl, (refl, (refl, (refl, refl))))))),
+      (
+        o .pre .0,
+        walked-none (a .stakes .now) (a .work .now) (a .outcomes .now) (a .records .now) (a .store .now) (a .table .now) (a .index .now)
+            (a .events .now),
+      ),
+    )
 
 next-record-requires : tie.Need-next-record-requires Inv-loop μ-loop
 next-record-requires c κs = search needs
@@ -58,29 +67,55 @@ feed-next-requires c κs = c .before .before .before .before .before .before .be
 
 mul-outcomes : tie.Need-mul-outcomes Inv-loop μ-loop
 mul-outcomes c =
-    let o = c .before .before .before .before .before .before .before .before .before .before .before .before .before .before .before .before .before .before .before .before .before .before .before .before .before .before .before .before .before .before .before .before .before .before .before .before in
-    let g = c .before .before .before .before .before .before .before .before .before .before .before .before .before .before .before .before .before .before .before .before .before .before .before .before .before .loop in
-    let left : g .k < length (g .outcomes) = word-left (g .inv .1 .1) (c .before .before .before .before .before .before .before .before .before .before .before .before .before .before .before .before .before .before .before .before .before .before .before .next-record .ensures) (omega (arith, o .pre .1, g .inv .0)) in
+    let o = c .before .before .before .before .before .before .before .before .before .before .before .before .before .before .before .before .before .before
+    .before .before .before .before .before .before .before .before .before .before .before .before .before .before .before .before .before .before in
+    let g = c .before .before .before .before .before .before .before .before .before .before .before .before .before .before .before .before .before .before
+    .before .before .before .before .before .before .before .loop in
+    let left : g .k < length (g .outcomes) = word-left (g .inv .1 .1)
+    (c .before .before .before .before .before .before .before .before .before .before .before .before .before .before .before .before .before .before
+    .before .before .before .before .before .next-record .ensures) (omega (arith, o .pre .1, g .inv .0)) in
     omega (arith, left, g .inv .0, o .good)
 
 slice-write-outcomes : tie.Need-slice-write-outcomes Inv-loop μ-loop
 slice-write-outcomes c =
-    let o = c .before .before .before .before .before .before .before .before .before .before .before .before .before .before .before .before .before .before .before .before .before .before .before .before .before .before .before .before .before .before .before .before .before .before .before .before in
-    let g = c .before .before .before .before .before .before .before .before .before .before .before .before .before .before .before .before .before .before .before .before .before .before .before .before .before .loop in
-    let left : g .k < length (g .outcomes) = word-left (g .inv .1 .1) (c .before .before .before .before .before .before .before .before .before .before .before .before .before .before .before .before .before .before .before .before .before .before .before .next-record .ensures) (omega (arith, o .pre .1, g .inv .0)) in
+    let o = c .before .before .before .before .before .before .before .before .before .before .before .before .before .before .before .before .before .before
+    .before .before .before .before .before .before .before .before .before .before .before .before .before .before .before .before .before .before in
+    let g = c .before .before .before .before .before .before .before .before .before .before .before .before .before .before .before .before .before .before
+    .before .before .before .before .before .before .before .loop in
+    let left : g .k < length (g .outcomes) = word-left (g .inv .1 .1)
+    (c .before .before .before .before .before .before .before .before .before .before .before .before .before .before .before .before .before .before
+    .before .before .before .before .before .next-record .ensures) (omega (arith, o .pre .1, g .inv .0)) in
     omega (arith, left)
 
 add-used : tie.Need-add-used Inv-loop μ-loop
 add-used c =
-    let g = c .before .before .before .before .before .before .before .before .before .before .before .before .before .before .before .before .before .before .before .before .before .before .before .before .before .before .loop in
+    let g = c .before .before .before .before .before .before .before .before .before .before .before .before .before .before .before .before .before .before
+    .before .before .before .before .before .before .before .before .loop in
     let d = c .before .before .before .before .before .before .before .before .before .before .before .before .before .before .before .feed-next in
-    omega (arith, d .ensures .0 .room, d .kept .1 .1 .1 .1 .1 .1 .1 .0, ap length (rest-whole (g .events) (g .used)), length-drop (g .used) (g .events), g .inv .1 .1 .room, g .inv .0, c .before .before .before .before .before .before .before .before .before .before .before .before .before .before .before .before .before .before .before .before .before .before .before .before .before .before .before .before .before .before .before .before .before .before .before .before .before .good)
+    omega (
+      arith,
+      d .ensures .0 .room,
+      d .kept .1 .1 .1 .1 .1 .1 .1 .0,
+      ap length (rest-whole (g .events) (g .used)),
+      length-drop (g .used) (g .events),
+      g
+          .inv .1 .1 .room,
+      g .inv .0,
+      c .before .before .before .before .before .before .before .before .before .before .before .before .before .before .before
+          .before .before .before .before .before .before .before .before .before .before .before .before .before .before .before .before .before .before
+          .before .before .before .before .good,
+    )
 
 add-k : tie.Need-add-k Inv-loop μ-loop
 add-k c =
-    let o = c .before .before .before .before .before .before .before .before .before .before .before .before .before .before .before .before .before .before .before .before .before .before .before .before .before .before .before .before .before .before .before .before .before .before .before .before .before in
-    let g = c .before .before .before .before .before .before .before .before .before .before .before .before .before .before .before .before .before .before .before .before .before .before .before .before .before .before .loop in
-    let left : g .k < length (g .outcomes) = word-left (g .inv .1 .1) (c .before .before .before .before .before .before .before .before .before .before .before .before .before .before .before .before .before .before .before .before .before .before .before .before .next-record .ensures) (omega (arith, o .pre .1, g .inv .0)) in
+    let o = c .before .before .before .before .before .before .before .before .before .before .before .before .before .before .before .before .before .before
+    .before .before .before .before .before .before .before .before .before .before .before .before .before .before .before .before .before .before
+    .before in
+    let g = c .before .before .before .before .before .before .before .before .before .before .before .before .before .before .before .before .before .before
+    .before .before .before .before .before .before .before .before .loop in
+    let left : g .k < length (g .outcomes) = word-left (g .inv .1 .1)
+    (c .before .before .before .before .before .before .before .before .before .before .before .before .before .before .before .before .before .before
+    .before .before .before .before .before .before .next-record .ensures) (omega (arith, o .pre .1, g .inv .0)) in
     omega (arith, left, g .inv .0, o .good)
 
 loop-less : tie.Need-loop-less Inv-loop μ-loop
@@ -88,13 +123,19 @@ loop-less c = search needs
 
 loop-again : tie.Need-loop-again Inv-loop μ-loop
 loop-again c =
-    let o = c .before .before .before .before .before .before .before .before .before .before .before .before .before .before .before .before .before .before .before .before .before .before .before .before .before .before .before .before .before .before .before .before .before .before .before .before .before in
-    let g = c .before .before .before .before .before .before .before .before .before .before .before .before .before .before .before .before .before .before .before .before .before .before .before .before .before .before .loop in
+    let o = c .before .before .before .before .before .before .before .before .before .before .before .before .before .before .before .before .before .before
+    .before .before .before .before .before .before .before .before .before .before .before .before .before .before .before .before .before .before
+    .before in
+    let g = c .before .before .before .before .before .before .before .before .before .before .before .before .before .before .before .before .before .before
+    .before .before .before .before .before .before .before .before .loop in
     let a = o .args in
-    let next = c .before .before .before .before .before .before .before .before .before .before .before .before .before .before .before .before .before .before .before .before .before .before .before .before .next-record in
+    let next = c .before .before .before .before .before .before .before .before .before .before .before .before .before .before .before .before .before
+    .before .before .before .before .before .before .before .next-record in
     let d = c .before .before .before .before .before .before .before .before .before .before .before .before .before .before .before .feed-next in
     let fed = rw (rest-whole (g .events) (g .used)) at (d .ensures .0) in
-    let left : g .k < length (g .outcomes) = word-left (g .inv .1 .1) (c .before .before .before .before .before .before .before .before .before .before .before .before .before .before .before .before .before .before .before .before .before .before .before .before .next-record .ensures) (omega (arith, o .pre .1, g .inv .0)) in (
+    let left : g .k < length (g .outcomes) = word-left (g .inv .1 .1)
+    (c .before .before .before .before .before .before .before .before .before .before .before .before .before .before .before .before .before .before
+    .before .before .before .before .before .before .next-record .ensures) (omega (arith, o .pre .1, g .inv .0)) in (
       (
         d .kept .1 .0 ∙ g .inv .0 .0,
         (
@@ -108,7 +149,8 @@ loop-again c =
                 (
                   d .kept .1 .1 .1 .1 .1 .1 .0 ∙ g .inv .0 .1 .1 .1 .1 .1 .0,
                   (
-                    rest-length (g .events) (d .last .1 .1 .1 .1 .1 .1 .1 .0) (g .used) (g .inv .1 .1 .room) (d .kept .1 .1 .1 .1 .1 .1 .1 .0) ∙ g .inv .0 .1 .1 .1 .1 .1 .1 .0,
+                    rest-length (g .events) (d .last .1 .1 .1 .1 .1 .1 .1 .0) (g .used) (g .inv .1 .1 .room) (d .kept .1 .1 .1 .1 .1 .1 .1 .0) ∙ g .inv .0 .1
+                        .1 .1 .1 .1 .1 .0,
                     length-set (g .outcomes) (g .k) (d .result .outcome) ∙ g .inv .0 .1 .1 .1 .1 .1 .1 .1,
                   ),
                 ),
@@ -119,7 +161,9 @@ loop-again c =
       ),
       (
         ready-work (d .ensures .1) _ (d .kept .1 .1 .1 .1 .1 .1 .0),
-        walked-on (a .stakes .now) (a .work .now) (g .work) _ (a .outcomes .now) (a .records .now) (g .store) _ (g .table) _ (g .index) _ (g .events) _ (g .outcomes) (g .at) (g .used) (g .k) (next .result) _ (g .inv .1 .1) (next .ensures) (g .inv .0 .1 .1 .1 .1 .1 .0) fed left _ (rest-back (g .events) _ (g .used)),
+        walked-on (a .stakes .now) (a .work .now) (g .work) _ (a .outcomes .now) (a .records .now) (g .store) _ (g .table) _ (g .index) _ (g .events) _
+            (g .outcomes) (g .at) (g .used) (g .k) (next .result) _ (g .inv .1 .1) (next .ensures) (g .inv .0 .1 .1 .1 .1 .1 .0) fed left _
+            (rest-back (g .events) _ (g .used)),
       ),
     )
 
@@ -150,7 +194,14 @@ same-length-8 c = search needs
 returns : tie.Need-returns Inv-loop μ-loop
 returns c =
     let g = c .before .loop in
-    walked-all _ _ _ _ _ _ _ _ _ _ _ _ _ (g .inv .1 .1) (omega (arith, c .loop-test .left)) (omega (arith, g .inv .1 .1 .many, g .inv .0, c .before .before .before .before .before .before .before .before .before .before .before .before .pre .1))
+    walked-all _ _ _ _ _ _ _ _ _ _ _ _ _ (g .inv .1 .1) (omega (arith, c .loop-test .left))
+    (omega (
+      arith,
+      g .inv .1 .1 .many,
+      g .inv .0,
+      c .before .before .before .before .before .before .before .before .before .before .before .before .pre
+          .1,
+    ))
 
 pub feed-each-spec : {M : Type 1} → statement M
 feed-each-spec =

@@ -32,7 +32,8 @@ same-length-3 c = search needs
 returns : tie.Need-returns
 unfolding asRecordsAnswer
 returns c =
-    let a = c .before .before .before .before .before .before .before .before .before .before .before .before .before .before .before .before .before .before .args in
+    let a = c .before .before .before .before .before .before .before .before .before .before .before .before .before .before .before .before .before .before
+    .args in
     let k = a .stakes .now in
     let m : Lent = lentOf (a .store .now) (a .table .now) (a .work .now) (a .events .now) in
     let x = a .index .now in
@@ -53,7 +54,8 @@ same-length-6 c = search needs
 returns-2 : tie.Need-returns-2
 unfolding asRecordsAnswer
 returns-2 c =
-    let a = c .before .before .before .before .before .before .before .before .before .before .before .before .before .before .before .before .before .before .before .args in
+    let a = c .before .before .before .before .before .before .before .before .before .before .before .before .before .before .before .before .before .before
+    .before .args in
     let k = a .stakes .now in
     let m : Lent = lentOf (a .store .now) (a .table .now) (a .work .now) (a .events .now) in
     let x = a .index .now in
@@ -77,14 +79,16 @@ same-length-9 c = search needs
 returns-3 : tie.Need-returns-3
 unfolding asRecordsAnswer
 returns-3 c =
-    let a = c .before .before .before .before .before .before .before .before .before .before .before .before .before .before .before .before .before .before .before .before .before .args in
+    let a = c .before .before .before .before .before .before .before .before .before .before .before .before .before .before .before .before .before .before
+    .before .before .before .args in
     let k = a .stakes .now in
     let m : Lent = lentOf (a .store .now) (a .table .now) (a .work .now) (a .events .now) in
     let x = a .index .now in
     let o = a .outcomes .now in
     let r = a .records .now in
     let h = sym (c .before .before .before .before .before .before .before .lent-refusal .ensures .0) ∙ c .before .before .before .if1 .left in
-    calls-refusal k m x o r 64 (sym (refuses-outcomes k m x o (recordsIn r) h (omega (arith, c .before .before .if2 .left)) (omega (arith, c .if3 .taken, c .before .record-count .ensures)))) (λ (z : _≡_ {A = ℕ} 64 0). omega arith)
+    calls-refusal k m x o r 64 (sym (refuses-outcomes k m x o (recordsIn r) h (omega (arith, c .before .before .if2 .left))
+    (omega (arith, c .if3 .taken, c .before .record-count .ensures)))) (λ (z : _≡_ {A = ℕ} 64 0). omega arith)
 
 slice-aggregate-feed-each : tie.Need-slice-aggregate-feed-each
 slice-aggregate-feed-each c = search needs
@@ -98,8 +102,19 @@ feed-each-requires c κs =
     let z = q .ensures .1 (c .before .before .before .before .before .before .before .before .before .before .before .if1 .left) in
     let places = q .kept .1 .1 .1 .1 .0 ∙ length-replicate {A = ℕ} 1024 0 in
     let parts = q .kept .1 .1 .1 .1 .1 .0 ∙ length-replicate {A = ℕ} 1024 0 in (
-      record { agreed = agreed-counted (q .last .1 .1 .1 .1 .0) (q .result .count) (omega (arith, z .0, places)) (z .1); work = omega (arith, c .before .before .before .before .before .before .before .before .before .before .if2 .left); places = places; parts = parts },
-      omega (arith, c .before .before .before .before .before .before .before .before .if3 .left, c .before .before .before .before .before .before .before .before .before .record-count .ensures),
+      record {
+        agreed = agreed-counted (q .last .1 .1 .1 .1 .0) (q .result .count) (omega (arith, z .0, places)) (z .1);
+        work = omega
+            (arith, c .before .before .before .before .before .before .before .before .before .before .if2 .left);
+        places = places;
+        parts = parts;
+      },
+      omega (
+        arith,
+        c .before .before .before .before .before .before .before .before .if3 .left,
+        c .before .before .before .before .before .before .before
+            .before .before .record-count .ensures,
+      ),
     )
 
 same-length-10 : tie.Need-same-length-10
@@ -123,14 +138,32 @@ same-length-15 c = search needs
 returns-4 : tie.Need-returns-4
 unfolding asRecordsAnswer
 returns-4 c =
-    let a = c .before .before .before .before .before .before .before .before .before .before .before .before .before .before .before .before .before .before .before .before .before .before .before .before .before .before .before .before .before .before .before .before .before .before .before .before .before .before .before .before .before .before .before .before .args in
+    let a = c .before .before .before .before .before .before .before .before .before .before .before .before .before .before .before .before .before .before
+    .before .before .before .before .before .before .before .before .before .before .before .before .before .before .before .before .before .before
+    .before .before .before .before .before .before .before .before .args in
     let k = a .stakes .now in
     let m : Lent = lentOf (a .store .now) (a .table .now) (a .work .now) (a .events .now) in
     let x = a .index .now in
     let o = a .outcomes .now in
     let r = a .records .now in
-    let h = sym (c .before .before .before .before .before .before .before .before .before .before .before .before .before .before .before .before .before .before .before .before .before .before .before .before .before .before .before .before .before .before .lent-refusal .ensures .0) ∙ c .before .before .before .before .before .before .before .before .before .before .before .before .before .before .before .before .before .before .before .before .before .before .before .before .before .before .if1 .left in
-    calls-feeds k m x o r _ _ _ _ _ _ (refuses-nothing k m x o (recordsIn r) h (omega (arith, c .before .before .before .before .before .before .before .before .before .before .before .before .before .before .before .before .before .before .before .before .before .before .before .before .before .if2 .left)) (omega (arith, c .before .before .before .before .before .before .before .before .before .before .before .before .before .before .before .before .before .before .before .before .before .before .before .if3 .left, c .before .before .before .before .before .before .before .before .before .before .before .before .before .before .before .before .before .before .before .before .before .before .before .before .record-count .ensures))) (c .before .before .before .before .before .before .before .before .before .before .before .before .before .before .feed-each .ensures)
+    let h = sym (c .before .before .before .before .before .before .before .before .before .before .before .before .before .before .before .before .before
+    .before .before .before .before .before .before .before .before .before .before .before .before .before .lent-refusal .ensures .0) ∙ c .before .before
+    .before .before .before .before .before .before .before .before .before .before .before .before .before .before .before .before .before .before
+    .before .before .before .before .before .before .if1 .left in
+    calls-feeds k m x o r _ _ _ _ _ _ (refuses-nothing k m x o (recordsIn r) h
+    (omega (
+      arith,
+      c .before .before .before .before .before .before .before .before .before .before .before .before .before .before .before .before
+          .before .before .before .before .before .before .before .before .before .if2 .left,
+    ))
+    (omega (
+      arith,
+      c .before .before .before .before .before .before .before .before .before .before .before .before .before .before .before .before
+          .before .before .before .before .before .before .before .if3 .left,
+      c .before .before .before .before .before .before .before .before .before .before
+          .before .before .before .before .before .before .before .before .before .before .before .before .before .before .record-count .ensures,
+    )))
+    (c .before .before .before .before .before .before .before .before .before .before .before .before .before .before .feed-each .ensures)
 
 pub feed-records-indexed-spec : {M : Type 1} → statement M
 feed-records-indexed-spec =

@@ -28,7 +28,9 @@ well-formed-requires c κs = search needs
 
 returns-2 : tie.Need-returns-2
 returns-2 c = let a = c .before .before .before .before .before .before .before .before .before .before .before .before .before .before .args in
-    sym (early-malformed (a .stakes .now) (a .store .now) (a .table .now) (a .index .now) (a .rec .now) (sym (c .before .before .before .before .before .before .lent-refusal .ensures .0) ∙ c .before .before .if1 .left) (sym (c .before .well-formed .ensures) ∙ not-true _ (c .if2 .taken)))
+    sym (early-malformed (a .stakes .now) (a .store .now) (a .table .now) (a .index .now) (a .rec .now)
+    (sym (c .before .before .before .before .before .before .lent-refusal .ensures .0) ∙ c .before .before .if1 .left)
+    (sym (c .before .well-formed .ensures) ∙ not-true _ (c .if2 .taken)))
 
 array-share-prefix-order : tie.Need-array-share-prefix-order
 array-share-prefix-order c =
@@ -49,7 +51,9 @@ returns-3 : tie.Need-returns-3
 returns-3 c =
     let a = c .before .before .before .before .before .before .before .before .before .before .before .before .before .before .before .before .args in
     c .block-refusal .ensures
-    ∙ sym (early-rules (a .stakes .now) (a .store .now) (a .table .now) (a .index .now) (a .rec .now) (sym (c .before .before .before .before .before .before .before .before .lent-refusal .ensures .0) ∙ c .before .before .before .before .if1 .left) (sym (c .before .before .before .well-formed .ensures) ∙ not-false _ (c .before .before .if2 .left)))
+    ∙ sym (early-rules (a .stakes .now) (a .store .now) (a .table .now) (a .index .now) (a .rec .now)
+    (sym (c .before .before .before .before .before .before .before .before .lent-refusal .ensures .0) ∙ c .before .before .before .before .if1 .left)
+    (sym (c .before .before .before .well-formed .ensures) ∙ not-false _ (c .before .before .if2 .left)))
 
 pub early-refusal-spec : {M : Type 1} → statement M
 early-refusal-spec =

@@ -11,7 +11,8 @@ used-words-requires : tie.Need-used-words-requires
 used-words-requires c κs = search needs
 
 slice-aggregate-index-agrees : tie.Need-slice-aggregate-index-agrees
-slice-aggregate-index-agrees c = let a = c .before .before .before .before .before .before .args in sym (length-take-le _ (a .index .now) (omega (arith, used-inside (a .index .now), c .before .used-words .ensures)))
+slice-aggregate-index-agrees c = let a = c .before .before .before .before .before .before .args in sym
+    (length-take-le _ (a .index .now) (omega (arith, used-inside (a .index .now), c .before .used-words .ensures)))
 
 index-agrees-requires : tie.Need-index-agrees-requires
 index-agrees-requires c κs = c .before .before .before .before .before .before .before .pre

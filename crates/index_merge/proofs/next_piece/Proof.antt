@@ -19,7 +19,14 @@ same-length-2 c = search needs
 returns : tie.Need-returns
 unfolding asMaybe
 returns c = (
-  together-piece (c .before .before .before .before .before .before .before .before .before .before .before .before .args .own .now) (c .before .before .before .before .before .before .before .before .before .before .before .before .args .mine .now) (c .before .before .before .before .before .before .before .before .before .before .before .before .args .index .now) (c .before .before .before .before .before .before .before .before .before .before .before .before .args .cursors .now) (c .before .before .before .before .before .before .before .before .before .before .before .before .args .n) (asPlace (c .before .before .before .before .before .before .before .before .before .before .before .before .args .place)) (asMaybe (c .before .before .before .before .before .before .sources-piece .result)) (asMaybe (c .before .before .sources-piece2 .result)) (c .before .before .before .before .before .before .sources-piece .ensures .0) (c .before .before .sources-piece2 .ensures .0),
+  together-piece (c .before .before .before .before .before .before .before .before .before .before .before .before .args .own .now)
+      (c .before .before .before .before .before .before .before .before .before .before .before .before .args .mine .now)
+      (c .before .before .before .before .before .before .before .before .before .before .before .before .args .index .now)
+      (c .before .before .before .before .before .before .before .before .before .before .before .before .args .cursors .now)
+      (c .before .before .before .before .before .before .before .before .before .before .before .before .args .n)
+      (asPlace (c .before .before .before .before .before .before .before .before .before .before .before .before .args .place))
+      (asMaybe (c .before .before .before .before .before .before .sources-piece .result)) (asMaybe (c .before .before .sources-piece2 .result))
+      (c .before .before .before .before .before .before .sources-piece .ensures .0) (c .before .before .sources-piece2 .ensures .0),
   (c .before .before .sources-piece2 .ensures .1, c .before .before .before .before .before .before .sources-piece .ensures .1),
 )
 

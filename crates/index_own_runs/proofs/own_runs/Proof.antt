@@ -18,8 +18,12 @@ use Rattle.index_own_runs.proofs.own_runs.Tie as tie
 
 own-ranges-requires : tie.Need-own-ranges-requires
 unfolding Roomy
-own-ranges-requires c κs = let m = few-statements (c .before .before .before .before .before .args .rec .now) (c .before .before .before .before .before .pre .0) (bytes-of (c .before .before .before .before .before .args .rec .now) (λ i h. omega (arith, c .before .before .before .before .shared-slice-known .given i))) in
-    (recorded (c .before .before .before .before .before .args .rec .now) (c .before .before .before .before .before .pre .0), (omega (arith, m, c .before .before .before .before .before .pre .1 .0), omega (arith, m, c .before .before .before .before .before .pre .1 .1)))
+own-ranges-requires c κs = let m = few-statements (c .before .before .before .before .before .args .rec .now)
+    (c .before .before .before .before .before .pre .0) (bytes-of (c .before .before .before .before .before .args .rec .now)
+    (λ i h. omega (arith, c .before .before .before .before .shared-slice-known .given i))) in (
+      recorded (c .before .before .before .before .before .args .rec .now) (c .before .before .before .before .before .pre .0),
+      (omega (arith, m, c .before .before .before .before .before .pre .1 .0), omega (arith, m, c .before .before .before .before .before .pre .1 .1)),
+    )
 
 reference-requires : tie.Need-reference-requires
 reference-requires c κs = search needs
@@ -29,12 +33,43 @@ new-requires c κs = search needs
 
 insert-requires : tie.Need-insert-requires
 unfolding asReference
-insert-requires c κs = omega (arith, ap (λ (r : BlockReference). r .authority) (c .before .reference .ensures), c .before .before .before .before .before .before .before .before .before .before .before .before .pre .0 .author)
+insert-requires c κs = omega (
+  arith,
+  ap (λ (r : BlockReference). r .authority) (c .before .reference .ensures),
+  c .before .before .before .before .before
+      .before .before .before .before .before .before .before .pre .0 .author,
+)
 
 write-runs-requires : tie.Need-write-runs-requires
 write-runs-requires c κs = let o = c .before .before .before .before .before .before .before .before .before .own-ranges .ensures in
-    let m = few-statements (c .before .before .before .before .before .before .before .before .before .before .before .before .before .before .before .args .rec .now) (c .before .before .before .before .before .before .before .before .before .before .before .before .before .before .before .pre .0) (bytes-of (c .before .before .before .before .before .before .before .before .before .before .before .before .before .before .before .args .rec .now) (λ i h. omega (arith, c .before .before .before .before .before .before .before .before .before .before .before .before .before .before .shared-slice-known .given i))) in
-    (o .proper, (omega (arith, m, o .few, o .long, c .before .before .before .before .before .before .before .before .before .before .before .before .before .before .before .pre .1 .0), omega (arith, m, o .few, c .before .before .before .before .before .before .before .before .before .before .before .before .before .before .before .pre .1 .1, c .before .before .before .before .before .before .words .given)))
+    let m = few-statements (c .before .before .before .before .before .before .before .before .before .before .before .before .before .before .before .args
+    .rec .now) (c .before .before .before .before .before .before .before .before .before .before .before .before .before .before .before .pre .0)
+    (bytes-of (c .before .before .before .before .before .before .before .before .before .before .before .before .before .before .before .args .rec .now)
+    (λ i h. omega (
+      arith,
+      c .before .before .before .before .before .before .before .before .before .before .before .before .before .before
+          .shared-slice-known .given i,
+    ))) in (
+      o .proper,
+      (
+        omega (
+          arith,
+          m,
+          o .few,
+          o .long,
+          c .before .before .before .before .before .before .before .before .before .before .before .before .before
+              .before .before .pre .1 .0,
+        ),
+        omega (
+          arith,
+          m,
+          o .few,
+          c .before .before .before .before .before .before .before .before .before .before .before
+              .before .before .before .before .pre .1 .1,
+          c .before .before .before .before .before .before .words .given,
+        ),
+      ),
+    )
 
 same-length : tie.Need-same-length
 same-length c = search needs
@@ -45,13 +80,42 @@ same-length-2 c = search needs
 returns : tie.Need-returns
 unfolding asReference asMaybe
 returns c = let o = c .before .before .before .before .before .before .before .before .before .before .before .before .own-ranges .ensures in
-    let m = few-statements (c .before .before .before .before .before .before .before .before .before .before .before .before .before .before .before .before .before .before .args .rec .now) (c .before .before .before .before .before .before .before .before .before .before .before .before .before .before .before .before .before .before .pre .0) (bytes-of (c .before .before .before .before .before .before .before .before .before .before .before .before .before .before .before .before .before .before .args .rec .now) (λ i h. omega (arith, c .before .before .before .before .before .before .before .before .before .before .before .before .before .before .before .before .before .shared-slice-known .given i))) in
+    let m = few-statements (c .before .before .before .before .before .before .before .before .before .before .before .before .before .before .before .before
+    .before .before .args .rec .now) (c .before .before .before .before .before .before .before .before .before .before .before .before .before .before
+    .before .before .before .before .pre .0) (bytes-of (c .before .before .before .before .before .before .before .before .before .before .before .before
+    .before .before .before .before .before .before .args .rec .now)
+    (λ i h. omega (
+      arith,
+      c .before .before .before .before .before .before .before .before .before .before .before .before .before .before .before
+          .before .before .shared-slice-known .given i,
+    ))) in
     let w = c .before .before .write-runs .ensures in
-    let v : c .before .before .before .before .before .insert .result ≡ inserted nobody (author (blockIn (c .before .before .before .before .before .before .before .before .before .before .before .before .before .before .before .before .before .before .args .rec .now))) =
-    c .before .before .before .before .before .insert .ensures ∙ ap (λ (s : AuthoritySet). inserted s (c .before .before .before .before .before .before .before .reference .result .authority .0)) (c .before .before .before .before .before .before .new .ensures) ∙ ap (λ (r : BlockReference). inserted nobody (r .authority)) (c .before .before .before .before .before .before .before .reference .ensures) in (
+    let v : c .before .before .before .before .before .insert .result ≡ inserted nobody
+    (author (blockIn (c .before .before .before .before .before .before .before .before .before .before .before .before .before .before .before .before
+    .before .before .args .rec .now))) =
+    c .before .before .before .before .before .insert .ensures ∙ ap
+    (λ (s : AuthoritySet). inserted s (c .before .before .before .before .before .before .before .reference .result .authority .0))
+    (c .before .before .before .before .before .before .new .ensures) ∙ ap (λ (r : BlockReference). inserted nobody (r .authority))
+    (c .before .before .before .before .before .before .before .reference .ensures) in (
       (o .long, w .0 ∙ c .before .before .before .before .before .before .before .before .before .words .given),
-      own-of (c .before .before .before .before .before .before .before .before .before .before .before .before .before .before .before .before .before .before .args .rec .now) (blockIn (c .before .before .before .before .before .before .before .before .before .before .before .before .before .before .before .before .before .before .args .rec .now)) (c .before .before .before .before .before .before .before .before .before .before .before .before .before .before .before .before .before .before .args .rows .now) _ (c .before .before .before .before .before .before .before .before .before .before .before .before .own-ranges .result) o _ (omega (arith, m, o .few, c .before .before .before .before .before .before .before .before .before .before .before .before .before .before .before .before .before .before .pre .1 .1, c .before .before .before .before .before .before .before .before .before .words .given, w .0))
-          (w .1 ∙ ap (λ (s : AuthoritySet). map (rowRun (c .before .before .before .before .before .before .before .before .before .before .before .before .before .before .before .before .before .before .args .rec .now) s) (rowsOf (c .before .before .before .before .before .before .before .before .before .before .before .before .own-ranges .last .1 .1 .1 .1 .1 .1 .0) (c .before .before .before .before .before .before .before .before .before .before .before .before .own-ranges .result))) v),
+      own-of (c .before .before .before .before .before .before .before .before .before .before .before .before .before .before .before .before .before
+          .before .args .rec .now) (blockIn (c .before .before .before .before .before .before .before .before .before .before .before .before .before .before
+          .before .before .before .before .args .rec .now)) (c .before .before .before .before .before .before .before .before .before .before .before .before
+          .before .before .before .before .before .before .args .rows .now) _
+          (c .before .before .before .before .before .before .before .before .before .before .before .before .own-ranges .result) o _
+          (omega (
+            arith,
+            m,
+            o .few,
+            c .before .before .before .before .before .before .before .before .before .before .before .before .before .before .before
+                .before .before .before .pre .1 .1,
+            c .before .before .before .before .before .before .before .before .before .words .given,
+            w .0,
+          ))
+          (w .1 ∙ ap (λ (s : AuthoritySet). map (rowRun (c .before .before .before .before .before .before .before .before .before .before .before .before
+          .before .before .before .before .before .before .args .rec .now) s)
+          (rowsOf (c .before .before .before .before .before .before .before .before .before .before .before .before .own-ranges .last .1 .1 .1 .1 .1 .1
+          .0) (c .before .before .before .before .before .before .before .before .before .before .before .before .own-ranges .result))) v),
     )
 
 pub own-runs-spec : {M : Type 1} → statement M

@@ -23,7 +23,11 @@ abbrev μ-loop : tie.MeasureT-loop
 μ-loop rec rows m votes words₀ i₀ words i = m - i
 
 loop-holds : tie.Need-loop-holds Inv-loop μ-loop
-loop-holds c = (omega arith, put-start (c .before .before .before .args .rec .now) (c .before .before .before .args .votes) (c .before .before .before .args .rows .now) (c .before .before .before .args .words .now))
+loop-holds c = (
+  omega arith,
+  put-start (c .before .before .before .args .rec .now) (c .before .before .before .args .votes)
+      (c .before .before .before .args .rows .now) (c .before .before .before .args .words .now),
+)
 
 mul-from : tie.Need-mul-from Inv-loop μ-loop
 mul-from c = omega arith
@@ -36,7 +40,9 @@ shared-slice-read-read-reference c = omega arith
 
 read-reference-requires : tie.Need-read-reference-requires Inv-loop μ-loop
 unfolding rowAt
-read-reference-requires c κs = every-row (c .before .before .before .before .before .before .args .rows .now) (c .before .before .before .before .before .before .args .m) (c .before .before .before .before .before .before .pre .0) (c .before .before .loop .i) (c .before .loop-test .taken) .inside
+read-reference-requires c κs = every-row (c .before .before .before .before .before .before .args .rows .now)
+    (c .before .before .before .before .before .before .args .m) (c .before .before .before .before .before .before .pre .0) (c .before .before .loop .i)
+    (c .before .loop-test .taken) .inside
 
 add-t11 : tie.Need-add-t11 Inv-loop μ-loop
 add-t11 c = omega arith
@@ -60,7 +66,15 @@ mul-write-run : tie.Need-mul-write-run Inv-loop μ-loop
 mul-write-run c = omega arith
 
 write-run-requires : tie.Need-write-run-requires Inv-loop μ-loop
-write-run-requires c κs = omega (arith, put-long (c .before .before .before .before .before .before .before .before .before .before .args .rec .now) (c .before .before .before .before .before .before .before .before .before .before .args .votes) (c .before .before .before .before .before .before .before .before .before .before .args .rows .now) (c .before .before .before .before .before .before .before .before .before .before .args .words .now) (c .before .before .before .before .before .before .loop .words) (c .before .before .before .before .before .before .loop .i) (c .before .before .before .before .before .before .loop .inv .1))
+write-run-requires c κs = omega (
+  arith,
+  put-long (c .before .before .before .before .before .before .before .before .before .before .args .rec .now)
+      (c .before .before .before .before .before .before .before .before .before .before .args .votes)
+      (c .before .before .before .before .before .before .before .before .before .before .args .rows .now)
+      (c .before .before .before .before .before .before .before .before .before .before .args .words .now)
+      (c .before .before .before .before .before .before .loop .words) (c .before .before .before .before .before .before .loop .i)
+      (c .before .before .before .before .before .before .loop .inv .1),
+)
 
 add-i : tie.Need-add-i Inv-loop μ-loop
 add-i c = omega arith
@@ -72,17 +86,52 @@ loop-again : tie.Need-loop-again Inv-loop μ-loop
 unfolding asRun run rowRun rowAt
 loop-again c = (
   omega arith,
-  subst (λ (ws : List ℕ). RunsPut (c .before .before .before .before .before .before .before .before .before .before .before .before .before .args .rec .now) (c .before .before .before .before .before .before .before .before .before .before .before .before .before .args .votes) (c .before .before .before .before .before .before .before .before .before .before .before .before .before .args .rows .now) (c .before .before .before .before .before .before .before .before .before .before .before .before .before .args .words .now) ws (c .before .before .before .before .before .before .before .before .before .loop .i + 1)) (sym (c .before .before .write-run .ensures))
-      (subst (λ (x : BlockReference). RunsPut (c .before .before .before .before .before .before .before .before .before .before .before .before .before .args .rec .now) (c .before .before .before .before .before .before .before .before .before .before .before .before .before .args .votes) (c .before .before .before .before .before .before .before .before .before .before .before .before .before .args .rows .now) (c .before .before .before .before .before .before .before .before .before .before .before .before .before .args .words .now) (sets (c .before .before .before .before .before .before .before .before .before .loop .words) (10 * (c .before .before .before .before .before .before .before .before .before .loop .i)) (runWords (run x (getD (c .before .before .before .before .before .before .before .before .before .before .before .before .before .args .rows .now) (3 * (c .before .before .before .before .before .before .before .before .before .loop .i) + 1) 0) (getD (c .before .before .before .before .before .before .before .before .before .before .before .before .before .args .rows .now) (3 * (c .before .before .before .before .before .before .before .before .before .loop .i) + 2) 0) (c .before .before .before .before .before .before .before .before .before .before .before .before .before .args .votes)))) (c .before .before .before .before .before .before .before .before .before .loop .i + 1)) (sym (c .before .before .before .before .before .before .read-reference .ensures)) (put-on (c .before .before .before .before .before .before .before .before .before .before .before .before .before .args .rec .now) (c .before .before .before .before .before .before .before .before .before .before .before .before .before .args .votes) (c .before .before .before .before .before .before .before .before .before .before .before .before .before .args .rows .now) (c .before .before .before .before .before .before .before .before .before .before .before .before .before .args .words .now) (c .before .before .before .before .before .before .before .before .before .loop .words) (c .before .before .before .before .before .before .before .before .before .loop .i) (c .before .before .before .before .before .before .before .before .before .loop .inv .1))),
+  subst (λ (ws : List ℕ). RunsPut (c .before .before .before .before .before .before .before .before .before .before .before .before .before .args .rec .now)
+      (c .before .before .before .before .before .before .before .before .before .before .before .before .before .args .votes)
+      (c .before .before .before .before .before .before .before .before .before .before .before .before .before .args .rows .now)
+      (c .before .before .before .before .before .before .before .before .before .before .before .before .before .args .words .now) ws
+      (c .before .before .before .before .before .before .before .before .before .loop .i + 1)) (sym (c .before .before .write-run .ensures))
+      (subst (λ (x : BlockReference). RunsPut (c .before .before .before .before .before .before .before .before .before .before .before .before .before .args
+      .rec .now) (c .before .before .before .before .before .before .before .before .before .before .before .before .before .args .votes)
+      (c .before .before .before .before .before .before .before .before .before .before .before .before .before .args .rows .now)
+      (c .before .before .before .before .before .before .before .before .before .before .before .before .before .args .words .now)
+      (sets (c .before .before .before .before .before .before .before .before .before .loop .words)
+      (10 * (c .before .before .before .before .before .before .before .before .before .loop .i))
+      (runWords (run x (getD (c .before .before .before .before .before .before .before .before .before .before .before .before .before .args .rows .now)
+      (3 * (c .before .before .before .before .before .before .before .before .before .loop .i) + 1) 0)
+      (getD (c .before .before .before .before .before .before .before .before .before .before .before .before .before .args .rows .now)
+      (3 * (c .before .before .before .before .before .before .before .before .before .loop .i) + 2) 0)
+      (c .before .before .before .before .before .before .before .before .before .before .before .before .before .args .votes))))
+      (c .before .before .before .before .before .before .before .before .before .loop .i + 1))
+      (sym (c .before .before .before .before .before .before .read-reference .ensures))
+      (put-on (c .before .before .before .before .before .before .before .before .before .before .before .before .before .args .rec .now)
+      (c .before .before .before .before .before .before .before .before .before .before .before .before .before .args .votes)
+      (c .before .before .before .before .before .before .before .before .before .before .before .before .before .args .rows .now)
+      (c .before .before .before .before .before .before .before .before .before .before .before .before .before .args .words .now)
+      (c .before .before .before .before .before .before .before .before .before .loop .words)
+      (c .before .before .before .before .before .before .before .before .before .loop .i)
+      (c .before .before .before .before .before .before .before .before .before .loop .inv .1))),
 )
 
 same-length : tie.Need-same-length Inv-loop μ-loop
-same-length c = put-long (c .before .before .before .before .before .args .rec .now) (c .before .before .before .before .before .args .votes) (c .before .before .before .before .before .args .rows .now) (c .before .before .before .before .before .args .words .now) (c .before .loop .words) (c .before .loop .i) (c .before .loop .inv .1)
+same-length c = put-long (c .before .before .before .before .before .args .rec .now) (c .before .before .before .before .before .args .votes)
+    (c .before .before .before .before .before .args .rows .now) (c .before .before .before .before .before .args .words .now) (c .before .loop .words)
+    (c .before .loop .i) (c .before .loop .inv .1)
 
 returns : tie.Need-returns Inv-loop μ-loop
 returns c = let e : (c .before .loop .i) ≡ c .before .before .before .before .before .args .m = omega (arith, c .before .loop .inv .0, c .loop-test .left) in (
-  put-long (c .before .before .before .before .before .args .rec .now) (c .before .before .before .before .before .args .votes) (c .before .before .before .before .before .args .rows .now) (c .before .before .before .before .before .args .words .now) (c .before .loop .words) (c .before .loop .i) (c .before .loop .inv .1),
-  put-end (c .before .before .before .before .before .args .rec .now) (c .before .before .before .before .before .args .votes) (c .before .before .before .before .before .args .rows .now) (c .before .before .before .before .before .args .words .now) (bytes-of (c .before .before .before .before .before .args .rec .now) (λ i h. omega (arith, c .before .before .before .before .shared-slice-known .given i))) (c .before .loop .words) (c .before .before .before .before .before .args .m) (c .before .before .before .before .before .pre .0) (c .before .before .before .before .before .pre .1 .1) (subst (RunsPut (c .before .before .before .before .before .args .rec .now) (c .before .before .before .before .before .args .votes) (c .before .before .before .before .before .args .rows .now) (c .before .before .before .before .before .args .words .now) (c .before .loop .words)) e (c .before .loop .inv .1)),
+  put-long (c .before .before .before .before .before .args .rec .now) (c .before .before .before .before .before .args .votes)
+      (c .before .before .before .before .before .args .rows .now) (c .before .before .before .before .before .args .words .now) (c .before .loop .words)
+      (c .before .loop .i) (c .before .loop .inv .1),
+  put-end (c .before .before .before .before .before .args .rec .now) (c .before .before .before .before .before .args .votes)
+      (c .before .before .before .before .before .args .rows .now) (c .before .before .before .before .before .args .words .now)
+      (bytes-of (c .before .before .before .before .before .args .rec .now)
+      (λ i h. omega (arith, c .before .before .before .before .shared-slice-known .given i))) (c .before .loop .words)
+      (c .before .before .before .before .before .args .m) (c .before .before .before .before .before .pre .0)
+      (c .before .before .before .before .before .pre .1 .1) (subst
+      (RunsPut (c .before .before .before .before .before .args .rec .now) (c .before .before .before .before .before .args .votes)
+      (c .before .before .before .before .before .args .rows .now) (c .before .before .before .before .before .args .words .now) (c .before .loop .words)) e
+      (c .before .loop .inv .1)),
 )
 
 pub write-runs-spec : {M : Type 1} → statement M

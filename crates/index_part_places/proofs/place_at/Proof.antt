@@ -41,8 +41,11 @@ loop-less c = search needs
 loop-again : tie.Need-loop-again Inv-loop μ-loop
 loop-again c =
     let a = c .before .before .before .before .args in
-    let g = c .before .before .before .loop in
-    (omega (arith, c .before .before .loop-test .taken), sym (any-on (λ m. eqb m (a .word)) (a .words .now) (g .k) (omega (arith, c .before .before .loop-test .taken)) (ne-eqb _ _ (c .if1 .left))) ∙ g .inv .1)
+    let g = c .before .before .before .loop in (
+      omega (arith, c .before .before .loop-test .taken),
+      sym (any-on (λ m. eqb m (a .word)) (a .words .now) (g .k)
+          (omega (arith, c .before .before .loop-test .taken)) (ne-eqb _ _ (c .if1 .left))) ∙ g .inv .1,
+    )
 
 returns-2 : tie.Need-returns-2 Inv-loop μ-loop
 returns-2 c =

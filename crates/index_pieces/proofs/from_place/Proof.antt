@@ -30,11 +30,29 @@ enum-told-4 c = search needs
 
 returns-2 : tie.Need-returns-2
 unfolding fromPlace fromOffset asPlace asMaybe asRun run
-returns-2 c = rw (c .before .before .before .before .before .before .place .given .1, ← c .before .before .before .before .compare .ensures, c .before .before .enum-told4 .given .1, le-leb (c .before .before .before .before .before .before .before .before .args .x .end) (c .before .before .before .before .before .before .place .given .0 .1 .0) (c .if1 .taken))
+returns-2 c = rw (
+  c .before .before .before .before .before .before .place .given .1,
+  ← c .before .before .before .before .compare .ensures,
+  c .before .before
+      .enum-told4 .given .1,
+  le-leb (c .before .before .before .before .before .before .before .before .args .x .end)
+      (c .before .before .before .before .before .before .place .given .0 .1 .0) (c .if1 .taken),
+)
 
 returns-3 : tie.Need-returns-3
 unfolding fromPlace fromOffset asPlace asMaybe asRun run
-returns-3 c = rw (c .before .before .before .before .before .before .before .before .place .given .1, ← c .before .before .before .before .before .before .compare .ensures, c .before .before .before .before .enum-told4 .given .1, lt-leb (c .before .before .before .before .before .before .before .before .before .before .args .x .end) (c .before .before .before .before .before .before .before .before .place .given .0 .1 .0) (c .before .before .if1 .left), le-leb (c .before .before .before .before .before .before .before .before .place .given .0 .1 .0) (c .before .before .before .before .before .before .before .before .before .before .args .x .start) (c .if2 .taken))
+returns-3 c = rw (
+  c .before .before .before .before .before .before .before .before .place .given .1,
+  ← c .before .before .before .before .before .before
+      .compare .ensures,
+  c .before .before .before .before .enum-told4 .given .1,
+  lt-leb
+      (c .before .before .before .before .before .before .before .before .before .before .args .x .end)
+      (c .before .before .before .before .before .before .before .before .place .given .0 .1 .0) (c .before .before .if1 .left),
+  le-leb
+      (c .before .before .before .before .before .before .before .before .place .given .0 .1 .0)
+      (c .before .before .before .before .before .before .before .before .before .before .args .x .start) (c .if2 .taken),
+)
 
 returns-4 : tie.Need-returns-4
 unfolding fromPlace fromOffset asPlace asMaybe asRun run
@@ -46,7 +64,17 @@ returns-5 c = rw (c .before .before .before .before .place .given .1, ← c .bef
 
 returns-6 : tie.Need-returns-6
 unfolding fromPlace fromOffset asPlace asMaybe asRun run
-returns-6 c = rw (c .before .before .before .before .before .before .before .before .before .before .place .given .1, ← c .before .before .before .before .before .before .before .before .compare .ensures, c .before .before .before .before .before .before .enum-told4 .given .1, lt-leb (c .before .before .before .before .before .before .before .before .before .before .before .before .args .x .end) (c .before .before .before .before .before .before .before .before .before .before .place .given .0 .1 .0) (c .before .before .before .before .if1 .left), lt-leb (c .before .before .before .before .before .before .before .before .before .before .place .given .0 .1 .0) (c .before .before .before .before .before .before .before .before .before .before .before .before .args .x .start) (c .before .before .if2 .left))
+returns-6 c = rw (
+  c .before .before .before .before .before .before .before .before .before .before .place .given .1,
+  ← c .before .before .before .before
+      .before .before .before .before .compare .ensures,
+  c .before .before .before .before .before .before .enum-told4 .given .1,
+  lt-leb
+      (c .before .before .before .before .before .before .before .before .before .before .before .before .args .x .end)
+      (c .before .before .before .before .before .before .before .before .before .before .place .given .0 .1 .0) (c .before .before .before .before .if1 .left),
+  lt-leb (c .before .before .before .before .before .before .before .before .before .before .place .given .0 .1 .0)
+      (c .before .before .before .before .before .before .before .before .before .before .before .before .args .x .start) (c .before .before .if2 .left),
+)
 
 pub from-place-spec : {M : Type 1} → statement M
 from-place-spec =

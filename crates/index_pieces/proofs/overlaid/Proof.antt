@@ -23,14 +23,32 @@ cut-requires c κs = search needs
 
 returns : tie.Need-returns
 unfolding overlaid overlaidBy asRun run
-returns c = rw (c .cut .ensures, ← c .before .before .before .before .before .before .compare .ensures, c .before .before .before .before .enum-told3 .given .1, lt-ltb (c .before .before .before .before .before .before .before .args .x .start) (c .before .before .before .before .before .before .before .args .y .start) (c .before .if1 .taken))
+returns c = rw (
+  c .cut .ensures,
+  ← c .before .before .before .before .before .before .compare .ensures,
+  c .before .before .before .before .enum-told3 .given
+      .1,
+  lt-ltb (c .before .before .before .before .before .before .before .args .x .start)
+      (c .before .before .before .before .before .before .before .args .y .start) (c .before .if1 .taken),
+)
 
 cut-requires-2 : tie.Need-cut-requires-2
 cut-requires-2 c κs = search needs
 
 returns-2 : tie.Need-returns-2
 unfolding overlaid overlaidBy asRun run
-returns-2 c = rw (c .cut2 .ensures, ← c .before .before .before .before .before .before .before .before .before .compare .ensures, c .before .before .before .before .before .before .before .enum-told3 .given .1, le-ltb (c .before .before .before .before .before .before .before .before .before .before .args .x .start) (c .before .before .before .before .before .before .before .before .before .before .args .y .start) (c .before .before .before .before .if1 .left), lt-ltb (c .before .before .before .before .before .before .before .before .before .before .args .y .start) (c .before .before .before .before .before .before .before .before .before .before .args .x .start) (c .before .if2 .taken))
+returns-2 c = rw (
+  c .cut2 .ensures,
+  ← c .before .before .before .before .before .before .before .before .before .compare .ensures,
+  c .before .before .before
+      .before .before .before .before .enum-told3 .given .1,
+  le-ltb
+      (c .before .before .before .before .before .before .before .before .before .before .args .x .start)
+      (c .before .before .before .before .before .before .before .before .before .before .args .y .start) (c .before .before .before .before .if1 .left),
+  lt-ltb
+      (c .before .before .before .before .before .before .before .before .before .before .args .y .start)
+      (c .before .before .before .before .before .before .before .before .before .before .args .x .start) (c .before .if2 .taken),
+)
 
 union-requires : tie.Need-union-requires
 union-requires c κs = search needs
@@ -48,7 +66,21 @@ returns-4 c = rw (← c .before .before .compare .ensures, c .enum-told2 .given 
 
 returns-5 : tie.Need-returns-5
 unfolding overlaid overlaidBy asRun run
-returns-5 c = rw (← c .before .before .before .before .before .before .before .before .before .before .before .compare .ensures, c .before .before .before .before .before .before .before .before .before .enum-told3 .given .1, le-ltb (c .before .before .before .before .before .before .before .before .before .before .before .before .args .x .start) (c .before .before .before .before .before .before .before .before .before .before .before .before .args .y .start) (c .before .before .before .before .before .before .if1 .left), le-ltb (c .before .before .before .before .before .before .before .before .before .before .before .before .args .y .start) (c .before .before .before .before .before .before .before .before .before .before .before .before .args .x .start) (c .before .before .before .if2 .left), c .before .union .ensures, c .nearer .ensures)
+returns-5 c = rw (
+  ← c .before .before .before .before .before .before .before .before .before .before .before .compare .ensures,
+  c .before .before .before
+      .before .before .before .before .before .before .enum-told3 .given .1,
+  le-ltb
+      (c .before .before .before .before .before .before .before .before .before .before .before .before .args .x .start)
+      (c .before .before .before .before .before .before .before .before .before .before .before .before .args .y .start)
+      (c .before .before .before .before .before .before .if1 .left),
+  le-ltb
+      (c .before .before .before .before .before .before .before .before .before .before .before .before .args .y .start)
+      (c .before .before .before .before .before .before .before .before .before .before .before .before .args .x .start)
+      (c .before .before .before .if2 .left),
+  c .before .union .ensures,
+  c .nearer .ensures,
+)
 
 pub overlaid-spec : {M : Type 1} → statement M
 overlaid-spec =

@@ -28,7 +28,11 @@ returns : tie.Need-returns
 returns c =
     let a = c .before .before .before .before .before .before .args in
     c .stand-at .ensures
-    ∙ ap (λ (ds : List ℕ). startsWith ds (drop (a .at) (a .index .now))) (sym (digest-turned (a .digest) (c .before .before .before .before .turned .result) (c .before .before .before .turned2 .result) (c .before .before .turned3 .result) (c .before .turned4 .result) (omega arith) (omega arith) (omega arith) (omega arith) (c .before .before .before .before .turned .ensures) (c .before .before .before .turned2 .ensures) (c .before .before .turned3 .ensures) (c .before .turned4 .ensures)))
+    ∙ ap (λ (ds : List ℕ). startsWith ds (drop (a .at) (a .index .now)))
+    (sym (digest-turned (a .digest) (c .before .before .before .before .turned .result) (c .before .before .before .turned2 .result)
+    (c .before .before .turned3 .result) (c .before .turned4 .result) (omega arith) (omega arith) (omega arith) (omega arith)
+    (c .before .before .before .before .turned .ensures) (c .before .before .before .turned2 .ensures) (c .before .before .turned3 .ensures)
+    (c .before .turned4 .ensures)))
 
 pub digest-stands-at-spec : {M : Type 1} → statement M
 digest-stands-at-spec =

@@ -52,7 +52,13 @@ turned-requires-4 c κs = search needs
 
 returns : tie.Need-returns
 unfolding digestBytes digestAt digestOf
-returns c = rw (c .before .before .before .before .before .before .turned .ensures, c .before .before .before .before .turned2 .ensures, c .before .before .turned3 .ensures, c .turned4 .ensures)
+returns c = rw (
+  c .before .before .before .before .before .before .turned .ensures,
+  c .before .before .before .before .turned2 .ensures,
+  c .before .before
+      .turned3 .ensures,
+  c .turned4 .ensures,
+)
 
 pub read-digest-spec : {M : Type 1} → statement M
 read-digest-spec =

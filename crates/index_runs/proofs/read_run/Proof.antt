@@ -65,7 +65,11 @@ shared-slice-read-t10-4 c = search needs
 
 returns : tie.Need-returns
 unfolding asRun run asReference
-returns c = rw (run-at (c .before .before .before .before .before .before .before .before .args .index .now) (c .before .before .before .before .before .before .before .before .args .at), c .before .before .before .before .read-digest .ensures)
+returns c = rw (
+  run-at (c .before .before .before .before .before .before .before .before .args .index .now)
+      (c .before .before .before .before .before .before .before .before .args .at),
+  c .before .before .before .before .read-digest .ensures,
+)
 
 pub read-run-spec : {M : Type 1} → statement M
 read-run-spec =

@@ -33,7 +33,11 @@ returns-2 : tie.Need-returns-2
 returns-2 c =
     let a = c .before .before .before .before .args in
     let words = four-words (a .index .now) (a .at) (a .first) (a .second) (a .third) (a .fourth) (omega arith) in
-    sym (words ∙ rw (eq-eqb (getD (a .index .now) (a .at) 0) (a .first) (c .before .before .if1 .left), ne-eqb (getD (a .index .now) (a .at + 1) 0) (a .second) (c .if2 .taken)))
+    sym (words ∙ rw (
+      eq-eqb (getD (a .index .now) (a .at) 0) (a .first) (c .before .before .if1 .left),
+      ne-eqb (getD (a .index .now) (a .at + 1) 0)
+          (a .second) (c .if2 .taken),
+    ))
 
 add-if3 : tie.Need-add-if3
 add-if3 c = search needs
@@ -48,7 +52,13 @@ returns-3 : tie.Need-returns-3
 returns-3 c =
     let a = c .before .before .before .before .before .before .args in
     let words = four-words (a .index .now) (a .at) (a .first) (a .second) (a .third) (a .fourth) (omega arith) in
-    sym (words ∙ rw (eq-eqb (getD (a .index .now) (a .at) 0) (a .first) (c .before .before .before .before .if1 .left), eq-eqb (getD (a .index .now) (a .at + 1) 0) (a .second) (c .before .before .if2 .left), ne-eqb (getD (a .index .now) (a .at + 2) 0) (a .third) (c .if3 .taken)))
+    sym (words ∙ rw (
+      eq-eqb (getD (a .index .now) (a .at) 0) (a .first) (c .before .before .before .before .if1 .left),
+      eq-eqb
+          (getD (a .index .now) (a .at + 1) 0) (a .second) (c .before .before .if2 .left),
+      ne-eqb (getD (a .index .now) (a .at + 2) 0) (a .third)
+          (c .if3 .taken),
+    ))
 
 add-result : tie.Need-add-result
 add-result c = search needs
@@ -63,7 +73,13 @@ returns-4 : tie.Need-returns-4
 returns-4 c =
     let a = c .before .before .before .before .before .before .before .args in
     let words = four-words (a .index .now) (a .at) (a .first) (a .second) (a .third) (a .fourth) (omega arith) in
-    sym (words ∙ rw (eq-eqb (getD (a .index .now) (a .at) 0) (a .first) (c .before .before .before .before .before .if1 .left), eq-eqb (getD (a .index .now) (a .at + 1) 0) (a .second) (c .before .before .before .if2 .left), eq-eqb (getD (a .index .now) (a .at + 2) 0) (a .third) (c .before .if3 .left)))
+    sym (words ∙ rw (
+      eq-eqb (getD (a .index .now) (a .at) 0) (a .first) (c .before .before .before .before .before .if1 .left),
+      eq-eqb
+          (getD (a .index .now) (a .at + 1) 0) (a .second) (c .before .before .before .if2 .left),
+      eq-eqb (getD (a .index .now) (a .at + 2) 0) (a .third)
+          (c .before .if3 .left),
+    ))
 
 pub stand-at-spec : {M : Type 1} → statement M
 stand-at-spec =

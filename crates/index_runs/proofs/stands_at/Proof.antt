@@ -38,7 +38,11 @@ unfolding asRun run asReference
 returns-2 c =
     let a = c .before .before .before .before .before .before .before .before .before .args in
     let words = run-starts (a .index .now) (a .at) (asRun (a .x)) (omega arith) in
-    sym (words ∙ rw (eq-eqb (getD (a .index .now) (a .at) 0) (a .x .block .authority .0) (c .before .before .before .if1 .left), ne-eqb (getD (a .index .now) (a .at + 1) 0) (a .x .block .round .0) (c .if2 .taken)))
+    sym (words ∙ rw (
+      eq-eqb (getD (a .index .now) (a .at) 0) (a .x .block .authority .0) (c .before .before .before .if1 .left),
+      ne-eqb
+          (getD (a .index .now) (a .at + 1) 0) (a .x .block .round .0) (c .if2 .taken),
+    ))
 
 add-digest-stands-at : tie.Need-add-digest-stands-at
 add-digest-stands-at c = search needs
@@ -51,7 +55,13 @@ unfolding asRun run asReference
 returns-3 c =
     let a = c .before .before .before .before .before .before .before .before .before .before .before .args in
     let words = run-starts (a .index .now) (a .at) (asRun (a .x)) (omega arith) in
-    sym (words ∙ rw (eq-eqb (getD (a .index .now) (a .at) 0) (a .x .block .authority .0) (c .before .before .before .before .before .if1 .left), eq-eqb (getD (a .index .now) (a .at + 1) 0) (a .x .block .round .0) (c .before .before .if2 .left), sym (c .before .digest-stands-at .ensures) ∙ not-true _ (c .if3 .taken)))
+    sym (words ∙ rw (
+      eq-eqb (getD (a .index .now) (a .at) 0) (a .x .block .authority .0) (c .before .before .before .before .before .if1 .left),
+      eq-eqb
+          (getD (a .index .now) (a .at + 1) 0) (a .x .block .round .0) (c .before .before .if2 .left),
+      sym (c .before .digest-stands-at .ensures) ∙ not-true _
+          (c .if3 .taken),
+    ))
 
 add-stand-at : tie.Need-add-stand-at
 add-stand-at c = search needs
@@ -64,7 +74,13 @@ unfolding asRun run asReference
 returns-4 c =
     let a = c .before .before .before .before .before .before .before .before .before .before .before .before .args in
     let words = run-starts (a .index .now) (a .at) (asRun (a .x)) (omega arith) in
-    sym (words ∙ rw (eq-eqb (getD (a .index .now) (a .at) 0) (a .x .block .authority .0) (c .before .before .before .before .before .before .if1 .left), eq-eqb (getD (a .index .now) (a .at + 1) 0) (a .x .block .round .0) (c .before .before .before .if2 .left), sym (c .before .before .digest-stands-at .ensures) ∙ not-false _ (c .before .if3 .left), ← c .stand-at .ensures))
+    sym (words ∙ rw (
+      eq-eqb (getD (a .index .now) (a .at) 0) (a .x .block .authority .0) (c .before .before .before .before .before .before .if1 .left),
+      eq-eqb (getD (a .index .now) (a .at + 1) 0) (a .x .block .round .0) (c .before .before .before .if2 .left),
+      sym
+          (c .before .before .digest-stands-at .ensures) ∙ not-false _ (c .before .if3 .left),
+      ← c .stand-at .ensures,
+    ))
 
 pub stands-at-spec : {M : Type 1} → statement M
 stands-at-spec =

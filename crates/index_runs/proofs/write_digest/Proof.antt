@@ -60,8 +60,12 @@ same-length c = search needs
 returns : tie.Need-returns
 returns c =
     let a = c .before .before .before .before .before .args in
-    four-stores (a .index .now) (a .at) (c .before .before .before .turned .result) (c .before .before .turned2 .result) (c .before .turned3 .result) (c .turned4 .result)
-    ∙ ap (λ (ds : List ℕ). sets (a .index .now) (a .at) ds) (sym (digest-turned (a .digest) (c .before .before .before .turned .result) (c .before .before .turned2 .result) (c .before .turned3 .result) (c .turned4 .result) (omega arith) (omega arith) (omega arith) (omega arith) (c .before .before .before .turned .ensures) (c .before .before .turned2 .ensures) (c .before .turned3 .ensures) (c .turned4 .ensures)))
+    four-stores (a .index .now) (a .at) (c .before .before .before .turned .result) (c .before .before .turned2 .result) (c .before .turned3 .result)
+    (c .turned4 .result)
+    ∙ ap (λ (ds : List ℕ). sets (a .index .now) (a .at) ds) (sym
+    (digest-turned (a .digest) (c .before .before .before .turned .result) (c .before .before .turned2 .result) (c .before .turned3 .result)
+    (c .turned4 .result) (omega arith) (omega arith) (omega arith) (omega arith) (c .before .before .before .turned .ensures)
+    (c .before .before .turned2 .ensures) (c .before .turned3 .ensures) (c .turned4 .ensures)))
 
 pub write-digest-spec : {M : Type 1} → statement M
 write-digest-spec =

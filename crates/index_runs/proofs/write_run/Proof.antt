@@ -75,7 +75,8 @@ unfolding runWords digestWords asRun run asReference
 returns c =
     let a = c .before .before .before .before .before .before .before .args in
     rw (c .before .before .write-digest .ensures)
-    (run-stores (a .index .now) (a .at) (a .x .block .authority .0) (a .x .block .round .0) (a .x .start) (a .x .end) (a .x .votes .low) (a .x .votes .high) (digestWords (digestBytes (a .x .block .digest))) refl)
+    (run-stores (a .index .now) (a .at) (a .x .block .authority .0) (a .x .block .round .0) (a .x .start) (a .x .end) (a .x .votes .low) (a .x .votes .high)
+    (digestWords (digestBytes (a .x .block .digest))) refl)
 
 pub write-run-spec : {M : Type 1} → statement M
 write-run-spec =

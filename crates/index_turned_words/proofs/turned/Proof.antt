@@ -29,7 +29,8 @@ add-result : tie.Need-add-result
 add-result c = search needs
 
 returns : tie.Need-returns
-returns c = turned-halves 4 (c .before .before .args .v) (c .before .turned-u32 .result) (c .turned-u322 .result) (omega arith) (c .before .turned-u32 .ensures) (c .turned-u322 .ensures)
+returns c = turned-halves 4 (c .before .before .args .v) (c .before .turned-u32 .result) (c .turned-u322 .result) (omega arith)
+    (c .before .turned-u32 .ensures) (c .turned-u322 .ensures)
 
 pub turned-spec : {M : Type 1} → statement M
 turned-spec =

@@ -29,7 +29,8 @@ add-result : tie.Need-add-result
 add-result c = search needs
 
 returns : tie.Need-returns
-returns c = turned-halves 2 (c .before .before .args .v) (c .before .turned-u16 .result) (c .turned-u162 .result) (omega arith) (c .before .turned-u16 .ensures) (c .turned-u162 .ensures)
+returns c = turned-halves 2 (c .before .before .args .v) (c .before .turned-u16 .result) (c .turned-u162 .result) (omega arith)
+    (c .before .turned-u16 .ensures) (c .turned-u162 .ensures)
 
 pub turned-u32-spec : {M : Type 1} → statement M
 turned-u32-spec =

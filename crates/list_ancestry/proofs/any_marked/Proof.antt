@@ -37,8 +37,11 @@ loop-less : tie.Need-loop-less Inv-loop μ-loop
 loop-less c = search needs
 
 loop-again : tie.Need-loop-again Inv-loop μ-loop
-loop-again c = let g = c .before .before .before .loop in
-    (omega (arith, c .before .before .loop-test .taken), λ j h. unmarked-more (c .before .before .before .before .args .own .now) (g .k) (g .inv .1) (c .if1 .left) j h)
+loop-again c = let g = c .before .before .before .loop in (
+  omega (arith, c .before .before .loop-test .taken),
+  λ j h. unmarked-more (c .before .before .before .before .args .own .now) (g .k) (g .inv .1)
+      (c .if1 .left) j h,
+)
 
 returns-2 : tie.Need-returns-2 Inv-loop μ-loop
 unfolding AnyMarked

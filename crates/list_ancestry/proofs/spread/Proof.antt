@@ -15,7 +15,9 @@ use Rattle.list_ancestry.proofs.spread.Statement.{statement}
 use Rattle.list_ancestry.proofs.spread.Tie as tie
 
 abbrev Inv-loop : tie.InvT-loop
-Inv-loop store order sets own memo₀ below₀ k₀ memo below k = Going order memo k × ((rejecting : Bool) (l : TransactionLocator) → Owned rejecting store order l own → HeardBelow (speechOf rejecting) store order l memo k × SaidBefore (speechOf rejecting) store order l k below)
+Inv-loop store order sets own memo₀ below₀ k₀ memo below k = Going order memo k ×
+    ((rejecting : Bool) (l : TransactionLocator) → Owned rejecting store order l own → HeardBelow (speechOf rejecting) store order l memo k × SaidBefore
+    (speechOf rejecting) store order l k below)
 
 abbrev μ-loop : tie.MeasureT-loop
 μ-loop store order sets own memo₀ below₀ k₀ memo below k = length order - k
@@ -24,7 +26,11 @@ new-requires : tie.Need-new-requires Inv-loop μ-loop
 new-requires c κs = search needs
 
 loop-holds : tie.Need-loop-holds Inv-loop μ-loop
-loop-holds c = (record { inside = omega arith; long = c .before .before .before .before .before .before .pre .1 .1 .0 }, λ rejecting l w. (λ j m. absurd (omega arith), λ j q. absurd (omega arith)))
+loop-holds c = (
+  record { inside = omega arith; long = c .before .before .before .before .before .before .pre .1 .1 .0 },
+  λ rejecting l w.
+      (λ j m. absurd (omega arith), λ j q. absurd (omega arith)),
+)
 
 mul-at : tie.Need-mul-at Inv-loop μ-loop
 mul-at c = search needs
@@ -33,23 +39,52 @@ shared-slice-read-at : tie.Need-shared-slice-read-at Inv-loop μ-loop
 shared-slice-read-at c = search needs
 
 below-at-requires : tie.Need-below-at-requires Inv-loop μ-loop
-below-at-requires c κs = let g = c .before .before .before .loop in
-    (omega (arith, c .before .before .loop-test .taken, c .before .before .before .before .before .before .before .before .before .before .pre .0 .1, c .before .before .before .before .before .before .before .before .before .before .pre .1 .1 .1 .room), g .inv .0 .long)
+below-at-requires c κs = let g = c .before .before .before .loop in (
+  omega (
+    arith,
+    c .before .before .loop-test .taken,
+    c .before .before .before .before .before .before .before .before .before .before .pre .0 .1,
+    c
+        .before .before .before .before .before .before .before .before .before .before .pre .1 .1 .1 .room,
+  ),
+  g .inv .0 .long,
+)
 
 mul-with-own : tie.Need-mul-with-own Inv-loop μ-loop
-mul-with-own c = omega (arith, c .before .before .before .loop-test .taken, c .before .before .before .before .before .before .before .before .before .before .before .pre .0 .1)
+mul-with-own c = omega (
+  arith,
+  c .before .before .before .loop-test .taken,
+  c .before .before .before .before .before .before .before .before .before .before
+      .before .pre .0 .1,
+)
 
 shared-slice-read-with-own : tie.Need-shared-slice-read-with-own Inv-loop μ-loop
-shared-slice-read-with-own c = omega (arith, c .before .before .before .before .loop-test .taken, c .before .before .before .before .before .before .before .before .before .before .before .before .pre .0 .1, c .before .before .before .before .before .before .before .before .before .before .before .before .pre .1 .0)
+shared-slice-read-with-own c = omega (
+  arith,
+  c .before .before .before .before .loop-test .taken,
+  c .before .before .before .before .before .before .before
+      .before .before .before .before .before .pre .0 .1,
+  c .before .before .before .before .before .before .before .before .before .before .before .before .pre
+      .1 .0,
+)
 
 with-own-requires : tie.Need-with-own-requires Inv-loop μ-loop
 unfolding blockAtPlace
 with-own-requires c κs = let a = c .before .before .before .before .before .before .before .before .before .before .before .before .args in
-    let o = c .before .before .before .before .before .before .before .before .before .before .before .before .pre .0 .0 in
-    (place-entry (a .store .now) (a .order .now) o (c .before .before .before .before .before .loop .k) (c .before .before .before .before .loop-test .taken), place-author (a .store .now) (a .order .now) o (c .before .before .before .before .before .loop .k) (c .before .before .before .before .loop-test .taken))
+    let o = c .before .before .before .before .before .before .before .before .before .before .before .before .pre .0 .0 in (
+      place-entry (a .store .now) (a .order .now) o (c .before .before .before .before .before .loop .k) (c .before .before .before .before .loop-test .taken),
+      place-author (a .store .now) (a .order .now) o (c .before .before .before .before .before .loop .k)
+          (c .before .before .before .before .loop-test .taken),
+    )
 
 note-set-requires : tie.Need-note-set-requires Inv-loop μ-loop
-note-set-requires c κs = omega (arith, c .before .before .before .before .before .before .loop-test .taken, c .before .before .before .before .before .before .before .before .before .before .before .before .before .before .pre .0 .1, c .before .before .before .before .before .before .before .loop .inv .0 .long)
+note-set-requires c κs = omega (
+  arith,
+  c .before .before .before .before .before .before .loop-test .taken,
+  c .before .before .before .before .before .before
+      .before .before .before .before .before .before .before .before .pre .0 .1,
+  c .before .before .before .before .before .before .before .loop .inv .0 .long,
+)
 
 add-k : tie.Need-add-k Inv-loop μ-loop
 add-k c = search needs
@@ -59,7 +94,8 @@ loop-less c = search needs
 
 loop-again : tie.Need-loop-again Inv-loop μ-loop
 unfolding blockAtPlace
-loop-again c = let a = c .before .before .before .before .before .before .before .before .before .before .before .before .before .before .before .before .before .args in
+loop-again c = let a = c .before .before .before .before .before .before .before .before .before .before .before .before .before .before .before .before
+    .before .args in
     let p = c .before .before .before .before .before .before .before .before .before .before .before .before .before .before .before .before .before .pre in
     let g = c .before .before .before .before .before .before .before .before .before .before .loop in
     let h = c .before .before .before .before .before .before .before .before .before .loop-test .taken in
@@ -67,8 +103,11 @@ loop-again c = let a = c .before .before .before .before .before .before .before
     rw (c .before .before .note-set .ensures) (
       going-more (a .order .now) (g .memo) (g .k) (g .inv .0) h v,
       λ rejecting l w.
-          let said = c .before .before .before .before .before .before .below-at .ensures ∙ below-right (a .store .now) (a .order .now) (p .0 .0) (speechOf rejecting) l (g .memo) (a .sets .now) (p .1 .1 .1) (g .k) h (g .inv .1 rejecting l w .0) (g .below) (g .inv .1 rejecting l w .1) in (
-            heard-more rejecting (a .store .now) (a .order .now) l (g .memo) (g .k) (g .inv .1 rejecting l w .0) (omega (arith, h, g .inv .0 .long, p .0 .1)) v (c .before .before .before .before .with-own .ensures ∙ all-heard rejecting (a .store .now) (a .order .now) (p .0 .0) l (g .k) h (a .own .now) w (c .before .before .before .before .before .before .below-at .result) said),
+          let said = c .before .before .before .before .before .before .below-at .ensures ∙ below-right (a .store .now) (a .order .now) (p .0 .0)
+          (speechOf rejecting) l (g .memo) (a .sets .now) (p .1 .1 .1) (g .k) h (g .inv .1 rejecting l w .0) (g .below) (g .inv .1 rejecting l w .1) in (
+            heard-more rejecting (a .store .now) (a .order .now) l (g .memo) (g .k) (g .inv .1 rejecting l w .0) (omega (arith, h, g .inv .0 .long, p .0 .1))
+                v (c .before .before .before .before .with-own .ensures ∙ all-heard rejecting (a .store .now) (a .order .now) (p .0 .0) l (g .k) h
+                (a .own .now) w (c .before .before .before .before .before .before .below-at .result) said),
             said-next (speechOf rejecting) (a .store .now) (a .order .now) l (g .k) (c .before .before .before .before .before .before .below-at .result) said,
           ),
     )

@@ -12,7 +12,8 @@ union-requires : tie.Need-union-requires
 union-requires c κs = search needs
 
 returns : tie.Need-returns
-returns c = rw (ne-eqb (c .before .before .before .before .args .mark) 1 (c .before .before .if1 .taken)) (c .union .ensures ∙ ap (λ (v : AuthoritySet). united v (c .before .before .before .before .args .below)) (c .before .new .ensures))
+returns c = rw (ne-eqb (c .before .before .before .before .args .mark) 1 (c .before .before .if1 .taken))
+    (c .union .ensures ∙ ap (λ (v : AuthoritySet). united v (c .before .before .before .before .args .below)) (c .before .new .ensures))
 
 author-at-requires : tie.Need-author-at-requires
 author-at-requires c κs = search needs
@@ -27,7 +28,9 @@ union-requires-2 : tie.Need-union-requires-2
 union-requires-2 c κs = search needs
 
 returns-2 : tie.Need-returns-2
-returns-2 c = rw (eq-eqb (c .before .before .before .before .before .before .args .mark) 1 (c .before .before .before .before .if1 .left)) (c .union2 .ensures ∙ ap (λ (v : AuthoritySet). united v (c .before .before .before .before .before .before .args .below)) (c .before .insert .ensures ∙ rw (c .before .before .new2 .ensures, c .before .before .before .author-at .ensures)))
+returns-2 c = rw (eq-eqb (c .before .before .before .before .before .before .args .mark) 1 (c .before .before .before .before .if1 .left))
+    (c .union2 .ensures ∙ ap (λ (v : AuthoritySet). united v (c .before .before .before .before .before .before .args .below))
+    (c .before .insert .ensures ∙ rw (c .before .before .new2 .ensures, c .before .before .before .author-at .ensures)))
 
 pub with-own-spec : {M : Type 1} → statement M
 with-own-spec =

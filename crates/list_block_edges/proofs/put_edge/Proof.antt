@@ -14,7 +14,8 @@ follows-requires c κs = search needs
 returns : tie.Need-returns
 unfolding keyOf newRow
 returns c = let a = c .before .before .before .before .args in
-    edge-left _ _ _ _ (a .edges .now) (a .n) (before-window (a .store .now) (asMaybe (a .last)) (asMaybe (a .bound)) (newRow (a .at) (a .offset) (a .mark)) (sym (c .before .follows .ensures) ∙ not-true _ (c .if1 .taken)))
+    edge-left _ _ _ _ (a .edges .now) (a .n) (before-window (a .store .now) (asMaybe (a .last)) (asMaybe (a .bound)) (newRow (a .at) (a .offset) (a .mark))
+    (sym (c .before .follows .ensures) ∙ not-true _ (c .if1 .taken)))
 
 is-after-best-requires : tie.Need-is-after-best-requires
 is-after-best-requires c κs = search needs
@@ -22,7 +23,8 @@ is-after-best-requires c κs = search needs
 returns-2 : tie.Need-returns-2
 unfolding keyOf newRow
 returns-2 c = let a = c .before .before .before .before .before .before .args in
-    edge-left _ _ _ _ (a .edges .now) (a .n) (after-window (a .store .now) (asMaybe (a .last)) (asMaybe (a .bound)) (newRow (a .at) (a .offset) (a .mark)) (sym (c .before .is-after-best .ensures) ∙ c .if2 .taken))
+    edge-left _ _ _ _ (a .edges .now) (a .n) (after-window (a .store .now) (asMaybe (a .last)) (asMaybe (a .bound)) (newRow (a .at) (a .offset) (a .mark))
+    (sym (c .before .is-after-best .ensures) ∙ c .if2 .taken))
 
 put-row-requires : tie.Need-put-row-requires
 put-row-requires c κs = search needs
@@ -38,7 +40,10 @@ unfolding keyOf newRow
 returns-3 c = let o = c .before .before .before .before .before .before .before .before .before .before in
     let a = o .args in
     rw (c .before .before .put-row .ensures)
-    (edge-put _ _ _ _ (a .edges .now) (a .n) (in-window (a .store .now) (asMaybe (a .last)) (asMaybe (a .bound)) (newRow (a .at) (a .offset) (a .mark)) (sym (c .before .before .before .before .before .before .before .follows .ensures) ∙ not-false _ (c .before .before .before .before .before .before .if1 .left)) (sym (c .before .before .before .before .before .is-after-best .ensures) ∙ c .before .before .before .before .if2 .left)) (o .pre .1))
+    (edge-put _ _ _ _ (a .edges .now) (a .n) (in-window (a .store .now) (asMaybe (a .last)) (asMaybe (a .bound)) (newRow (a .at) (a .offset) (a .mark))
+    (sym (c .before .before .before .before .before .before .before .follows .ensures) ∙ not-false _
+    (c .before .before .before .before .before .before .if1 .left))
+    (sym (c .before .before .before .before .before .is-after-best .ensures) ∙ c .before .before .before .before .if2 .left)) (o .pre .1))
 
 pub put-edge-spec : {M : Type 1} → statement M
 put-edge-spec =

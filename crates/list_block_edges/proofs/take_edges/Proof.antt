@@ -77,10 +77,14 @@ loop-less c = search needs
 
 loop-again : tie.Need-loop-again Inv-loop μ-loop
 unfolding startEdge endEdge rowAt newRow
-loop-again c = let a = c .before .before .before .before .before .before .before .before .before .before .before .before .before .before .before .before .args in
+loop-again c = let a = c .before .before .before .before .before .before .before .before .before .before .before .before .before .before .before .before .args
+    in
     let l = c .before .before .before .before .before .before .before .before .before .before .before .before .loop in
-    let h = c .before .before .before .before .before .before .before .before .before .before .before .loop-test .taken in
-    (omega arith, taken-more (a .store .now) (asMaybe (a .last)) (asMaybe (a .bound)) (a .rows .now) (a .edges .now) (a .place) (a .n) (l .i) (l .edges) _ _ (l .k) _ _ (l .inv .1) (c .before .before .before .before .before .before .before .put-edge .ensures) (c .before .before .put-edge2 .ensures))
+    let h = c .before .before .before .before .before .before .before .before .before .before .before .loop-test .taken in (
+      omega arith,
+      taken-more (a .store .now) (asMaybe (a .last)) (asMaybe (a .bound)) (a .rows .now) (a .edges .now) (a .place) (a .n) (l .i) (l .edges) _ _
+          (l .k) _ _ (l .inv .1) (c .before .before .before .before .before .before .before .put-edge .ensures) (c .before .before .put-edge2 .ensures),
+    )
 
 same-length : tie.Need-same-length Inv-loop μ-loop
 same-length c = c .before .loop .inv .1 .long
@@ -89,7 +93,8 @@ returns : tie.Need-returns Inv-loop μ-loop
 returns c = let a = c .before .before .before .before .before .args in
     let l = c .before .loop in
     let e : l .i ≡ a .m = omega (arith, c .loop-test .left) in
-    subst (λ (i : ℕ). EdgesTaken (a .store .now) (asMaybe (a .last)) (asMaybe (a .bound)) (a .rows .now) (a .edges .now) (l .edges) i (a .place) (a .n) (l .k)) e (l .inv .1)
+    subst (λ (i : ℕ). EdgesTaken (a .store .now) (asMaybe (a .last)) (asMaybe (a .bound)) (a .rows .now) (a .edges .now) (l .edges) i (a .place) (a .n)
+    (l .k)) e (l .inv .1)
 
 pub take-edges-spec : {M : Type 1} → statement M
 take-edges-spec =

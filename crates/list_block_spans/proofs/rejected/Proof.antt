@@ -40,11 +40,13 @@ returns-2 c = λ s. rw (c .enum-told2 .given .1)
 
 returns-3 : tie.Need-returns-3
 unfolding asStatement rejectRanges rejectedIn flatten
-returns-3 c = λ s. let x = c .before .before .statement .given in c .rejected-range .ensures ∙ rw (x .1) (sym (append-nil (rejectedRange (asLocator (x .0 .0)))))
+returns-3 c = λ s. let x = c .before .before .statement .given in c .rejected-range .ensures ∙ rw (x .1)
+    (sym (append-nil (rejectedRange (asLocator (x .0 .0)))))
 
 returns-4 : tie.Need-returns-4
 unfolding asStatement rejectRanges rejectedIn flatten
-returns-4 c = λ s. let x = c .before .before .statement2 .given in c .rejected-range2 .ensures ∙ rw (x .1) (sym (append-nil (rejectedRange (asLocator (x .0 .0)))))
+returns-4 c = λ s. let x = c .before .before .statement2 .given in c .rejected-range2 .ensures ∙ rw (x .1)
+    (sym (append-nil (rejectedRange (asLocator (x .0 .0)))))
 
 returns-5 : tie.Need-returns-5
 unfolding asStatement votedBy rejectRanges rejectedIn flatten

@@ -33,11 +33,14 @@ returns : tie.Need-returns
 unfolding asStretches
 returns c = let a = (c .before .before .before .before .before .before .args) in
     let told = c .enum-told .given in
-    let e = bulk-broken (a .stakes .now) (a .store .now) (listing (isOrdinary (a .list)) (asReading (a .reading)) (a .stakes .now) (blocksOf (a .store .now))) (a .out .now) (asMaybe (a .after)) (broken-sound (a .stakes .now) (told .0 .0) (ap asNewCommittee (sym (told .1)) ∙ c .before .before .new-committee .ensures)) in
+    let e = bulk-broken (a .stakes .now) (a .store .now) (listing (isOrdinary (a .list)) (asReading (a .reading)) (a .stakes .now) (blocksOf (a .store .now)))
+    (a .out .now) (asMaybe (a .after)) (broken-sound (a .stakes .now) (told .0 .0)
+    (ap asNewCommittee (sym (told .1)) ∙ c .before .before .new-committee .ensures)) in
     (ap (λ (x : AskedBulk). x .answer) e, ap (λ (x : AskedBulk). x .out) e)
 
 in-order-requires : tie.Need-in-order-requires
-in-order-requires c κs = let told = c .before .total .given in taken-sound (c .before .before .before .before .before .before .before .args .stakes .now) (told .0 .0) (ap asNewCommittee (sym (told .1)) ∙ c .before .before .before .new-committee .ensures) .0
+in-order-requires c κs = let told = c .before .total .given in taken-sound (c .before .before .before .before .before .before .before .args .stakes .now)
+    (told .0 .0) (ap asNewCommittee (sym (told .1)) ∙ c .before .before .before .new-committee .ensures) .0
 
 returns-2 : tie.Need-returns-2
 unfolding asStretches
@@ -45,14 +48,16 @@ returns-2 c = let a = (c .before .before .before .before .before .before .before
     let k = listing (isOrdinary (a .list)) (asReading (a .reading)) (a .stakes .now) (blocksOf (a .store .now)) in
     let told = c .before .before .before .total .given in
     let t = taken-sound (a .stakes .now) (told .0 .0) (ap asNewCommittee (sym (told .1)) ∙ c .before .before .before .before .before .new-committee .ensures) in
-    let e = bulk-disordered (a .stakes .now) (a .store .now) k (a .out .now) (asMaybe (a .after)) (t .0) (sym (c .before .in-order .ensures) ∙ not-true _ (c .if1 .taken)) in
+    let e = bulk-disordered (a .stakes .now) (a .store .now) k (a .out .now) (asMaybe (a .after)) (t .0)
+    (sym (c .before .in-order .ensures) ∙ not-true _ (c .if1 .taken)) in
     (ap (λ (x : AskedBulk). x .answer) e, ap (λ (x : AskedBulk). x .out) e)
 
 slice-aggregate-sorted-positions : tie.Need-slice-aggregate-sorted-positions
 slice-aggregate-sorted-positions c = search needs
 
 sorted-positions-requires : tie.Need-sorted-positions-requires
-sorted-positions-requires c κs = let a = (c .before .before .before .before .before .before .before .before .before .before .args) in (order-laid (a .stakes .now) (a .store .now) (sym (c .before .before .in-order .ensures) ∙ not-false _ (c .before .if1 .left)), omega arith)
+sorted-positions-requires c κs = let a = (c .before .before .before .before .before .before .before .before .before .before .args) in
+    (order-laid (a .stakes .now) (a .store .now) (sym (c .before .before .in-order .ensures) ∙ not-false _ (c .before .if1 .left)), omega arith)
 
 array-share-prefix-order : tie.Need-array-share-prefix-order
 array-share-prefix-order c = search needs
@@ -60,15 +65,19 @@ array-share-prefix-order c = search needs
 slice-aggregate-fill-stretches : tie.Need-slice-aggregate-fill-stretches
 slice-aggregate-fill-stretches c = let a = (c .before .before .before .before .before .before .before .before .before .before .before .before .before .args) in
     let q = c .before .before .sorted-positions .ensures in
-    let laid = order-laid (a .stakes .now) (a .store .now) (sym (c .before .before .before .before .before .in-order .ensures) ∙ not-false _ (c .before .before .before .before .if1 .left)) in
+    let laid = order-laid (a .stakes .now) (a .store .now) (sym (c .before .before .before .before .before .in-order .ensures) ∙ not-false _
+    (c .before .before .before .before .if1 .left)) in
     q .1 .0 ∙ sym (ap length (q .1 .1) ∙ sorted-count (a .store .now) laid)
 
 fill-stretches-requires : tie.Need-fill-stretches-requires
-fill-stretches-requires c κs = let a = (c .before .before .before .before .before .before .before .before .before .before .before .before .before .before .args) in
+fill-stretches-requires c κs = let a = (c .before .before .before .before .before .before .before .before .before .before .before .before .before .before
+    .args) in
     let k = listing (isOrdinary (a .list)) (asReading (a .reading)) (a .stakes .now) (blocksOf (a .store .now)) in
     let told = c .before .before .before .before .before .before .before .before .total .given in
-    let t = taken-sound (a .stakes .now) (told .0 .0) (ap asNewCommittee (sym (told .1)) ∙ c .before .before .before .before .before .before .before .before .before .before .new-committee .ensures) in
-    let o : storeInOrder (a .stakes .now) (a .store .now) ≡ true = sym (c .before .before .before .before .before .before .in-order .ensures) ∙ not-false _ (c .before .before .before .before .before .if1 .left) in
+    let t = taken-sound (a .stakes .now) (told .0 .0) (ap asNewCommittee (sym (told .1)) ∙ c .before .before .before .before .before .before .before .before
+    .before .before .new-committee .ensures) in
+    let o : storeInOrder (a .stakes .now) (a .store .now) ≡ true = sym (c .before .before .before .before .before .before .in-order .ensures) ∙ not-false _
+    (c .before .before .before .before .before .if1 .left) in
     let q = c .before .before .before .sorted-positions .ensures in
     let n = ap length (q .1 .1) ∙ sorted-count (a .store .now) (order-laid (a .stakes .now) (a .store .now) o) in
     ((record { sound = t .0; inOrder = o; laid = order-laid (a .stakes .now) (a .store .now) o; places = q .1 .1 }, t .1), omega (arith, q, n))
@@ -77,11 +86,15 @@ same-length : tie.Need-same-length
 same-length c = search needs
 
 returns-3 : tie.Need-returns-3
-returns-3 c = let a = (c .before .before .before .before .before .before .before .before .before .before .before .before .before .before .before .before .before .args) in
+returns-3 c = let a = (c .before .before .before .before .before .before .before .before .before .before .before .before .before .before .before .before
+    .before .args) in
     let k = listing (isOrdinary (a .list)) (asReading (a .reading)) (a .stakes .now) (blocksOf (a .store .now)) in
     let told = c .before .before .before .before .before .before .before .before .before .before .before .total .given in
-    let t = taken-sound (a .stakes .now) (told .0 .0) (ap asNewCommittee (sym (told .1)) ∙ c .before .before .before .before .before .before .before .before .before .before .before .before .before .new-committee .ensures) in
-    let o : storeInOrder (a .stakes .now) (a .store .now) ≡ true = sym (c .before .before .before .before .before .before .before .before .before .in-order .ensures) ∙ not-false _ (c .before .before .before .before .before .before .before .before .if1 .left) in
+    let t = taken-sound (a .stakes .now) (told .0 .0) (ap asNewCommittee (sym (told .1)) ∙ c .before .before .before .before .before .before .before .before
+    .before .before .before .before .before .new-committee .ensures) in
+    let o : storeInOrder (a .stakes .now) (a .store .now) ≡ true = sym
+    (c .before .before .before .before .before .before .before .before .before .in-order .ensures) ∙ not-false _
+    (c .before .before .before .before .before .before .before .before .if1 .left) in
     let q = c .before .before .fill-stretches .ensures in
     let e = bulk-asked (a .stakes .now) (a .store .now) k (a .out .now) (asMaybe (a .after)) (t .0) o _ _ (q .0) (q .1) in
     (ap (λ (x : AskedBulk). x .answer) e, ap (λ (x : AskedBulk). x .out) e)

@@ -25,7 +25,14 @@ put-edges-requires c κs = let p = c .before .before .before .before .before .pr
 add-k : tie.Need-add-k Inv-loop μ-loop
 add-k c = let p = c .before .before .before .before .before .before .before .before .pre in
     let g = c .before .before .before .before .before .loop in
-    omega (arith, p .room, g .inv .1 .many, c .before .before .before .before .loop-test .taken, c .before .before .before .before .before .before .before .before .good)
+    omega (
+      arith,
+      p .room,
+      g .inv .1 .many,
+      c .before .before .before .before .loop-test .taken,
+      c .before .before .before .before .before .before .before
+          .before .good,
+    )
 
 add-i : tie.Need-add-i Inv-loop μ-loop
 add-i c = omega (arith, c .before .before .before .before .loop-test .taken)
@@ -38,7 +45,11 @@ loop-again c = let a = c .before .before .before .before .before .before .before
     let p = c .before .before .before .before .before .before .before .before .pre in
     let g = c .before .before .before .before .before .loop in
     let h = c .before .before .before .before .loop-test .taken in
-    rw (c .before .before .put-edges .ensures) (omega arith, edged-more (a .rows .now) (a .edges .now) (a .place) (a .n) (g .edges) (g .i) (g .k) (g .inv .1) (omega (arith, p .room)))
+    rw (c .before .before .put-edges .ensures) (
+      omega arith,
+      edged-more (a .rows .now) (a .edges .now) (a .place) (a .n) (g .edges) (g .i) (g .k) (g .inv .1)
+          (omega (arith, p .room)),
+    )
 
 same-length : tie.Need-same-length Inv-loop μ-loop
 same-length c = c .before .loop .inv .1 .long

@@ -21,7 +21,10 @@ loop-holds c = let a = c .before .before .before .args in
     (omega arith, c .new .ensures ∙ sym (gathered-none (a .sets .now) (a .memo .now) (a .k) 0))
 
 gather-word-requires : tie.Need-gather-word-requires Inv-loop μ-loop
-gather-word-requires c κs = ((omega (arith, c .loop-test .taken), c .before .before .before .before .before .pre .0), (c .before .before .before .before .before .pre .1, c .before .loop .inv .1))
+gather-word-requires c κs = (
+  (omega (arith, c .loop-test .taken), c .before .before .before .before .before .pre .0),
+  (c .before .before .before .before .before .pre .1, c .before .loop .inv .1),
+)
 
 add-i : tie.Need-add-i Inv-loop μ-loop
 add-i c = search needs

@@ -18,26 +18,67 @@ loop-holds c = let a = c .before .before .before .args in
     noting-start (a .store .now) (a .order .now) (a .sets .now) (c .before .before .before .pre .1 .1)
 
 note-block-requires : tie.Need-note-block-requires Inv-loop μ-loop
-note-block-requires c κs = let g = c .before .before .loop in
-    (c .before .before .before .before .before .before .pre .0, (c .before .loop-test .taken, (omega (arith, g .inv .long, c .before .before .before .before .before .before .pre .1 .0), g .inv .clear)))
+note-block-requires c κs = let g = c .before .before .loop in (
+  c .before .before .before .before .before .before .pre .0,
+  (
+    c .before .loop-test .taken,
+    (omega (arith, g .inv .long, c .before .before .before .before .before .before .pre .1 .0), g .inv .clear),
+  ),
+)
 
 same-before-requires : tie.Need-same-before-requires Inv-loop μ-loop
-same-before-requires c κs = omega (arith, c .before .before .before .note-block .ensures .long, c .before .before .before .before .before .before .loop .inv .long, c .before .before .before .before .before .loop-test .taken, c .before .before .before .before .before .before .before .before .before .before .pre .1 .0)
+same-before-requires c κs = omega (
+  arith,
+  c .before .before .before .note-block .ensures .long,
+  c .before .before .before .before .before .before .loop .inv
+      .long,
+  c .before .before .before .before .before .loop-test .taken,
+  c .before .before .before .before .before .before .before .before .before .before .pre
+      .1 .0,
+)
 
 mul-sets : tie.Need-mul-sets Inv-loop μ-loop
-mul-sets c = omega (arith, c .before .before .before .before .before .before .loop-test .taken, c .before .before .before .before .before .before .before .before .before .before .before .pre .0 .1)
+mul-sets c = omega (
+  arith,
+  c .before .before .before .before .before .before .loop-test .taken,
+  c .before .before .before .before .before .before .before
+      .before .before .before .before .pre .0 .1,
+)
 
 add-sets : tie.Need-add-sets Inv-loop μ-loop
-add-sets c = omega (arith, c .before .before .before .before .before .before .loop-test .taken, c .before .before .before .before .before .before .before .before .before .before .before .pre .0 .1)
+add-sets c = omega (
+  arith,
+  c .before .before .before .before .before .before .loop-test .taken,
+  c .before .before .before .before .before .before .before
+      .before .before .before .before .pre .0 .1,
+)
 
 mul-sets-2 : tie.Need-mul-sets-2 Inv-loop μ-loop
-mul-sets-2 c = omega (arith, c .before .before .before .before .before .before .loop-test .taken, c .before .before .before .before .before .before .before .before .before .before .before .pre .0 .1)
+mul-sets-2 c = omega (
+  arith,
+  c .before .before .before .before .before .before .loop-test .taken,
+  c .before .before .before .before .before .before .before
+      .before .before .before .before .pre .0 .1,
+)
 
 slice-write-sets : tie.Need-slice-write-sets Inv-loop μ-loop
-slice-write-sets c = omega (arith, c .before .before .before .before .note-block .ensures .long, c .before .before .before .before .before .before .before .loop .inv .long, c .before .before .before .before .before .before .loop-test .taken, c .before .before .before .before .before .before .before .before .before .before .before .pre .1 .0)
+slice-write-sets c = omega (
+  arith,
+  c .before .before .before .before .note-block .ensures .long,
+  c .before .before .before .before .before .before .before
+      .loop .inv .long,
+  c .before .before .before .before .before .before .loop-test .taken,
+  c .before .before .before .before .before .before .before .before
+      .before .before .before .pre .1 .0,
+)
 
 add-k : tie.Need-add-k Inv-loop μ-loop
-add-k c = omega (arith, c .before .before .before .before .before .before .loop-test .taken, c .before .before .before .before .before .before .before .before .before .before .before .pre .0 .1)
+add-k c = omega (
+  arith,
+  c .before .before .before .before .before .before .loop-test .taken,
+  c .before .before .before .before .before .before .before .before
+      .before .before .before .pre .0 .1,
+)
 
 loop-less : tie.Need-loop-less Inv-loop μ-loop
 loop-less c = omega (arith, c .before .before .before .before .before .before .loop-test .taken)
@@ -45,7 +86,10 @@ loop-less c = omega (arith, c .before .before .before .before .before .before .l
 loop-again : tie.Need-loop-again Inv-loop μ-loop
 loop-again c = let a = c .before .before .before .before .before .before .before .before .before .before .before .args in
     let g = c .before .before .before .before .before .before .before .loop in
-    noting-more (a .store .now) (a .order .now) (a .sets .now) (g .sets) _ (g .k) (g .inv) (c .before .before .before .before .before .before .loop-test .taken) (c .before .before .before .before .before .before .before .before .before .before .before .pre .1 .0) (c .before .before .before .before .note-block .ensures) (c .same-before .result) (c .same-before .ensures)
+    noting-more (a .store .now) (a .order .now) (a .sets .now) (g .sets) _ (g .k) (g .inv)
+    (c .before .before .before .before .before .before .loop-test .taken)
+    (c .before .before .before .before .before .before .before .before .before .before .before .pre .1 .0)
+    (c .before .before .before .before .note-block .ensures) (c .same-before .result) (c .same-before .ensures)
 
 same-length : tie.Need-same-length Inv-loop μ-loop
 same-length c = c .before .loop .inv .long

@@ -37,8 +37,14 @@ wants-rejects-requires c κs = search needs
 walk-requires : tie.Need-walk-requires
 unfolding anyNoted
 walk-requires c κs = let a = c .before .before .before .before .before .before .before .before .before .before .before .args in
-    let p = c .before .before .before .before .before .before .before .before .before .before .before .pre in
-    ((((p .sorted, p .whole), p .few), p .flagged), ((length-take-le 1024 (a .marks .now) (omega (arith, p .marked)), p .included), λ t. absurd (true≢false (sym t))))
+    let p = c .before .before .before .before .before .before .before .before .before .before .before .pre in (
+      (((p .sorted, p .whole), p .few), p .flagged),
+      (
+        (length-take-le 1024 (a .marks .now) (omega (arith, p .marked)), p .included),
+        λ t. absurd
+            (true≢false (sym t)),
+      ),
+    )
 
 same-length : tie.Need-same-length
 same-length c = search needs
@@ -47,7 +53,9 @@ returns : tie.Need-returns
 unfolding anyNoted
 returns c = let a = c .before .before .before .before .before .before .before .before .before .before .before .before .before .before .args in
     let p = c .before .before .before .before .before .before .before .before .before .before .before .before .before .before .pre in
-    certified-old (a .wanted) (a .stakes .now) (a .store .now) (a .order .now) (a .marks .now) (some-committee (p .sorted)) (p .few) _ (c .before .before .walk .result) (sym (c .before .before .before .before .before .wants-rejects .ensures) ∙ not-true _ (c .before .before .before .before .if1 .taken)) _ (c .before .before .walk .ensures)
+    certified-old (a .wanted) (a .stakes .now) (a .store .now) (a .order .now) (a .marks .now) (some-committee (p .sorted)) (p .few) _
+    (c .before .before .walk .result) (sym (c .before .before .before .before .before .wants-rejects .ensures) ∙ not-true _
+    (c .before .before .before .before .if1 .taken)) _ (c .before .before .walk .ensures)
 
 sub-rejects : tie.Need-sub-rejects
 sub-rejects c = search needs
@@ -64,44 +72,83 @@ any-marked-requires c κs = search needs
 walk-requires-2 : tie.Need-walk-requires-2
 unfolding anyNoted
 walk-requires-2 c κs = let a = c .before .before .before .before .before .before .before .before .before .before .before .before .before .before .args in
-    let p = c .before .before .before .before .before .before .before .before .before .before .before .before .before .before .pre in
-    ((((p .sorted, p .whole), p .few), p .flagged), ((length-take-le 1024 (a .marks .now) (omega (arith, p .marked)), p .included), λ t. absurd (true≢false (sym t))))
+    let p = c .before .before .before .before .before .before .before .before .before .before .before .before .before .before .pre in (
+      (((p .sorted, p .whole), p .few), p .flagged),
+      (
+        (length-take-le 1024 (a .marks .now) (omega (arith, p .marked)), p .included),
+        λ t. absurd
+            (true≢false (sym t)),
+      ),
+    )
 
 same-length-2 : tie.Need-same-length-2
 same-length-2 c = search needs
 
 returns-2 : tie.Need-returns-2
 unfolding AnyMarked anyNoted
-returns-2 c = let a = c .before .before .before .before .before .before .before .before .before .before .before .before .before .before .before .before .before .args in
+returns-2 c = let a = c .before .before .before .before .before .before .before .before .before .before .before .before .before .before .before .before
+    .before .args in
     let p = c .before .before .before .before .before .before .before .before .before .before .before .before .before .before .before .before .before .pre in
-    let bytes = bytes-of (a .store .now) (λ j h. omega (arith, c .before .before .before .before .before .before .before .before .before .before .before .before .before .before .before .shared-slice-known2 .given j)) in
-    let none = subst (AnyMarked (take 1024 (drop 1024 (a .marks .now))) (length (a .order .now))) (not-true (c .before .before .before .before .before .any-marked .result) (c .before .before .before .before .if2 .taken)) (c .before .before .before .before .before .any-marked .ensures) in
-    certified-none (a .wanted) (a .stakes .now) (a .store .now) (a .order .now) (a .marks .now) (some-committee (p .sorted)) (p .few) _ (c .before .before .walk2 .result) (sym (c .before .before .before .before .before .before .before .before .wants-rejects .ensures) ∙ not-false _ (c .before .before .before .before .before .before .before .if1 .left)) bytes _ none (c .before .before .walk2 .ensures)
+    let bytes = bytes-of (a .store .now) (λ j h. omega (
+      arith,
+      c .before .before .before .before .before .before .before .before .before .before .before
+          .before .before .before .before .shared-slice-known2 .given j,
+    )) in
+    let none = subst (AnyMarked (take 1024 (drop 1024 (a .marks .now))) (length (a .order .now)))
+    (not-true (c .before .before .before .before .before .any-marked .result) (c .before .before .before .before .if2 .taken))
+    (c .before .before .before .before .before .any-marked .ensures) in
+    certified-none (a .wanted) (a .stakes .now) (a .store .now) (a .order .now) (a .marks .now) (some-committee (p .sorted)) (p .few) _
+    (c .before .before .walk2 .result) (sym (c .before .before .before .before .before .before .before .before .wants-rejects .ensures) ∙ not-false _
+    (c .before .before .before .before .before .before .before .if1 .left)) bytes _ none (c .before .before .walk2 .ensures)
 
 slice-aggregate-spread : tie.Need-slice-aggregate-spread
 slice-aggregate-spread c = search needs
 
 spread-requires : tie.Need-spread-requires
 spread-requires c κs = let a = c .before .before .before .before .before .before .before .before .before .before .before .before .before .before .args in
-    let p = c .before .before .before .before .before .before .before .before .before .before .before .before .before .before .pre in
-    ((some-committee (p .sorted), p .few), (length-take-le 1024 (drop 1024 (a .marks .now)) (omega (arith, p .marked, length-drop 1024 (a .marks .now))), (refl, p .included)))
+    let p = c .before .before .before .before .before .before .before .before .before .before .before .before .before .before .pre in (
+      (some-committee (p .sorted), p .few),
+      (
+        length-take-le 1024 (drop 1024 (a .marks .now)) (omega (arith, p .marked, length-drop 1024 (a .marks .now))),
+        (refl, p .included),
+      ),
+    )
 
 slice-aggregate-walk : tie.Need-slice-aggregate-walk
 slice-aggregate-walk c = sym (c .before .before .spread .kept .1 .1 .1 .1 .0)
 
 walk-requires-3 : tie.Need-walk-requires-3
-walk-requires-3 c κs = let a = c .before .before .before .before .before .before .before .before .before .before .before .before .before .before .before .before .before .before .args in
-    let p = c .before .before .before .before .before .before .before .before .before .before .before .before .before .before .before .before .before .before .pre in
-    ((((p .sorted, p .whole), p .few), p .flagged), ((length-take-le 1024 (a .marks .now) (omega (arith, p .marked)), p .included), λ t. c .before .before .before .spread .kept .1 .1 .1 .1 .0))
+walk-requires-3 c κs = let a = c .before .before .before .before .before .before .before .before .before .before .before .before .before .before .before
+    .before .before .before .args in
+    let p = c .before .before .before .before .before .before .before .before .before .before .before .before .before .before .before .before .before .before
+    .pre in (
+      (((p .sorted, p .whole), p .few), p .flagged),
+      (
+        (length-take-le 1024 (a .marks .now) (omega (arith, p .marked)), p .included),
+        λ t. c .before .before
+            .before .spread .kept .1 .1 .1 .1 .0,
+      ),
+    )
 
 same-length-3 : tie.Need-same-length-3
 same-length-3 c = search needs
 
 returns-3 : tie.Need-returns-3
-returns-3 c = let a = c .before .before .before .before .before .before .before .before .before .before .before .before .before .before .before .before .before .before .before .before .before .args in
-    let p = c .before .before .before .before .before .before .before .before .before .before .before .before .before .before .before .before .before .before .before .before .before .pre in
-    let bytes = bytes-of (a .store .now) (λ j h. omega (arith, c .before .before .before .before .before .before .before .before .before .before .before .before .before .before .before .before .before .before .before .shared-slice-known2 .given j)) in
-    certified-new (a .wanted) (a .stakes .now) (a .store .now) (a .order .now) (a .marks .now) (some-committee (p .sorted)) (p .few) _ (c .before .before .walk3 .result) (sym (c .before .before .before .before .before .before .before .before .before .before .before .before .wants-rejects .ensures) ∙ not-false _ (c .before .before .before .before .before .before .before .before .before .before .before .if1 .left)) bytes _ (c .before .before .before .before .before .before .spread .ensures) (rw (some-noted (c .before .before .before .before .before .before .spread .last .1 .1 .1 .1 .0) (c .before .before .before .before .before .before .spread .kept .1 .1 .1 .1 .0)) at (c .before .before .walk3 .ensures))
+returns-3 c = let a = c .before .before .before .before .before .before .before .before .before .before .before .before .before .before .before .before
+    .before .before .before .before .before .args in
+    let p = c .before .before .before .before .before .before .before .before .before .before .before .before .before .before .before .before .before .before
+    .before .before .before .pre in
+    let bytes = bytes-of (a .store .now) (λ j h. omega (
+      arith,
+      c .before .before .before .before .before .before .before .before .before .before .before
+          .before .before .before .before .before .before .before .before .shared-slice-known2 .given j,
+    )) in
+    certified-new (a .wanted) (a .stakes .now) (a .store .now) (a .order .now) (a .marks .now) (some-committee (p .sorted)) (p .few) _
+    (c .before .before .walk3 .result) (sym (c .before .before .before .before .before .before .before .before .before .before .before .before
+    .wants-rejects .ensures) ∙ not-false _ (c .before .before .before .before .before .before .before .before .before .before .before .if1 .left)) bytes _
+    (c .before .before .before .before .before .before .spread .ensures)
+    (rw (some-noted (c .before .before .before .before .before .before .spread .last .1 .1 .1 .1 .0)
+    (c .before .before .before .before .before .before .spread .kept .1 .1 .1 .1 .0)) at (c .before .before .walk3 .ensures))
 
 pub certify-spec : {M : Type 1} → statement M
 certify-spec =

@@ -24,7 +24,10 @@ any-marked-requires : tie.Need-any-marked-requires
 any-marked-requires c κs = search needs
 
 returns-2 : tie.Need-returns-2
-returns-2 c = record { wide = λ e. absurd (not-both (sym (c .before .before .before .wants-shares .ensures) ∙ not-false _ (c .before .before .if1 .left)) e); ordinary = λ t. c .any-marked .ensures }
+returns-2 c = record {
+  wide = λ e. absurd (not-both (sym (c .before .before .before .wants-shares .ensures) ∙ not-false _ (c .before .before .if1 .left)) e);
+  ordinary = λ t. c .any-marked .ensures;
+}
 
 pub may-show-spec : {M : Type 1} → statement M
 may-show-spec =

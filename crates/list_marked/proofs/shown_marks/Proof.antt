@@ -14,7 +14,8 @@ returns : tie.Need-returns
 unfolding ShownAll
 returns c = let a = c .before .before .before .before .before .before .before .before .args in
     let p = c .before .before .before .before .before .before .before .before .pre in
-    λ l right. may-not (a .wanted) (a .stakes .now) (a .store .now) (a .order .now) (a .marks .now) (some-committee (p .sorted)) (p .few) _ (c .before .may-show .ensures) l right (not-true _ (c .if1 .taken))
+    λ l right. may-not (a .wanted) (a .stakes .now) (a .store .now) (a .order .now) (a .marks .now) (some-committee (p .sorted)) (p .few) _
+    (c .before .may-show .ensures) l right (not-true _ (c .if1 .taken))
 
 marked-authors-requires : tie.Need-marked-authors-requires
 marked-authors-requires c κs = let p = c .before .before .before .before .before .before .before .before .pre in
@@ -30,13 +31,17 @@ returns-2 : tie.Need-returns-2
 unfolding ShownAll
 returns-2 c = let a = c .before .before .before .before .before .before .before .before .before .before .before .before .args in
     let p = c .before .before .before .before .before .before .before .before .before .before .before .before .pre in
-    few-hidden (a .wanted) (a .stakes .now) (a .store .now) (a .order .now) (a .marks .now) (some-committee (p .sorted)) (p .few) (c .before .before .before .marked-authors .result) (c .before .before .before .marked-authors .ensures) (quorum-told (a .stakes .now) (a .total .0) _ (c .before .before .before .marked-authors .result) _ (p .whole) (c .before .before .stake-of .ensures) (c .before .is-quorum .ensures) ∙ not-true _ (c .if2 .taken))
+    few-hidden (a .wanted) (a .stakes .now) (a .store .now) (a .order .now) (a .marks .now) (some-committee (p .sorted)) (p .few)
+    (c .before .before .before .marked-authors .result) (c .before .before .before .marked-authors .ensures)
+    (quorum-told (a .stakes .now) (a .total .0) _ (c .before .before .before .marked-authors .result) _ (p .whole) (c .before .before .stake-of .ensures)
+    (c .before .is-quorum .ensures) ∙ not-true _ (c .if2 .taken))
 
 certify-requires : tie.Need-certify-requires
 certify-requires c κs = search needs
 
 stake-of-requires-2 : tie.Need-stake-of-requires-2
-stake-of-requires-2 c κs = c .before .before .before .before .before .before .before .before .before .before .before .before .before .before .before .before .pre .sorted .sound
+stake-of-requires-2 c κs = c .before .before .before .before .before .before .before .before .before .before .before .before .before .before .before .before
+    .pre .sorted .sound
 
 is-quorum-requires-2 : tie.Need-is-quorum-requires-2
 is-quorum-requires-2 c κs = search needs
@@ -46,18 +51,35 @@ same-length c = search needs
 
 returns-3 : tie.Need-returns-3
 unfolding ShownAll
-returns-3 c = let a = c .before .before .before .before .before .before .before .before .before .before .before .before .before .before .before .before .before .before .before .args in
-    let p = c .before .before .before .before .before .before .before .before .before .before .before .before .before .before .before .before .before .before .before .pre in
-    λ l right. not-shown (a .wanted) (a .stakes .now) (a .store .now) (a .order .now) (a .marks .now) (some-committee (p .sorted)) (p .few) _ (c .before .before .before .before .before .certify .result) (c .before .before .before .before .before .certify .ensures) l right (quorum-told (a .stakes .now) (a .total .0) _ (c .before .before .before .before .before .certify .result .authors) _ (p .whole) (c .before .before .stake-of2 .ensures) (c .before .is-quorum2 .ensures) ∙ not-true _ (c .if3 .taken))
+returns-3 c = let a = c .before .before .before .before .before .before .before .before .before .before .before .before .before .before .before .before
+    .before .before .before .args in
+    let p = c .before .before .before .before .before .before .before .before .before .before .before .before .before .before .before .before .before .before
+    .before .pre in
+    λ l right. not-shown (a .wanted) (a .stakes .now) (a .store .now) (a .order .now) (a .marks .now) (some-committee (p .sorted)) (p .few) _
+    (c .before .before .before .before .before .certify .result) (c .before .before .before .before .before .certify .ensures) l right
+    (quorum-told (a .stakes .now) (a .total .0) _ (c .before .before .before .before .before .certify .result .authors) _ (p .whole)
+    (c .before .before .stake-of2 .ensures) (c .before .is-quorum2 .ensures) ∙ not-true _ (c .if3 .taken))
 
 same-length-2 : tie.Need-same-length-2
 same-length-2 c = search needs
 
 returns-4 : tie.Need-returns-4
 unfolding ShownAll CertifiedAll
-returns-4 c = let a = c .before .before .before .before .before .before .before .before .before .before .before .before .before .before .before .before .before .before .before .args in
-    let p = c .before .before .before .before .before .before .before .before .before .before .before .before .before .before .before .before .before .before .before .pre in
-    λ l right. (is-shown (a .wanted) (a .stakes .now) (a .store .now) (a .order .now) (a .marks .now) (some-committee (p .sorted)) (p .few) _ (c .before .before .before .before .before .certify .result) (c .before .before .before .before .before .certify .ensures) l right (may-be (a .wanted) (a .stakes .now) (a .store .now) (a .order .now) (a .marks .now) (some-committee (p .sorted)) (p .few) _ (c .before .before .before .before .before .before .before .before .before .before .before .before .may-show .ensures) l right (not-false _ (c .before .before .before .before .before .before .before .before .before .before .before .if1 .left))) (quorum-told (a .stakes .now) (a .total .0) _ (c .before .before .before .before .before .certify .result .authors) _ (p .whole) (c .before .before .stake-of2 .ensures) (c .before .is-quorum2 .ensures) ∙ not-false _ (c .if3 .left)), c .before .before .before .before .before .certify .ensures l right)
+returns-4 c = let a = c .before .before .before .before .before .before .before .before .before .before .before .before .before .before .before .before
+    .before .before .before .args in
+    let p = c .before .before .before .before .before .before .before .before .before .before .before .before .before .before .before .before .before .before
+    .before .pre in
+    λ l right. (
+      is-shown (a .wanted) (a .stakes .now) (a .store .now) (a .order .now) (a .marks .now) (some-committee (p .sorted)) (p .few) _
+          (c .before .before .before .before .before .certify .result) (c .before .before .before .before .before .certify .ensures) l right
+          (may-be (a .wanted) (a .stakes .now) (a .store .now) (a .order .now) (a .marks .now) (some-committee (p .sorted)) (p .few) _
+          (c .before .before .before .before .before .before .before .before .before .before .before .before .may-show .ensures) l right
+          (not-false _ (c .before .before .before .before .before .before .before .before .before .before .before .if1 .left)))
+          (quorum-told (a .stakes .now) (a .total .0) _ (c .before .before .before .before .before .certify .result .authors) _ (p .whole)
+          (c .before .before .stake-of2 .ensures) (c .before .is-quorum2 .ensures) ∙ not-false _ (c .if3 .left)),
+      c .before .before .before .before .before
+          .certify .ensures l right,
+    )
 
 pub shown-marks-spec : {M : Type 1} → statement M
 shown-marks-spec =

@@ -32,7 +32,8 @@ returns : tie.Need-returns
 unfolding asNextFinal
 returns c = let a = c .before .before .before .before .before .args in
     let told = c .enum-told .given in
-    next-broken (a .stakes .now) (a .store .now) (listing (isOrdinary (a .list)) (asReading (a .reading)) (a .stakes .now) (blocksOf (a .store .now))) (asMaybe (a .after)) (broken-sound (a .stakes .now) (told .0 .0) (ap asNewCommittee (sym (told .1)) ∙ c .before .before .new-committee .ensures))
+    next-broken (a .stakes .now) (a .store .now) (listing (isOrdinary (a .list)) (asReading (a .reading)) (a .stakes .now) (blocksOf (a .store .now)))
+    (asMaybe (a .after)) (broken-sound (a .stakes .now) (told .0 .0) (ap asNewCommittee (sym (told .1)) ∙ c .before .before .new-committee .ensures))
 
 in-order-requires : tie.Need-in-order-requires
 in-order-requires c κs = let a = c .before .before .before .before .before .before .args in
@@ -45,7 +46,8 @@ unfolding asNextFinal
 returns-2 c = let a = c .before .before .before .before .before .before .before .before .args in
     let told = c .before .before .before .total .given in
     let t = taken-sound (a .stakes .now) (told .0 .0) (ap asNewCommittee (sym (told .1)) ∙ c .before .before .before .before .before .new-committee .ensures) in
-    next-disordered (a .stakes .now) (a .store .now) (listing (isOrdinary (a .list)) (asReading (a .reading)) (a .stakes .now) (blocksOf (a .store .now))) (asMaybe (a .after)) (t .0) (sym (c .before .in-order .ensures) ∙ not-true _ (c .if1 .taken))
+    next-disordered (a .stakes .now) (a .store .now) (listing (isOrdinary (a .list)) (asReading (a .reading)) (a .stakes .now) (blocksOf (a .store .now)))
+    (asMaybe (a .after)) (t .0) (sym (c .before .in-order .ensures) ∙ not-true _ (c .if1 .taken))
 
 slice-aggregate-sorted-positions : tie.Need-slice-aggregate-sorted-positions
 slice-aggregate-sorted-positions c = search needs
@@ -60,15 +62,18 @@ array-share-prefix-order c = search needs
 
 slice-aggregate-next-after : tie.Need-slice-aggregate-next-after
 slice-aggregate-next-after c = let a = c .before .before .before .before .before .before .before .before .before .before .before .before .args in
-    let o : storeInOrder (a .stakes .now) (a .store .now) ≡ true = sym (c .before .before .before .before .before .in-order .ensures) ∙ not-false _ (c .before .before .before .before .if1 .left) in
+    let o : storeInOrder (a .stakes .now) (a .store .now) ≡ true = sym (c .before .before .before .before .before .in-order .ensures) ∙ not-false _
+    (c .before .before .before .before .if1 .left) in
     let q = c .before .before .sorted-positions .ensures in
     q .1 .0 ∙ sym (ap length (q .1 .1) ∙ sorted-count (a .store .now) (order-laid (a .stakes .now) (a .store .now) o))
 
 next-after-requires : tie.Need-next-after-requires
 next-after-requires c κs = let a = c .before .before .before .before .before .before .before .before .before .before .before .before .args in
     let told = c .before .before .before .before .before .before .before .total .given in
-    let t = taken-sound (a .stakes .now) (told .0 .0) (ap asNewCommittee (sym (told .1)) ∙ c .before .before .before .before .before .before .before .before .before .new-committee .ensures) in
-    let o : storeInOrder (a .stakes .now) (a .store .now) ≡ true = sym (c .before .before .before .before .before .in-order .ensures) ∙ not-false _ (c .before .before .before .before .if1 .left) in
+    let t = taken-sound (a .stakes .now) (told .0 .0) (ap asNewCommittee (sym (told .1)) ∙ c .before .before .before .before .before .before .before .before
+    .before .new-committee .ensures) in
+    let o : storeInOrder (a .stakes .now) (a .store .now) ≡ true = sym (c .before .before .before .before .before .in-order .ensures) ∙ not-false _
+    (c .before .before .before .before .if1 .left) in
     let q = c .before .before .sorted-positions .ensures in
     let n = ap length (q .1 .1) ∙ sorted-count (a .store .now) (order-laid (a .stakes .now) (a .store .now) o) in
     ((record { sound = t .0; inOrder = o; laid = order-laid (a .stakes .now) (a .store .now) o; places = q .1 .1 }, t .1), omega (arith, q, n))
@@ -83,17 +88,24 @@ returns-3 : tie.Need-returns-3
 unfolding asNextFinal asMaybe
 returns-3 c = let a = c .before .before .before .before .before .before .before .before .before .before .before .before .before .before .before .before .args in
     let told = c .before .before .before .before .before .before .before .before .before .before .before .total .given in
-    let t = taken-sound (a .stakes .now) (told .0 .0) (ap asNewCommittee (sym (told .1)) ∙ c .before .before .before .before .before .before .before .before .before .before .before .before .before .new-committee .ensures) in
-    let o : storeInOrder (a .stakes .now) (a .store .now) ≡ true = sym (c .before .before .before .before .before .before .before .before .before .in-order .ensures) ∙ not-false _ (c .before .before .before .before .before .before .before .before .if1 .left) in
-    next-answered (a .stakes .now) (a .store .now) (listing (isOrdinary (a .list)) (asReading (a .reading)) (a .stakes .now) (blocksOf (a .store .now))) (asMaybe (a .after)) (t .0) o _ (ap asMaybe (sym (c .before .next .given .1)) ∙ c .before .before .before .next-after .ensures)
+    let t = taken-sound (a .stakes .now) (told .0 .0) (ap asNewCommittee (sym (told .1)) ∙ c .before .before .before .before .before .before .before .before
+    .before .before .before .before .before .new-committee .ensures) in
+    let o : storeInOrder (a .stakes .now) (a .store .now) ≡ true = sym
+    (c .before .before .before .before .before .before .before .before .before .in-order .ensures) ∙ not-false _
+    (c .before .before .before .before .before .before .before .before .if1 .left) in
+    next-answered (a .stakes .now) (a .store .now) (listing (isOrdinary (a .list)) (asReading (a .reading)) (a .stakes .now) (blocksOf (a .store .now)))
+    (asMaybe (a .after)) (t .0) o _ (ap asMaybe (sym (c .before .next .given .1)) ∙ c .before .before .before .next-after .ensures)
 
 returns-4 : tie.Need-returns-4
 unfolding asNextFinal asMaybe
 returns-4 c = let a = c .before .before .before .before .before .before .before .before .before .before .before .before .before .before .before .args in
     let told = c .before .before .before .before .before .before .before .before .before .before .total .given in
-    let t = taken-sound (a .stakes .now) (told .0 .0) (ap asNewCommittee (sym (told .1)) ∙ c .before .before .before .before .before .before .before .before .before .before .before .before .new-committee .ensures) in
-    let o : storeInOrder (a .stakes .now) (a .store .now) ≡ true = sym (c .before .before .before .before .before .before .before .before .in-order .ensures) ∙ not-false _ (c .before .before .before .before .before .before .before .if1 .left) in
-    next-answered (a .stakes .now) (a .store .now) (listing (isOrdinary (a .list)) (asReading (a .reading)) (a .stakes .now) (blocksOf (a .store .now))) (asMaybe (a .after)) (t .0) o _ (ap asMaybe (sym (c .enum-told2 .given .1)) ∙ c .before .before .next-after .ensures)
+    let t = taken-sound (a .stakes .now) (told .0 .0) (ap asNewCommittee (sym (told .1)) ∙ c .before .before .before .before .before .before .before .before
+    .before .before .before .before .new-committee .ensures) in
+    let o : storeInOrder (a .stakes .now) (a .store .now) ≡ true = sym (c .before .before .before .before .before .before .before .before .in-order .ensures)
+    ∙ not-false _ (c .before .before .before .before .before .before .before .if1 .left) in
+    next-answered (a .stakes .now) (a .store .now) (listing (isOrdinary (a .list)) (asReading (a .reading)) (a .stakes .now) (blocksOf (a .store .now)))
+    (asMaybe (a .after)) (t .0) o _ (ap asMaybe (sym (c .enum-told2 .given .1)) ∙ c .before .before .next-after .ensures)
 
 pub next-listed-spec : {M : Type 1} → statement M
 next-listed-spec =

@@ -18,12 +18,14 @@ read-u64-requires c κs = search needs
 returns : tie.Need-returns
 unfolding asLocator locator asReference referenceAt
 returns c = let a = c .before .before .before .before .args in
-    sym (higher-round (asLocator (a .given)) (locator (referenceAt (a .store .now) (a .at)) (a .offset)) (omega (arith, c .if1 .taken, c .before .before .read-u64 .ensures)))
+    sym (higher-round (asLocator (a .given)) (locator (referenceAt (a .store .now) (a .at)) (a .offset))
+    (omega (arith, c .if1 .taken, c .before .before .read-u64 .ensures)))
 
 returns-2 : tie.Need-returns-2
 unfolding asLocator locator asReference referenceAt
 returns-2 c = let a = c .before .before .before .before .before .before .args in
-    sym (lower-round (asLocator (a .given)) (locator (referenceAt (a .store .now) (a .at)) (a .offset)) (omega (arith, c .if2 .taken, c .before .before .before .before .read-u64 .ensures)))
+    sym (lower-round (asLocator (a .given)) (locator (referenceAt (a .store .now) (a .at)) (a .offset))
+    (omega (arith, c .if2 .taken, c .before .before .before .before .read-u64 .ensures)))
 
 read-reference-requires : tie.Need-read-reference-requires
 read-reference-requires c κs = search needs

@@ -11,12 +11,18 @@ write-ranges-requires c κs = search needs
 sort-rows-requires : tie.Need-sort-rows-requires
 sort-rows-requires c κs = let o = c .before .before .before .before .before .before .before .before .before .before in
     let a = o .args in
-    sortable (a .kind) (asMaybe (a .last)) (asMaybe (a .bound)) (a .store .now) (blockIn (a .rec .now)) (a .rows .now) _ (c .before .before .before .before .write-ranges .result) (c .before .before .before .before .write-ranges .ensures) (o .pre .1 .0) (a .spare .now) (o .pre .1 .1)
+    sortable (a .kind) (asMaybe (a .last)) (asMaybe (a .bound)) (a .store .now) (blockIn (a .rec .now)) (a .rows .now) _
+    (c .before .before .before .before .write-ranges .result) (c .before .before .before .before .write-ranges .ensures) (o .pre .1 .0) (a .spare .now)
+    (o .pre .1 .1)
 
 join-rows-requires : tie.Need-join-rows-requires
-join-rows-requires c κs = let o = c .before .before .before .before .before .before .before .before .before .before .before .before .before .before .before .before in
+join-rows-requires c κs = let o = c .before .before .before .before .before .before .before .before .before .before .before .before .before .before .before
+    .before in
     let a = o .args in
-    joinable (a .kind) (asMaybe (a .last)) (asMaybe (a .bound)) (a .store .now) (blockIn (a .rec .now)) (a .rows .now) _ (c .before .before .before .before .before .before .before .before .before .before .write-ranges .result) (c .before .before .before .before .before .before .before .before .before .before .write-ranges .ensures) (o .pre .1 .0) _ (c .before .before .before .before .before .sort-rows .ensures)
+    joinable (a .kind) (asMaybe (a .last)) (asMaybe (a .bound)) (a .store .now) (blockIn (a .rec .now)) (a .rows .now) _
+    (c .before .before .before .before .before .before .before .before .before .before .write-ranges .result)
+    (c .before .before .before .before .before .before .before .before .before .before .write-ranges .ensures) (o .pre .1 .0) _
+    (c .before .before .before .before .before .sort-rows .ensures)
 
 same-length : tie.Need-same-length
 same-length c = search needs
@@ -25,9 +31,14 @@ same-length-2 : tie.Need-same-length-2
 same-length-2 c = search needs
 
 returns : tie.Need-returns
-returns c = let o = c .before .before .before .before .before .before .before .before .before .before .before .before .before .before .before .before .before .before .before in
+returns c = let o = c .before .before .before .before .before .before .before .before .before .before .before .before .before .before .before .before .before
+    .before .before in
     let a = o .args in
-    own-of (a .kind) (asMaybe (a .last)) (asMaybe (a .bound)) (a .store .now) (blockIn (a .rec .now)) (a .rows .now) _ (c .before .before .before .before .before .before .before .before .before .before .before .before .before .write-ranges .result) (c .before .before .before .before .before .before .before .before .before .before .before .before .before .write-ranges .ensures) (o .pre .1 .0) _ (c .before .before .before .before .before .before .before .before .sort-rows .ensures) _ (c .before .before .join-rows .result) (c .before .before .join-rows .ensures)
+    own-of (a .kind) (asMaybe (a .last)) (asMaybe (a .bound)) (a .store .now) (blockIn (a .rec .now)) (a .rows .now) _
+    (c .before .before .before .before .before .before .before .before .before .before .before .before .before .write-ranges .result)
+    (c .before .before .before .before .before .before .before .before .before .before .before .before .before .write-ranges .ensures) (o .pre .1 .0) _
+    (c .before .before .before .before .before .before .before .before .sort-rows .ensures) _ (c .before .before .join-rows .result)
+    (c .before .before .join-rows .ensures)
 
 pub own-ranges-spec : {M : Type 1} → statement M
 own-ranges-spec =

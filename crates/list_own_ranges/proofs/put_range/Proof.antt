@@ -26,7 +26,8 @@ in-reach-requires c κs = search needs
 returns-2 : tie.Need-returns-2
 unfolding votedBy
 returns-2 c = let a = c .before .before .before .before .before .before .args in
-    rw (c .before .before .before .vote .given .1) (far-put (asMaybe (a .last)) (asMaybe (a .bound)) (a .rows .now) (a .n) (a .at) (asRange (c .before .before .before .vote .given .0 .0)) (sym (c .before .in-reach .ensures) ∙ not-true _ (c .if1 .taken)))
+    rw (c .before .before .before .vote .given .1) (far-put (asMaybe (a .last)) (asMaybe (a .bound)) (a .rows .now) (a .n) (a .at)
+    (asRange (c .before .before .before .vote .given .0 .0)) (sym (c .before .in-reach .ensures) ∙ not-true _ (c .if1 .taken)))
 
 put-row-requires : tie.Need-put-row-requires
 put-row-requires c κs = search needs
@@ -40,7 +41,11 @@ same-length c = search needs
 returns-3 : tie.Need-returns-3
 unfolding votedBy asRange newRange
 returns-3 c = let a = c .before .before .before .before .before .before .before .before .before .before .args in
-    rw (c .before .before .put-row .ensures, c .before .before .before .before .before .before .before .vote .given .1) (range-put (asMaybe (a .last)) (asMaybe (a .bound)) (a .rows .now) (a .n) (a .at) (asRange (c .before .before .before .before .before .before .before .vote .given .0 .0)) (sym (c .before .before .before .before .before .in-reach .ensures) ∙ not-false _ (c .before .before .before .before .if1 .left)) (c .before .before .before .before .before .before .before .before .before .before .pre))
+    rw (c .before .before .put-row .ensures, c .before .before .before .before .before .before .before .vote .given .1)
+    (range-put (asMaybe (a .last)) (asMaybe (a .bound)) (a .rows .now) (a .n) (a .at)
+    (asRange (c .before .before .before .before .before .before .before .vote .given .0 .0))
+    (sym (c .before .before .before .before .before .in-reach .ensures) ∙ not-false _ (c .before .before .before .before .if1 .left))
+    (c .before .before .before .before .before .before .before .before .before .before .pre))
 
 pub put-range-spec : {M : Type 1} → statement M
 put-range-spec =

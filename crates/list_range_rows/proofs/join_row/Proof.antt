@@ -44,7 +44,8 @@ same-length c = search needs
 returns : tie.Need-returns
 unfolding rowAt newRow
 returns c = let o = c .before .before .before .before .before .before .before .before .before .before in
-    rw (c .before .before .put-row .ensures) (first-joined (o .args .store .now) (o .args .rows .now) (o .args .m) (o .args .i) (o .pre .0 .0) (o .pre .0 .1) (omega arith))
+    rw (c .before .before .put-row .ensures) (first-joined (o .args .store .now) (o .args .rows .now) (o .args .m) (o .args .i) (o .pre .0 .0) (o .pre .0 .1)
+    (omega arith))
 
 sub-last : tie.Need-sub-last
 sub-last c = search needs
@@ -94,7 +95,8 @@ same-length-2 c = search needs
 returns-2 : tie.Need-returns-2
 unfolding rowAt newRow endsBefore keyOf
 returns-2 c = let o = c .before .before .before .before .before .before .before .before .before .before .before .before .before .before .before in
-    rw (c .before .before .put-row2 .ensures) (more-joined (o .args .store .now) (o .args .rows .now) (o .args .m) (o .args .i) (o .pre .0 .0) (o .pre .0 .1) (omega arith) (sym (c .before .before .before .before .before .key-before .ensures) ∙ c .before .before .before .before .if2 .taken))
+    rw (c .before .before .put-row2 .ensures) (more-joined (o .args .store .now) (o .args .rows .now) (o .args .m) (o .args .i) (o .pre .0 .0) (o .pre .0 .1)
+    (omega arith) (sym (c .before .before .before .before .before .key-before .ensures) ∙ c .before .before .before .before .if2 .taken))
 
 sub-put-row : tie.Need-sub-put-row
 sub-put-row c = search needs
@@ -108,12 +110,15 @@ same-length-3 c = search needs
 returns-3 : tie.Need-returns-3
 unfolding rowAt newRow endsBefore keyOf
 returns-3 c = let o = c .before .before .before .before .before .before .before .before .before .before .before .before .before .before .before .before in
-    rw (c .before .before .put-row3 .ensures) (wider-joined (o .args .store .now) (o .args .rows .now) (o .args .m) (o .args .i) (o .pre .0 .0) (o .pre .0 .1) (omega arith) (sym (c .before .before .before .before .before .before .key-before .ensures) ∙ c .before .before .before .before .before .if2 .left) (c .before .before .before .before .if3 .taken))
+    rw (c .before .before .put-row3 .ensures) (wider-joined (o .args .store .now) (o .args .rows .now) (o .args .m) (o .args .i) (o .pre .0 .0) (o .pre .0 .1)
+    (omega arith) (sym (c .before .before .before .before .before .before .key-before .ensures) ∙ c .before .before .before .before .before .if2 .left)
+    (c .before .before .before .before .if3 .taken))
 
 returns-4 : tie.Need-returns-4
 unfolding rowAt newRow endsBefore keyOf
 returns-4 c = let o = c .before .before .before .before .before .before .before .before .before .before .before .before in
-    same-joined (o .args .store .now) (o .args .rows .now) (o .args .m) (o .args .i) (o .pre .0 .0) (o .pre .0 .1) (omega arith) (sym (c .before .before .key-before .ensures) ∙ c .before .if2 .left) (c .if3 .left)
+    same-joined (o .args .store .now) (o .args .rows .now) (o .args .m) (o .args .i) (o .pre .0 .0) (o .pre .0 .1) (omega arith)
+    (sym (c .before .before .key-before .ensures) ∙ c .before .if2 .left) (c .if3 .left)
 
 pub join-row-spec : {M : Type 1} → statement M
 join-row-spec =

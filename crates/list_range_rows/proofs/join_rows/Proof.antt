@@ -23,7 +23,8 @@ join-row-requires : tie.Need-join-row-requires Inv-loop μ-loop
 join-row-requires c κs = let o = c .before .before .before .before .before in
     let g = c .before .before .loop in
     let s = o .args .store .now in
-    let own : rowAt (g .rows) (g .i) ≡ rowAt (o .args .rows .now) (g .i) = row-kept (o .args .rows .now) (g .rows) (g .i) (g .i) (g .inv .1 .0 .kept) (omega arith) in
+    let own : rowAt (g .rows) (g .i) ≡ rowAt (o .args .rows .now) (g .i) = row-kept (o .args .rows .now) (g .rows) (g .i) (g .i) (g .inv .1 .0 .kept)
+    (omega arith) in
     let p = every-row (o .args .rows .now) (o .args .n) (o .pre .proper) (g .i) (c .before .loop-test .taken) in (
       (g .inv .1 .0 .few, omega (arith, g .inv .1 .0 .long, o .pre .room, c .before .loop-test .taken)),
       (

@@ -36,7 +36,8 @@ enum-told c = search needs
 returns-3 : tie.Need-returns-3
 unfolding asRange newRange asLocator locator asMaybe isAfterBest isNone
 returns-3 c = let a = c .before .before .before .before .before .before .args in
-    rw (c .enum-told .given .1) (sym (reach-left (asMaybe (a .last)) none (asRange (a .range)) (omega (arith, c .before .before .before .before .if1 .left)) (sym (c .before .before .before .is-after .ensures) ∙ not-false _ (c .before .before .if2 .left))))
+    rw (c .enum-told .given .1) (sym (reach-left (asMaybe (a .last)) none (asRange (a .range)) (omega (arith, c .before .before .before .before .if1 .left))
+    (sym (c .before .before .before .is-after .ensures) ∙ not-false _ (c .before .before .if2 .left))))
 
 locator-before-requires : tie.Need-locator-before-requires
 locator-before-requires c κs = search needs
@@ -44,7 +45,9 @@ locator-before-requires c κs = search needs
 returns-4 : tie.Need-returns-4
 unfolding asRange newRange asLocator locator asMaybe isAfterBest isNone isAfter
 returns-4 c = let a = c .before .before .before .before .before .before .before .before .args in
-    rw (c .before .before .bound .given .1) (ap not (c .locator-before .ensures) ∙ sym (reach-left (asMaybe (a .last)) _ (asRange (a .range)) (omega (arith, c .before .before .before .before .before .before .if1 .left)) (sym (c .before .before .before .before .before .is-after .ensures) ∙ not-false _ (c .before .before .before .before .if2 .left))))
+    rw (c .before .before .bound .given .1) (ap not (c .locator-before .ensures) ∙ sym
+    (reach-left (asMaybe (a .last)) _ (asRange (a .range)) (omega (arith, c .before .before .before .before .before .before .if1 .left))
+    (sym (c .before .before .before .before .before .is-after .ensures) ∙ not-false _ (c .before .before .before .before .if2 .left))))
 
 pub in-reach-spec : {M : Type 1} → statement M
 in-reach-spec =

@@ -35,7 +35,13 @@ returns : tie.Need-returns
 returns c =
     let a = c .before .before .before .before .before .before .before .before .before .before .before .before .before .before .before .before .before .args in
     c .before .before .write-u643 .ensures
-    ∙ rw (c .before .before .before .before .before .before .write-u642 .ensures, c .before .before .before .before .before .before .before .before .before .before .write-u64 .ensures, c .before .before .before .before .before .before .before .before .before .before .before .before .before .before .write-locator .ensures)
+    ∙ rw (
+      c .before .before .before .before .before .before .write-u642 .ensures,
+      c .before .before .before .before .before .before .before .before .before
+          .before .write-u64 .ensures,
+      c .before .before .before .before .before .before .before .before .before .before .before .before .before .before
+          .write-locator .ensures,
+    )
     (stretch-written (a .out .now) _ (a .locator) (a .end) (a .blocks) (a .stake .0))
 
 pub write-stretch-spec : {M : Type 1} → statement M

@@ -14,7 +14,8 @@ same-length-2 c = search needs
 
 returns : tie.Need-returns
 unfolding Gone
-returns c = c .before .before .before .before .go-on .ensures _ (c .before .before .before .before .before .before .before .before .before .before .before .pre .1)
+returns c = c .before .before .before .before .go-on .ensures _
+    (c .before .before .before .before .before .before .before .before .before .before .before .pre .1)
 
 pub advance-spec : {M : Type 1} → statement M
 advance-spec =

@@ -12,7 +12,9 @@ use Rattle.list_sweep.proofs.pass_edges.Statement.{statement}
 use Rattle.list_sweep.proofs.pass_edges.Tie as tie
 
 abbrev Inv-loop : tie.InvT-loop
-Inv-loop store edges n at marks₀ i₀ marks i = ((at ≤ i) × (i ≤ n)) × ((length marks ≡ length marks₀) × (((was : ℕ → Bool) → Swept was edges marks₀ at → Swept was edges marks i) × ((j : ℕ) → at ≤ j → j < i → rowBefore store (rowAt edges at) (rowAt edges j) ≡ false)))
+Inv-loop store edges n at marks₀ i₀ marks i = ((at ≤ i) × (i ≤ n)) ×
+    ((length marks ≡ length marks₀) × (((was : ℕ → Bool) → Swept was edges marks₀ at → Swept was edges marks i) ×
+    ((j : ℕ) → at ≤ j → j < i → rowBefore store (rowAt edges at) (rowAt edges j) ≡ false)))
 
 abbrev μ-loop : tie.MeasureT-loop
 μ-loop store edges n at marks₀ i₀ marks i = n - i
@@ -34,8 +36,11 @@ returns c = let v = c .before .before .before .loop .inv in
 
 pass-edge-requires : tie.Need-pass-edge-requires Inv-loop μ-loop
 unfolding placeOf
-pass-edge-requires c κs = let p = c .before .before .before .before .before .before .before .before .pre in
-    (omega (arith, p .room, c .before .before .before .loop-test .taken), omega (arith, p .lanes _ (c .before .before .before .loop-test .taken), p .long, c .before .before .before .before .loop .inv .1 .0))
+pass-edge-requires c κs = let p = c .before .before .before .before .before .before .before .before .pre in (
+  omega (arith, p .room, c .before .before .before .loop-test .taken),
+  omega
+      (arith, p .lanes _ (c .before .before .before .loop-test .taken), p .long, c .before .before .before .before .loop .inv .1 .0),
+)
 
 add-i : tie.Need-add-i Inv-loop μ-loop
 add-i c = search needs
@@ -52,8 +57,10 @@ loop-again c = let o = c .before .before .before .before .before .before .before
       (
         ap length (c .before .before .pass-edge .ensures) ∙ length-set (l .marks) _ _ ∙ l .inv .1 .0,
         (
-          (λ was w. rw (c .before .before .pass-edge .ensures) (swept-on was (o .args .edges .now) (l .marks) (l .i) (l .inv .1 .1 .0 was w) (l .inv .1 .0 ∙ p .long) (p .lanes (l .i) h))),
-          (λ j u v. low-more (o .args .store .now) (o .args .edges .now) (o .args .at) (l .i) (l .inv .1 .1 .1) (sym (c .before .before .before .before .before .row-before .ensures) ∙ c .before .before .before .before .if1 .left) j u v),
+          (λ was w. rw (c .before .before .pass-edge .ensures) (swept-on was (o .args .edges .now) (l .marks) (l .i) (l .inv .1 .1 .0 was w)
+              (l .inv .1 .0 ∙ p .long) (p .lanes (l .i) h))),
+          (λ j u v. low-more (o .args .store .now) (o .args .edges .now) (o .args .at) (l .i) (l .inv .1 .1 .1)
+              (sym (c .before .before .before .before .before .row-before .ensures) ∙ c .before .before .before .before .if1 .left) j u v),
         ),
       ),
     )

@@ -56,12 +56,18 @@ mul-follows-2 : tie.Need-mul-follows-2 Inv-loop μ-loop
 mul-follows-2 c = search needs
 
 shared-slice-read-follows-2 : tie.Need-shared-slice-read-follows-2 Inv-loop μ-loop
-shared-slice-read-follows-2 c = omega (arith, c .before .before .before .before .before .before .before .before .pre .room, c .before .before .before .before .loop-test .taken)
+shared-slice-read-follows-2 c = omega (
+  arith,
+  c .before .before .before .before .before .before .before .before .pre .room,
+  c .before .before .before .before
+      .loop-test .taken,
+)
 
 follows-requires-2 : tie.Need-follows-requires-2 Inv-loop μ-loop
 unfolding rowAt
 follows-requires-2 c κs = let o = c .before .before .before .before .before .before .before .before in
-    let h = every-row (o .args .rows .now) (o .args .m) (o .pre .proper) (c .before .before .before .before .before .loop .i) (c .before .before .before .before .loop-test .taken) .inside in
+    let h = every-row (o .args .rows .now) (o .args .m) (o .pre .proper) (c .before .before .before .before .before .loop .i)
+    (c .before .before .before .before .loop-test .taken) .inside in
     h
 
 add-i : tie.Need-add-i Inv-loop μ-loop
@@ -72,21 +78,36 @@ loop-less c = omega arith
 
 loop-again : tie.Need-loop-again Inv-loop μ-loop
 unfolding isAfter keyOf startEdge newRow rowAt
-loop-again c = let o = c .before .before .before .before .before .before .before .before .before .before in
-    (omega arith, λ l e. later-row (o .args .store .now) (o .args .rows .now) l (c .before .before .before .before .before .before .before .loop .i) (c .before .before .before .before .before .before .before .loop .inv .1 l e) (subst (λ (x : Option TransactionLocator). isAfter x (keyOf (o .args .store .now) (startEdge 0 (rowAt (o .args .rows .now) (c .before .before .before .before .before .before .before .loop .i)))) ≡ true) e (sym (c .before .before .before .follows .ensures) ∙ c .if1 .taken)))
+loop-again c = let o = c .before .before .before .before .before .before .before .before .before .before in (
+  omega arith,
+  λ l e. later-row (o .args .store .now) (o .args .rows .now) l (c .before .before .before .before .before .before .before .loop .i)
+      (c .before .before .before .before .before .before .before .loop .inv .1 l e)
+      (subst (λ (x : Option TransactionLocator). isAfter x (keyOf (o .args .store .now)
+      (startEdge 0 (rowAt (o .args .rows .now) (c .before .before .before .before .before .before .before .loop .i)))) ≡ true) e
+      (sym (c .before .before .before .follows .ensures) ∙ c .if1 .taken)),
+)
 
 returns : tie.Need-returns Inv-loop μ-loop
 unfolding isAfter keyOf startEdge endEdge newRow rowAt asMaybe
 returns c = let o = c .before .before .before .before .before .before .before .before .before .before .before in
-    sym (covering-row (o .args .store .now) (o .args .rows .now) (asLocator (o .args .locator)) (o .args .m) (c .before .before .before .before .before .before .before .before .loop .i) (c .before .before .before .before .before .before .before .loop-test .taken) (sym (c .before .before .before .before .follows .ensures) ∙ c .before .if1 .left) (sym (c .before .before .follows2 .ensures) ∙ c .if2 .taken))
+    sym (covering-row (o .args .store .now) (o .args .rows .now) (asLocator (o .args .locator)) (o .args .m)
+    (c .before .before .before .before .before .before .before .before .loop .i)
+    (c .before .before .before .before .before .before .before .loop-test .taken)
+    (sym (c .before .before .before .before .follows .ensures) ∙ c .before .if1 .left) (sym (c .before .before .follows2 .ensures) ∙ c .if2 .taken))
 
 loop-less-2 : tie.Need-loop-less-2 Inv-loop μ-loop
 loop-less-2 c = omega arith
 
 loop-again-2 : tie.Need-loop-again-2 Inv-loop μ-loop
 unfolding isAfter keyOf endEdge newRow rowAt
-loop-again-2 c = let o = c .before .before .before .before .before .before .before .before .before .before .before in
-    (omega arith, λ l e. earlier-row (o .args .store .now) (o .args .rows .now) l (c .before .before .before .before .before .before .before .before .loop .i) (c .before .before .before .before .before .before .before .before .loop .inv .1 l e) (subst (λ (x : Option TransactionLocator). isAfter x (keyOf (o .args .store .now) (endEdge 0 (rowAt (o .args .rows .now) (c .before .before .before .before .before .before .before .before .loop .i)))) ≡ false) e (sym (c .before .before .follows2 .ensures) ∙ c .if2 .left)))
+loop-again-2 c = let o = c .before .before .before .before .before .before .before .before .before .before .before in (
+  omega arith,
+  λ l e. earlier-row (o .args .store .now) (o .args .rows .now) l (c .before .before .before .before .before .before .before .before .loop .i)
+      (c .before .before .before .before .before .before .before .before .loop .inv .1 l e)
+      (subst (λ (x : Option TransactionLocator). isAfter x (keyOf (o .args .store .now)
+      (endEdge 0 (rowAt (o .args .rows .now) (c .before .before .before .before .before .before .before .before .loop .i)))) ≡ false) e
+      (sym (c .before .before .follows2 .ensures) ∙ c .if2 .left)),
+)
 
 returns-2 : tie.Need-returns-2 Inv-loop μ-loop
 unfolding asMaybe

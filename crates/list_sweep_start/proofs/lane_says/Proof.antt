@@ -45,7 +45,12 @@ lane-kind-requires c κs = search needs
 add-start : tie.Need-add-start
 add-start c = let o = c .before .before .before .before .before .before .before .before .before in
     let a = o .args in
-    omega (arith, entry-room (a .store .now) _ (place-entry (a .store .now) (a .order .now) (o .pre .0) (a .lane % 1024) (omega (arith, c .before .before .if2 .left))) .inside, o .good)
+    omega (
+      arith,
+      entry-room (a .store .now) _ (place-entry (a .store .now) (a .order .now) (o .pre .0) (a .lane % 1024)
+          (omega (arith, c .before .before .if2 .left))) .inside,
+      o .good,
+    )
 
 record-end-requires : tie.Need-record-end-requires
 record-end-requires c κs = let o = c .before .before .before .before .before .before .before .before .before in
@@ -61,26 +66,50 @@ part-own-ranges-start c = search needs
 part-own-ranges-end : tie.Need-part-own-ranges-end
 part-own-ranges-end c = let o = c .before .before .before .before .before .before .before .before .before .before in
     let a = o .args in
-    omega (arith, entry-room (a .store .now) _ (place-entry (a .store .now) (a .order .now) (o .pre .0) (a .lane % 1024) (omega (arith, c .before .before .before .if2 .left))) .inside, c .record-end .ensures)
+    omega (
+      arith,
+      entry-room (a .store .now) _ (place-entry (a .store .now) (a .order .now) (o .pre .0) (a .lane % 1024)
+          (omega (arith, c .before .before .before .if2 .left))) .inside,
+      c .record-end .ensures,
+    )
 
 own-ranges-requires : tie.Need-own-ranges-requires
 unfolding SortedStore blockAtPlace blockAt Roomy
 own-ranges-requires c κs = let o = c .before .before .before .before .before .before .before .before .before .before .before .before .before in
     let a = o .args in
-    let bytes = bytes-of (a .store .now) (λ j h. omega (arith, c .before .before .before .before .before .before .before .before .before .before .before .before .shared-slice-known .given j)) in
-    let stored = place-stored (a .store .now) (a .order .now) (o .pre .0) (a .lane % 1024) (omega (arith, c .before .before .before .before .before .before .if2 .left)) in
+    let bytes = bytes-of (a .store .now) (λ j h. omega (
+      arith,
+      c .before .before .before .before .before .before .before .before .before .before .before
+          .before .shared-slice-known .given j,
+    )) in
+    let stored = place-stored (a .store .now) (a .order .now) (o .pre .0) (a .lane % 1024)
+    (omega (arith, c .before .before .before .before .before .before .if2 .left)) in
     let few = block-fits (a .store .now) bytes _ stored .fewStatements in
-    let part = record-part (a .store .now) (getD (a .order .now) (a .lane % 1024) 0) (c .before .before .before .record-end .result) (c .before .before .before .record-end .ensures) in
-    (recorded (a .store .now) _ (c .before .before .before .record-end .result) (place-entry (a .store .now) (a .order .now) (o .pre .0) (a .lane % 1024) (omega (arith, c .before .before .before .before .before .before .if2 .left))) (votes-fit (o .pre .0 .0) (a .store .now) bytes (o .pre .0 .1 .inOrder) _ stored) (c .before .before .before .record-end .ensures), (rw part (omega (arith, few, o .pre .1 .0)), rw part (omega (arith, few, o .pre .1 .1))))
+    let part = record-part (a .store .now) (getD (a .order .now) (a .lane % 1024) 0) (c .before .before .before .record-end .result)
+    (c .before .before .before .record-end .ensures) in (
+      recorded (a .store .now) _ (c .before .before .before .record-end .result)
+          (place-entry (a .store .now) (a .order .now) (o .pre .0) (a .lane % 1024)
+          (omega (arith, c .before .before .before .before .before .before .if2 .left)))
+          (votes-fit (o .pre .0 .0) (a .store .now) bytes (o .pre .0 .1 .inOrder) _ stored) (c .before .before .before .record-end .ensures),
+      (rw part (omega (arith, few, o .pre .1 .0)), rw part (omega (arith, few, o .pre .1 .1))),
+    )
 
 any-covers-requires : tie.Need-any-covers-requires
 unfolding blockAtPlace blockAt
-any-covers-requires c κs = let o = c .before .before .before .before .before .before .before .before .before .before .before .before .before .before .before .before .before .before .before in
+any-covers-requires c κs = let o = c .before .before .before .before .before .before .before .before .before .before .before .before .before .before .before
+    .before .before .before .before in
     let a = o .args in
-    let bytes = bytes-of (a .store .now) (λ j h. omega (arith, c .before .before .before .before .before .before .before .before .before .before .before .before .before .before .before .before .before .before .shared-slice-known .given j)) in
-    let stored = place-stored (a .store .now) (a .order .now) (o .pre .0) (a .lane % 1024) (omega (arith, c .before .before .before .before .before .before .before .before .before .before .before .before .if2 .left)) in
+    let bytes = bytes-of (a .store .now) (λ j h. omega (
+      arith,
+      c .before .before .before .before .before .before .before .before .before .before .before
+          .before .before .before .before .before .before .before .shared-slice-known .given j,
+    )) in
+    let stored = place-stored (a .store .now) (a .order .now) (o .pre .0) (a .lane % 1024)
+    (omega (arith, c .before .before .before .before .before .before .before .before .before .before .before .before .if2 .left)) in
     let few = block-fits (a .store .now) bytes _ stored .fewStatements in
-    let part = record-part (a .store .now) (getD (a .order .now) (a .lane % 1024) 0) (c .before .before .before .before .before .before .before .before .before .record-end .result) (c .before .before .before .before .before .before .before .before .before .record-end .ensures) in
+    let part = record-part (a .store .now) (getD (a .order .now) (a .lane % 1024) 0)
+    (c .before .before .before .before .before .before .before .before .before .record-end .result)
+    (c .before .before .before .before .before .before .before .before .before .record-end .ensures) in
     let w = rw part at (c .before .before .before .before .before .own-ranges .ensures) in
     record { room = omega (arith, w .few, w .long, few, o .pre .1 .0); proper = w .proper }
 
@@ -92,10 +121,22 @@ same-length-2 c = search needs
 
 returns-3 : tie.Need-returns-3
 unfolding blockAt asMaybe
-returns-3 c = let o = c .before .before .before .before .before .before .before .before .before .before .before .before .before .before .before .before .before .before .before .before in
+returns-3 c = let o = c .before .before .before .before .before .before .before .before .before .before .before .before .before .before .before .before
+    .before .before .before .before in
     let a = o .args in
-    let part = record-part (a .store .now) (getD (a .order .now) (a .lane % 1024) 0) (c .before .before .before .before .before .before .before .before .before .before .record-end .result) (c .before .before .before .before .before .before .before .before .before .before .record-end .ensures) in
-    c .any-covers .ensures ∙ c .before .before .before .before .before .before .own-ranges .ensures .covering _ (within-own _) ∙ sym (rw (lane-of (a .wanted) (a .store .now) (a .order .now) (a .lane) (sym (c .before .before .before .before .before .before .before .before .before .before .before .before .before .before .before .wants-lane .ensures) ∙ not-false _ (c .before .before .before .before .before .before .before .before .before .before .before .before .before .before .if1 .left)) (omega (arith, c .before .before .before .before .before .before .before .before .before .before .before .before .before .if2 .left)), ← c .before .before .before .before .before .before .before .before .before .before .before .lane-kind .ensures, ← part))
+    let part = record-part (a .store .now) (getD (a .order .now) (a .lane % 1024) 0)
+    (c .before .before .before .before .before .before .before .before .before .before .record-end .result)
+    (c .before .before .before .before .before .before .before .before .before .before .record-end .ensures) in
+    c .any-covers .ensures ∙ c .before .before .before .before .before .before .own-ranges .ensures .covering _ (within-own _) ∙ sym
+    (rw (
+      lane-of (a .wanted) (a .store .now) (a .order .now) (a .lane)
+          (sym (c .before .before .before .before .before .before .before .before .before .before .before .before .before .before .before .wants-lane .ensures)
+          ∙ not-false _ (c .before .before .before .before .before .before .before .before .before .before .before .before .before .before .if1 .left))
+          (omega (arith, c .before .before .before .before .before .before .before .before .before .before .before .before .before .if2 .left)),
+      ← c .before
+          .before .before .before .before .before .before .before .before .before .before .lane-kind .ensures,
+      ← part,
+    ))
 
 pub lane-says-spec : {M : Type 1} → statement M
 lane-says-spec =

@@ -11,7 +11,9 @@ use Rattle.list_sweep_start.proofs.mark_lanes.Statement.{statement}
 use Rattle.list_sweep_start.proofs.mark_lanes.Tie as tie
 
 abbrev Inv-loop : tie.InvT-loop
-Inv-loop store order wanted locator marks₀ rows₀ spare₀ k₀ marks rows spare k = (k ≤ 3072) × (((length rows ≡ 3072) × (length spare ≡ 3072)) × ((length marks ≡ length marks₀) × MarkedBelow (laneRanges wanted store order) marks (asLocator locator) k))
+Inv-loop store order wanted locator marks₀ rows₀ spare₀ k₀ marks rows spare k = (k ≤ 3072) ×
+    (((length rows ≡ 3072) × (length spare ≡ 3072)) × ((length marks ≡ length marks₀) × MarkedBelow (laneRanges wanted store order) marks (asLocator locator)
+    k))
 
 abbrev μ-loop : tie.MeasureT-loop
 μ-loop store order wanted locator marks₀ rows₀ spare₀ k₀ marks rows spare k = 3072 - k
@@ -37,7 +39,13 @@ mul-marks : tie.Need-mul-marks Inv-loop μ-loop
 mul-marks c = search needs
 
 slice-write-marks : tie.Need-slice-write-marks Inv-loop μ-loop
-slice-write-marks c = omega (arith, c .before .before .before .before .before .before .before .before .before .before .before .pre .1, c .before .before .before .before .before .before .before .loop .inv .1 .1 .0, c .before .before .before .before .before .before .loop-test .taken)
+slice-write-marks c = omega (
+  arith,
+  c .before .before .before .before .before .before .before .before .before .before .before .pre .1,
+  c .before .before
+      .before .before .before .before .before .loop .inv .1 .1 .0,
+  c .before .before .before .before .before .before .loop-test .taken,
+)
 
 add-k : tie.Need-add-k Inv-loop μ-loop
 add-k c = search needs
@@ -48,8 +56,22 @@ loop-less c = omega arith
 loop-again : tie.Need-loop-again Inv-loop μ-loop
 loop-again c = let a = c .before .before .before .before .before .before .before .before .before .before .before .args in
     let l = c .before .before .before .before .before .before .before .loop in
-    let t = c .before .before .before .lane-says in
-    (omega arith, ((t .kept .1 .1 .1 .1 .1 .0 ∙ l .inv .1 .0 .0, t .kept .1 .1 .1 .1 .1 .1 .0 ∙ l .inv .1 .0 .1), (length-set (l .marks) _ _ ∙ l .inv .1 .1 .0, marked-more (laneRanges (a .wanted) (a .store .now) (a .order .now)) (l .marks) (asLocator (a .locator)) (l .k) (c .flag .result) (t .result) (omega (arith, c .before .before .before .before .before .before .before .before .before .before .before .pre .1, l .inv .1 .1 .0, c .before .before .before .before .before .before .loop-test .taken)) (l .inv .1 .1 .1) (t .ensures) (c .flag .ensures))))
+    let t = c .before .before .before .lane-says in (
+      omega arith,
+      (
+        (t .kept .1 .1 .1 .1 .1 .0 ∙ l .inv .1 .0 .0, t .kept .1 .1 .1 .1 .1 .1 .0 ∙ l .inv .1 .0 .1),
+        (
+          length-set (l .marks) _ _ ∙ l .inv .1 .1 .0,
+          marked-more (laneRanges (a .wanted) (a .store .now) (a .order .now)) (l .marks) (asLocator (a .locator))
+              (l .k) (c .flag .result) (t .result) (omega (
+                arith,
+                c .before .before .before .before .before .before .before .before .before .before .before .pre .1,
+                l .inv .1 .1 .0,
+                c .before .before .before .before .before .before .loop-test .taken,
+              )) (l .inv .1 .1 .1) (t .ensures) (c .flag .ensures),
+        ),
+      ),
+    )
 
 same-length : tie.Need-same-length Inv-loop μ-loop
 same-length c = c .before .loop .inv .1 .1 .0

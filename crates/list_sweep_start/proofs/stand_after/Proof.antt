@@ -25,17 +25,33 @@ locator-before-requires c κs = search needs
 
 returns-2 : tie.Need-returns-2
 unfolding asLocator locator
-returns-2 c = record { many = refl; bound = refl; here = refl; stood = none-there refl refl (λ h. rw (c .before .before .row-locator .ensures) at (sym (c .before .locator-before .ensures) ∙ c .if2 .taken)) }
+returns-2 c = record {
+  many = refl;
+  bound = refl;
+  here = refl;
+  stood = none-there refl refl
+      (λ h. rw (c .before .before .row-locator .ensures) at (sym (c .before .locator-before .ensures) ∙ c .if2 .taken));
+}
 
 pass-edges-requires : tie.Need-pass-edges-requires
-pass-edges-requires c κs = c .before .before .before .before .before .before .before .before .before .before .pre .passable (omega (arith, c .before .before .before .before .if1 .left))
+pass-edges-requires c κs = c .before .before .before .before .before .before .before .before .before .before .pre .passable
+    (omega (arith, c .before .before .before .before .if1 .left))
 
 same-length : tie.Need-same-length
 same-length c = search needs
 
 returns-3 : tie.Need-returns-3
 unfolding asLocator locator
-returns-3 c = record { many = refl; bound = refl; here = refl; stood = some-there (omega (arith, c .before .before .before .before .before .before .before .if1 .left)) (rw (c .before .before .before .before .before .before .row-locator .ensures) at (sym (c .before .before .before .before .before .locator-before .ensures) ∙ c .before .before .before .before .if2 .left)) (c .before .before .pass-edges .ensures) }
+returns-3 c = record {
+  many = refl;
+  bound = refl;
+  here = refl;
+  stood = some-there
+      (omega (arith, c .before .before .before .before .before .before .before .if1 .left))
+      (rw (c .before .before .before .before .before .before .row-locator .ensures) at
+      (sym (c .before .before .before .before .before .locator-before .ensures) ∙ c .before .before .before .before .if2 .left))
+      (c .before .before .pass-edges .ensures);
+}
 
 pub stand-after-spec : {M : Type 1} → statement M
 stand-after-spec =

@@ -28,10 +28,12 @@ returns c =
           ∙ same-list d b t u same (f .list) (g .list) (f .given) (g .given)
           ∙ sym (wide-spread d (engineOf d u .store) b (store-of d u .order) un (g .list) (g .given));
       reaches = λ d b t ls k. let s = engineOf d t .store in unfold ReachesEnd WideGives in λ outs f some few.
-          reach d s b (store-of d t .order) (wide d (blocksOf s)) (wide-lawful d (blocksOf s)) outs f some none ls (wide-gives d s b (store-of d t .order) none ls .1 k) few;
+          reach d s b (store-of d t .order) (wide d (blocksOf s)) (wide-lawful d (blocksOf s)) outs f some none ls
+          (wide-gives d s b (store-of d t .order) none ls .1 k) few;
       ordinarySpread = λ d b t ts on ls k. ordinary-spread d (engineOf d t .store) b (store-of d t .order) on ls k;
       ordinaryAlike = λ d b t ts on. ordinary-alike-on d (engineOf d t .store) b (store-of d t .order) on;
-      ordinaryLongest = λ d b t ts on. let s = engineOf d t .store in longest-on d s b (store-of d t .order) (ordinary d (blocksOf s)) (ordinary-lawful d (blocksOf s)) on;
+      ordinaryLongest = λ d b t ts on. let s = engineOf d t .store in longest-on d s b (store-of d t .order) (ordinary d (blocksOf s))
+          (ordinary-lawful d (blocksOf s)) on;
       ordinarySame = λ d b t u same ts us on un.
           let f = gives-final-shares d b t in
           let g = gives-final-shares d b u in

@@ -19,7 +19,8 @@ mul-t7 c = search needs
 
 shared-slice-read-t9 : tie.Need-shared-slice-read-t9
 unfolding anyNoted
-shared-slice-read-t9 c = let h = c .before .before .before .pre .1 (lt-ltb 0 (length (c .before .before .before .args .rejecters .now)) (omega (arith, c .before .if1 .left))) in omega arith
+shared-slice-read-t9 c = let h = c .before .before .before .pre .1
+    (lt-ltb 0 (length (c .before .before .before .args .rejecters .now)) (omega (arith, c .before .if1 .left))) in omega arith
 
 mul-t10 : tie.Need-mul-t10
 mul-t10 c = search needs
@@ -32,14 +33,16 @@ mul-t12 c = search needs
 
 shared-slice-read-t14 : tie.Need-shared-slice-read-t14
 unfolding anyNoted
-shared-slice-read-t14 c = let h = c .before .before .before .before .pre .1 (lt-ltb 0 (length (c .before .before .before .before .args .rejecters .now)) (omega (arith, c .before .before .if1 .left))) in omega arith
+shared-slice-read-t14 c = let h = c .before .before .before .before .pre .1
+    (lt-ltb 0 (length (c .before .before .before .before .args .rejecters .now)) (omega (arith, c .before .before .if1 .left))) in omega arith
 
 less-requires : tie.Need-less-requires
 less-requires c κs = search needs
 
 returns-2 : tie.Need-returns-2
 unfolding counted anyNoted setAt
-returns-2 c = rw (lt-ltb 0 (length (c .before .before .before .before .before .args .rejecters .now)) (omega (arith, c .before .before .before .if1 .left))) (c .less .ensures)
+returns-2 c = rw (lt-ltb 0 (length (c .before .before .before .before .before .args .rejecters .now)) (omega (arith, c .before .before .before .if1 .left)))
+    (c .less .ensures)
 
 pub counted-at-spec : {M : Type 1} → statement M
 counted-at-spec = tie.close (tie.spec returns mul-t5 mul-t7 shared-slice-read-t9 mul-t10 add-t11 mul-t12 shared-slice-read-t14 less-requires returns-2)

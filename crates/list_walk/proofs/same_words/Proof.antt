@@ -40,7 +40,12 @@ loop-less : tie.Need-loop-less Inv-loop μ-loop
 loop-less c = search needs
 
 loop-again : tie.Need-loop-again Inv-loop μ-loop
-loop-again c = (omega (arith, c .before .before .before .loop-test .taken), λ j h. same-more (c .before .before .before .before .before .args .a .now) (c .before .before .before .before .before .args .b .now) (c .before .before .before .before .loop .k) (c .before .before .before .before .loop .inv .1) (c .if1 .left) j h)
+loop-again c = (
+  omega (arith, c .before .before .before .loop-test .taken),
+  λ j h. same-more (c .before .before .before .before .before .args .a .now)
+      (c .before .before .before .before .before .args .b .now) (c .before .before .before .before .loop .k) (c .before .before .before .before .loop .inv .1)
+      (c .if1 .left) j h,
+)
 
 returns-2 : tie.Need-returns-2 Inv-loop μ-loop
 unfolding SameWords

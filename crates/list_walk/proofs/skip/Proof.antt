@@ -32,7 +32,13 @@ mul-certified : tie.Need-mul-certified Inv-loop μ-loop
 mul-certified c = search needs
 
 slice-write-certified : tie.Need-slice-write-certified Inv-loop μ-loop
-slice-write-certified c = omega (arith, c .before .before .loop-test .taken, c .before .before .before .before .pre .1, c .before .before .before .loop .inv .long)
+slice-write-certified c = omega (
+  arith,
+  c .before .before .loop-test .taken,
+  c .before .before .before .before .pre .1,
+  c .before .before .before .loop .inv
+      .long,
+)
 
 add-k : tie.Need-add-k Inv-loop μ-loop
 add-k c = search needs
@@ -43,7 +49,8 @@ loop-less c = search needs
 loop-again : tie.Need-loop-again Inv-loop μ-loop
 loop-again c = let a = c .before .before .before .before .args in
     let g = c .before .before .before .loop in
-    skipped-more (a .own .now) (a .n) (a .certified .now) (g .certified) (g .k) (g .inv) (c .before .before .loop-test .taken) (c .before .before .before .before .pre .1) (ne-eqb _ 1 (c .if1 .left))
+    skipped-more (a .own .now) (a .n) (a .certified .now) (g .certified) (g .k) (g .inv) (c .before .before .loop-test .taken)
+    (c .before .before .before .before .pre .1) (ne-eqb _ 1 (c .if1 .left))
 
 same-length-2 : tie.Need-same-length-2 Inv-loop μ-loop
 same-length-2 c = c .before .loop .inv .long

@@ -15,7 +15,9 @@ use Rattle.list_window.proofs.gather.Statement.{statement}
 use Rattle.list_window.proofs.gather.Tie as tie
 
 abbrev Inv-loop : tie.InvT-loop
-Inv-loop store order wanted last edges₀ spare₀ window₀ k₀ edges spare window k = (k ≤ 3072) × ((length edges ≡ length edges₀) × ((length spare ≡ 16386) × Gathering (laneRanges wanted store order) store (asMaybe last) (asMaybe (window .bound)) edges (window .n) k))
+Inv-loop store order wanted last edges₀ spare₀ window₀ k₀ edges spare window k = (k ≤ 3072) ×
+    ((length edges ≡ length edges₀) × ((length spare ≡ 16386) × Gathering (laneRanges wanted store order) store (asMaybe last) (asMaybe (window .bound)) edges
+    (window .n) k))
 
 abbrev μ-loop : tie.MeasureT-loop
 μ-loop store order wanted last edges₀ spare₀ window₀ k₀ edges spare window k = 3072 - k
@@ -34,9 +36,20 @@ loop-less c = omega arith
 loop-again : tie.Need-loop-again Inv-loop μ-loop
 loop-again c = let a = c .before .before .before .before .before .before .args in
     let l = c .before .before .loop in
-    let none : NextTaken (a .store .now) (laneRanges (a .wanted) (a .store .now) (a .order .now) (l .k)) (asMaybe (a .last)) (l .edges) (l .edges) (l .window) (l .window) (l .k) =
-    rw (lane-past (a .wanted) (a .store .now) (a .order .now) (l .k) (omega (arith, c .if1 .taken))) (lane-none (a .store .now) (asMaybe (a .last)) (l .edges) (l .window) (l .k)) in
-    (omega arith, (l .inv .1 .0, (l .inv .1 .1 .0, gathering-more (laneRanges (a .wanted) (a .store .now) (a .order .now)) (a .store .now) (asMaybe (a .last)) (l .edges) (l .edges) (l .window) (l .window) (l .k) (l .inv .1 .1 .1) none)))
+    let none : NextTaken (a .store .now) (laneRanges (a .wanted) (a .store .now) (a .order .now) (l .k)) (asMaybe (a .last)) (l .edges) (l .edges) (l .window)
+    (l .window) (l .k) =
+    rw (lane-past (a .wanted) (a .store .now) (a .order .now) (l .k) (omega (arith, c .if1 .taken)))
+    (lane-none (a .store .now) (asMaybe (a .last)) (l .edges) (l .window) (l .k)) in (
+      omega arith,
+      (
+        l .inv .1 .0,
+        (
+          l .inv .1 .1 .0,
+          gathering-more (laneRanges (a .wanted) (a .store .now) (a .order .now)) (a .store .now) (asMaybe (a .last))
+              (l .edges) (l .edges) (l .window) (l .window) (l .k) (l .inv .1 .1 .1) none,
+        ),
+      ),
+    )
 
 slice-aggregate-next-lane : tie.Need-slice-aggregate-next-lane Inv-loop μ-loop
 slice-aggregate-next-lane c = sym (c .before .before .before .before .loop .inv .1 .1 .0)
@@ -46,8 +59,12 @@ next-lane-requires c κs = let o = c .before .before .before .before .before .be
     let a = o .args in
     let l = c .before .before .before .before .loop in
     let here = c .before .before .if1 .left in
-    let bytes = bytes-of (a .store .now) (λ j h. omega (arith, c .before .before .before .before .before .before .before .shared-slice-known .given j)) in
-    (omega (arith, here), enterable (laneRanges (a .wanted) (a .store .now) (a .order .now)) (a .store .now) (asMaybe (a .last)) (asMaybe (l .window .bound)) (l .edges) (l .window .n) (a .order .now) (o .pre .0) bytes (l .spare) (omega (arith, o .pre .1, l .inv .1 .0)) (omega (arith, o .pre .1, l .inv .1 .0, l .inv .1 .1 .0)) (l .k) (omega arith) (l .inv .1 .1 .1) (omega (arith, here)))
+    let bytes = bytes-of (a .store .now) (λ j h. omega (arith, c .before .before .before .before .before .before .before .shared-slice-known .given j)) in (
+      omega (arith, here),
+      enterable (laneRanges (a .wanted) (a .store .now) (a .order .now)) (a .store .now) (asMaybe (a .last)) (asMaybe (l .window .bound))
+          (l .edges) (l .window .n) (a .order .now) (o .pre .0) bytes (l .spare) (omega (arith, o .pre .1, l .inv .1 .0))
+          (omega (arith, o .pre .1, l .inv .1 .0, l .inv .1 .1 .0)) (l .k) (omega arith) (l .inv .1 .1 .1) (omega (arith, here)),
+    )
 
 loop-less-2 : tie.Need-loop-less-2 Inv-loop μ-loop
 loop-less-2 c = omega arith
@@ -61,7 +78,8 @@ loop-again-2 c = let a = c .before .before .before .before .before .before .befo
         t .ensures .long ∙ l .inv .1 .0,
         (
           t .kept .1 .1 .1 .1 .1 .1 .1 .0 ∙ l .inv .1 .1 .0,
-          gathering-more (laneRanges (a .wanted) (a .store .now) (a .order .now)) (a .store .now) (asMaybe (a .last)) (l .edges) _ (l .window) (t .result) (l .k) (l .inv .1 .1 .1) (t .ensures),
+          gathering-more (laneRanges (a .wanted) (a .store .now) (a .order .now)) (a .store .now) (asMaybe (a .last)) (l .edges) _ (l .window) (t .result)
+              (l .k) (l .inv .1 .1 .1) (t .ensures),
         ),
       ),
     )
@@ -82,8 +100,10 @@ returns : tie.Need-returns Inv-loop μ-loop
 returns c = let a = c .before .before .before .before .before .before .before .before .before .before .before .args in
     let l = c .before .before .before .before .before .before .before .loop in
     let e : l .k ≡ 3072 = omega (arith, c .before .before .before .before .before .before .loop-test .left, l .inv .0) in
-    gathered (laneRanges (a .wanted) (a .store .now) (a .order .now)) (a .store .now) (asMaybe (a .last)) (asMaybe (l .window .bound)) (l .edges) (l .window .n) _
-    (subst (λ (k : ℕ). Gathering (laneRanges (a .wanted) (a .store .now) (a .order .now)) (a .store .now) (asMaybe (a .last)) (asMaybe (l .window .bound)) (l .edges) (l .window .n) k) e (l .inv .1 .1 .1)) (c .before .before .before .sort-rows .ensures)
+    gathered (laneRanges (a .wanted) (a .store .now) (a .order .now)) (a .store .now) (asMaybe (a .last)) (asMaybe (l .window .bound)) (l .edges)
+    (l .window .n) _
+    (subst (λ (k : ℕ). Gathering (laneRanges (a .wanted) (a .store .now) (a .order .now)) (a .store .now) (asMaybe (a .last)) (asMaybe (l .window .bound))
+    (l .edges) (l .window .n) k) e (l .inv .1 .1 .1)) (c .before .before .before .sort-rows .ensures)
 
 pub gather-spec : {M : Type 1} → statement M
 gather-spec =

@@ -34,13 +34,15 @@ statement-count-requires c κs = let o = c .before .before .before .before .befo
 mul-make-room : tie.Need-mul-make-room
 unfolding blockAt
 mul-make-room c = let o = c .before .before .before .before .before .before .before .before in
-    let e = rw (record-part (o .args .store .now) (o .args .at) (c .before .before .before .before .record-end .result) (c .before .before .before .before .record-end .ensures)) at (c .before .before .statement-count .ensures) in
+    let e = rw (record-part (o .args .store .now) (o .args .at) (c .before .before .before .before .record-end .result)
+    (c .before .before .before .before .record-end .ensures)) at (c .before .before .statement-count .ensures) in
     omega (arith, e, o .pre .few)
 
 make-room-requires : tie.Need-make-room-requires
 unfolding blockAt
 make-room-requires c κs = let o = c .before .before .before .before .before .before .before .before in
-    let e = rw (record-part (o .args .store .now) (o .args .at) (c .before .before .before .before .record-end .result) (c .before .before .before .before .record-end .ensures)) at (c .before .before .statement-count .ensures) in
+    let e = rw (record-part (o .args .store .now) (o .args .at) (c .before .before .before .before .record-end .result)
+    (c .before .before .before .before .record-end .ensures)) at (c .before .before .statement-count .ensures) in
     record { can = o .pre .can; few = o .pre .few-at; wide = omega (arith, e, o .pre .few, o .pre .wide, o .pre .can .room) }
 
 sub-block-edges : tie.Need-sub-block-edges
@@ -51,14 +53,22 @@ part-block-edges-start c = search needs
 
 part-block-edges-end : tie.Need-part-block-edges-end
 part-block-edges-end c = let o = c .before .before .before .before .before .before .before .before .before .before .before .before .before in
-    omega (arith, entry-room (o .args .store .now) (o .args .at) (o .pre .entry) .inside, c .before .before .before .before .before .before .before .before .before .record-end .ensures)
+    omega (
+      arith,
+      entry-room (o .args .store .now) (o .args .at) (o .pre .entry) .inside,
+      c .before .before .before .before .before .before .before .before
+          .before .record-end .ensures,
+    )
 
 block-edges-requires : tie.Need-block-edges-requires
-block-edges-requires c κs = let o = c .before .before .before .before .before .before .before .before .before .before .before .before .before .before .before .before in
+block-edges-requires c κs = let o = c .before .before .before .before .before .before .before .before .before .before .before .before .before .before .before
+    .before in
     let a = o .args in
     let room = c .before .before .before .before .before .before .before .make-room in
     let e = c .before .before .before .before .before .before .before .before .before .before .statement-count .ensures in (
-      recorded (a .store .now) (a .at) (c .before .before .before .before .before .before .before .before .before .before .before .before .record-end .result) (o .pre .entry) (o .pre .votes) (c .before .before .before .before .before .before .before .before .before .before .before .before .record-end .ensures),
+      recorded (a .store .now) (a .at) (c .before .before .before .before .before .before .before .before .before .before .before .before .record-end .result)
+          (o .pre .entry) (o .pre .votes) (c .before .before .before .before .before .before .before .before .before .before .before .before .record-end
+          .ensures),
       (omega (arith, room .ensures .fit, e), (omega (arith, room .ensures .fit, e, o .pre .spared, room .ensures .long, room .kept .1 .1 .0), o .pre .small)),
     )
 
@@ -70,12 +80,18 @@ same-length-2 c = search needs
 
 returns : tie.Need-returns
 unfolding blockAt
-returns c = let o = c .before .before .before .before .before .before .before .before .before .before .before .before .before .before .before .before .before .before .before .before .before in
+returns c = let o = c .before .before .before .before .before .before .before .before .before .before .before .before .before .before .before .before .before
+    .before .before .before .before in
     let a = o .args in
-    let part = record-part (a .store .now) (a .at) (c .before .before .before .before .before .before .before .before .before .before .before .before .before .before .before .before .before .record-end .result) (c .before .before .before .before .before .before .before .before .before .before .before .before .before .before .before .before .before .record-end .ensures) in
-    let e = rw part at (c .before .before .before .before .before .before .before .before .before .before .before .before .before .before .before .statement-count .ensures) in
+    let part = record-part (a .store .now) (a .at) (c .before .before .before .before .before .before .before .before .before .before .before .before .before
+    .before .before .before .before .record-end .result) (c .before .before .before .before .before .before .before .before .before .before .before
+    .before .before .before .before .before .before .record-end .ensures) in
+    let e = rw part at (c .before .before .before .before .before .before .before .before .before .before .before .before .before .before .before
+    .statement-count .ensures) in
     let t = rw part at (c .before .before .before .before .block-edges .ensures) in
-    next-more (laneKind (a .lane)) (a .store .now) (blockAt (a .store .now) (a .at)) (asMaybe (a .last)) (a .edges .now) _ _ (a .window) (c .before .before .before .before .before .before .before .before .before .before .before .before .make-room .result) (a .lane) _ _ (c .before .before .before .before .before .before .before .before .before .before .before .before .make-room .ensures) (ap (λ (n : ℕ). 2 * n) e) t
+    next-more (laneKind (a .lane)) (a .store .now) (blockAt (a .store .now) (a .at)) (asMaybe (a .last)) (a .edges .now) _ _ (a .window)
+    (c .before .before .before .before .before .before .before .before .before .before .before .before .make-room .result) (a .lane) _ _
+    (c .before .before .before .before .before .before .before .before .before .before .before .before .make-room .ensures) (ap (λ (n : ℕ). 2 * n) e) t
 
 pub next-block-spec : {M : Type 1} → statement M
 next-block-spec =

@@ -12,7 +12,8 @@ wants-lane-requires c κs = search needs
 
 returns : tie.Need-returns
 returns c = let a = c .before .before .before .before .before .before .args in
-    rw (unwanted-lane (a .wanted) (a .store .now) (a .order .now) (a .lane) (sym (c .before .wants-lane .ensures) ∙ not-true _ (c .if1 .taken))) (lane-none (a .store .now) (asMaybe (a .last)) (a .edges .now) (a .window) (a .lane))
+    rw (unwanted-lane (a .wanted) (a .store .now) (a .order .now) (a .lane) (sym (c .before .wants-lane .ensures) ∙ not-true _ (c .if1 .taken)))
+    (lane-none (a .store .now) (asMaybe (a .last)) (a .edges .now) (a .window) (a .lane))
 
 mul-at : tie.Need-mul-at
 mul-at c = search needs
@@ -32,7 +33,9 @@ same-length-2 c = search needs
 returns-2 : tie.Need-returns-2
 returns-2 c = let o = c .before .before .before .before .before .before .before .before .before .before .before .before .before .before in
     let a = o .args in
-    rw (lane-of (a .wanted) (a .store .now) (a .order .now) (a .lane) (sym (c .before .before .before .before .before .before .before .before .before .wants-lane .ensures) ∙ not-false _ (c .before .before .before .before .before .before .before .before .if1 .left)) (o .pre .0)) (c .before .before .before .before .next-block .ensures)
+    rw (lane-of (a .wanted) (a .store .now) (a .order .now) (a .lane)
+    (sym (c .before .before .before .before .before .before .before .before .before .wants-lane .ensures) ∙ not-false _
+    (c .before .before .before .before .before .before .before .before .if1 .left)) (o .pre .0)) (c .before .before .before .before .next-block .ensures)
 
 pub next-lane-spec : {M : Type 1} → statement M
 next-lane-spec =

@@ -51,12 +51,14 @@ unfolding asItem itemOffsets
 loop-again c =
     let l = c .before .before .before .before in
     let o = l .before .before .before in
-    let inside : l .loop .k < length (itemsOf (o .args .table .now)) = omega (arith, c .before .before .before .loop-test .taken, l .before .item-count .ensures) in
+    let inside : l .loop .k < length (itemsOf (o .args .table .now)) = omega
+    (arith, c .before .before .before .loop-test .taken, l .before .item-count .ensures) in
     let added = c .wrapping-add-u64 .ensures in
     (rw added (summed-on _ _ _ _ (l .loop .inv .0) inside (ap (λ z. z .end - z .start) (c .before .before .item-at .ensures))), omega (arith, added))
 
 returns : tie.Need-returns Inv-loop μ-loop
-returns c = summed-end (itemsOf (c .before .before .before .before .args .table .now)) (c .before .loop .k) _ (c .before .loop .inv .0) (omega (arith, c .loop-test .left, c .before .before .item-count .ensures)) (c .before .loop .inv .1)
+returns c = summed-end (itemsOf (c .before .before .before .before .args .table .now)) (c .before .loop .k) _ (c .before .loop .inv .0)
+    (omega (arith, c .loop-test .left, c .before .before .item-count .ensures)) (c .before .loop .inv .1)
 
 pub pending-offsets-spec : {M : Type 1} → statement M
 pending-offsets-spec =

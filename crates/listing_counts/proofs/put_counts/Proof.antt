@@ -16,7 +16,9 @@ same-length : tie.Need-same-length
 same-length c = search needs
 
 returns : tie.Need-returns
-returns c = let start = c .before .before .before .before .before .before .before .args in wrote-same (ap (λ (k : ℕ). endLine (start .accepted) (start .refused) (start .processed) k (start .finals)) (c .before .before .before .before .pending-offsets .ensures)) (c .before .before .put-end .ensures)
+returns c = let start = c .before .before .before .before .before .before .before .args in wrote-same
+    (ap (λ (k : ℕ). endLine (start .accepted) (start .refused) (start .processed) k (start .finals))
+    (c .before .before .before .before .pending-offsets .ensures)) (c .before .before .put-end .ensures)
 
 pub put-counts-spec : {M : Type 1} → statement M
 put-counts-spec =

@@ -17,7 +17,8 @@ put-refused-requires : tie.Need-put-refused-requires
 put-refused-requires c κs = search needs
 
 put-end-requires : tie.Need-put-end-requires
-put-end-requires c κs = let w = c .before .before .before .put-refused .ensures in omega (arith, w .end, length-wrote w, short (c .before .before .before .before .before .before .args .number))
+put-end-requires c κs = let w = c .before .before .before .put-refused .ensures in omega
+    (arith, w .end, length-wrote w, short (c .before .before .before .before .before .before .args .number))
 
 same-length : tie.Need-same-length
 same-length c = search needs

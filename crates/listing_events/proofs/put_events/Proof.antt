@@ -55,7 +55,11 @@ one-if-processed-requires : tie.Need-one-if-processed-requires Inv-loop μ-loop
 one-if-processed-requires c κs = search needs
 
 add-processed : tie.Need-add-processed Inv-loop μ-loop
-add-processed c = omega (arith, put-next (c .before .before .before .before .before .before .before .before .before .before .loop .inv .0) (c .before .before .before .before .put-event .ensures) (c .one-if-processed .ensures) .few)
+add-processed c = omega (
+  arith,
+  put-next (c .before .before .before .before .before .before .before .before .before .before .loop .inv .0)
+      (c .before .before .before .before .put-event .ensures) (c .one-if-processed .ensures) .few,
+)
 
 add-j : tie.Need-add-j Inv-loop μ-loop
 add-j c = search needs
@@ -64,7 +68,11 @@ loop-less : tie.Need-loop-less Inv-loop μ-loop
 loop-less c = search needs
 
 loop-again : tie.Need-loop-again Inv-loop μ-loop
-loop-again c = (put-next (c .before .before .before .before .before .before .before .before .before .before .loop .inv .0) (c .before .before .before .before .put-event .ensures) (c .one-if-processed .ensures), omega arith)
+loop-again c = (
+  put-next (c .before .before .before .before .before .before .before .before .before .before .loop .inv .0)
+      (c .before .before .before .before .put-event .ensures) (c .one-if-processed .ensures),
+  omega arith,
+)
 
 same-length : tie.Need-same-length Inv-loop μ-loop
 same-length c = c .before .loop .inv .0 .long

@@ -17,7 +17,13 @@ add-t9 : tie.Need-add-t9
 add-t9 c = search needs
 
 add-t10 : tie.Need-add-t10
-add-t10 c = omega (arith, c .before .before .before .before .before .before .put-events .ensures .1, processed-few (c .before .before .before .before .before .before .before .before .before .before .args .n) (c .before .before .before .before .before .before .before .before .before .before .args .events .now))
+add-t10 c = omega (
+  arith,
+  c .before .before .before .before .before .before .put-events .ensures .1,
+  processed-few
+      (c .before .before .before .before .before .before .before .before .before .before .args .n)
+      (c .before .before .before .before .before .before .before .before .before .before .args .events .now),
+)
 
 same-length : tie.Need-same-length
 same-length c = search needs
@@ -25,8 +31,20 @@ same-length c = search needs
 returns : tie.Need-returns
 unfolding feedingOf acceptedWith
 returns c =
-    let printed = c .before .before .before .before .before .before .put-events .ensures in
-    ((λ s w. record { lines = printed .0; left = rw (printed .1); ended = refl }), record { number = omega arith; accepted = omega arith; refusals = omega arith; processed = omega (arith, printed .1, processed-few (c .before .before .before .before .before .before .before .before .before .before .args .n) (c .before .before .before .before .before .before .before .before .before .before .args .events .now)) })
+    let printed = c .before .before .before .before .before .before .put-events .ensures in (
+      (λ s w. record { lines = printed .0; left = rw (printed .1); ended = refl }),
+      record {
+        number = omega arith;
+        accepted = omega arith;
+        refusals = omega arith;
+        processed = omega (
+          arith,
+          printed .1,
+          processed-few (c .before .before .before .before .before .before .before .before .before .before .args .n)
+              (c .before .before .before .before .before .before .before .before .before .before .args .events .now),
+        );
+      },
+    )
 
 pub accepted-spec : {M : Type 1} → statement M
 accepted-spec = tie.close (tie.spec put-events-requires add-t8 add-t9 add-t10 same-length returns)

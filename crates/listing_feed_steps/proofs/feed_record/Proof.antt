@@ -28,10 +28,12 @@ slice-aggregate-accepted c = search needs
 accepted-requires : tie.Need-accepted-requires
 unfolding asFeedAnswer
 accepted-requires c κs =
-    let start = c .before .before .before .before .before .before .before .before .before .before .before .before .before .before .before .before .before .before .before .before .before .args in
+    let start = c .before .before .before .before .before .before .before .before .before .before .before .before .before .before .before .before .before
+    .before .before .before .before .args in
     let feed = c .before .before .before .before .before .before .before .before .before .before .before .feed in
     let answer = c .before .before .before .answer in
-    let few = few-events (start .stakes .now) (lentOf (start .store .now) (start .table .now) (replicate 6145 0) (replicate 8192 0)) (start .rec .now) (answer .given .0 .0)
+    let few = few-events (start .stakes .now) (lentOf (start .store .now) (start .table .now) (replicate 6145 0) (replicate 8192 0)) (start .rec .now)
+    (answer .given .0 .0)
     (sym (feed .ensures .0) ∙ ap asFeedAnswer (answer .given .1)) in
     (search needs, (omega (arith, few, feed .kept .1 .1 .1 .1 .0, length-replicate {A = ℕ} 8192 0), omega (arith, few, length-replicate {A = ℕ} 8192 0)))
 
@@ -53,12 +55,15 @@ same-length-3 c = search needs
 returns : tie.Need-returns
 unfolding asFeedAnswer
 returns c =
-    let start = c .before .before .before .before .before .before .before .before .before .before .before .before .before .before .before .before .before .before .before .before .before .before .before .before .args in
+    let start = c .before .before .before .before .before .before .before .before .before .before .before .before .before .before .before .before .before
+    .before .before .before .before .before .before .before .args in
     let feed = c .before .before .before .before .before .before .before .before .before .before .before .before .before .before .feed in
     let answer = c .before .before .before .before .before .before .answer in
     let done = c .before .before .accepted .ensures in
-    let same = told-accepted (start .stakes .now) (start .done) (start .store .now) (feed .last .1 .0) (start .table .now) (feed .last .1 .1 .0) (feed .last .1 .1 .1 .1 .0) (start .rec .now)
-    (feed .ensures .1 .0) (feed .ensures .1 .1 .0) (answer .given .0 .0) (ap asFeedAnswer (sym (answer .given .1)) ∙ feed .ensures .0) (feed .ensures .1 .1 .1) in
+    let same = told-accepted (start .stakes .now) (start .done) (start .store .now) (feed .last .1 .0) (start .table .now) (feed .last .1 .1 .0)
+    (feed .last .1 .1 .1 .1 .0) (start .rec .now)
+    (feed .ensures .1 .0) (feed .ensures .1 .1 .0) (answer .given .0 .0) (ap asFeedAnswer (sym (answer .given .1)) ∙ feed .ensures .0)
+    (feed .ensures .1 .1 .1) in
     (rw (← same) (done .0 (feed .last .1 .0) (feed .last .1 .1 .0)), (done .1, fed-one _ _ _ (feed .ensures .1 .0) (feed .ensures .1 .1 .0)))
 
 same-length-4 : tie.Need-same-length-4
@@ -73,11 +78,13 @@ same-length-6 c = search needs
 returns-2 : tie.Need-returns-2
 unfolding asFeedAnswer
 returns-2 c =
-    let start = c .before .before .before .before .before .before .before .before .before .before .before .before .before .before .before .before .before .before .before .before .before .before .before .args in
+    let start = c .before .before .before .before .before .before .before .before .before .before .before .before .before .before .before .before .before
+    .before .before .before .before .before .before .args in
     let feed = c .before .before .before .before .before .before .before .before .before .before .before .before .before .feed in
     let answer = c .before .before .before .before .before .answer2 in
     let done = c .before .before .refused .ensures in
-    let same = told-refused (start .stakes .now) (start .done) (start .store .now) (feed .last .1 .0) (start .table .now) (feed .last .1 .1 .0) (feed .last .1 .1 .1 .1 .0) (start .rec .now)
+    let same = told-refused (start .stakes .now) (start .done) (start .store .now) (feed .last .1 .0) (start .table .now) (feed .last .1 .1 .0)
+    (feed .last .1 .1 .1 .1 .0) (start .rec .now)
     (feed .ensures .1 .0) (feed .ensures .1 .1 .0) (answer .given .0 .0) (ap asFeedAnswer (sym (answer .given .1)) ∙ feed .ensures .0) in
     (rw (← same) (done .0 (feed .last .1 .0) (feed .last .1 .1 .0)), (done .1, fed-one _ _ _ (feed .ensures .1 .0) (feed .ensures .1 .1 .0)))
 

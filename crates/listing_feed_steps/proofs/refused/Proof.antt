@@ -20,7 +20,11 @@ same-length c = search needs
 
 returns : tie.Need-returns
 unfolding feedingOf refusedWith
-returns c = ((λ s w. record { lines = c .before .before .before .before .put-refused .ensures; left = refl; ended = refl }), record { number = omega arith; accepted = omega arith; refusals = omega arith; processed = omega arith })
+returns c = (
+  (λ s w. record { lines = c .before .before .before .before .put-refused .ensures; left = refl; ended = refl }),
+  record
+      { number = omega arith; accepted = omega arith; refusals = omega arith; processed = omega arith },
+)
 
 pub refused-spec : {M : Type 1} → statement M
 refused-spec = tie.close (tie.spec put-refused-requires add-t8 add-t9 same-length returns)

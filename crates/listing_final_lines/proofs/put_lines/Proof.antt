@@ -38,7 +38,8 @@ loop-less c = search needs
 
 loop-again : tie.Need-loop-again Inv-loop μ-loop
 unfolding lineOf
-loop-again c = put-next (c .before .before .before .before .before .before .before .before .loop .inv) (c .before .before .put-final .ensures) (omega (arith, c .before .before .before .before .before .before .if1 .taken))
+loop-again c = put-next (c .before .before .before .before .before .before .before .before .loop .inv) (c .before .before .put-final .ensures)
+    (omega (arith, c .before .before .before .before .before .before .if1 .taken))
 
 same-length-2 : tie.Need-same-length-2 Inv-loop μ-loop
 same-length-2 c = c .before .before .loop .inv .long

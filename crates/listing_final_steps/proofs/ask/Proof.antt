@@ -27,9 +27,11 @@ unfolding givenIn asReading
 returns c =
     let start = c .before .before .before .before .before .before .before .before .args in
     let ls = c .before .before .before .list-stretches .ensures in
-    let given : givenIn (c .told .result) ≡ givenBy (listedStretches (isOrdinary (start .list)) old (start .stakes .now) (start .store .now) (start .stretches .now) (asMaybe (start .after)) .answer) =
+    let given : givenIn (c .told .result) ≡ givenBy (listedStretches (isOrdinary (start .list)) old (start .stakes .now) (start .store .now)
+    (start .stretches .now) (asMaybe (start .after)) .answer) =
     c .told .ensures ∙ ap givenBy (ls .0) in
-    let few = few-given (start .stakes .now) (start .store .now) (listing (isOrdinary (start .list)) old (start .stakes .now) (blocksOf (start .store .now))) (start .stretches .now) (asMaybe (start .after)) in
+    let few = few-given (start .stakes .now) (start .store .now) (listing (isOrdinary (start .list)) old (start .stakes .now) (blocksOf (start .store .now)))
+    (start .stretches .now) (asMaybe (start .after)) in
     (given, (ls .1, omega (arith, ap (λ (g : Given). g .stretches) given, few)))
 
 pub ask-spec : {M : Type 1} → statement M

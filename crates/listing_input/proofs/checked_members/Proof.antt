@@ -25,15 +25,21 @@ returns : tie.Need-returns
 unfolding stakesIn
 returns c =
     let start = c .before .before .before .before .before .args in
-    let told = c .enum-told in
-    (omega arith, sym (committee-taken (take (start .n) (start .stakes .now)) (told .given .0 .0) (ap asNewCommittee (sym (told .given .1)) ∙ c .before .before .new-committee .ensures)))
+    let told = c .enum-told in (
+      omega arith,
+      sym (committee-taken (take (start .n) (start .stakes .now)) (told .given .0 .0)
+          (ap asNewCommittee (sym (told .given .1)) ∙ c .before .before .new-committee .ensures)),
+    )
 
 returns-2 : tie.Need-returns-2
 unfolding stakesIn
 returns-2 c =
     let start = c .before .before .before .before .before .before .args in
-    let set = c .before .set in
-    (omega arith, sym (committee-broken (take (start .n) (start .stakes .now)) (set .given .0 .0) (ap asNewCommittee (sym (set .given .1)) ∙ c .before .before .before .new-committee .ensures)))
+    let set = c .before .set in (
+      omega arith,
+      sym (committee-broken (take (start .n) (start .stakes .now)) (set .given .0 .0)
+          (ap asNewCommittee (sym (set .given .1)) ∙ c .before .before .before .new-committee .ensures)),
+    )
 
 pub checked-members-spec : {M : Type 1} → statement M
 checked-members-spec =

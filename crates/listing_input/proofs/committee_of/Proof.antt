@@ -14,7 +14,11 @@ same-length c = search needs
 
 returns : tie.Need-returns
 unfolding listedStakes
-returns c = let t = c .before .before .table-of .ensures in (t .0, t .1 ∙ (rw (eq-eqb (c .before .before .before .before .before .before .before .before .args .count) 255 (omega arith))))
+returns c = let t = c .before .before .table-of .ensures in (
+  t .0,
+  t .1 ∙
+      (rw (eq-eqb (c .before .before .before .before .before .before .before .before .args .count) 255 (omega arith))),
+)
 
 members-of-requires : tie.Need-members-of-requires
 members-of-requires c κs = search needs
@@ -24,7 +28,11 @@ same-length-2 c = search needs
 
 returns-2 : tie.Need-returns-2
 unfolding listedStakes
-returns-2 c = let t = c .before .before .members-of .ensures in (t .0, t .1 ∙ (rw (ne-eqb (c .before .before .before .before .before .before .before .before .args .count) 255 (c .before .before .before .before .if1 .left))))
+returns-2 c = let t = c .before .before .members-of .ensures in (
+  t .0,
+  t .1 ∙ (rw (ne-eqb (c .before .before .before .before .before .before .before .before .args .count) 255
+      (c .before .before .before .before .if1 .left))),
+)
 
 pub committee-of-spec : {M : Type 1} → statement M
 committee-of-spec =

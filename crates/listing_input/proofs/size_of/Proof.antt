@@ -13,7 +13,11 @@ returns c = rw (eq-eqb (length (c .before .before .args .head .now)) 0 (c .if1 .
 
 returns-2 : tie.Need-returns-2
 unfolding sizeOf
-returns-2 c = rw (ne-eqb (length (c .before .before .before .args .head .now)) 0 (c .before .if1 .left), lt-ltb (length (c .before .before .before .args .head .now)) 4 (c .if2 .taken))
+returns-2 c = rw (
+  ne-eqb (length (c .before .before .before .args .head .now)) 0 (c .before .if1 .left),
+  lt-ltb
+      (length (c .before .before .before .args .head .now)) 4 (c .if2 .taken),
+)
 
 read-u32-requires : tie.Need-read-u32-requires
 read-u32-requires c κs = search needs
@@ -23,7 +27,12 @@ unfolding sizeOf
 returns-3 c =
     let s = c .before .before .before .before .before .args .head .now in
     let size = c .before .read-u32 .ensures in
-    rw (ne-eqb (length s) 0 (c .before .before .before .if1 .left), le-ltb (length s) 4 (c .before .before .if2 .left), lt-ltb 8192 (leAt 4 s 0) (omega (arith, size)))
+    rw (
+      ne-eqb (length s) 0 (c .before .before .before .if1 .left),
+      le-ltb (length s) 4 (c .before .before .if2 .left),
+      lt-ltb 8192 (leAt 4 s 0)
+          (omega (arith, size)),
+    )
 
 cast-t3 : tie.Need-cast-t3
 cast-t3 c = search needs
@@ -33,7 +42,13 @@ unfolding sizeOf
 returns-4 c =
     let s = c .before .before .before .before .before .args .head .now in
     let size = c .before .read-u32 .ensures in
-    rw (ne-eqb (length s) 0 (c .before .before .before .if1 .left), le-ltb (length s) 4 (c .before .before .if2 .left), le-ltb 8192 (leAt 4 s 0) (omega (arith, size)), size)
+    rw (
+      ne-eqb (length s) 0 (c .before .before .before .if1 .left),
+      le-ltb (length s) 4 (c .before .before .if2 .left),
+      le-ltb 8192 (leAt 4 s 0)
+          (omega (arith, size)),
+      size,
+    )
 
 pub size-of-spec : {M : Type 1} → statement M
 size-of-spec = tie.close (tie.spec returns returns-2 read-u32-requires returns-3 cast-t3 returns-4)

@@ -24,7 +24,9 @@ enum-known-file : tie.Need-enum-known-file
 enum-known-file c = search needs
 
 slice-aggregate-load-2 : tie.Need-slice-aggregate-load-2
-slice-aggregate-load-2 c = let file = c .before .before .file in sym (length-take-le (file .given .0 .0) (c .before .before .before .before .before .before .args .bytes .now) (rw (file .given .1) at (c .before .before .before .before .before .before .pre .1)))
+slice-aggregate-load-2 c = let file = c .before .before .file in sym
+    (length-take-le (file .given .0 .0) (c .before .before .before .before .before .before .args .bytes .now)
+    (rw (file .given .1) at (c .before .before .before .before .before .before .pre .1)))
 
 load-requires-2 : tie.Need-load-requires-2
 load-requires-2 c κs = search needs
@@ -52,7 +54,8 @@ returns-2 c =
     let start = c .before .before .before .before .before .before .before .before .before .before .args in
     let file = c .before .before .before .before .before .before .file in
     let l = c .before .before .load2 in
-    let t = loaded-front (start .stakes .now) (l .last .1 .0) (l .result) (omega arith) (take (file .given .0 .0) (start .bytes .now)) (l .ensures .0) (l .ensures .1) in
+    let t = loaded-front (start .stakes .now) (l .last .1 .0) (l .result) (omega arith) (take (file .given .0 .0) (start .bytes .now)) (l .ensures .0)
+    (l .ensures .1) in
     (at-most 128 254 (l .result) (omega arith) (t .0), t .1 ∙ (rw (file .given .1)))
 
 returns-3 : tie.Need-returns-3

@@ -49,13 +49,16 @@ returns-2 : tie.Need-returns-2 Inv-loop μ-loop
 returns-2 c = search needs
 
 add-done : tie.Need-add-done Inv-loop μ-loop
-add-done c = let few = simp (length-take, length-drop) at (rw (c .before .before .some .given .1) at (c .before .before .before .before .before .before .read-some .ensures)) in omega (arith, few)
+add-done c = let few = simp (length-take, length-drop) at (rw (c .before .before .some .given .1) at
+    (c .before .before .before .before .before .before .read-some .ensures)) in omega (arith, few)
 
 loop-less : tie.Need-loop-less Inv-loop μ-loop
-loop-less c = let few = simp (length-take, length-drop) at (rw (c .before .before .some .given .1) at (c .before .before .before .before .before .before .read-some .ensures)) in omega (arith, few)
+loop-less c = let few = simp (length-take, length-drop) at (rw (c .before .before .some .given .1) at
+    (c .before .before .before .before .before .before .read-some .ensures)) in omega (arith, few)
 
 loop-again : tie.Need-loop-again Inv-loop μ-loop
-loop-again c = let few = simp (length-take, length-drop) at (rw (c .before .before .some .given .1) at (c .before .before .before .before .before .before .read-some .ensures)) in inside (search needs) (omega (arith, few))
+loop-again c = let few = simp (length-take, length-drop) at (rw (c .before .before .some .given .1) at
+    (c .before .before .before .before .before .before .read-some .ensures)) in inside (search needs) (omega (arith, few))
 
 same-length-3 : tie.Need-same-length-3 Inv-loop μ-loop
 same-length-3 c = search needs

@@ -18,7 +18,8 @@ same-length : tie.Need-same-length
 same-length c = search needs
 
 returns : tie.Need-returns
-returns c = let start = c .before .before .before .before .before .args in rw (length-take-le (start .size) (start .bytes .now) (omega arith)) at (c .before .before .fill .ensures)
+returns c = let start = c .before .before .before .before .before .args in rw (length-take-le (start .size) (start .bytes .now) (omega arith)) at
+    (c .before .before .fill .ensures)
 
 pub fill-front-spec : {M : Type 1} → statement M
 fill-front-spec =

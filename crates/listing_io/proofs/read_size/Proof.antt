@@ -16,10 +16,16 @@ enum-known-filled : tie.Need-enum-known-filled
 enum-known-filled c = search needs
 
 array-share-prefix-head : tie.Need-array-share-prefix-head
-array-share-prefix-head c = omega (arith, rw (c .before .filled .given .1) at (c .before .before .before .before .fill .ensures), c .before .before .before .before .fill .kept .1 .0)
+array-share-prefix-head c = omega (
+  arith,
+  rw (c .before .filled .given .1) at (c .before .before .before .before .fill .ensures),
+  c .before .before .before
+      .before .fill .kept .1 .0,
+)
 
 slice-aggregate-size-of : tie.Need-slice-aggregate-size-of
-slice-aggregate-size-of c = let fill = c .before .before .before .before .before .fill in let filled = c .before .before .filled in sym (length-take-le (filled .given .0 .0) (fill .last .1 .0) (omega (arith, rw (filled .given .1) at (fill .ensures), fill .kept .1 .0)))
+slice-aggregate-size-of c = let fill = c .before .before .before .before .before .fill in let filled = c .before .before .filled in sym
+    (length-take-le (filled .given .0 .0) (fill .last .1 .0) (omega (arith, rw (filled .given .1) at (fill .ensures), fill .kept .1 .0)))
 
 size-of-requires : tie.Need-size-of-requires
 size-of-requires c κs = search needs

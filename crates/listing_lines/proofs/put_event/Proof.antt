@@ -19,7 +19,8 @@ same-length c = search needs
 
 returns : tie.Need-returns
 unfolding eventLine eventName line numberLine numbers
-returns c = rw (eq-eqb (c .before .before .before .before .before .before .before .before .args .kind) 1 (c .before .before .before .before .before .before .if1 .taken)) (c .before .before .put-line .ensures)
+returns c = rw (eq-eqb (c .before .before .before .before .before .before .before .before .args .kind) 1
+    (c .before .before .before .before .before .before .if1 .taken)) (c .before .before .put-line .ensures)
 
 slice-aggregate-put-line-3 : tie.Need-slice-aggregate-put-line-3
 slice-aggregate-put-line-3 c = search needs
@@ -35,7 +36,13 @@ same-length-2 c = search needs
 
 returns-2 : tie.Need-returns-2
 unfolding eventLine eventName line numberLine numbers
-returns-2 c = rw (ne-eqb (c .before .before .before .before .before .before .before .before .before .args .kind) 1 (c .before .before .before .before .before .before .before .if1 .left), eq-eqb (c .before .before .before .before .before .before .before .before .before .args .kind) 2 (c .before .before .before .before .before .before .if2 .taken)) (c .before .before .put-line2 .ensures)
+returns-2 c = rw (
+  ne-eqb (c .before .before .before .before .before .before .before .before .before .args .kind) 1
+      (c .before .before .before .before .before .before .before .if1 .left),
+  eq-eqb
+      (c .before .before .before .before .before .before .before .before .before .args .kind) 2 (c .before .before .before .before .before .before .if2 .taken),
+)
+    (c .before .before .put-line2 .ensures)
 
 slice-aggregate-put-line-5 : tie.Need-slice-aggregate-put-line-5
 slice-aggregate-put-line-5 c = search needs
@@ -51,7 +58,13 @@ same-length-3 c = search needs
 
 returns-3 : tie.Need-returns-3
 unfolding eventLine eventName line numberLine numbers
-returns-3 c = rw (ne-eqb (c .before .before .before .before .before .before .before .before .before .args .kind) 1 (c .before .before .before .before .before .before .before .if1 .left), ne-eqb (c .before .before .before .before .before .before .before .before .before .args .kind) 2 (c .before .before .before .before .before .before .if2 .left)) (c .before .before .put-line3 .ensures)
+returns-3 c = rw (
+  ne-eqb (c .before .before .before .before .before .before .before .before .before .args .kind) 1
+      (c .before .before .before .before .before .before .before .if1 .left),
+  ne-eqb
+      (c .before .before .before .before .before .before .before .before .before .args .kind) 2 (c .before .before .before .before .before .before .if2 .left),
+)
+    (c .before .before .put-line3 .ensures)
 
 pub put-event-spec : {M : Type 1} → statement M
 put-event-spec =

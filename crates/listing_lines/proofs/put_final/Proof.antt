@@ -33,7 +33,17 @@ put-line-requires-2 c κs =
     let start = c .before .before .before .before .before .before .before .before .before .before .before .before .before .before .args in
     let named = c .before .before .before .before .before .before .before .before .before .put-line .ensures in
     let digest = c .before .before .before .before .before .put-hex .ensures in
-    omega (arith, length-numberLine (102 ∷ 105 ∷ 110 ∷ 97 ∷ 108 ∷ []) (start .round ∷ start .author ∷ []) 32, length-hex 8 (start .digest), named .end, length-wrote named, digest .end, length-wrote digest, c .before .before .before .before .before .before .before .before .before .before .before .before .before .before .pre)
+    omega (
+      arith,
+      length-numberLine (102 ∷ 105 ∷ 110 ∷ 97 ∷ 108 ∷ []) (start .round ∷ start .author ∷ []) 32,
+      length-hex 8 (start .digest),
+      named .end,
+      length-wrote named,
+      digest .end,
+      length-wrote digest,
+      c .before .before .before .before .before .before .before .before .before .before .before
+          .before .before .before .pre,
+    )
 
 same-length : tie.Need-same-length
 same-length c = search needs
@@ -41,9 +51,12 @@ same-length c = search needs
 returns : tie.Need-returns
 unfolding finalLine
 returns c =
-    let start = c .before .before .before .before .before .before .before .before .before .before .before .before .before .before .before .before .before .args in
-    wrote-same (line-around (102 ∷ 105 ∷ 110 ∷ 97 ∷ 108 ∷ []) (hex 8 (start .digest)) (start .round) (start .author) (start .offset ∷ start .blocks ∷ start .stake ∷ []))
-    (wrote-on (wrote-on (c .before .before .before .before .before .before .before .before .before .before .before .before .put-line .ensures) (c .before .before .before .before .before .before .before .before .put-hex .ensures)) (c .before .before .put-line2 .ensures))
+    let start = c .before .before .before .before .before .before .before .before .before .before .before .before .before .before .before .before .before
+    .args in
+    wrote-same (line-around (102 ∷ 105 ∷ 110 ∷ 97 ∷ 108 ∷ []) (hex 8 (start .digest)) (start .round) (start .author)
+    (start .offset ∷ start .blocks ∷ start .stake ∷ []))
+    (wrote-on (wrote-on (c .before .before .before .before .before .before .before .before .before .before .before .before .put-line .ensures)
+    (c .before .before .before .before .before .before .before .before .put-hex .ensures)) (c .before .before .put-line2 .ensures))
 
 pub put-final-spec : {M : Type 1} → statement M
 put-final-spec =

@@ -32,7 +32,8 @@ same-length-3 : tie.Need-same-length-3 Inv-loop μ-loop
 same-length-3 c = search needs
 
 returns : tie.Need-returns Inv-loop μ-loop
-returns c = fed-on (c .before .before .before .before .before .before .before .before .before .before .before .before .loop .inv .1 .1 .1 .1) (c .before .before .before .before .before .before .before .next-record .ensures .1)
+returns c = fed-on (c .before .before .before .before .before .before .before .before .before .before .before .before .loop .inv .1 .1 .1 .1)
+    (c .before .before .before .before .before .before .before .next-record .ensures .1)
 
 same-length-4 : tie.Need-same-length-4 Inv-loop μ-loop
 same-length-4 c = search needs
@@ -44,7 +45,8 @@ same-length-6 : tie.Need-same-length-6 Inv-loop μ-loop
 same-length-6 c = search needs
 
 returns-2 : tie.Need-returns-2 Inv-loop μ-loop
-returns-2 c = fed-on (c .before .before .before .before .before .before .before .before .before .before .before .before .before .before .loop .inv .1 .1 .1 .1) (c .before .before .before .before .before .before .before .before .before .next-record .ensures .1)
+returns-2 c = fed-on (c .before .before .before .before .before .before .before .before .before .before .before .before .before .before .loop .inv .1 .1 .1
+    .1) (c .before .before .before .before .before .before .before .before .before .next-record .ensures .1)
 
 add-turn : tie.Need-add-turn Inv-loop μ-loop
 add-turn c = search needs
@@ -55,8 +57,20 @@ loop-less c = search needs
 loop-again : tie.Need-loop-again Inv-loop μ-loop
 loop-again c =
     let after = c .before .before .before .before .before .before .before .before .before .next-record .ensures .0 in
-    let inv = c .before .before .before .before .before .before .before .before .before .before .before .before .before .before .loop .inv in
-    ((omega (arith, after .number), (after .accepted, (after .refusals, after .processed))), (search needs, (search needs, (search needs, fed-on (inv .1 .1 .1 .1) (c .before .before .before .before .before .before .before .before .before .next-record .ensures .1)))))
+    let inv = c .before .before .before .before .before .before .before .before .before .before .before .before .before .before .loop .inv in (
+      (omega (arith, after .number), (after .accepted, (after .refusals, after .processed))),
+      (
+        search needs,
+        (
+          search needs,
+          (
+            search needs,
+            fed-on (inv .1 .1 .1 .1)
+                (c .before .before .before .before .before .before .before .before .before .next-record .ensures .1),
+          ),
+        ),
+      ),
+    )
 
 same-length-7 : tie.Need-same-length-7 Inv-loop μ-loop
 same-length-7 c = search needs

@@ -25,13 +25,15 @@ enum-known-answer : tie.Need-enum-known-answer
 enum-known-answer c = search needs
 
 array-share-prefix-stakes : tie.Need-array-share-prefix-stakes
-array-share-prefix-stakes c = let read = c .before .before .before .before .before .read-committee in omega (arith, members-fit 254 _ _ (c .before .answer .given .1) (read .ensures), read .kept .1 .1 .0)
+array-share-prefix-stakes c = let read = c .before .before .before .before .before .read-committee in omega
+    (arith, members-fit 254 _ _ (c .before .answer .given .1) (read .ensures), read .kept .1 .1 .0)
 
 slice-aggregate-run : tie.Need-slice-aggregate-run
 slice-aggregate-run c =
     let read = c .before .before .before .before .before .before .read-committee in
     let answer = c .before .before .answer in
-    sym (length-take-le (answer .given .0 .0) (read .last .1 .1 .0) (omega (arith, members-fit 254 _ _ (answer .given .1) (read .ensures), read .kept .1 .1 .0)))
+    sym (length-take-le (answer .given .0 .0) (read .last .1 .1 .0)
+    (omega (arith, members-fit 254 _ _ (answer .given .1) (read .ensures), read .kept .1 .1 .0)))
 
 run-requires : tie.Need-run-requires
 run-requires c κs = search needs

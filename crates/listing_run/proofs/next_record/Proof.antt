@@ -23,7 +23,11 @@ slice-aggregate-step : tie.Need-slice-aggregate-step
 slice-aggregate-step c = search needs
 
 step-requires : tie.Need-step-requires
-step-requires c κs = (search needs, rw (c .before .before .before .before .before .before .read-record .kept .1 .0) (c .before .before .before .before .before .before .read-record .ensures))
+step-requires c κs = (
+  search needs,
+  rw (c .before .before .before .before .before .before .read-record .kept .1 .0)
+      (c .before .before .before .before .before .before .read-record .ensures),
+)
 
 write-failed-requires : tie.Need-write-failed-requires
 write-failed-requires c κs = search needs

@@ -51,10 +51,16 @@ returns c = λ e o.
     rw (c .before .wrapping-add-u64 .ensures) (going-end _ _ _ _ _ _ _ _ (rw o at (ask .ensures .0)) (rw o at (ask .ensures .1 .0)) going counted more)
 
 slice-aggregate-last-locator : tie.Need-slice-aggregate-last-locator Inv-loop μ-loop
-slice-aggregate-last-locator c = sym (c .before .before .before .before .before .before .before .before .before .before .before .ask .kept .1 .1 .0 ∙ c .before .before .before .before .before .before .before .before .before .before .before .before .before .before .loop .inv .0 .1)
+slice-aggregate-last-locator c = sym (c .before .before .before .before .before .before .before .before .before .before .before .ask .kept .1 .1 .0 ∙ c
+    .before .before .before .before .before .before .before .before .before .before .before .before .before .before .loop .inv .0 .1)
 
 last-locator-requires : tie.Need-last-locator-requires Inv-loop μ-loop
-last-locator-requires c κs = omega (arith, c .before .before .before .before .before .before .before .before .before .before .before .ask .ensures .1 .1, c .before .before .before .before .before .before .before .before .before .before .before .ask .kept .1 .1 .0)
+last-locator-requires c κs = omega (
+  arith,
+  c .before .before .before .before .before .before .before .before .before .before .before .ask .ensures .1 .1,
+  c
+      .before .before .before .before .before .before .before .before .before .before .before .ask .kept .1 .1 .0,
+)
 
 add-turn : tie.Need-add-turn Inv-loop μ-loop
 add-turn c = search needs
@@ -68,7 +74,8 @@ loop-again c =
     let l = c .before .before .before .before .before .before .before .before .before .before .before .before .before .before .before .loop in (
       (search needs, ask .kept .1 .1 .0 ∙ l .inv .0 .1),
       λ o.
-          let counted = c .before .before .before .before .before .before .before .before .print-stretches .ensures (c .before .before .before .before .if1 .left) in
+          let counted = c .before .before .before .before .before .before .before .before .print-stretches .ensures
+          (c .before .before .before .before .if1 .left) in
           let more : ask .result .more ≡ true = not-false (ask .result .more) (c .before .before .if2 .left) in
           rw (c .before .before .before .before .before .wrapping-add-u64 .ensures, c .last-locator .ensures)
           (going-on _ _ _ _ _ _ _ _ (rw o at (ask .ensures .0)) (rw o at (ask .ensures .1 .0)) (l .inv .1 o) counted more),

@@ -23,7 +23,8 @@ write-failed-requires : tie.Need-write-failed-requires Inv-loop μ-loop
 write-failed-requires c κs = let put = c .before .before .before .put-lines .ensures .lines in omega (arith, put .fits, length-wrote put)
 
 same-length : tie.Need-same-length Inv-loop μ-loop
-same-length c = length-wrote (c .before .before .before .before .before .put-lines .ensures .lines) ∙ c .before .before .before .before .before .before .before .before .before .loop .inv .1
+same-length c = length-wrote (c .before .before .before .before .before .put-lines .ensures .lines) ∙ c .before .before .before .before .before .before
+    .before .before .before .loop .inv .1
 
 returns : tie.Need-returns Inv-loop μ-loop
 returns c = search needs
@@ -32,7 +33,8 @@ loop-less : tie.Need-loop-less Inv-loop μ-loop
 loop-less c = omega (arith, c .before .before .before .before .before .put-lines .ensures .onward (omega arith) (omega arith))
 
 loop-again : tie.Need-loop-again Inv-loop μ-loop
-loop-again c = let put = c .before .before .before .before .before .put-lines .ensures in (put .inside (omega arith), length-wrote (put .lines) ∙ c .before .before .before .before .before .before .before .before .before .loop .inv .1)
+loop-again c = let put = c .before .before .before .before .before .put-lines .ensures in
+    (put .inside (omega arith), length-wrote (put .lines) ∙ c .before .before .before .before .before .before .before .before .before .loop .inv .1)
 
 same-length-2 : tie.Need-same-length-2 Inv-loop μ-loop
 same-length-2 c = c .before .before .loop .inv .1

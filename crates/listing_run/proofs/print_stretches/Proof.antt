@@ -41,8 +41,11 @@ loop-less c = search needs
 loop-again : tie.Need-loop-again Inv-loop μ-loop
 loop-again c =
     let l = c .before .before .before .before .before .before .before .before in
-    let read = c .before .before .before .before .before .before .read-stretch .ensures in
-    (search needs, rw (c .wrapping-add-u64 .ensures) (counting-on _ _ _ _ _ (l .loop .inv .1) (c .before .before .before .before .before .before .before .loop-test .taken) read))
+    let read = c .before .before .before .before .before .before .read-stretch .ensures in (
+      search needs,
+      rw (c .wrapping-add-u64 .ensures) (counting-on _ _ _ _ _ (l .loop .inv .1)
+          (c .before .before .before .before .before .before .before .loop-test .taken) read),
+    )
 
 same-length-2 : tie.Need-same-length-2 Inv-loop μ-loop
 same-length-2 c = search needs

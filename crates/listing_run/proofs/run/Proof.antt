@@ -49,8 +49,17 @@ slice-aggregate-put-counts-2 c = search needs
 put-counts-requires : tie.Need-put-counts-requires
 unfolding start
 put-counts-requires c κs =
-    let fed = fed-start 65520 6145 (c .before .before .before .before .before .before .before .before .before .before .before .before .before .before .before .before .before .fresh-store .ensures) refl (c .before .before .before .before .before .before .before .before .before .before .before .before .feed-all .ensures) in
-    (fed-holds fed, omega (arith, c .before .before .before .before .before .print-list .kept .1 .1 .0, c .before .before .before .before .before .before .before .before .before .before .before .before .feed-all .kept .1 .1 .1 .1 .0))
+    let fed = fed-start 65520 6145 (c .before .before .before .before .before .before .before .before .before .before .before .before .before .before .before
+    .before .before .fresh-store .ensures) refl (c .before .before .before .before .before .before .before .before .before .before .before .before
+    .feed-all .ensures) in (
+      fed-holds fed,
+      omega (
+        arith,
+        c .before .before .before .before .before .print-list .kept .1 .1 .0,
+        c .before .before .before .before .before .before
+            .before .before .before .before .before .before .feed-all .kept .1 .1 .1 .1 .0,
+      ),
+    )
 
 slice-aggregate-write-failed : tie.Need-slice-aggregate-write-failed
 slice-aggregate-write-failed c = search needs

@@ -15,7 +15,12 @@ enum-known-filled : tie.Need-enum-known-filled
 enum-known-filled c = search needs
 
 array-share-prefix-head : tie.Need-array-share-prefix-head
-array-share-prefix-head c = omega (arith, rw (c .before .filled .given .1) at (c .before .before .before .before .fill .ensures), c .before .before .before .before .fill .kept .1 .0)
+array-share-prefix-head c = omega (
+  arith,
+  rw (c .before .filled .given .1) at (c .before .before .before .before .fill .ensures),
+  c .before .before .before
+      .before .fill .kept .1 .0,
+)
 
 slice-aggregate-member-count : tie.Need-slice-aggregate-member-count
 slice-aggregate-member-count c =

@@ -18,13 +18,26 @@ enum-known-filled : tie.Need-enum-known-filled
 enum-known-filled c = search needs
 
 array-share-prefix-bytes : tie.Need-array-share-prefix-bytes
-array-share-prefix-bytes c = omega (arith, rw (c .before .filled .given .1) at (c .before .before .before .before .fill-front .ensures), c .before .before .before .before .before .before .stake-bytes .ensures .1, c .before .before .before .before .fill-front .kept .1 .0)
+array-share-prefix-bytes c = omega (
+  arith,
+  rw (c .before .filled .given .1) at (c .before .before .before .before .fill-front .ensures),
+  c .before .before
+      .before .before .before .before .stake-bytes .ensures .1,
+  c .before .before .before .before .fill-front .kept .1 .0,
+)
 
 slice-aggregate-read-members : tie.Need-slice-aggregate-read-members
 slice-aggregate-read-members c =
     let filled = c .before .before .filled in
     let front = c .before .before .before .before .before .fill-front in
-    sym (length-take-le (filled .given .0 .0) (front .last .1 .0) (omega (arith, rw (filled .given .1) at (front .ensures), c .before .before .before .before .before .before .before .stake-bytes .ensures .1, front .kept .1 .0)))
+    sym (length-take-le (filled .given .0 .0) (front .last .1 .0)
+    (omega (
+      arith,
+      rw (filled .given .1) at (front .ensures),
+      c .before .before .before .before .before .before .before .stake-bytes .ensures .1,
+      front
+          .kept .1 .0,
+    )))
 
 read-members-requires : tie.Need-read-members-requires
 read-members-requires c κs = search needs

@@ -29,7 +29,8 @@ before-requires : tie.Need-before-requires
 before-requires c κs = search needs
 
 returns-2 : tie.Need-returns-2
-returns-2 c = last-some _ _ _ _ (c .before .before .before .if1 .left) (c .before .before .read-reference .ensures) (c .before2 .ensures ∙ ap (λ (k : ℕ). k - 1) (c .before .read-u64 .ensures))
+returns-2 c = last-some _ _ _ _ (c .before .before .before .if1 .left) (c .before .before .read-reference .ensures)
+    (c .before2 .ensures ∙ ap (λ (k : ℕ). k - 1) (c .before .read-u64 .ensures))
 
 pub last-locator-spec : {M : Type 1} → statement M
 last-locator-spec =

@@ -59,7 +59,8 @@ put-decimal-returns : (t : ℕ) → put-decimal-lts.Need-returns (
 ) (put-decimal-at t) put-decimal.Post
 put-decimal-returns t c =
     let start = c .before .before .args in
-    wrote-same (sym (decimal-one (start .n) (c .if1 .taken))) (wrote-byte (48 + start .n) (wrote-none (start .out .now) (start .at) (omega arith)) (omega arith))
+    wrote-same (sym (decimal-one (start .n) (c .if1 .taken))) (wrote-byte (48 + start .n) (wrote-none (start .out .now) (start .at) (omega arith))
+    (omega arith))
 
 put-decimal-put-decimal-requires : (t : ℕ) → put-decimal-lts.Need-put-decimal-requires (
   put-decimal-below t,
@@ -85,7 +86,14 @@ put-decimal-slice-write-out-2 : (t : ℕ) → put-decimal-lts.Need-slice-write-o
 ) (put-decimal-at t) put-decimal.Post
 put-decimal-slice-write-out-2 t c =
     let wrote = c .before .before .put-decimal .ensures in
-    omega (arith, length-tenth (c .before .before .before .before .before .before .args .n) (c .before .before .before .before .before .before .fits .n .fits), wrote .end, wrote .fits, length-wrote wrote)
+    omega (
+      arith,
+      length-tenth (c .before .before .before .before .before .before .args .n)
+          (c .before .before .before .before .before .before .fits .n .fits),
+      wrote .end,
+      wrote .fits,
+      length-wrote wrote,
+    )
 
 put-decimal-add-result-2 : (t : ℕ) → put-decimal-lts.Need-add-result-2 (
   put-decimal-below t,
@@ -93,7 +101,14 @@ put-decimal-add-result-2 : (t : ℕ) → put-decimal-lts.Need-add-result-2 (
 ) (put-decimal-at t) put-decimal.Post
 put-decimal-add-result-2 t c =
     let wrote = c .before .before .put-decimal .ensures in
-    omega (arith, length-tenth (c .before .before .before .before .before .before .args .n) (c .before .before .before .before .before .before .fits .n .fits), wrote .end, wrote .fits, length-wrote wrote)
+    omega (
+      arith,
+      length-tenth (c .before .before .before .before .before .before .args .n)
+          (c .before .before .before .before .before .before .fits .n .fits),
+      wrote .end,
+      wrote .fits,
+      length-wrote wrote,
+    )
 
 put-decimal-same-length-2 : (t : ℕ) → put-decimal-lts.Need-same-length-2 (
   put-decimal-below t,
@@ -109,7 +124,13 @@ put-decimal-returns-2 t c =
     let n = c .before .before .before .before .before .before .args .n in
     let wrote = c .before .before .put-decimal .ensures in
     wrote-same (sym (decimal-more n (c .before .before .before .before .before .before .fits .n .fits) (c .before .before .before .before .if1 .left)))
-    (wrote-byte (48 + n % 10) wrote (omega (arith, length-tenth n (c .before .before .before .before .before .before .fits .n .fits), wrote .end, length-wrote wrote)))
+    (wrote-byte (48 + n % 10) wrote (omega (
+      arith,
+      length-tenth n (c .before .before .before .before .before .before .fits .n .fits),
+      wrote .end,
+      length-wrote
+          wrote,
+    )))
 
 pub +put-decimal-spec : {M : Type 1} → statement M
 +put-decimal-spec = close μ-put-decimal λ t. put-decimal-lts.spec (

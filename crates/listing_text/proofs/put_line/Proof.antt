@@ -17,13 +17,21 @@ slice-write-out : tie.Need-slice-write-out
 slice-write-out c =
     let text = c .before .before .before .before .before .before .put-text .ensures in
     let wrote = c .before .before .put-numbers .ensures in
-    omega (arith, length-numbers (c .before .before .before .before .before .before .before .before .before .before .before .args .ns .now), text .end, length-wrote text, wrote .end, length-wrote wrote)
+    omega (
+      arith,
+      length-numbers (c .before .before .before .before .before .before .before .before .before .before .before .args .ns .now),
+      text .end,
+      length-wrote text,
+      wrote .end,
+      length-wrote wrote,
+    )
 
 add-result : tie.Need-add-result
 add-result c = search needs
 
 same-length : tie.Need-same-length
-same-length c = simp length-set (length-wrote (wrote-on (c .before .before .before .before .before .before .put-text .ensures) (c .before .before .put-numbers .ensures)))
+same-length c = simp length-set (length-wrote (wrote-on (c .before .before .before .before .before .before .put-text .ensures)
+    (c .before .before .put-numbers .ensures)))
 
 returns : tie.Need-returns
 unfolding numberLine
@@ -32,7 +40,15 @@ returns c =
     let text = c .before .before .before .before .before .before .put-text .ensures in
     let wrote = c .before .before .put-numbers .ensures in
     wrote-same (append-assoc (start .name .now) (numbers (start .ns .now)) (start .last ∷ []))
-    (wrote-byte (start .last) (wrote-on text wrote) (omega (arith, length-numbers (c .before .before .before .before .before .before .before .before .before .before .before .args .ns .now), text .end, length-wrote text, wrote .end, length-wrote wrote)))
+    (wrote-byte (start .last) (wrote-on text wrote) (omega (
+      arith,
+      length-numbers
+          (c .before .before .before .before .before .before .before .before .before .before .before .args .ns .now),
+      text .end,
+      length-wrote text,
+      wrote .end,
+      length-wrote wrote,
+    )))
 
 pub put-line-spec : {M : Type 1} → statement M
 put-line-spec =

@@ -16,7 +16,11 @@ abbrev μ-loop : tie.MeasureT-loop
 μ-loop out₀ at ns to₀ i₀ out to i = length ns - i
 
 loop-holds : tie.Need-loop-holds Inv-loop μ-loop
-loop-holds c = (search needs, wrote-same (sym (numbers-none (c .before .before .args .ns .now))) (wrote-none (c .before .before .args .out .now) (c .before .before .args .at) (omega arith)))
+loop-holds c = (
+  search needs,
+  wrote-same (sym (numbers-none (c .before .before .args .ns .now)))
+      (wrote-none (c .before .before .args .out .now) (c .before .before .args .at) (omega arith)),
+)
 
 slice-write-out : tie.Need-slice-write-out Inv-loop μ-loop
 slice-write-out c =
@@ -56,8 +60,11 @@ loop-again c =
     let b = c .before .before .before .before .before .before .loop in
     let ns = c .before .before .before .before .before .before .before .before .before .args .ns .now in
     let wrote = b .inv .1 in
-    let more = c .before .before .before .before .before .loop-test .taken in
-    (search needs, wrote-number ns (b .i) more (omega (arith, numbers-room ns (b .i) (b .inv .0), wrote .end, length-wrote wrote)) wrote (c .before .before .put-decimal .ensures))
+    let more = c .before .before .before .before .before .loop-test .taken in (
+      search needs,
+      wrote-number ns (b .i) more (omega (arith, numbers-room ns (b .i) (b .inv .0), wrote .end, length-wrote wrote)) wrote
+          (c .before .before .put-decimal .ensures),
+    )
 
 same-length : tie.Need-same-length Inv-loop μ-loop
 same-length c = length-wrote (c .before .loop .inv .1)

@@ -35,8 +35,14 @@ loop-less c = search needs
 loop-again : tie.Need-loop-again Inv-loop μ-loop
 loop-again c =
     let b = c .before .before .loop in
-    let start = c .before .before .before .args in
-    (search needs, (simp length-set (omega arith), rw (b .inv .1 .1) (sets-next (start .out .now) (start .text .now) (start .at) (b .i) (c .before .loop-test .taken))))
+    let start = c .before .before .before .args in (
+      search needs,
+      (
+        simp length-set (omega arith),
+        rw (b .inv .1 .1)
+            (sets-next (start .out .now) (start .text .now) (start .at) (b .i) (c .before .loop-test .taken)),
+      ),
+    )
 
 add-result : tie.Need-add-result Inv-loop μ-loop
 add-result c = search needs

@@ -24,11 +24,16 @@ unfolding asMaybe isOrdinary
 returns c =
     let a = c .before .before .before .before .before .before .before .before .before .before .before .args in
     let b = c .before .before .before .before .begin in
-    let bytes = bytes-of (a .store .now) (λ j h. omega (arith, c .before .before .before .before .before .before .before .before .before .before .shared-slice-known .given j)) in
+    let bytes = bytes-of (a .store .now) (λ j h. omega (
+      arith,
+      c .before .before .before .before .before .before .before .before .before .before
+          .shared-slice-known .given j,
+    )) in
     record {
       none-passed = refl;
       held = λ k sets lent.
-          let on = lent-for k (a .total) (a .store .now) (a .order .now) sets (a .edges .now) _ (a .marks .now) _ lent (b .kept .1 .1 .1 .1 .0) (b .kept .1 .1 .1 .1 .1 .0) in
+          let on = lent-for k (a .total) (a .store .now) (a .order .now) sets (a .edges .now) _ (a .marks .now) _ lent (b .kept .1 .1 .1 .1 .0)
+          (b .kept .1 .1 .1 .1 .1 .0) in
           record {
             lent = on;
             shares = refl;

@@ -50,8 +50,11 @@ place-of-requires c κs =
     let start = found .0 .0 in
     let count = found .0 .1 .0 in
     let t : StoreStretch = record { start = start; count = count } in
-    let held : payloadAt (a .store .now) l ≡ some t = sym (c .before .before .before .before .stored-payload .ensures .0) ∙ ap asShare (found .1) in
-    (c .before .before .before .before .before .before .before .pre, share-block (a .store .now) l (looked-stored (a .store .now) bytes l t held (c .before .before .before .before .before .before .before .pre .0) (o .inOrder)))
+    let held : payloadAt (a .store .now) l ≡ some t = sym (c .before .before .before .before .stored-payload .ensures .0) ∙ ap asShare (found .1) in (
+      c .before .before .before .before .before .before .before .pre,
+      share-block (a .store .now) l
+          (looked-stored (a .store .now) bytes l t held (c .before .before .before .before .before .before .before .pre .0) (o .inOrder)),
+    )
 
 add-end : tie.Need-add-end
 unfolding shareWithin
@@ -88,15 +91,21 @@ returns-2 c =
     let a = c .before .before .before .before .before .before .before .before .before .before .before .before .args in
     let o = c .before .before .before .before .before .before .before .before .before .before .before .before .pre .1 in
     let l = asLocator (a .locator) in
-    let bytes = bytes-of (a .store .now) (λ j h. omega (arith, c .before .before .before .before .before .before .before .before .before .before .before .shared-slice-known .given j)) in
+    let bytes = bytes-of (a .store .now) (λ j h. omega (
+      arith,
+      c .before .before .before .before .before .before .before .before .before .before .before
+          .shared-slice-known .given j,
+    )) in
     let found = c .before .before .before .before .before .before .before .start .given in
     let start = found .0 .0 in
     let count = found .0 .1 .0 in
     let t : StoreStretch = record { start = start; count = count } in
-    let held : payloadAt (a .store .now) l ≡ some t = sym (c .before .before .before .before .before .before .before .before .before .stored-payload .ensures .0) ∙ ap asShare (found .1) in
+    let held : payloadAt (a .store .now) l ≡ some t = sym (c .before .before .before .before .before .before .before .before .before .stored-payload .ensures
+    .0) ∙ ap asShare (found .1) in
     let part = ap (λ (n : ℕ). neededBy (take n (drop start (a .store .now)))) (add-sub-cancel-left start count) in
     let p = c .before .before .before .before .place-of .ensures in
-    let placed = looked-placed (a .store .now) bytes l t held (c .before .before .before .before .before .before .before .before .before .before .before .before .pre .0) (o .inOrder) (a .order .now) (c .before .before .before .before .place-of .result) (p .0) (p .1) in
+    let placed = looked-placed (a .store .now) bytes l t held (c .before .before .before .before .before .before .before .before .before .before .before
+    .before .pre .0) (o .inOrder) (a .order .now) (c .before .before .before .before .place-of .result) (p .0) (p .1) in
     (placed, looked-alone (a .store .now) bytes l t held (sym part ∙ sym (c .before .before .needed-by .ensures) ∙ ap asNeeded (c .enum-told2 .given .1)))
 
 returns-3 : tie.Need-returns-3
@@ -105,15 +114,21 @@ returns-3 c =
     let a = c .before .before .before .before .before .before .before .before .before .before .before .before .before .before .before .before .args in
     let o = c .before .before .before .before .before .before .before .before .before .before .before .before .before .before .before .before .pre .1 in
     let l = asLocator (a .locator) in
-    let bytes = bytes-of (a .store .now) (λ j h. omega (arith, c .before .before .before .before .before .before .before .before .before .before .before .before .before .before .before .shared-slice-known .given j)) in
+    let bytes = bytes-of (a .store .now) (λ j h. omega (
+      arith,
+      c .before .before .before .before .before .before .before .before .before .before .before
+          .before .before .before .before .shared-slice-known .given j,
+    )) in
     let found = c .before .before .before .before .before .before .before .before .before .before .before .start .given in
     let start = found .0 .0 in
     let count = found .0 .1 .0 in
     let t : StoreStretch = record { start = start; count = count } in
-    let held : payloadAt (a .store .now) l ≡ some t = sym (c .before .before .before .before .before .before .before .before .before .before .before .before .before .stored-payload .ensures .0) ∙ ap asShare (found .1) in
+    let held : payloadAt (a .store .now) l ≡ some t = sym (c .before .before .before .before .before .before .before .before .before .before .before .before
+    .before .stored-payload .ensures .0) ∙ ap asShare (found .1) in
     let part = ap (λ (n : ℕ). neededBy (take n (drop start (a .store .now)))) (add-sub-cancel-left start count) in
     let m = c .before .before .before .before .needed .given .0 .0 in
-    let change = sym part ∙ sym (c .before .before .before .before .before .before .needed-by .ensures) ∙ ap asNeeded (c .before .before .before .before .needed .given .1) in
+    let change = sym part ∙ sym (c .before .before .before .before .before .before .needed-by .ensures) ∙ ap asNeeded
+    (c .before .before .before .before .needed .given .1) in
     looked-late (a .store .now) bytes l t held (asLocator m) change (omega (arith, c .if1 .taken))
 
 returns-4 : tie.Need-returns-4
@@ -122,17 +137,25 @@ returns-4 c =
     let a = c .before .before .before .before .before .before .before .before .before .before .before .before .before .before .before .before .args in
     let o = c .before .before .before .before .before .before .before .before .before .before .before .before .before .before .before .before .pre .1 in
     let l = asLocator (a .locator) in
-    let bytes = bytes-of (a .store .now) (λ j h. omega (arith, c .before .before .before .before .before .before .before .before .before .before .before .before .before .before .before .shared-slice-known .given j)) in
+    let bytes = bytes-of (a .store .now) (λ j h. omega (
+      arith,
+      c .before .before .before .before .before .before .before .before .before .before .before
+          .before .before .before .before .shared-slice-known .given j,
+    )) in
     let found = c .before .before .before .before .before .before .before .before .before .before .before .start .given in
     let start = found .0 .0 in
     let count = found .0 .1 .0 in
     let t : StoreStretch = record { start = start; count = count } in
-    let held : payloadAt (a .store .now) l ≡ some t = sym (c .before .before .before .before .before .before .before .before .before .before .before .before .before .stored-payload .ensures .0) ∙ ap asShare (found .1) in
+    let held : payloadAt (a .store .now) l ≡ some t = sym (c .before .before .before .before .before .before .before .before .before .before .before .before
+    .before .stored-payload .ensures .0) ∙ ap asShare (found .1) in
     let part = ap (λ (n : ℕ). neededBy (take n (drop start (a .store .now)))) (add-sub-cancel-left start count) in
     let p = c .before .before .before .before .before .before .before .before .place-of .ensures in
-    let placed = looked-placed (a .store .now) bytes l t held (c .before .before .before .before .before .before .before .before .before .before .before .before .before .before .before .before .pre .0) (o .inOrder) (a .order .now) (c .before .before .before .before .before .before .before .before .place-of .result) (p .0) (p .1) in
+    let placed = looked-placed (a .store .now) bytes l t held (c .before .before .before .before .before .before .before .before .before .before .before
+    .before .before .before .before .before .pre .0) (o .inOrder) (a .order .now)
+    (c .before .before .before .before .before .before .before .before .place-of .result) (p .0) (p .1) in
     let m = c .before .before .before .before .needed .given .0 .0 in
-    let change = sym part ∙ sym (c .before .before .before .before .before .before .needed-by .ensures) ∙ ap asNeeded (c .before .before .before .before .needed .given .1) in
+    let change = sym part ∙ sym (c .before .before .before .before .before .before .needed-by .ensures) ∙ ap asNeeded
+    (c .before .before .before .before .needed .given .1) in
     (placed, omega (arith, c .if1 .left), looked-needs (a .store .now) bytes l t held (asLocator m) change (omega (arith, c .if1 .left)))
 
 pub look-spec : {M : Type 1} → statement M

@@ -18,7 +18,11 @@ abbrev μ-loop : tie.MeasureT-loop
 μ-loop store order marks₀ change₀ marks change = asLocator change .block .round
 
 loop-holds : tie.Need-loop-holds Inv-loop μ-loop
-loop-holds c = let a = c .before .before .before .args in (collecting-start (a .store .now) (a .order .now) (asLocator (a .locator)) (a .marks .now) (c .before .before .before .pre .1 .0) (c .before .before .before .pre .1 .1), refl)
+loop-holds c = let a = c .before .before .before .args in (
+  collecting-start (a .store .now) (a .order .now) (asLocator (a .locator)) (a .marks .now)
+      (c .before .before .before .pre .1 .0) (c .before .before .before .pre .1 .1),
+  refl,
+)
 
 look-requires : tie.Need-look-requires Inv-loop μ-loop
 look-requires c κs = c .before .before .before .before .pre .0
@@ -45,7 +49,8 @@ unfolding Seen asLocator locator
 add-marks c =
     let a = c .before .before .before .before .before .before .before .before .before .args in
     let l = c .before .before .before .before .before .loop in
-    let f = subst (λ (x : Sight). Seen (a .store .now) (a .order .now) (asLocator (l .change)) x) (c .before .before .seen .given .1) (c .before .before .before .before .look .ensures) in
+    let f = subst (λ (x : Sight). Seen (a .store .now) (a .order .now) (asLocator (l .change)) x) (c .before .before .seen .given .1)
+    (c .before .before .before .before .look .ensures) in
     omega (arith, f .0 .small)
 
 mul-marks : tie.Need-mul-marks Inv-loop μ-loop
@@ -53,7 +58,8 @@ unfolding Seen
 mul-marks c =
     let a = c .before .before .before .before .before .before .before .before .before .args in
     let l = c .before .before .before .before .before .loop in
-    let f = subst (λ (x : Sight). Seen (a .store .now) (a .order .now) (asLocator (l .change)) x) (c .before .before .seen .given .1) (c .before .before .before .before .look .ensures) in
+    let f = subst (λ (x : Sight). Seen (a .store .now) (a .order .now) (asLocator (l .change)) x) (c .before .before .seen .given .1)
+    (c .before .before .before .before .look .ensures) in
     record { fits = omega (arith, f .0 .inside, l .inv .0 .fits, l .inv .1, c .before .before .before .before .before .before .before .before .before .good) }
 
 slice-write-marks : tie.Need-slice-write-marks Inv-loop μ-loop
@@ -61,19 +67,23 @@ unfolding Seen
 slice-write-marks c =
     let a = c .before .before .before .before .before .before .before .before .before .args in
     let l = c .before .before .before .before .before .loop in
-    let f = subst (λ (x : Sight). Seen (a .store .now) (a .order .now) (asLocator (l .change)) x) (c .before .before .seen .given .1) (c .before .before .before .before .look .ensures) in
+    let f = subst (λ (x : Sight). Seen (a .store .now) (a .order .now) (asLocator (l .change)) x) (c .before .before .seen .given .1)
+    (c .before .before .before .before .look .ensures) in
     omega (arith, f .0 .inside, l .inv .0 .fits)
 
 same-length-2 : tie.Need-same-length-2 Inv-loop μ-loop
-same-length-2 c = length-set (c .before .before .before .before .before .loop .marks) (c .before .before .seen .given .0 .0) (c .before .before .before .before .before .loop .change .offset + 1) ∙ c .before .before .before .before .before .loop .inv .1
+same-length-2 c = length-set (c .before .before .before .before .before .loop .marks) (c .before .before .seen .given .0 .0)
+    (c .before .before .before .before .before .loop .change .offset + 1) ∙ c .before .before .before .before .before .loop .inv .1
 
 returns-2 : tie.Need-returns-2 Inv-loop μ-loop
 unfolding Seen Collected asLocator locator
 returns-2 c =
     let a = c .before .before .before .before .before .before .before .before .before .args in
     let l = c .before .before .before .before .before .loop in
-    let f = subst (λ (x : Sight). Seen (a .store .now) (a .order .now) (asLocator (l .change)) x) (c .before .before .seen .given .1) (c .before .before .before .before .look .ensures) in
-    collected (a .store .now) (a .order .now) (asLocator (a .locator)) (l .marks) (asLocator (l .change)) (l .inv .0) (c .before .before .seen .given .0 .0) (f .0) (f .1)
+    let f = subst (λ (x : Sight). Seen (a .store .now) (a .order .now) (asLocator (l .change)) x) (c .before .before .seen .given .1)
+    (c .before .before .before .before .look .ensures) in
+    collected (a .store .now) (a .order .now) (asLocator (a .locator)) (l .marks) (asLocator (l .change)) (l .inv .0) (c .before .before .seen .given .0 .0)
+    (f .0) (f .1)
 
 enum-known-seen-2 : tie.Need-enum-known-seen-2 Inv-loop μ-loop
 enum-known-seen-2 c = search needs
@@ -83,7 +93,8 @@ unfolding Seen asLocator locator
 add-marks-2 c =
     let a = c .before .before .before .before .before .before .before .before .before .args in
     let l = c .before .before .before .before .before .loop in
-    let f = subst (λ (x : Sight). Seen (a .store .now) (a .order .now) (asLocator (l .change)) x) (c .before .before .seen2 .given .1) (c .before .before .before .before .look .ensures) in
+    let f = subst (λ (x : Sight). Seen (a .store .now) (a .order .now) (asLocator (l .change)) x) (c .before .before .seen2 .given .1)
+    (c .before .before .before .before .look .ensures) in
     omega (arith, f .0 .small)
 
 mul-marks-2 : tie.Need-mul-marks-2 Inv-loop μ-loop
@@ -91,7 +102,8 @@ unfolding Seen
 mul-marks-2 c =
     let a = c .before .before .before .before .before .before .before .before .before .args in
     let l = c .before .before .before .before .before .loop in
-    let f = subst (λ (x : Sight). Seen (a .store .now) (a .order .now) (asLocator (l .change)) x) (c .before .before .seen2 .given .1) (c .before .before .before .before .look .ensures) in
+    let f = subst (λ (x : Sight). Seen (a .store .now) (a .order .now) (asLocator (l .change)) x) (c .before .before .seen2 .given .1)
+    (c .before .before .before .before .look .ensures) in
     record { fits = omega (arith, f .0 .inside, l .inv .0 .fits, l .inv .1, c .before .before .before .before .before .before .before .before .before .good) }
 
 slice-write-marks-2 : tie.Need-slice-write-marks-2 Inv-loop μ-loop
@@ -99,7 +111,8 @@ unfolding Seen
 slice-write-marks-2 c =
     let a = c .before .before .before .before .before .before .before .before .before .args in
     let l = c .before .before .before .before .before .loop in
-    let f = subst (λ (x : Sight). Seen (a .store .now) (a .order .now) (asLocator (l .change)) x) (c .before .before .seen2 .given .1) (c .before .before .before .before .look .ensures) in
+    let f = subst (λ (x : Sight). Seen (a .store .now) (a .order .now) (asLocator (l .change)) x) (c .before .before .seen2 .given .1)
+    (c .before .before .before .before .look .ensures) in
     omega (arith, f .0 .inside, l .inv .0 .fits)
 
 loop-less : tie.Need-loop-less Inv-loop μ-loop
@@ -107,7 +120,8 @@ unfolding Seen
 loop-less c =
     let a = c .before .before .before .before .before .before .before .before .before .args in
     let l = c .before .before .before .before .before .loop in
-    let f = subst (λ (x : Sight). Seen (a .store .now) (a .order .now) (asLocator (l .change)) x) (c .before .before .seen2 .given .1) (c .before .before .before .before .look .ensures) in
+    let f = subst (λ (x : Sight). Seen (a .store .now) (a .order .now) (asLocator (l .change)) x) (c .before .before .seen2 .given .1)
+    (c .before .before .before .before .look .ensures) in
     f .1
 
 loop-again : tie.Need-loop-again Inv-loop μ-loop
@@ -115,8 +129,14 @@ unfolding Seen asLocator locator
 loop-again c =
     let a = c .before .before .before .before .before .before .before .before .before .args in
     let l = c .before .before .before .before .before .loop in
-    let f = subst (λ (x : Sight). Seen (a .store .now) (a .order .now) (asLocator (l .change)) x) (c .before .before .seen2 .given .1) (c .before .before .before .before .look .ensures) in
-    (collecting-on (a .store .now) (a .order .now) (asLocator (a .locator)) (l .marks) (asLocator (l .change)) (l .inv .0) (c .before .before .seen2 .given .0 .0) (f .0) (asLocator (c .before .before .seen2 .given .0 .1 .0)) (f .1) (f .2) (length-set (l .marks) (c .before .before .seen2 .given .0 .0) (l .change .offset + 1)), length-set (l .marks) (c .before .before .seen2 .given .0 .0) (l .change .offset + 1) ∙ l .inv .1)
+    let f = subst (λ (x : Sight). Seen (a .store .now) (a .order .now) (asLocator (l .change)) x) (c .before .before .seen2 .given .1)
+    (c .before .before .before .before .look .ensures) in (
+      collecting-on (a .store .now) (a .order .now) (asLocator (a .locator)) (l .marks) (asLocator (l .change)) (l .inv .0)
+          (c .before .before .seen2 .given .0 .0) (f .0) (asLocator (c .before .before .seen2 .given .0 .1 .0)) (f .1) (f .2)
+          (length-set (l .marks) (c .before .before .seen2 .given .0 .0) (l .change .offset + 1)),
+      length-set (l .marks) (c .before .before .seen2 .given .0 .0)
+          (l .change .offset + 1) ∙ l .inv .1,
+    )
 
 pub mark-chain-spec : {M : Type 1} → statement M
 mark-chain-spec =

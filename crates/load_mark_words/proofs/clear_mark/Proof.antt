@@ -17,11 +17,19 @@ slice-read-mark c = search needs
 
 returns : tie.Need-returns
 unfolding asRange newRange
-returns c = let a = c .before .before .before .before .before .before .before .before .args in stretch-past (a .store .now) (a .order .now) (c .before .before .before .before .before .before .before .before .pre .0 .0) (asRange (a .range)) (a .marks .now) (c .before .before .before .place-of .result) (c .before .before .before .place-of .ensures .0) (c .before .before .before .before .before .before .before .before .pre .1) (c .before .before .before .place-of .ensures .1) (λ o e h k. omega (arith, c .if1 .taken))
+returns c = let a = c .before .before .before .before .before .before .before .before .args in stretch-past (a .store .now) (a .order .now)
+    (c .before .before .before .before .before .before .before .before .pre .0 .0) (asRange (a .range)) (a .marks .now)
+    (c .before .before .before .place-of .result) (c .before .before .before .place-of .ensures .0)
+    (c .before .before .before .before .before .before .before .before .pre .1) (c .before .before .before .place-of .ensures .1)
+    (λ o e h k. omega (arith, c .if1 .taken))
 
 returns-2 : tie.Need-returns-2
 unfolding asRange newRange
-returns-2 c = let a = c .before .before .before .before .before .before .before .before .before .before .args in stretch-past (a .store .now) (a .order .now) (c .before .before .before .before .before .before .before .before .before .before .pre .0 .0) (asRange (a .range)) (a .marks .now) (c .before .before .before .before .before .place-of .result) (c .before .before .before .before .before .place-of .ensures .0) (c .before .before .before .before .before .before .before .before .before .before .pre .1) (c .before .before .before .before .before .place-of .ensures .1) (λ o e h k. omega (arith, c .if2 .taken))
+returns-2 c = let a = c .before .before .before .before .before .before .before .before .before .before .args in stretch-past (a .store .now) (a .order .now)
+    (c .before .before .before .before .before .before .before .before .before .before .pre .0 .0) (asRange (a .range)) (a .marks .now)
+    (c .before .before .before .before .before .place-of .result) (c .before .before .before .before .before .place-of .ensures .0)
+    (c .before .before .before .before .before .before .before .before .before .before .pre .1)
+    (c .before .before .before .before .before .place-of .ensures .1) (λ o e h k. omega (arith, c .if2 .taken))
 
 mul-marks : tie.Need-mul-marks
 mul-marks c = search needs
@@ -34,7 +42,11 @@ same-length c = search needs
 
 returns-3 : tie.Need-returns-3
 unfolding asRange newRange
-returns-3 c = let a = c .before .before .before .before .before .before .before .before .before .before .args in stretch-taken (a .store .now) (a .order .now) (c .before .before .before .before .before .before .before .before .before .before .pre .0 .0) (asRange (a .range)) (a .marks .now) (c .before .before .before .before .before .place-of .result) (c .before .before .before .before .before .place-of .ensures .0) (c .before .before .before .before .before .before .before .before .before .before .pre .1) (c .before .before .before .before .before .place-of .ensures .1) (omega (arith, c .before .before .if1 .left)) (omega (arith, c .if2 .left))
+returns-3 c = let a = c .before .before .before .before .before .before .before .before .before .before .args in stretch-taken (a .store .now) (a .order .now)
+    (c .before .before .before .before .before .before .before .before .before .before .pre .0 .0) (asRange (a .range)) (a .marks .now)
+    (c .before .before .before .before .before .place-of .result) (c .before .before .before .before .before .place-of .ensures .0)
+    (c .before .before .before .before .before .before .before .before .before .before .pre .1)
+    (c .before .before .before .before .before .place-of .ensures .1) (omega (arith, c .before .before .if1 .left)) (omega (arith, c .if2 .left))
 
 pub clear-mark-spec : {M : Type 1} → statement M
 clear-mark-spec =

@@ -34,7 +34,11 @@ loop-less : tie.Need-loop-less Inv-loop μ-loop
 loop-less c = search needs
 
 loop-again : tie.Need-loop-again Inv-loop μ-loop
-loop-again c = let l = c .before .before .before .loop in (omega (arith, c .before .before .loop-test .taken), none-more (c .before .before .before .before .args .marks .now) (l .k) (l .inv .1) (c .if1 .left))
+loop-again c = let l = c .before .before .before .loop in (
+  omega (arith, c .before .before .loop-test .taken),
+  none-more
+      (c .before .before .before .before .args .marks .now) (l .k) (l .inv .1) (c .if1 .left),
+)
 
 returns-2 : tie.Need-returns-2 Inv-loop μ-loop
 unfolding NoneLeft

@@ -24,7 +24,8 @@ Inv-loop stakes store order marks₀ sets edges₀ lanes₀ along₀ marks edges
     Clearing (asReading (along₀ .wanted .reading)) stakes store order marks₀ marks (tables order sets edges lanes) along
 
 abbrev μ-loop : tie.MeasureT-loop
-μ-loop stakes store order marks₀ sets edges₀ lanes₀ along₀ marks edges lanes along = leftAfter (asReading (along₀ .wanted .reading)) stakes store (asMaybe (along .after))
+μ-loop stakes store order marks₀ sets edges₀ lanes₀ along₀ marks edges lanes along = leftAfter (asReading (along₀ .wanted .reading)) stakes store
+    (asMaybe (along .after))
 
 slice-aggregate-note-includes : tie.Need-slice-aggregate-note-includes Inv-loop μ-loop
 slice-aggregate-note-includes c = search needs
@@ -42,8 +43,12 @@ slice-aggregate-at-start-2 c = search needs
 at-start-requires : tie.Need-at-start-requires Inv-loop μ-loop
 at-start-requires c κs =
     let a = c .before .before .before .before .before .before .before .before .before .args in
-    let p = c .before .before .before .before .before .before .before .before .before .pre .0 in
-    (lent-new (a .stakes .now) (a .total) (a .store .now) (a .order .now) _ p (c .before .before .before .note-includes .ensures) _ _ (length-replicate {A = ℕ} 16386 0) (length-replicate {A = ℕ} 3072 0) (replicate {A = ℕ} 1024 0) (length-replicate {A = ℕ} 1024 0) .room, λ k. zeros-at 3072 k)
+    let p = c .before .before .before .before .before .before .before .before .before .pre .0 in (
+      lent-new (a .stakes .now) (a .total) (a .store .now) (a .order .now) _ p (c .before .before .before .note-includes .ensures) _ _
+          (length-replicate {A = ℕ} 16386 0) (length-replicate {A = ℕ} 3072 0) (replicate {A = ℕ} 1024 0) (length-replicate {A = ℕ} 1024 0) .room,
+      λ k. zeros-at
+          3072 k,
+    )
 
 loop-holds : tie.Need-loop-holds Inv-loop μ-loop
 loop-holds c =
@@ -51,10 +56,13 @@ loop-holds c =
     let p = c .before .before .before .before .before .before .before .before .before .before .before .before .pre .0 in
     let st = c .before .before .at-start in
     let rd = asReading (st .result .wanted .reading) in
-    let h = st .ensures .held (a .stakes .now) _ (lent-new (a .stakes .now) (a .total) (a .store .now) (a .order .now) _ p (c .before .before .before .before .before .before .note-includes .ensures) _ _ (length-replicate {A = ℕ} 16386 0) (length-replicate {A = ℕ} 3072 0)) in
+    let h = st .ensures .held (a .stakes .now) _ (lent-new (a .stakes .now) (a .total) (a .store .now) (a .order .now) _ p
+    (c .before .before .before .before .before .before .note-includes .ensures) _ _ (length-replicate {A = ℕ} 16386 0) (length-replicate {A = ℕ} 3072 0)) in
     record {
       gone = [];
-      passing = passing-start rd (a .stakes .now) (a .store .now) (p .0 .0 .sound) (p .0 .0 .inOrder) _ (st .result) (st .ensures .none-passed) (record { lent = h .lent; shares = h .shares; reads = refl; stands = h .stands }) (record { edges = st .kept .1 .1 .1 .1 .0 ∙ length-replicate {A = ℕ} 16386 0; marks = st .kept .1 .1 .1 .1 .1 .0 ∙ length-replicate {A = ℕ} 3072 0 });
+      passing = passing-start rd (a .stakes .now) (a .store .now) (p .0 .0 .sound) (p .0 .0 .inOrder) _ (st .result) (st .ensures .none-passed)
+          (record { lent = h .lent; shares = h .shares; reads = refl; stands = h .stands })
+          (record { edges = st .kept .1 .1 .1 .1 .0 ∙ length-replicate {A = ℕ} 16386 0; marks = st .kept .1 .1 .1 .1 .1 .0 ∙ length-replicate {A = ℕ} 3072 0 });
       cleared = cleared-none (a .store .now) (a .order .now) (a .marks .now);
     }
 
@@ -81,53 +89,88 @@ same-length c = c .before .before .before .before .before .before .before .befor
 
 returns : tie.Need-returns Inv-loop μ-loop
 returns c =
-    let a = c .before .before .before .before .before .before .before .before .before .before .before .before .before .before .before .before .before .before .before .before .before .args in
+    let a = c .before .before .before .before .before .before .before .before .before .before .before .before .before .before .before .before .before .before
+    .before .before .before .args in
     let st = c .before .before .before .before .before .before .before .before .before .before .before .at-start in
     let rd = asReading (st .result .wanted .reading) in
-    let p = c .before .before .before .before .before .before .before .before .before .before .before .before .before .before .before .before .before .before .before .before .before .pre .0 in
-    let h = st .ensures .held (a .stakes .now) _ (lent-new (a .stakes .now) (a .total) (a .store .now) (a .order .now) _ p (c .before .before .before .before .before .before .before .before .before .before .before .before .before .before .before .note-includes .ensures) _ _ (length-replicate {A = ℕ} 16386 0) (length-replicate {A = ℕ} 3072 0)) in
+    let p = c .before .before .before .before .before .before .before .before .before .before .before .before .before .before .before .before .before .before
+    .before .before .before .pre .0 in
+    let h = st .ensures .held (a .stakes .now) _ (lent-new (a .stakes .now) (a .total) (a .store .now) (a .order .now) _ p
+    (c .before .before .before .before .before .before .before .before .before .before .before .before .before .before .before .note-includes .ensures) _
+    _ (length-replicate {A = ℕ} 16386 0) (length-replicate {A = ℕ} 3072 0)) in
     let l = c .before .before .before .before .before .before .before .before .loop in
     let n = c .before .before .before .before .next-stretch in
     let last = asMaybe (n .result .along .after) in
-    let f = subst (λ (x : Ahead). Found rd (a .stakes .now) (a .store .now) (asMaybe (l .along .after)) last x) (c .enum-told .given .1) (n .ensures .found rd (l .inv .passing .held)) in
-    rw (h .reads) at (clearing-end rd (a .stakes .now) (a .store .now) (a .order .now) (a .marks .now) (l .marks) (tables (a .order .now) _ (l .edges) (l .lanes)) (l .along) (l .inv) last f)
+    let f = subst (λ (x : Ahead). Found rd (a .stakes .now) (a .store .now) (asMaybe (l .along .after)) last x) (c .enum-told .given .1)
+    (n .ensures .found rd (l .inv .passing .held)) in
+    rw (h .reads) at (clearing-end rd (a .stakes .now) (a .store .now) (a .order .now) (a .marks .now) (l .marks)
+    (tables (a .order .now) _ (l .edges) (l .lanes)) (l .along) (l .inv) last f)
 
 clear-mark-requires : tie.Need-clear-mark-requires Inv-loop μ-loop
 unfolding asRange newRange
 clear-mark-requires c κs =
-    let a = c .before .before .before .before .before .before .before .before .before .before .before .before .before .before .before .before .before .before .before .before .before .before .before .args in
+    let a = c .before .before .before .before .before .before .before .before .before .before .before .before .before .before .before .before .before .before
+    .before .before .before .before .before .args in
     let st = c .before .before .before .before .before .before .before .before .before .before .before .before .before .at-start in
     let rd = asReading (st .result .wanted .reading) in
     let l = c .before .before .before .before .before .before .before .before .before .before .loop in
     let n = c .before .before .before .before .before .before .next-stretch in
     let last = asMaybe (n .result .along .after) in
-    let f = subst (λ (x : Ahead). Found rd (a .stakes .now) (a .store .now) (asMaybe (l .along .after)) last x) (c .before .before .ahead .given .1) (n .ensures .found rd (l .inv .passing .held)) in
-    ((some-committee (c .before .before .before .before .before .before .before .before .before .before .before .before .before .before .before .before .before .before .before .before .before .before .before .pre .0 .0 .0), stretch-stored rd (a .stakes .now) (a .store .now) (tables (a .order .now) _ (l .edges) (l .lanes)) (l .along) (l .inv .gone) (l .inv .passing) (c .before .before .ahead .given .0 .0) last f), omega (arith, c .before .before .before .before .before .before .before .before .before .before .before .before .before .before .before .before .before .before .before .before .before .before .before .pre .1, l .inv .cleared .long))
+    let f = subst (λ (x : Ahead). Found rd (a .stakes .now) (a .store .now) (asMaybe (l .along .after)) last x) (c .before .before .ahead .given .1)
+    (n .ensures .found rd (l .inv .passing .held)) in (
+      (
+        some-committee (c .before .before .before .before .before .before .before .before .before .before .before .before .before .before .before .before
+            .before .before .before .before .before .before .before .pre .0 .0 .0),
+        stretch-stored rd (a .stakes .now) (a .store .now)
+            (tables (a .order .now) _ (l .edges) (l .lanes)) (l .along) (l .inv .gone) (l .inv .passing) (c .before .before .ahead .given .0 .0) last f,
+      ),
+      omega (
+        arith,
+        c .before .before .before .before .before .before .before .before .before .before .before .before .before .before .before .before .before
+            .before .before .before .before .before .before .pre .1,
+        l .inv .cleared .long,
+      ),
+    )
 
 loop-less : tie.Need-loop-less Inv-loop μ-loop
 loop-less c =
-    let a = c .before .before .before .before .before .before .before .before .before .before .before .before .before .before .before .before .before .before .before .before .before .before .before .before .before .before .before .args in
-    let st = c .before .before .before .before .before .before .before .before .before .before .before .before .before .before .before .before .before .at-start in
+    let a = c .before .before .before .before .before .before .before .before .before .before .before .before .before .before .before .before .before .before
+    .before .before .before .before .before .before .before .before .before .args in
+    let st = c .before .before .before .before .before .before .before .before .before .before .before .before .before .before .before .before .before
+    .at-start in
     let rd = asReading (st .result .wanted .reading) in
     let l = c .before .before .before .before .before .before .before .before .before .before .before .before .before .before .loop in
     let n = c .before .before .before .before .before .before .before .before .before .before .next-stretch in
     let last = asMaybe (n .result .along .after) in
-    let f = subst (λ (x : Ahead). Found rd (a .stakes .now) (a .store .now) (asMaybe (l .along .after)) last x) (c .before .before .before .before .before .before .ahead .given .1) (n .ensures .found rd (l .inv .passing .held)) in
-    passing-less rd (a .stakes .now) (a .store .now) (tables (a .order .now) _ (l .edges) (l .lanes)) (l .along) (l .inv .gone) (l .inv .passing) (c .before .before .before .before .before .before .ahead .given .0 .0) last f (n .result .along) refl
+    let f = subst (λ (x : Ahead). Found rd (a .stakes .now) (a .store .now) (asMaybe (l .along .after)) last x)
+    (c .before .before .before .before .before .before .ahead .given .1) (n .ensures .found rd (l .inv .passing .held)) in
+    passing-less rd (a .stakes .now) (a .store .now) (tables (a .order .now) _ (l .edges) (l .lanes)) (l .along) (l .inv .gone) (l .inv .passing)
+    (c .before .before .before .before .before .before .ahead .given .0 .0) last f (n .result .along) refl
 
 loop-again : tie.Need-loop-again Inv-loop μ-loop
 loop-again c =
-    let a = c .before .before .before .before .before .before .before .before .before .before .before .before .before .before .before .before .before .before .before .before .before .before .before .before .before .before .before .args in
-    let st = c .before .before .before .before .before .before .before .before .before .before .before .before .before .before .before .before .before .at-start in
+    let a = c .before .before .before .before .before .before .before .before .before .before .before .before .before .before .before .before .before .before
+    .before .before .before .before .before .before .before .before .before .args in
+    let st = c .before .before .before .before .before .before .before .before .before .before .before .before .before .before .before .before .before
+    .at-start in
     let rd = asReading (st .result .wanted .reading) in
     let l = c .before .before .before .before .before .before .before .before .before .before .before .before .before .before .loop in
     let n = c .before .before .before .before .before .before .before .before .before .before .next-stretch in
     let last = asMaybe (n .result .along .after) in
-    let f = subst (λ (x : Ahead). Found rd (a .stakes .now) (a .store .now) (asMaybe (l .along .after)) last x) (c .before .before .before .before .before .before .ahead .given .1) (n .ensures .found rd (l .inv .passing .held)) in
+    let f = subst (λ (x : Ahead). Found rd (a .stakes .now) (a .store .now) (asMaybe (l .along .after)) last x)
+    (c .before .before .before .before .before .before .ahead .given .1) (n .ensures .found rd (l .inv .passing .held)) in
     record {
       gone = _;
-      passing = passing-next rd (a .stakes .now) (a .store .now) (tables (a .order .now) _ (l .edges) (l .lanes)) (l .along) (l .inv .gone) (l .inv .passing) (c .before .before .before .before .before .before .ahead .given .0 .0) last f _ (n .result .along) refl (n .ensures .held rd (l .inv .passing .held)) (record { edges = n .kept .1 .1 .1 .1 .1 .0 ∙ l .inv .passing .sized .edges; marks = n .kept .1 .1 .1 .1 .1 .1 .0 ∙ l .inv .passing .sized .marks });
-      cleared = cleared-more (a .store .now) (a .order .now) (l .inv .gone) (locators (asRange (c .before .before .before .before .before .before .ahead .given .0 .0))) (a .marks .now) (l .marks) _ (l .inv .cleared) (c .before .before .before .clear-mark .ensures);
+      passing = passing-next rd (a .stakes .now) (a .store .now) (tables (a .order .now) _ (l .edges) (l .lanes)) (l .along) (l .inv .gone) (l .inv .passing)
+          (c .before .before .before .before .before .before .ahead .given .0 .0) last f _ (n .result .along) refl
+          (n .ensures .held rd (l .inv .passing .held)) (record {
+            edges = n .kept .1 .1 .1 .1 .1 .0 ∙ l .inv .passing .sized .edges;
+            marks = n .kept .1 .1 .1
+                .1 .1 .1 .0 ∙ l .inv .passing .sized .marks;
+          });
+      cleared = cleared-more (a .store .now) (a .order .now) (l .inv .gone)
+          (locators (asRange (c .before .before .before .before .before .before .ahead .given .0 .0))) (a .marks .now) (l .marks) _ (l .inv .cleared)
+          (c .before .before .before .clear-mark .ensures);
     }
 
 pub clear-finals-spec : {M : Type 1} → statement M

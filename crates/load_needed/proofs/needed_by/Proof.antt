@@ -24,7 +24,8 @@ read-locator-requires c κs = search needs
 
 returns-3 : tie.Need-returns-3
 unfolding asNeeded
-returns-3 c = ap {B = Option TransactionLocator} some (c .read-locator .ensures) ∙ sym (needs-found (c .before .before .before .before .before .args .bytes .now) (omega arith) (c .before .if2 .left))
+returns-3 c = ap {B = Option TransactionLocator} some (c .read-locator .ensures) ∙ sym
+    (needs-found (c .before .before .before .before .before .args .bytes .now) (omega arith) (c .before .if2 .left))
 
 pub needed-by-spec : {M : Type 1} → statement M
 needed-by-spec =

@@ -40,8 +40,12 @@ slice-aggregate-at-start-2 c = search needs
 at-start-requires : tie.Need-at-start-requires Inv-loop μ-loop
 at-start-requires c κs =
     let a = c .before .before .before .before .before .before .before .before .before .args in
-    let p = c .before .before .before .before .before .before .before .before .before .pre .0 in
-    (lent-new (a .stakes .now) (a .total) (a .store .now) (a .order .now) _ p (c .before .before .before .note-includes .ensures) _ _ (length-replicate {A = ℕ} 16386 0) (length-replicate {A = ℕ} 3072 0) (replicate {A = ℕ} 1024 0) (length-replicate {A = ℕ} 1024 0) .room, λ k. zeros-at 3072 k)
+    let p = c .before .before .before .before .before .before .before .before .before .pre .0 in (
+      lent-new (a .stakes .now) (a .total) (a .store .now) (a .order .now) _ p (c .before .before .before .note-includes .ensures) _ _
+          (length-replicate {A = ℕ} 16386 0) (length-replicate {A = ℕ} 3072 0) (replicate {A = ℕ} 1024 0) (length-replicate {A = ℕ} 1024 0) .room,
+      λ k. zeros-at
+          3072 k,
+    )
 
 loop-holds : tie.Need-loop-holds Inv-loop μ-loop
 loop-holds c =
@@ -49,9 +53,12 @@ loop-holds c =
     let p = c .before .before .before .before .before .before .before .before .before .before .before .before .pre .0 in
     let st = c .before .before .at-start in
     let rd = asReading (st .result .wanted .reading) in
-    let h = st .ensures .held (a .stakes .now) _ (lent-new (a .stakes .now) (a .total) (a .store .now) (a .order .now) _ p (c .before .before .before .before .before .before .note-includes .ensures) _ _ (length-replicate {A = ℕ} 16386 0) (length-replicate {A = ℕ} 3072 0)) in
-    walking-start rd (a .stakes .now) (a .store .now) (p .0 .0 .sound) (p .0 .0 .inOrder) (a .places .now) _ (st .result) _ (st .ensures .none-passed) (record { lent = h .lent; shares = h .shares; reads = refl; stands = h .stands })
-    (record { edges = st .kept .1 .1 .1 .1 .0 ∙ length-replicate {A = ℕ} 16386 0; marks = st .kept .1 .1 .1 .1 .1 .0 ∙ length-replicate {A = ℕ} 3072 0 }) refl (rw (← h .reads) at (c .before .before .before .before .before .before .before .before .before .before .before .before .pre .1))
+    let h = st .ensures .held (a .stakes .now) _ (lent-new (a .stakes .now) (a .total) (a .store .now) (a .order .now) _ p
+    (c .before .before .before .before .before .before .note-includes .ensures) _ _ (length-replicate {A = ℕ} 16386 0) (length-replicate {A = ℕ} 3072 0)) in
+    walking-start rd (a .stakes .now) (a .store .now) (p .0 .0 .sound) (p .0 .0 .inOrder) (a .places .now) _ (st .result) _ (st .ensures .none-passed)
+    (record { lent = h .lent; shares = h .shares; reads = refl; stands = h .stands })
+    (record { edges = st .kept .1 .1 .1 .1 .0 ∙ length-replicate {A = ℕ} 16386 0; marks = st .kept .1 .1 .1 .1 .1 .0 ∙ length-replicate {A = ℕ} 3072 0 }) refl
+    (rw (← h .reads) at (c .before .before .before .before .before .before .before .before .before .before .before .before .pre .1))
 
 slice-aggregate-next-stretch : tie.Need-slice-aggregate-next-stretch Inv-loop μ-loop
 slice-aggregate-next-stretch c = search needs
@@ -76,50 +83,82 @@ same-length c = c .before .before .before .before .before .before .before .befor
 
 returns : tie.Need-returns Inv-loop μ-loop
 returns c =
-    let a = c .before .before .before .before .before .before .before .before .before .before .before .before .before .before .before .before .before .before .before .before .before .args in
+    let a = c .before .before .before .before .before .before .before .before .before .before .before .before .before .before .before .before .before .before
+    .before .before .before .args in
     let st = c .before .before .before .before .before .before .before .before .before .before .before .at-start in
     let rd = asReading (st .result .wanted .reading) in
-    let p = c .before .before .before .before .before .before .before .before .before .before .before .before .before .before .before .before .before .before .before .before .before .pre .0 in
-    let h = st .ensures .held (a .stakes .now) _ (lent-new (a .stakes .now) (a .total) (a .store .now) (a .order .now) _ p (c .before .before .before .before .before .before .before .before .before .before .before .before .before .before .before .note-includes .ensures) _ _ (length-replicate {A = ℕ} 16386 0) (length-replicate {A = ℕ} 3072 0)) in
+    let p = c .before .before .before .before .before .before .before .before .before .before .before .before .before .before .before .before .before .before
+    .before .before .before .pre .0 in
+    let h = st .ensures .held (a .stakes .now) _ (lent-new (a .stakes .now) (a .total) (a .store .now) (a .order .now) _ p
+    (c .before .before .before .before .before .before .before .before .before .before .before .before .before .before .before .note-includes .ensures) _
+    _ (length-replicate {A = ℕ} 16386 0) (length-replicate {A = ℕ} 3072 0)) in
     let l = c .before .before .before .before .before .before .before .before .loop in
     let n = c .before .before .before .before .next-stretch in
     let last = asMaybe (n .result .along .after) in
-    let f = subst (λ (x : Ahead). Found rd (a .stakes .now) (a .store .now) (asMaybe (l .along .after)) last x) (c .enum-told .given .1) (n .ensures .found rd (l .inv .passing .held)) in
-    (rw (h .reads) at (walking-end rd (a .stakes .now) (a .store .now) (a .places .now) (l .places) (tables (a .order .now) _ (l .edges) (l .lanes)) (l .along) (l .read) (l .n) (l .inv) last f), l .inv .past)
+    let f = subst (λ (x : Ahead). Found rd (a .stakes .now) (a .store .now) (asMaybe (l .along .after)) last x) (c .enum-told .given .1)
+    (n .ensures .found rd (l .inv .passing .held)) in (
+      rw (h .reads) at (walking-end rd (a .stakes .now) (a .store .now) (a .places .now) (l .places) (tables (a .order .now) _ (l .edges) (l .lanes))
+          (l .along) (l .read) (l .n) (l .inv) last f),
+      l .inv .past,
+    )
 
 list-stretch-requires : tie.Need-list-stretch-requires Inv-loop μ-loop
 list-stretch-requires c κs =
-    let a = c .before .before .before .before .before .before .before .before .before .before .before .before .before .before .before .before .before .before .before .before .before .before .before .args in
+    let a = c .before .before .before .before .before .before .before .before .before .before .before .before .before .before .before .before .before .before
+    .before .before .before .before .before .args in
     let st = c .before .before .before .before .before .before .before .before .before .before .before .before .before .at-start in
     let rd = asReading (st .result .wanted .reading) in
     let l = c .before .before .before .before .before .before .before .before .before .before .loop in
     let n = c .before .before .before .before .before .before .next-stretch in
     let last = asMaybe (n .result .along .after) in
-    let f = subst (λ (x : Ahead). Found rd (a .stakes .now) (a .store .now) (asMaybe (l .along .after)) last x) (c .before .before .ahead .given .1) (n .ensures .found rd (l .inv .passing .held)) in
-    (walking-coming rd (a .stakes .now) (a .store .now) (a .places .now) (l .places) (tables (a .order .now) _ (l .edges) (l .lanes)) (l .along) (l .read) (l .n) (l .inv) (c .before .before .ahead .given .0 .0) last f (c .before .before .before .before .before .before .before .before .before .before .before .before .before .before .before .before .before .before .before .before .before .before .before .pre .0 .0 .0 .inOrder), (some-committee (c .before .before .before .before .before .before .before .before .before .before .before .before .before .before .before .before .before .before .before .before .before .before .before .pre .0 .0 .0), l .inv .reads))
+    let f = subst (λ (x : Ahead). Found rd (a .stakes .now) (a .store .now) (asMaybe (l .along .after)) last x) (c .before .before .ahead .given .1)
+    (n .ensures .found rd (l .inv .passing .held)) in (
+      walking-coming rd (a .stakes .now) (a .store .now) (a .places .now) (l .places) (tables (a .order .now) _ (l .edges) (l .lanes)) (l .along) (l .read)
+          (l .n) (l .inv) (c .before .before .ahead .given .0 .0) last f
+          (c .before .before .before .before .before .before .before .before .before .before .before .before .before .before .before .before .before .before
+          .before .before .before .before .before .pre .0 .0 .0 .inOrder),
+      (
+        some-committee (c .before .before .before .before .before .before .before .before .before .before .before .before .before .before .before .before
+            .before .before .before .before .before .before .before .pre .0 .0 .0),
+        l .inv .reads,
+      ),
+    )
 
 loop-less : tie.Need-loop-less Inv-loop μ-loop
 loop-less c =
-    let a = c .before .before .before .before .before .before .before .before .before .before .before .before .before .before .before .before .before .before .before .before .before .before .before .before .before .before .before .before .args in
-    let st = c .before .before .before .before .before .before .before .before .before .before .before .before .before .before .before .before .before .before .at-start in
+    let a = c .before .before .before .before .before .before .before .before .before .before .before .before .before .before .before .before .before .before
+    .before .before .before .before .before .before .before .before .before .before .args in
+    let st = c .before .before .before .before .before .before .before .before .before .before .before .before .before .before .before .before .before .before
+    .at-start in
     let rd = asReading (st .result .wanted .reading) in
     let l = c .before .before .before .before .before .before .before .before .before .before .before .before .before .before .before .loop in
     let n = c .before .before .before .before .before .before .before .before .before .before .before .next-stretch in
     let last = asMaybe (n .result .along .after) in
-    let f = subst (λ (x : Ahead). Found rd (a .stakes .now) (a .store .now) (asMaybe (l .along .after)) last x) (c .before .before .before .before .before .before .before .ahead .given .1) (n .ensures .found rd (l .inv .passing .held)) in
-    passing-less rd (a .stakes .now) (a .store .now) (tables (a .order .now) _ (l .edges) (l .lanes)) (l .along) (l .inv .gone) (l .inv .passing) (c .before .before .before .before .before .before .before .ahead .given .0 .0) last f (n .result .along) refl
+    let f = subst (λ (x : Ahead). Found rd (a .stakes .now) (a .store .now) (asMaybe (l .along .after)) last x)
+    (c .before .before .before .before .before .before .before .ahead .given .1) (n .ensures .found rd (l .inv .passing .held)) in
+    passing-less rd (a .stakes .now) (a .store .now) (tables (a .order .now) _ (l .edges) (l .lanes)) (l .along) (l .inv .gone) (l .inv .passing)
+    (c .before .before .before .before .before .before .before .ahead .given .0 .0) last f (n .result .along) refl
 
 loop-again : tie.Need-loop-again Inv-loop μ-loop
 loop-again c =
-    let a = c .before .before .before .before .before .before .before .before .before .before .before .before .before .before .before .before .before .before .before .before .before .before .before .before .before .before .before .before .args in
-    let st = c .before .before .before .before .before .before .before .before .before .before .before .before .before .before .before .before .before .before .at-start in
+    let a = c .before .before .before .before .before .before .before .before .before .before .before .before .before .before .before .before .before .before
+    .before .before .before .before .before .before .before .before .before .before .args in
+    let st = c .before .before .before .before .before .before .before .before .before .before .before .before .before .before .before .before .before .before
+    .at-start in
     let rd = asReading (st .result .wanted .reading) in
     let l = c .before .before .before .before .before .before .before .before .before .before .before .before .before .before .before .loop in
     let n = c .before .before .before .before .before .before .before .before .before .before .before .next-stretch in
     let last = asMaybe (n .result .along .after) in
-    let f = subst (λ (x : Ahead). Found rd (a .stakes .now) (a .store .now) (asMaybe (l .along .after)) last x) (c .before .before .before .before .before .before .before .ahead .given .1) (n .ensures .found rd (l .inv .passing .held)) in
-    walking-next rd (a .stakes .now) (a .store .now) (a .places .now) (l .places) (tables (a .order .now) _ (l .edges) (l .lanes)) (l .along) (l .read) (l .n) (l .inv) (c .before .before .before .before .before .before .before .ahead .given .0 .0) last f (c .before .before .before .before .before .before .before .before .before .before .before .before .before .before .before .before .before .before .before .before .before .before .before .before .before .before .before .before .pre .0 .0 .0 .inOrder) _ _ (n .result .along) (c .before .before .before .before .list-stretch .result .read) (c .before .before .before .before .list-stretch .result .found) refl (n .ensures .held rd (l .inv .passing .held))
-    (record { edges = n .kept .1 .1 .1 .1 .1 .0 ∙ l .inv .passing .sized .edges; marks = n .kept .1 .1 .1 .1 .1 .1 .0 ∙ l .inv .passing .sized .marks }) (c .before .before .before .before .list-stretch .ensures .0) (c .before .before .before .before .list-stretch .ensures .1)
+    let f = subst (λ (x : Ahead). Found rd (a .stakes .now) (a .store .now) (asMaybe (l .along .after)) last x)
+    (c .before .before .before .before .before .before .before .ahead .given .1) (n .ensures .found rd (l .inv .passing .held)) in
+    walking-next rd (a .stakes .now) (a .store .now) (a .places .now) (l .places) (tables (a .order .now) _ (l .edges) (l .lanes)) (l .along) (l .read) (l .n)
+    (l .inv) (c .before .before .before .before .before .before .before .ahead .given .0 .0) last f
+    (c .before .before .before .before .before .before .before .before .before .before .before .before .before .before .before .before .before .before
+    .before .before .before .before .before .before .before .before .before .before .pre .0 .0 .0 .inOrder) _ _ (n .result .along)
+    (c .before .before .before .before .list-stretch .result .read) (c .before .before .before .before .list-stretch .result .found) refl
+    (n .ensures .held rd (l .inv .passing .held))
+    (record { edges = n .kept .1 .1 .1 .1 .1 .0 ∙ l .inv .passing .sized .edges; marks = n .kept .1 .1 .1 .1 .1 .1 .0 ∙ l .inv .passing .sized .marks })
+    (c .before .before .before .before .list-stretch .ensures .0) (c .before .before .before .before .list-stretch .ensures .1)
 
 pub list-all-spec : {M : Type 1} → statement M
 list-all-spec =

@@ -25,7 +25,8 @@ use Rattle.load_share_count.proofs.Statements.{share-here}
 use Rattle.load_places.specs.Listed.{metBy}
 use Rattle.load_pass.specs.Holding.{Read}
 use Rattle.load_pass.proofs.Statements.{payload-here, told-other, told-share, payload-inside}
-use Rattle.load_pass.proofs.Running.{coming-formed, coming-share, coming-below, coming-payload, Going, going-start, going-before, going-looked, going-room, going-listed, going-end}
+use Rattle.load_pass.proofs.Running.{coming-formed, coming-share, coming-below, coming-payload, Going, going-start, going-before, going-looked}
+use Rattle.load_pass.proofs.Running.{going-room, going-listed, going-end}
 use Rattle.load_pass.proofs.list_run.Statement.{statement}
 use Rattle.load_pass.proofs.list_run.Tie as tie
 
@@ -37,7 +38,9 @@ abbrev μ-loop : tie.MeasureT-loop
 
 loop-holds : tie.Need-loop-holds Inv-loop μ-loop
 unfolding asRange newRange
-loop-holds c = let a = c .before .before .before .before .args in going-start (a .store .now) (asRange (a .range)) (a .places .now) (a .n) (c .before .before .before .before .pre .0) (a .rec .now) (a .read .cursor) (c .before .before .before .before .pre .1 .1 .1 .0) (c .before .before .before .before .pre .1 .1 .1 .1)
+loop-holds c = let a = c .before .before .before .before .args in going-start (a .store .now) (asRange (a .range)) (a .places .now) (a .n)
+    (c .before .before .before .before .pre .0) (a .rec .now) (a .read .cursor) (c .before .before .before .before .pre .1 .1 .1 .0)
+    (c .before .before .before .before .pre .1 .1 .1 .1)
 
 next-statement-requires : tie.Need-next-statement-requires Inv-loop μ-loop
 unfolding asRange newRange
@@ -45,20 +48,32 @@ next-statement-requires c κs =
     let a = c .before .before .before .before .before .before .before .args in
     let l = c .before .before .loop in
     let same = c .before .before .before .before .before .before .before .pre .1 .1 .0 in
-    let formed : wellFormed (a .rec .now) ≡ true = subst (λ (x : Bytes). wellFormed x ≡ true) (sym same) (coming-formed (a .store .now) (asRange (a .range)) (a .places .now) (a .n) (c .before .before .before .before .before .before .before .pre .0) (a .read .at) (c .before .before .before .before .before .before .before .pre .1 .0)) in
-    let few : l .cursor .index < length (blockIn (a .rec .now) .statements) = subst (λ (x : Bytes). l .cursor .index < length (blockIn x .statements)) (sym same) (coming-below (a .store .now) (asRange (a .range)) (a .places .now) (a .n) (c .before .before .before .before .before .before .before .pre .0) (a .read .at) (c .before .before .before .before .before .before .before .pre .1 .0) (l .cursor .index) (omega (arith, c .if1 .taken))) in
+    let formed : wellFormed (a .rec .now) ≡ true = subst (λ (x : Bytes). wellFormed x ≡ true) (sym same)
+    (coming-formed (a .store .now) (asRange (a .range)) (a .places .now) (a .n) (c .before .before .before .before .before .before .before .pre .0)
+    (a .read .at) (c .before .before .before .before .before .before .before .pre .1 .0)) in
+    let few : l .cursor .index < length (blockIn (a .rec .now) .statements) = subst (λ (x : Bytes). l .cursor .index < length (blockIn x .statements))
+    (sym same) (coming-below (a .store .now) (asRange (a .range)) (a .places .now) (a .n)
+    (c .before .before .before .before .before .before .before .pre .0) (a .read .at)
+    (c .before .before .before .before .before .before .before .pre .1 .0) (l .cursor .index) (omega (arith, c .if1 .taken))) in
     (formed, (l .inv .there, few))
 
 loop-less : tie.Need-loop-less Inv-loop μ-loop
 unfolding cursorAt
-loop-less c = omega (arith, c .before .before .before .before .if1 .taken, ap (λ (x : StatementCursor). x .index) (c .before .before .before .next-statement .ensures .1 .0))
+loop-less c = omega (
+  arith,
+  c .before .before .before .before .if1 .taken,
+  ap (λ (x : StatementCursor). x .index)
+      (c .before .before .before .next-statement .ensures .1 .0),
+)
 
 loop-again : tie.Need-loop-again Inv-loop μ-loop
 unfolding asRange newRange
 loop-again c =
     let a = c .before .before .before .before .before .before .before .before .before .before .before .args in
     let l = c .before .before .before .before .before .before .loop in
-    going-before (a .store .now) (asRange (a .range)) (a .places .now) (a .n) (a .rec .now) (l .places) (l .cursor) (l .found) (l .inv) (c .before .before .before .next-statement .result .next) (c .before .before .before .next-statement .ensures .1 .0) (omega (arith, c .before .before .before .before .if1 .taken)) (omega (arith, c .if2 .taken))
+    going-before (a .store .now) (asRange (a .range)) (a .places .now) (a .n) (a .rec .now) (l .places) (l .cursor) (l .found) (l .inv)
+    (c .before .before .before .next-statement .result .next) (c .before .before .before .next-statement .ensures .1 .0)
+    (omega (arith, c .before .before .before .before .if1 .taken)) (omega (arith, c .if2 .taken))
 
 share-place-requires : tie.Need-share-place-requires Inv-loop μ-loop
 share-place-requires c κs = search needs
@@ -71,7 +86,12 @@ enum-told c = search needs
 
 loop-less-2 : tie.Need-loop-less-2 Inv-loop μ-loop
 unfolding cursorAt
-loop-less-2 c = omega (arith, c .before .before .before .before .before .before .before .if1 .taken, ap (λ (x : StatementCursor). x .index) (c .before .before .before .before .before .before .next-statement .ensures .1 .0))
+loop-less-2 c = omega (
+  arith,
+  c .before .before .before .before .before .before .before .if1 .taken,
+  ap (λ (x : StatementCursor). x .index)
+      (c .before .before .before .before .before .before .next-statement .ensures .1 .0),
+)
 
 loop-again-2 : tie.Need-loop-again-2 Inv-loop μ-loop
 unfolding asRange newRange
@@ -79,13 +99,24 @@ loop-again-2 c =
     let a = c .before .before .before .before .before .before .before .before .before .before .before .before .before .before .args in
     let l = c .before .before .before .before .before .before .before .before .before .loop in
     let same = c .before .before .before .before .before .before .before .before .before .before .before .before .before .before .pre .1 .1 .0 in
-    let formed : wellFormed (a .rec .now) ≡ true = subst (λ (x : Bytes). wellFormed x ≡ true) (sym same) (coming-formed (a .store .now) (asRange (a .range)) (a .places .now) (a .n) (c .before .before .before .before .before .before .before .before .before .before .before .before .before .before .pre .0) (a .read .at) (c .before .before .before .before .before .before .before .before .before .before .before .before .before .before .pre .1 .0)) in
-    let few : l .cursor .index < length (blockIn (a .rec .now) .statements) = subst (λ (x : Bytes). l .cursor .index < length (blockIn x .statements)) (sym same) (coming-below (a .store .now) (asRange (a .range)) (a .places .now) (a .n) (c .before .before .before .before .before .before .before .before .before .before .before .before .before .before .pre .0) (a .read .at) (c .before .before .before .before .before .before .before .before .before .before .before .before .before .before .pre .1 .0) (l .cursor .index) (omega (arith, c .before .before .before .before .before .before .before .if1 .taken))) in
+    let formed : wellFormed (a .rec .now) ≡ true = subst (λ (x : Bytes). wellFormed x ≡ true) (sym same)
+    (coming-formed (a .store .now) (asRange (a .range)) (a .places .now) (a .n)
+    (c .before .before .before .before .before .before .before .before .before .before .before .before .before .before .pre .0) (a .read .at)
+    (c .before .before .before .before .before .before .before .before .before .before .before .before .before .before .pre .1 .0)) in
+    let few : l .cursor .index < length (blockIn (a .rec .now) .statements) = subst (λ (x : Bytes). l .cursor .index < length (blockIn x .statements))
+    (sym same) (coming-below (a .store .now) (asRange (a .range)) (a .places .now) (a .n)
+    (c .before .before .before .before .before .before .before .before .before .before .before .before .before .before .pre .0) (a .read .at)
+    (c .before .before .before .before .before .before .before .before .before .before .before .before .before .before .pre .1 .0) (l .cursor .index)
+    (omega (arith, c .before .before .before .before .before .before .before .if1 .taken))) in
     let next = c .before .before .before .before .before .before .next-statement in
     let i = l .cursor .index in
     let rec = a .rec .now in
     let other = told-other rec (next .result .statement) (sym (c .before .before .share-place .ensures) ∙ c .enum-told .given .1) in
-    let is : isShareAt (blockIn rec) i ≡ true = subst (λ (x : Bytes). isShareAt (blockIn x) i ≡ true) (sym same) (coming-share (a .store .now) (asRange (a .range)) (a .places .now) (a .n) (c .before .before .before .before .before .before .before .before .before .before .before .before .before .before .pre .0) (a .read .at) (c .before .before .before .before .before .before .before .before .before .before .before .before .before .before .pre .1 .0) i (omega (arith, c .before .before .before .if2 .left)) (omega (arith, c .before .before .before .before .before .before .before .if1 .taken))) in
+    let is : isShareAt (blockIn rec) i ≡ true = subst (λ (x : Bytes). isShareAt (blockIn x) i ≡ true) (sym same)
+    (coming-share (a .store .now) (asRange (a .range)) (a .places .now) (a .n)
+    (c .before .before .before .before .before .before .before .before .before .before .before .before .before .before .pre .0) (a .read .at)
+    (c .before .before .before .before .before .before .before .before .before .before .before .before .before .before .pre .1 .0) i
+    (omega (arith, c .before .before .before .if2 .left)) (omega (arith, c .before .before .before .before .before .before .before .if1 .taken))) in
     absurd (not-both is (share-here (blockIn rec) i (asStatement rec (next .result .statement)) few (next .ensures .0) ∙ other))
 
 add-end : tie.Need-add-end Inv-loop μ-loop
@@ -93,16 +124,35 @@ unfolding asRange newRange cursorAt
 add-end c =
     let a = c .before .before .before .before .before .before .before .before .before .before .before .before .before .before .before .before .args in
     let l = c .before .before .before .before .before .before .before .before .before .before .before .loop in
-    let same = c .before .before .before .before .before .before .before .before .before .before .before .before .before .before .before .before .pre .1 .1 .0 in
-    let formed : wellFormed (a .rec .now) ≡ true = subst (λ (x : Bytes). wellFormed x ≡ true) (sym same) (coming-formed (a .store .now) (asRange (a .range)) (a .places .now) (a .n) (c .before .before .before .before .before .before .before .before .before .before .before .before .before .before .before .before .pre .0) (a .read .at) (c .before .before .before .before .before .before .before .before .before .before .before .before .before .before .before .before .pre .1 .0)) in
-    let few : l .cursor .index < length (blockIn (a .rec .now) .statements) = subst (λ (x : Bytes). l .cursor .index < length (blockIn x .statements)) (sym same) (coming-below (a .store .now) (asRange (a .range)) (a .places .now) (a .n) (c .before .before .before .before .before .before .before .before .before .before .before .before .before .before .before .before .pre .0) (a .read .at) (c .before .before .before .before .before .before .before .before .before .before .before .before .before .before .before .before .pre .1 .0) (l .cursor .index) (omega (arith, c .before .before .before .before .before .before .before .before .before .if1 .taken))) in
+    let same = c .before .before .before .before .before .before .before .before .before .before .before .before .before .before .before .before .pre .1 .1 .0
+    in
+    let formed : wellFormed (a .rec .now) ≡ true = subst (λ (x : Bytes). wellFormed x ≡ true) (sym same)
+    (coming-formed (a .store .now) (asRange (a .range)) (a .places .now) (a .n)
+    (c .before .before .before .before .before .before .before .before .before .before .before .before .before .before .before .before .pre .0)
+    (a .read .at) (c .before .before .before .before .before .before .before .before .before .before .before .before .before .before .before .before .pre
+    .1 .0)) in
+    let few : l .cursor .index < length (blockIn (a .rec .now) .statements) = subst (λ (x : Bytes). l .cursor .index < length (blockIn x .statements))
+    (sym same) (coming-below (a .store .now) (asRange (a .range)) (a .places .now) (a .n)
+    (c .before .before .before .before .before .before .before .before .before .before .before .before .before .before .before .before .pre .0)
+    (a .read .at) (c .before .before .before .before .before .before .before .before .before .before .before .before .before .before .before .before .pre
+    .1 .0) (l .cursor .index) (omega (arith, c .before .before .before .before .before .before .before .before .before .if1 .taken))) in
     let next = c .before .before .before .before .before .before .before .before .next-statement in
     let i = l .cursor .index in
     let rec = a .rec .now in
     let found = c .before .before .start .given in
     let st = told-share (next .result .statement) (found .0 .0) (found .0 .1 .0) (sym (c .before .before .before .before .share-place .ensures) ∙ found .1) in
-    let between : payloadBetween (l .cursor .at) (next .result .next .at) (Share (found .0 .0) (found .0 .1 .0)) ≡ true = sym (ap (payloadBetween (l .cursor .at) (next .result .next .at)) st) ∙ next .ensures .1 .1 in
-    omega (arith, c .before .before .before .before .before .before .before .before .before .before .before .before .before .before .before .before .good, payload-inside rec (bytes-of rec (λ j h. omega (arith, c .before .before .before .before .before .before .before .before .before .before .before .before .before .before .shared-slice-known2 .given j))) formed (l .cursor .index) (l .cursor .at) (next .result .next .at) (found .0 .0) (found .0 .1 .0) between (ap (λ (x : StatementCursor). x .at) (next .ensures .1 .0)))
+    let between : payloadBetween (l .cursor .at) (next .result .next .at) (Share (found .0 .0) (found .0 .1 .0)) ≡ true = sym
+    (ap (payloadBetween (l .cursor .at) (next .result .next .at)) st) ∙ next .ensures .1 .1 in
+    omega (
+      arith,
+      c .before .before .before .before .before .before .before .before .before .before .before .before .before .before .before .before .good,
+      payload-inside rec (bytes-of rec (λ j h. omega (
+        arith,
+        c .before .before .before .before .before .before .before .before .before .before .before
+            .before .before .before .shared-slice-known2 .given j,
+      ))) formed (l .cursor .index) (l .cursor .at) (next .result .next .at) (found .0 .0)
+          (found .0 .1 .0) between (ap (λ (x : StatementCursor). x .at) (next .ensures .1 .0)),
+    )
 
 sub-list-share : tie.Need-sub-list-share Inv-loop μ-loop
 sub-list-share c = omega arith
@@ -115,59 +165,122 @@ unfolding asRange newRange cursorAt
 part-list-share-end c =
     let a = c .before .before .before .before .before .before .before .before .before .before .before .before .before .before .before .before .before .args in
     let l = c .before .before .before .before .before .before .before .before .before .before .before .before .loop in
-    let same = c .before .before .before .before .before .before .before .before .before .before .before .before .before .before .before .before .before .pre .1 .1 .0 in
-    let formed : wellFormed (a .rec .now) ≡ true = subst (λ (x : Bytes). wellFormed x ≡ true) (sym same) (coming-formed (a .store .now) (asRange (a .range)) (a .places .now) (a .n) (c .before .before .before .before .before .before .before .before .before .before .before .before .before .before .before .before .before .pre .0) (a .read .at) (c .before .before .before .before .before .before .before .before .before .before .before .before .before .before .before .before .before .pre .1 .0)) in
-    let few : l .cursor .index < length (blockIn (a .rec .now) .statements) = subst (λ (x : Bytes). l .cursor .index < length (blockIn x .statements)) (sym same) (coming-below (a .store .now) (asRange (a .range)) (a .places .now) (a .n) (c .before .before .before .before .before .before .before .before .before .before .before .before .before .before .before .before .before .pre .0) (a .read .at) (c .before .before .before .before .before .before .before .before .before .before .before .before .before .before .before .before .before .pre .1 .0) (l .cursor .index) (omega (arith, c .before .before .before .before .before .before .before .before .before .before .if1 .taken))) in
+    let same = c .before .before .before .before .before .before .before .before .before .before .before .before .before .before .before .before .before .pre
+    .1 .1 .0 in
+    let formed : wellFormed (a .rec .now) ≡ true = subst (λ (x : Bytes). wellFormed x ≡ true) (sym same)
+    (coming-formed (a .store .now) (asRange (a .range)) (a .places .now) (a .n)
+    (c .before .before .before .before .before .before .before .before .before .before .before .before .before .before .before .before .before .pre .0)
+    (a .read .at) (c .before .before .before .before .before .before .before .before .before .before .before .before .before .before .before .before
+    .before .pre .1 .0)) in
+    let few : l .cursor .index < length (blockIn (a .rec .now) .statements) = subst (λ (x : Bytes). l .cursor .index < length (blockIn x .statements))
+    (sym same) (coming-below (a .store .now) (asRange (a .range)) (a .places .now) (a .n)
+    (c .before .before .before .before .before .before .before .before .before .before .before .before .before .before .before .before .before .pre .0)
+    (a .read .at) (c .before .before .before .before .before .before .before .before .before .before .before .before .before .before .before .before
+    .before .pre .1 .0) (l .cursor .index) (omega (arith, c .before .before .before .before .before .before .before .before .before .before .if1 .taken)))
+    in
     let next = c .before .before .before .before .before .before .before .before .before .next-statement in
     let i = l .cursor .index in
     let rec = a .rec .now in
     let found = c .before .before .before .start .given in
-    let st = told-share (next .result .statement) (found .0 .0) (found .0 .1 .0) (sym (c .before .before .before .before .before .share-place .ensures) ∙ found .1) in
-    let between : payloadBetween (l .cursor .at) (next .result .next .at) (Share (found .0 .0) (found .0 .1 .0)) ≡ true = sym (ap (payloadBetween (l .cursor .at) (next .result .next .at)) st) ∙ next .ensures .1 .1 in
-    omega (arith, payload-inside rec (bytes-of rec (λ j h. omega (arith, c .before .before .before .before .before .before .before .before .before .before .before .before .before .before .before .shared-slice-known2 .given j))) formed (l .cursor .index) (l .cursor .at) (next .result .next .at) (found .0 .0) (found .0 .1 .0) between (ap (λ (x : StatementCursor). x .at) (next .ensures .1 .0)))
+    let st = told-share (next .result .statement) (found .0 .0) (found .0 .1 .0)
+    (sym (c .before .before .before .before .before .share-place .ensures) ∙ found .1) in
+    let between : payloadBetween (l .cursor .at) (next .result .next .at) (Share (found .0 .0) (found .0 .1 .0)) ≡ true = sym
+    (ap (payloadBetween (l .cursor .at) (next .result .next .at)) st) ∙ next .ensures .1 .1 in
+    omega (
+      arith,
+      payload-inside rec (bytes-of rec (λ j h. omega (
+        arith,
+        c .before .before .before .before .before .before .before .before .before .before .before .before .before .before .before .shared-slice-known2
+            .given j,
+      ))) formed (l .cursor .index) (l .cursor .at) (next .result .next .at) (found .0 .0) (found .0 .1 .0) between
+          (ap (λ (x : StatementCursor). x .at) (next .ensures .1 .0)),
+    )
 
 list-share-requires : tie.Need-list-share-requires Inv-loop μ-loop
 unfolding asRange newRange
 list-share-requires c κs =
-    let a = c .before .before .before .before .before .before .before .before .before .before .before .before .before .before .before .before .before .before .args in
+    let a = c .before .before .before .before .before .before .before .before .before .before .before .before .before .before .before .before .before .before
+    .args in
     let l = c .before .before .before .before .before .before .before .before .before .before .before .before .before .loop in
-    let below : l .cursor .index < asRange (a .range) .end = omega (arith, c .before .before .before .before .before .before .before .before .before .before .before .if1 .taken) in
+    let below : l .cursor .index < asRange (a .range) .end = omega
+    (arith, c .before .before .before .before .before .before .before .before .before .before .before .if1 .taken) in
     let from : asRange (a .range) .start ≤ l .cursor .index = omega (arith, c .before .before .before .before .before .before .before .if2 .left) in (
-      going-looked (a .store .now) (asRange (a .range)) (a .places .now) (a .n) (a .rec .now) (l .places) (l .cursor) (l .found) (l .inv) (c .before .before .before .before .before .before .before .before .before .before .next-statement .result .next) (c .before .before .before .before .before .before .before .before .before .before .next-statement .ensures .1 .0) below from (c .before .before .before .before .before .before .before .before .before .before .before .before .before .before .before .before .before .before .pre .0),
-      going-room (a .store .now) (asRange (a .range)) (a .places .now) (a .n) (a .rec .now) (l .places) (l .cursor) (l .found) (l .inv) (c .before .before .before .before .before .before .before .before .before .before .next-statement .result .next) (c .before .before .before .before .before .before .before .before .before .before .next-statement .ensures .1 .0) below from (c .before .before .before .before .before .before .before .before .before .before .before .before .before .before .before .before .before .before .pre .0),
+      going-looked (a .store .now) (asRange (a .range)) (a .places .now) (a .n) (a .rec .now) (l .places) (l .cursor) (l .found) (l .inv)
+          (c .before .before .before .before .before .before .before .before .before .before .next-statement .result .next)
+          (c .before .before .before .before .before .before .before .before .before .before .next-statement .ensures .1 .0) below from
+          (c .before .before .before .before .before .before .before .before .before .before .before .before .before .before .before .before .before .before
+          .pre .0),
+      going-room (a .store .now) (asRange (a .range)) (a .places .now) (a .n) (a .rec .now) (l .places) (l .cursor) (l .found) (l .inv)
+          (c .before .before .before .before .before .before .before .before .before .before .next-statement .result .next)
+          (c .before .before .before .before .before .before .before .before .before .before .next-statement .ensures .1 .0) below from
+          (c .before .before .before .before .before .before .before .before .before .before .before .before .before .before .before .before .before .before
+          .pre .0),
     )
 
 loop-less-3 : tie.Need-loop-less-3 Inv-loop μ-loop
 unfolding cursorAt
-loop-less-3 c = omega (arith, c .before .before .before .before .before .before .before .before .before .before .before .before .before .before .if1 .taken, ap (λ (x : StatementCursor). x .index) (c .before .before .before .before .before .before .before .before .before .before .before .before .before .next-statement .ensures .1 .0))
+loop-less-3 c = omega (
+  arith,
+  c .before .before .before .before .before .before .before .before .before .before .before .before .before .before .if1 .taken,
+  ap (λ (x : StatementCursor). x .index) (c .before .before .before .before .before .before .before .before .before .before .before .before .before
+      .next-statement .ensures .1 .0),
+)
 
 loop-again-3 : tie.Need-loop-again-3 Inv-loop μ-loop
 unfolding asRange newRange asLocator asStatement
 loop-again-3 c =
-    let a = c .before .before .before .before .before .before .before .before .before .before .before .before .before .before .before .before .before .before .before .before .before .args in
+    let a = c .before .before .before .before .before .before .before .before .before .before .before .before .before .before .before .before .before .before
+    .before .before .before .args in
     let l = c .before .before .before .before .before .before .before .before .before .before .before .before .before .before .before .before .loop in
-    let same = c .before .before .before .before .before .before .before .before .before .before .before .before .before .before .before .before .before .before .before .before .before .pre .1 .1 .0 in
-    let formed : wellFormed (a .rec .now) ≡ true = subst (λ (x : Bytes). wellFormed x ≡ true) (sym same) (coming-formed (a .store .now) (asRange (a .range)) (a .places .now) (a .n) (c .before .before .before .before .before .before .before .before .before .before .before .before .before .before .before .before .before .before .before .before .before .pre .0) (a .read .at) (c .before .before .before .before .before .before .before .before .before .before .before .before .before .before .before .before .before .before .before .before .before .pre .1 .0)) in
-    let few : l .cursor .index < length (blockIn (a .rec .now) .statements) = subst (λ (x : Bytes). l .cursor .index < length (blockIn x .statements)) (sym same) (coming-below (a .store .now) (asRange (a .range)) (a .places .now) (a .n) (c .before .before .before .before .before .before .before .before .before .before .before .before .before .before .before .before .before .before .before .before .before .pre .0) (a .read .at) (c .before .before .before .before .before .before .before .before .before .before .before .before .before .before .before .before .before .before .before .before .before .pre .1 .0) (l .cursor .index) (omega (arith, c .before .before .before .before .before .before .before .before .before .before .before .before .before .before .if1 .taken))) in
+    let same = c .before .before .before .before .before .before .before .before .before .before .before .before .before .before .before .before .before
+    .before .before .before .before .pre .1 .1 .0 in
+    let formed : wellFormed (a .rec .now) ≡ true = subst (λ (x : Bytes). wellFormed x ≡ true) (sym same)
+    (coming-formed (a .store .now) (asRange (a .range)) (a .places .now) (a .n)
+    (c .before .before .before .before .before .before .before .before .before .before .before .before .before .before .before .before .before .before
+    .before .before .before .pre .0) (a .read .at) (c .before .before .before .before .before .before .before .before .before .before .before .before
+    .before .before .before .before .before .before .before .before .before .pre .1 .0)) in
+    let few : l .cursor .index < length (blockIn (a .rec .now) .statements) = subst (λ (x : Bytes). l .cursor .index < length (blockIn x .statements))
+    (sym same) (coming-below (a .store .now) (asRange (a .range)) (a .places .now) (a .n)
+    (c .before .before .before .before .before .before .before .before .before .before .before .before .before .before .before .before .before .before
+    .before .before .before .pre .0) (a .read .at) (c .before .before .before .before .before .before .before .before .before .before .before .before
+    .before .before .before .before .before .before .before .before .before .pre .1 .0) (l .cursor .index)
+    (omega (arith, c .before .before .before .before .before .before .before .before .before .before .before .before .before .before .if1 .taken))) in
     let next = c .before .before .before .before .before .before .before .before .before .before .before .before .before .next-statement in
     let i = l .cursor .index in
     let rec = a .rec .now in
     let found = c .before .before .before .before .before .before .before .start .given in
-    let st = told-share (next .result .statement) (found .0 .0) (found .0 .1 .0) (sym (c .before .before .before .before .before .before .before .before .before .share-place .ensures) ∙ found .1) in
-    let between : payloadBetween (l .cursor .at) (next .result .next .at) (Share (found .0 .0) (found .0 .1 .0)) ≡ true = sym (ap (payloadBetween (l .cursor .at) (next .result .next .at)) st) ∙ next .ensures .1 .1 in
+    let st = told-share (next .result .statement) (found .0 .0) (found .0 .1 .0)
+    (sym (c .before .before .before .before .before .before .before .before .before .share-place .ensures) ∙ found .1) in
+    let between : payloadBetween (l .cursor .at) (next .result .next .at) (Share (found .0 .0) (found .0 .1 .0)) ≡ true = sym
+    (ap (payloadBetween (l .cursor .at) (next .result .next .at)) st) ∙ next .ensures .1 .1 in
     let start = found .0 .0 in
     let count = found .0 .1 .0 in
     let p : Bytes = take count (drop start rec) in
     let part : take (start + count - start) (drop start rec) ≡ p = ap (λ (m : ℕ). take m (drop start rec)) (add-sub-cancel-left start count) in
-    let stands : getElem? (blockIn rec .statements) i ≡ some (share p) = payload-here (blockIn rec) i p few (sym (ap (asStatement rec) st) ∙ next .ensures .0) in
-    let below : i < asRange (a .range) .end = omega (arith, c .before .before .before .before .before .before .before .before .before .before .before .before .before .before .if1 .taken) in
+    let stands : getElem? (blockIn rec .statements) i ≡ some (share p) = payload-here (blockIn rec) i p few (sym (ap (asStatement rec) st) ∙ next .ensures .0)
+    in
+    let below : i < asRange (a .range) .end = omega (
+      arith,
+      c .before .before .before .before .before .before .before .before .before .before .before .before
+          .before .before .if1 .taken,
+    ) in
     let from : asRange (a .range) .start ≤ i = omega (arith, c .before .before .before .before .before .before .before .before .before .before .if2 .left) in
     let listed = c .before .before .list-share .ensures in
-    going-listed (a .store .now) (asRange (a .range)) (a .places .now) (a .n) (a .rec .now) (l .places) (l .cursor) (l .found) (l .inv) (next .result .next) (next .ensures .1 .0) below from (c .before .before .before .before .before .before .before .before .before .before .before .before .before .before .before .before .before .before .before .before .before .pre .0) (a .read .at) (c .before .before .before .before .before .before .before .before .before .before .before .before .before .before .before .before .before .before .before .before .before .pre .1 .0) p
-    (coming-payload (a .store .now) (asRange (a .range)) (a .places .now) (a .n) (c .before .before .before .before .before .before .before .before .before .before .before .before .before .before .before .before .before .before .before .before .before .pre .0) (a .read .at) (c .before .before .before .before .before .before .before .before .before .before .before .before .before .before .before .before .before .before .before .before .before .pre .1 .0) i p (subst (λ (x : Bytes). getElem? (blockIn x .statements) i ≡ some (share p)) same stands))
+    going-listed (a .store .now) (asRange (a .range)) (a .places .now) (a .n) (a .rec .now) (l .places) (l .cursor) (l .found) (l .inv) (next .result .next)
+    (next .ensures .1 .0) below from (c .before .before .before .before .before .before .before .before .before .before .before .before .before .before
+    .before .before .before .before .before .before .before .pre .0) (a .read .at)
+    (c .before .before .before .before .before .before .before .before .before .before .before .before .before .before .before .before .before .before
+    .before .before .before .pre .1 .0) p
+    (coming-payload (a .store .now) (asRange (a .range)) (a .places .now) (a .n)
+    (c .before .before .before .before .before .before .before .before .before .before .before .before .before .before .before .before .before .before
+    .before .before .before .pre .0) (a .read .at) (c .before .before .before .before .before .before .before .before .before .before .before .before
+    .before .before .before .before .before .before .before .before .before .pre .1 .0) i p
+    (subst (λ (x : Bytes). getElem? (blockIn x .statements) i ≡ some (share p)) same stands))
     (c .before .before .list-share .last .1 .0) (c .before .before .list-share .result)
-    (listed .0 ∙ ap (λ (x : Bytes). pick (metBy (a .store .now) (l .found) (l .places) (locator (asRange (a .range) .block) i) x) (l .found + 1) (l .found)) part)
-    (listed .1 ∙ ap (λ (x : Bytes). pick (metBy (a .store .now) (l .found) (l .places) (locator (asRange (a .range) .block) i) x) (sets (l .places) (2 * l .found) (a .read .at ∷ i ∷ [])) (l .places)) part)
+    (listed .0 ∙ ap (λ (x : Bytes). pick (metBy (a .store .now) (l .found) (l .places) (locator (asRange (a .range) .block) i) x) (l .found + 1) (l .found))
+    part)
+    (listed .1 ∙ ap (λ (x : Bytes). pick (metBy (a .store .now) (l .found) (l .places) (locator (asRange (a .range) .block) i) x)
+    (sets (l .places) (2 * l .found) (a .read .at ∷ i ∷ [])) (l .places)) part)
 
 same-length : tie.Need-same-length Inv-loop μ-loop
 same-length c = c .before .before .loop .inv .past .long
@@ -176,8 +289,12 @@ returns : tie.Need-returns Inv-loop μ-loop
 unfolding asRange newRange Read
 returns c =
     let a = c .before .before .before .before .before .before .before .args in
-    let l = c .before .before .loop in
-    (going-end (a .store .now) (asRange (a .range)) (a .places .now) (a .n) (a .rec .now) (l .places) (l .cursor) (l .found) (l .inv) (omega (arith, c .if1 .left)), λ e. l .inv .there ∙ ap (λ (x : Bytes). cursorAt x (l .cursor .index)) (c .before .before .before .before .before .before .before .pre .1 .1 .0))
+    let l = c .before .before .loop in (
+      going-end (a .store .now) (asRange (a .range)) (a .places .now) (a .n) (a .rec .now) (l .places) (l .cursor) (l .found) (l .inv)
+          (omega (arith, c .if1 .left)),
+      λ e. l .inv .there ∙ ap (λ (x : Bytes). cursorAt x (l .cursor .index))
+          (c .before .before .before .before .before .before .before .pre .1 .1 .0),
+    )
 
 pub list-run-spec : {M : Type 1} → statement M
 list-run-spec =

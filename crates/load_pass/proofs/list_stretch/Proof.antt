@@ -20,7 +20,8 @@ unfolding asRange newRange
 add-from c =
     let a = c .before .before .before .before .before .args in
     let at = c .find-ordered .result in
-    let entry : isEntry (a .store .now) at ≡ true = coming-entry (a .store .now) (asRange (a .range)) (a .places .now) (a .n) (c .before .before .before .before .before .pre .0) at (c .find-ordered .ensures) in
+    let entry : isEntry (a .store .now) at ≡ true = coming-entry (a .store .now) (asRange (a .range)) (a .places .now) (a .n)
+    (c .before .before .before .before .before .pre .0) at (c .find-ordered .ensures) in
     omega (arith, entry-room (a .store .now) at entry .inside)
 
 record-end-requires : tie.Need-record-end-requires
@@ -28,7 +29,8 @@ unfolding asRange newRange
 record-end-requires c κs =
     let a = c .before .before .before .before .before .args in
     let at = c .find-ordered .result in
-    let entry : isEntry (a .store .now) at ≡ true = coming-entry (a .store .now) (asRange (a .range)) (a .places .now) (a .n) (c .before .before .before .before .before .pre .0) at (c .find-ordered .ensures) in
+    let entry : isEntry (a .store .now) at ≡ true = coming-entry (a .store .now) (asRange (a .range)) (a .places .now) (a .n)
+    (c .before .before .before .before .before .pre .0) at (c .find-ordered .ensures) in
     entry
 
 sub-rec : tie.Need-sub-rec
@@ -42,7 +44,8 @@ unfolding asRange newRange
 part-rec-end c =
     let a = c .before .before .before .before .before .before .args in
     let at = c .before .find-ordered .result in
-    let entry : isEntry (a .store .now) at ≡ true = coming-entry (a .store .now) (asRange (a .range)) (a .places .now) (a .n) (c .before .before .before .before .before .before .pre .0) at (c .before .find-ordered .ensures) in
+    let entry : isEntry (a .store .now) at ≡ true = coming-entry (a .store .now) (asRange (a .range)) (a .places .now) (a .n)
+    (c .before .before .before .before .before .before .pre .0) at (c .before .find-ordered .ensures) in
     omega (arith, entry-room (a .store .now) at entry .inside, c .record-end .ensures)
 
 read-from-requires : tie.Need-read-from-requires
@@ -50,18 +53,30 @@ unfolding asRange newRange
 read-from-requires c κs =
     let a = c .before .before .before .before .before .before .before .args in
     let at = c .before .before .find-ordered .result in
-    let entry : isEntry (a .store .now) at ≡ true = coming-entry (a .store .now) (asRange (a .range)) (a .places .now) (a .n) (c .before .before .before .before .before .before .before .pre .0) at (c .before .before .find-ordered .ensures) in
-    (c .before .before .before .before .before .before .before .pre .1 .1, (entry, record-part (a .store .now) at (c .before .record-end .result) (c .before .record-end .ensures)))
+    let entry : isEntry (a .store .now) at ≡ true = coming-entry (a .store .now) (asRange (a .range)) (a .places .now) (a .n)
+    (c .before .before .before .before .before .before .before .pre .0) at (c .before .before .find-ordered .ensures) in (
+      c .before .before .before .before .before .before .before .pre .1 .1,
+      (entry, record-part (a .store .now) at (c .before .record-end .result) (c .before .record-end .ensures)),
+    )
 
 list-run-requires : tie.Need-list-run-requires
 unfolding asRange newRange
 list-run-requires c κs =
     let a = c .before .before .before .before .before .before .before .before .before .args in
     let at = c .before .before .before .before .find-ordered .result in
-    let entry : isEntry (a .store .now) at ≡ true = coming-entry (a .store .now) (asRange (a .range)) (a .places .now) (a .n) (c .before .before .before .before .before .before .before .before .before .pre .0) at (c .before .before .before .before .find-ordered .ensures) in
+    let entry : isEntry (a .store .now) at ≡ true = coming-entry (a .store .now) (asRange (a .range)) (a .places .now) (a .n)
+    (c .before .before .before .before .before .before .before .before .before .pre .0) at (c .before .before .before .before .find-ordered .ensures) in
     let e = c .before .read-from .ensures in
-    let same : recordAt (a .store .now) (c .before .read-from .result .at) ≡ recordAt (a .store .now) at = ap (recordAt (a .store .now)) (e .0) in
-    (c .before .before .before .before .before .before .before .before .before .pre .0, (e .0 ∙ c .before .before .before .before .find-ordered .ensures, (record-part (a .store .now) at (c .before .before .before .record-end .result) (c .before .before .before .record-end .ensures) ∙ sym same, (e .1 .0, e .1 .1))))
+    let same : recordAt (a .store .now) (c .before .read-from .result .at) ≡ recordAt (a .store .now) at = ap (recordAt (a .store .now)) (e .0) in (
+      c .before .before .before .before .before .before .before .before .before .pre .0,
+      (
+        e .0 ∙ c .before .before .before .before .find-ordered .ensures,
+        (
+          record-part (a .store .now) at (c .before .before .before .record-end .result) (c .before .before .before .record-end .ensures) ∙ sym same,
+          (e .1 .0, e .1 .1),
+        ),
+      ),
+    )
 
 same-length : tie.Need-same-length
 same-length c = search needs

@@ -17,13 +17,22 @@ unfolding Read
 returns c =
     let a = c .before .before .before .before .before .before .args in
     let q = c .before .before .before .before .before .before .pre in
-    let same : a .read .at ≡ a .at = omega (arith, c .before .if1 .taken) in
-    (same, (c .before .before .before .before .before .before .pre .0 (subst (λ (p : ℕ). isEntry (a .store .now) p ≡ true) (sym same) (c .before .before .before .before .before .before .pre .1 .0)) ∙ ap (λ (x : Bytes). cursorAt x (a .read .cursor .index)) (ap (recordAt (a .store .now)) same ∙ sym (c .before .before .before .before .before .before .pre .1 .1)), omega (arith, c .if2 .taken)))
+    let same : a .read .at ≡ a .at = omega (arith, c .before .if1 .taken) in (
+      same,
+      (
+        c .before .before .before .before .before .before .pre .0
+            (subst (λ (p : ℕ). isEntry (a .store .now) p ≡ true) (sym same) (c .before .before .before .before .before .before .pre .1 .0)) ∙ ap
+            (λ (x : Bytes). cursorAt x (a .read .cursor .index)) (ap (recordAt (a .store .now)) same ∙ sym
+            (c .before .before .before .before .before .before .pre .1 .1)),
+        omega (arith, c .if2 .taken),
+      ),
+    )
 
 first-statement-requires : tie.Need-first-statement-requires
 first-statement-requires c κs =
     let a = c .before .before .before .before .before .args in
-    subst (λ (x : Bytes). wellFormed x ≡ true) (sym (c .before .before .before .before .before .pre .1 .1)) (entry-room (a .store .now) (a .at) (c .before .before .before .before .before .pre .1 .0) .formed)
+    subst (λ (x : Bytes). wellFormed x ≡ true) (sym (c .before .before .before .before .before .pre .1 .1))
+    (entry-room (a .store .now) (a .at) (c .before .before .before .before .before .pre .1 .0) .formed)
 
 returns-2 : tie.Need-returns-2
 unfolding cursorAt

@@ -35,8 +35,11 @@ add-middle c =
 share-at-requires : tie.Need-share-at-requires Inv-loop μ-loop
 unfolding Around
 share-at-requires c κs =
-    let l = c .before .loop in
-    (omega (arith, l .inv .inside, c .before .before .before .before .pre .long), c .before .before .before .before .pre .entry (l .low + (l .high - l .low) / 2) (omega (arith, l .inv .inside)))
+    let l = c .before .loop in (
+      omega (arith, l .inv .inside, c .before .before .before .before .pre .long),
+      c .before .before .before .before .pre .entry
+          (l .low + (l .high - l .low) / 2) (omega (arith, l .inv .inside)),
+    )
 
 compare-locators-requires : tie.Need-compare-locators-requires Inv-loop μ-loop
 compare-locators-requires c κs = search needs
@@ -50,7 +53,9 @@ returns c =
     let a = c .before .before .before .before .before .before .before .before .args in
     let l = c .before .before .before .before .before .loop in
     let m = l .low + (l .high - l .low) / 2 in
-    sym (listed-there (a .store .now) (a .places .now) (a .n) (asLocator (a .share)) m (omega (arith, l .inv .inside)) (sym (c .before .before .before .share-at .ensures) ∙ compared-equal (asLocator (c .before .before .before .share-at .result)) (asLocator (a .share)) (sym (c .before .before .compare-locators .ensures) ∙ c .enum-told .given .1)))
+    sym (listed-there (a .store .now) (a .places .now) (a .n) (asLocator (a .share)) m (omega (arith, l .inv .inside))
+    (sym (c .before .before .before .share-at .ensures) ∙ compared-equal (asLocator (c .before .before .before .share-at .result)) (asLocator (a .share))
+    (sym (c .before .before .compare-locators .ensures) ∙ c .enum-told .given .1)))
 
 enum-told-2 : tie.Need-enum-told-2 Inv-loop μ-loop
 enum-told-2 c = search needs
@@ -74,8 +79,11 @@ loop-again c =
     let t : TransactionLocator = asLocator (a .share) in
     let at = placeAt (a .store .now) (a .places .now) in
     let inside : m < a .n = omega (arith, l .inv .inside) in
-    let low : locatorBefore (at m) t ≡ true = rw (c .before .before .before .share-at .ensures) at (compared-less (asLocator (c .before .before .before .share-at .result)) t (sym (c .before .before .compare-locators .ensures) ∙ c .enum-told2 .given .1)) in
-    narrowed-up (a .n) _ _ (l .low) (l .high) m (λ i (h : i < m). locator-trans (at i) (at m) t (c .before .before .before .before .before .before .before .before .pre .rises i m h inside) low) low (omega arith) (l .inv)
+    let low : locatorBefore (at m) t ≡ true = rw (c .before .before .before .share-at .ensures) at
+    (compared-less (asLocator (c .before .before .before .share-at .result)) t
+    (sym (c .before .before .compare-locators .ensures) ∙ c .enum-told2 .given .1)) in
+    narrowed-up (a .n) _ _ (l .low) (l .high) m (λ i (h : i < m). locator-trans (at i) (at m) t
+    (c .before .before .before .before .before .before .before .before .pre .rises i m h inside) low) low (omega arith) (l .inv)
 
 enum-told-3 : tie.Need-enum-told-3 Inv-loop μ-loop
 enum-told-3 c = search needs
@@ -92,8 +100,11 @@ loop-again-2 c =
     let m = l .low + (l .high - l .low) / 2 in
     let t : TransactionLocator = asLocator (a .share) in
     let at = placeAt (a .store .now) (a .places .now) in
-    let high : locatorBefore t (at m) ≡ true = rw (c .before .before .before .share-at .ensures) at (compared-greater (asLocator (c .before .before .before .share-at .result)) t (sym (c .before .before .compare-locators .ensures) ∙ c .enum-told3 .given .1)) in
-    narrowed-down (a .n) _ _ (l .low) (l .high) m (λ i (h : m < i) (k : i < a .n). locator-trans t (at m) (at i) high (c .before .before .before .before .before .before .before .before .pre .rises m i h k)) high (omega arith) (omega arith) (l .inv)
+    let high : locatorBefore t (at m) ≡ true = rw (c .before .before .before .share-at .ensures) at
+    (compared-greater (asLocator (c .before .before .before .share-at .result)) t
+    (sym (c .before .before .compare-locators .ensures) ∙ c .enum-told3 .given .1)) in
+    narrowed-down (a .n) _ _ (l .low) (l .high) m (λ i (h : m < i) (k : i < a .n). locator-trans t (at m) (at i) high
+    (c .before .before .before .before .before .before .before .before .pre .rises m i h k)) high (omega arith) (omega arith) (l .inv)
 
 returns-2 : tie.Need-returns-2 Inv-loop μ-loop
 returns-2 c =

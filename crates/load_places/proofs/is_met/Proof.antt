@@ -33,7 +33,8 @@ unfolding met asNeeded asLocator locator asReference
 returns-3 c =
     let m = c .before .before .before .before .before .needed .given .0 .0 in
     let a = c .before .before .before .before .before .before .before .before .before .args in
-    rw (c .before .before .before .before .before .needed .given .1, lt-ltb (m .block .round .0) (a .share .block .round .0) (omega arith)) (c .is-listed .ensures)
+    rw (c .before .before .before .before .before .needed .given .1, lt-ltb (m .block .round .0) (a .share .block .round .0) (omega arith))
+    (c .is-listed .ensures)
 
 pub is-met-spec : {M : Type 1} → statement M
 is-met-spec =

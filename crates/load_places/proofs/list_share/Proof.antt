@@ -29,7 +29,8 @@ returns c =
     let a = c .before .before .before .before .before .before .before .args in
     let l = asLocator (a .share) in
     let unmet : metBy (a .store .now) (a .n) (a .places .now) l (a .bytes .now) ≡ false =
-    unfold metBy in sym (ap (met (λ m. anyOf (sameLocator m) (namedBy (a .store .now) (a .n) (a .places .now))) l) (c .before .before .before .needed-by .ensures)) ∙ sym (c .before .is-met .ensures) ∙ not-true _ (c .if1 .taken) in
+    unfold metBy in sym (ap (met (λ m. anyOf (sameLocator m) (namedBy (a .store .now) (a .n) (a .places .now))) l)
+    (c .before .before .before .needed-by .ensures)) ∙ sym (c .before .is-met .ensures) ∙ not-true _ (c .if1 .taken) in
     (rw unmet, rw unmet)
 
 mul-places : tie.Need-mul-places
@@ -65,7 +66,8 @@ returns-2 c =
     let a = c .before .before .before .before .before .before .before .args in
     let l = asLocator (a .share) in
     let is : metBy (a .store .now) (a .n) (a .places .now) l (a .bytes .now) ≡ true =
-    unfold metBy in sym (ap (met (λ m. anyOf (sameLocator m) (namedBy (a .store .now) (a .n) (a .places .now))) l) (c .before .before .before .needed-by .ensures)) ∙ sym (c .before .is-met .ensures) ∙ not-false _ (c .if1 .left) in
+    unfold metBy in sym (ap (met (λ m. anyOf (sameLocator m) (namedBy (a .store .now) (a .n) (a .places .now))) l)
+    (c .before .before .before .needed-by .ensures)) ∙ sym (c .before .is-met .ensures) ∙ not-false _ (c .if1 .left) in
     (rw is, rw is (simp towards-suc))
 
 pub list-share-spec : {M : Type 1} → statement M

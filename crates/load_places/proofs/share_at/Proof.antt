@@ -34,7 +34,8 @@ shared-slice-read-t9 c = search needs
 
 returns : tie.Need-returns
 unfolding placeAt asLocator
-returns c = ap (λ (r : BlockReference). locator r (getD (c .before .before .before .before .before .args .places .now) (2 * c .before .before .before .before .before .args .i + 1) 0)) (c .before .reference-at .ensures)
+returns c = ap (λ (r : BlockReference). locator r (getD (c .before .before .before .before .before .args .places .now)
+    (2 * c .before .before .before .before .before .args .i + 1) 0)) (c .before .reference-at .ensures)
 
 pub share-at-spec : {M : Type 1} → statement M
 share-at-spec =

@@ -30,14 +30,16 @@ returns : tie.Need-returns
 unfolding Seen Never
 returns c =
     let a = c .before .before .before .before .before .before .args in
-    let f = subst (λ (x : Sight). Seen (a .store .now) (a .order .now) (asLocator (a .locator)) x) (c .enum-told .given .1) (c .before .before .look .ensures) in
+    let f = subst (λ (x : Sight). Seen (a .store .now) (a .order .now) (asLocator (a .locator)) x) (c .enum-told .given .1) (c .before .before .look .ensures)
+    in
     sym (f (asReading (a .reading)) (a .stakes .now) (c .before .before .before .before .before .before .pre .0 .0 .inOrder))
 
 returns-2 : tie.Need-returns-2
 unfolding Seen
 returns-2 c =
     let a = c .before .before .before .before .before .before .before .args in
-    let f = subst (λ (x : Sight). Seen (a .store .now) (a .order .now) (asLocator (a .locator)) x) (c .before .enum-told2 .given .1) (c .before .before .before .look .ensures) in
+    let f = subst (λ (x : Sight). Seen (a .store .now) (a .order .now) (asLocator (a .locator)) x) (c .before .enum-told2 .given .1)
+    (c .before .before .before .look .ensures) in
     c .is-final .ensures ∙ sym (f .1 (asReading (a .reading)) (a .stakes .now) (c .before .before .before .before .before .before .before .pre .0 .0 .inOrder))
 
 returns-3 : tie.Need-returns-3

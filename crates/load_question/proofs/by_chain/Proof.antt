@@ -16,13 +16,17 @@ slice-aggregate-mark-chain : tie.Need-slice-aggregate-mark-chain
 slice-aggregate-mark-chain c = search needs
 
 mark-chain-requires : tie.Need-mark-chain-requires
-mark-chain-requires c κs = (some-committee (c .before .before .before .before .pre .0 .0), (omega (arith, c .before .before .before .before .pre .1), λ k. zeros-at 1024 k))
+mark-chain-requires c κs = (
+  some-committee (c .before .before .before .before .pre .0 .0),
+  (omega (arith, c .before .before .before .before .pre .1), λ k. zeros-at 1024 k),
+)
 
 returns : tie.Need-returns
 unfolding Collected Never
 returns c =
     let a = c .before .before .before .before .before .before .before .args in
-    let n = subst (λ (t : Bool). Collected (a .store .now) (a .order .now) (asLocator (a .locator)) (c .before .before .mark-chain .last .1 .1 .0) t) (not-true (c .before .before .mark-chain .result) (c .if1 .taken)) (c .before .before .mark-chain .ensures) in
+    let n = subst (λ (t : Bool). Collected (a .store .now) (a .order .now) (asLocator (a .locator)) (c .before .before .mark-chain .last .1 .1 .0) t)
+    (not-true (c .before .before .mark-chain .result) (c .if1 .taken)) (c .before .before .mark-chain .ensures) in
     sym (n (asReading (a .reading)) (a .stakes .now) (c .before .before .before .before .before .before .before .pre .0 .0 .inOrder))
 
 slice-aggregate-clear-finals : tie.Need-slice-aggregate-clear-finals
@@ -41,8 +45,14 @@ returns-2 : tie.Need-returns-2
 unfolding Collected
 returns-2 c =
     let a = c .before .before .before .before .before .before .before .before .before .before .before .before .args in
-    let chain = subst (λ (t : Bool). Collected (a .store .now) (a .order .now) (asLocator (a .locator)) (c .before .before .before .before .before .before .before .mark-chain .last .1 .1 .0) t) (not-false (c .before .before .before .before .before .before .before .mark-chain .result) (c .before .before .before .before .before .if1 .left)) (c .before .before .before .before .before .before .before .mark-chain .ensures) in
-    decided (asReading (a .reading)) (a .stakes .now) (a .store .now) (c .before .before .before .before .before .before .before .before .before .before .before .before .pre .0 .0 .inOrder) (a .order .now) (asLocator (a .locator)) (c .before .before .before .before .before .before .before .mark-chain .last .1 .1 .0) _ chain (c .before .before .before .clear-finals .ensures) (c .none-left .result) (c .none-left .ensures)
+    let chain = subst (λ (t : Bool). Collected (a .store .now) (a .order .now) (asLocator (a .locator))
+    (c .before .before .before .before .before .before .before .mark-chain .last .1 .1 .0) t)
+    (not-false (c .before .before .before .before .before .before .before .mark-chain .result) (c .before .before .before .before .before .if1 .left))
+    (c .before .before .before .before .before .before .before .mark-chain .ensures) in
+    decided (asReading (a .reading)) (a .stakes .now) (a .store .now)
+    (c .before .before .before .before .before .before .before .before .before .before .before .before .pre .0 .0 .inOrder) (a .order .now)
+    (asLocator (a .locator)) (c .before .before .before .before .before .before .before .mark-chain .last .1 .1 .0) _ chain
+    (c .before .before .before .clear-finals .ensures) (c .none-left .result) (c .none-left .ensures)
 
 pub by-chain-spec : {M : Type 1} → statement M
 by-chain-spec =

@@ -24,8 +24,10 @@ returns : tie.Need-returns
 returns c =
     let a = c .before .before .before .before .before .before .before .before .args in
     let found = c .before .before .before .certifying-blocks-in in
-    let quorum : c .is-quorum .result ≡ quorumOf (a .total .0) (stakeOf (a .stakes .now) (found .result .authors)) = rw (← c .before .stake-of .ensures) (c .is-quorum .ensures) in
-    quorum ∙ final-in-by (asReading (a .reading)) (a .stakes .now) (a .store .now) (asLocator (a .locator)) (a .total .0) (found .result .authors) (c .before .before .before .before .before .before .before .before .pre .0 .1) (found .ensures .1 .0)
+    let quorum : c .is-quorum .result ≡ quorumOf (a .total .0) (stakeOf (a .stakes .now) (found .result .authors)) = rw (← c .before .stake-of .ensures)
+    (c .is-quorum .ensures) in
+    quorum ∙ final-in-by (asReading (a .reading)) (a .stakes .now) (a .store .now) (asLocator (a .locator)) (a .total .0) (found .result .authors)
+    (c .before .before .before .before .before .before .before .before .pre .0 .1) (found .ensures .1 .0)
 
 pub is-final-spec : {M : Type 1} → statement M
 is-final-spec =

@@ -35,7 +35,12 @@ add-from : tie.Need-add-from Inv-loop μ-loop
 add-from c =
     let a = c .before .before .before .before .before .before .args in
     let k = c .before .before .loop .k in
-    omega (arith, entry-room (a .store .now) (getD (a .order .now) k 0) (place-entry (a .store .now) (a .order .now) (some-committee (c .before .before .before .before .before .before .pre .0)) k (c .before .loop-test .taken)) .inside)
+    omega (
+      arith,
+      entry-room (a .store .now) (getD (a .order .now) k 0)
+          (place-entry (a .store .now) (a .order .now) (some-committee (c .before .before .before .before .before .before .pre .0)) k
+          (c .before .loop-test .taken)) .inside,
+    )
 
 record-end-requires : tie.Need-record-end-requires Inv-loop μ-loop
 record-end-requires c κs =
@@ -53,17 +58,32 @@ part-shares-in-end : tie.Need-part-shares-in-end Inv-loop μ-loop
 part-shares-in-end c =
     let a = c .before .before .before .before .before .before .before .args in
     let k = c .before .before .before .loop .k in
-    omega (arith, entry-room (a .store .now) (getD (a .order .now) k 0) (place-entry (a .store .now) (a .order .now) (some-committee (c .before .before .before .before .before .before .before .pre .0)) k (c .before .before .loop-test .taken)) .inside, c .record-end .ensures)
+    omega (
+      arith,
+      entry-room (a .store .now) (getD (a .order .now) k 0)
+          (place-entry (a .store .now) (a .order .now) (some-committee (c .before .before .before .before .before .before .before .pre .0)) k
+          (c .before .before .loop-test .taken)) .inside,
+      c .record-end .ensures,
+    )
 
 shares-in-requires : tie.Need-shares-in-requires Inv-loop μ-loop
 shares-in-requires c κs =
     let a = c .before .before .before .before .before .before .before .before .args in
     let k = c .before .before .before .before .loop .k in
     let at = getD (a .order .now) k 0 in
-    rw (record-part (a .store .now) at (c .before .record-end .result) (c .before .record-end .ensures)) (entry-room (a .store .now) at (place-entry (a .store .now) (a .order .now) (some-committee (c .before .before .before .before .before .before .before .before .pre .0)) k (c .before .before .before .loop-test .taken)) .formed)
+    rw (record-part (a .store .now) at (c .before .record-end .result) (c .before .record-end .ensures))
+    (entry-room (a .store .now) at (place-entry (a .store .now) (a .order .now)
+    (some-committee (c .before .before .before .before .before .before .before .before .pre .0)) k (c .before .before .before .loop-test .taken)) .formed)
 
 add-n : tie.Need-add-n Inv-loop μ-loop
-add-n c = omega (arith, c .before .before .before .before .before .loop .inv .2, c .before .before .before .before .loop-test .taken, c .before .before .before .before .before .before .before .before .before .pre .1, c .shares-in .ensures .1)
+add-n c = omega (
+  arith,
+  c .before .before .before .before .before .loop .inv .2,
+  c .before .before .before .before .loop-test .taken,
+  c .before .before
+      .before .before .before .before .before .before .before .pre .1,
+  c .shares-in .ensures .1,
+)
 
 add-k : tie.Need-add-k Inv-loop μ-loop
 add-k c = search needs
@@ -77,8 +97,10 @@ loop-again c =
     let a = c .before .before .before .before .before .before .before .before .before .args in
     let l = c .before .before .before .before .before .loop in
     let at = getD (a .order .now) (l .k) 0 in
-    let many = c .shares-in .ensures .0 ∙ ap (λ (x : Bytes). length (sharesOf (blockIn x))) (record-part (a .store .now) at (c .before .before .record-end .result) (c .before .before .record-end .ensures)) in
-    let next = ap length (through-next (a .stakes .now) (a .store .now) (a .order .now) (c .before .before .before .before .before .before .before .before .before .pre .0) (l .k) (c .before .before .before .before .loop-test .taken)) in (
+    let many = c .shares-in .ensures .0 ∙ ap (λ (x : Bytes). length (sharesOf (blockIn x)))
+    (record-part (a .store .now) at (c .before .before .record-end .result) (c .before .before .record-end .ensures)) in
+    let next = ap length (through-next (a .stakes .now) (a .store .now) (a .order .now)
+    (c .before .before .before .before .before .before .before .before .before .pre .0) (l .k) (c .before .before .before .before .loop-test .taken)) in (
       omega arith,
       omega (arith, l .inv .1, many, next, length-append (sharesThrough (a .store .now) (a .order .now) (l .k)) (sharesOf (blockAt (a .store .now) at))),
       omega (arith, l .inv .2, c .shares-in .ensures .1),
@@ -89,7 +111,8 @@ returns c =
     let a = c .before .before .before .before .before .args in
     let l = c .before .loop in
     let all : l .k ≡ length (a .order .now) = omega (arith, l .inv .0, c .loop-test .left) in
-    l .inv .1 ∙ ap (λ (j : ℕ). length (sharesThrough (a .store .now) (a .order .now) j)) all ∙ ap length (sym (through-all (a .stakes .now) (a .store .now) (a .order .now) (c .before .before .before .before .before .pre .0)))
+    l .inv .1 ∙ ap (λ (j : ℕ). length (sharesThrough (a .store .now) (a .order .now) j)) all ∙ ap length
+    (sym (through-all (a .stakes .now) (a .store .now) (a .order .now) (c .before .before .before .before .before .pre .0)))
 
 pub count-shares-spec : {M : Type 1} → statement M
 count-shares-spec =

@@ -19,7 +19,8 @@ use Rattle.load_share_count.proofs.shares_in.Statement.{statement}
 use Rattle.load_share_count.proofs.shares_in.Tie as tie
 
 abbrev Inv-loop : tie.InvT-loop
-Inv-loop rec count cursor₀ n₀ cursor n = (cursor ≡ cursorAt rec (cursor .index)) × (cursor .index ≤ length (blockIn rec .statements)) × (n ≡ length (sharesBelow (blockIn rec) (cursor .index))) × (n ≤ cursor .index)
+Inv-loop rec count cursor₀ n₀ cursor n = (cursor ≡ cursorAt rec (cursor .index)) × (cursor .index ≤ length (blockIn rec .statements)) ×
+    (n ≡ length (sharesBelow (blockIn rec) (cursor .index))) × (n ≤ cursor .index)
 
 abbrev μ-loop : tie.MeasureT-loop
 μ-loop rec count cursor₀ n₀ cursor n = count - cursor .index
@@ -62,12 +63,24 @@ loop-again c =
     let l = c .before .before .before .before .before .before .loop in
     let e = c .before .before .before .next-statement .ensures in
     let i : c .before .before .before .next-statement .result .next .index ≡ l .cursor .index + 1 = ap (λ (x : StatementCursor). x .index) (e .1 .0) in
-    let few : l .cursor .index < length (b .statements) = omega (arith, c .before .before .before .before .before .before .before .before .statement-count .ensures) in
-    let is : isShareAt b (l .cursor .index) ≡ true = share-here b (l .cursor .index) (asStatement rec (c .before .before .before .next-statement .result .statement)) few (e .0) ∙ sym (c .before .is-share .ensures rec) ∙ c .if2 .taken in
+    let few : l .cursor .index < length (b .statements) = omega (
+      arith,
+      c .before .before .before .before .before .before .before .before .statement-count
+          .ensures,
+    ) in
+    let is : isShareAt b (l .cursor .index) ≡ true = share-here b (l .cursor .index)
+    (asStatement rec (c .before .before .before .next-statement .result .statement)) few (e .0) ∙ sym (c .before .is-share .ensures rec) ∙ c .if2 .taken in
     let more = ap length (below-share b (l .cursor .index) is) in (
       e .1 .0 ∙ ap (cursorAt rec) (sym i),
       omega (arith, few, i),
-      omega (arith, ap (λ (j : ℕ). length (sharesBelow b j)) i, more, length-append (sharesBelow b (l .cursor .index)) (locator (b .reference) (l .cursor .index) ∷ []), l .inv .2),
+      omega (
+        arith,
+        ap (λ (j : ℕ). length (sharesBelow b j)) i,
+        more,
+        length-append (sharesBelow b (l .cursor .index))
+            (locator (b .reference) (l .cursor .index) ∷ []),
+        l .inv .2,
+      ),
       omega (arith, i, l .inv .3),
     )
 
@@ -83,8 +96,13 @@ loop-again-2 c =
     let l = c .before .before .before .before .before .before .loop in
     let e = c .before .before .before .next-statement .ensures in
     let i : c .before .before .before .next-statement .result .next .index ≡ l .cursor .index + 1 = ap (λ (x : StatementCursor). x .index) (e .1 .0) in
-    let few : l .cursor .index < length (b .statements) = omega (arith, c .before .before .before .before .before .before .before .before .statement-count .ensures) in
-    let is : isShareAt b (l .cursor .index) ≡ false = share-here b (l .cursor .index) (asStatement rec (c .before .before .before .next-statement .result .statement)) few (e .0) ∙ sym (c .before .is-share .ensures rec) ∙ c .if2 .left in (
+    let few : l .cursor .index < length (b .statements) = omega (
+      arith,
+      c .before .before .before .before .before .before .before .before .statement-count
+          .ensures,
+    ) in
+    let is : isShareAt b (l .cursor .index) ≡ false = share-here b (l .cursor .index)
+    (asStatement rec (c .before .before .before .next-statement .result .statement)) few (e .0) ∙ sym (c .before .is-share .ensures rec) ∙ c .if2 .left in (
       e .1 .0 ∙ ap (cursorAt rec) (sym i),
       omega (arith, few, i),
       l .inv .2 ∙ sym (ap (λ (j : ℕ). length (sharesBelow b j)) i ∙ ap length (below-other b (l .cursor .index) is)),
@@ -97,7 +115,8 @@ returns c =
     let b = blockIn rec in
     let l = c .before .before .loop in
     let all : l .cursor .index ≡ length (b .statements) = omega (arith, c .before .before .before .before .statement-count .ensures, l .inv .1) in
-    let few = few-statements rec (bytes-of rec (λ j h. omega (arith, c .before .before .before .before .before .shared-slice-known .given j))) (c .before .before .before .before .before .before .pre) in
+    let few = few-statements rec (bytes-of rec (λ j h. omega (arith, c .before .before .before .before .before .shared-slice-known .given j)))
+    (c .before .before .before .before .before .before .pre) in
     (l .inv .2 ∙ ap (λ (j : ℕ). length (sharesBelow b j)) all ∙ ap length (below-all b), omega (arith, few, l .inv .3, l .inv .1))
 
 pub shares-in-spec : {M : Type 1} → statement M

@@ -37,15 +37,18 @@ put-item-requires-2 c κs =
 
 add-t : tie.Need-add-t
 add-t c =
-    let n = c .before .before .before .before .before .before .before .before .before .before .before .before .before .before .before .before .item-count .ensures in
-    let start = c .before .before .before .before .before .before .before .before .before .before .before .before .before .before .before .before .before .before .before in
+    let n = c .before .before .before .before .before .before .before .before .before .before .before .before .before .before .before .before .item-count
+    .ensures in
+    let start = c .before .before .before .before .before .before .before .before .before .before .before .before .before .before .before .before .before
+    .before .before in
     omega (arith, n, start .pre, start .good)
 
 slice-write-t : tie.Need-slice-write-t
 slice-write-t c =
     let put = c .before .before .before .before .before .before .before .put-item .kept .0 in
     let moved = c .before .before .before .before .before .before .before .before .before .before .before .before .move-up .kept .0 in
-    let start = c .before .before .before .before .before .before .before .before .before .before .before .before .before .before .before .before .before .before .before .pre in
+    let start = c .before .before .before .before .before .before .before .before .before .before .before .before .before .before .before .before .before
+    .before .before .pre in
     omega (arith, c .before .before .put-item2 .kept .0, put, moved, start)
 
 same-length : tie.Need-same-length
@@ -59,8 +62,10 @@ returns c =
     let put = c .before .before .before .before .before .before .before .put-item .ensures in
     let moved = c .before .before .before .before .before .before .before .before .before .before .before .before .move-up .ensures in
     let x = c .before .before .before .before .before .before .before .before .before .before .before .before .before .before .item-at .ensures in
-    let n = c .before .before .before .before .before .before .before .before .before .before .before .before .before .before .before .before .item-count .ensures in
-    let start = c .before .before .before .before .before .before .before .before .before .before .before .before .before .before .before .before .before .before .before in
+    let n = c .before .before .before .before .before .before .before .before .before .before .before .before .before .before .before .before .item-count
+    .ensures in
+    let start = c .before .before .before .before .before .before .before .before .before .before .before .before .before .before .before .before .before
+    .before .before in
     let o = start .args .o in
     let one = c .before .before .before .before .before .before .before .before .front-of .ensures ∙ ap (λ z. frontOf z o) x in
     let two = c .before .before .before .back-of .ensures ∙ ap (λ z. backOf z o) x in

@@ -48,7 +48,12 @@ loop-again c =
 
 returns-2 : tie.Need-returns-2 Inv-loop μ-loop
 unfolding usedLength
-returns-2 c = let l = c .before in record { on = l .loop .inv .0; passed = l .loop .inv .1; reached = inl (ended _ _ (l .before .before .before .pre .0) (l .loop .inv .0) (omega (arith, l .before .read-u32 .ensures, c .loop-test .left))) }
+returns-2 c = let l = c .before in record {
+  on = l .loop .inv .0;
+  passed = l .loop .inv .1;
+  reached = inl
+      (ended _ _ (l .before .before .before .pre .0) (l .loop .inv .0) (omega (arith, l .before .read-u32 .ensures, c .loop-test .left)));
+}
 
 pub entry-from-spec : {M : Type 1} → statement M
 entry-from-spec =

@@ -34,7 +34,8 @@ record-end-requires : tie.Need-record-end-requires
 unfolding usedLength
 record-end-requires c κs =
     let o = c .before .before .before .before .before .before in
-    stands-on _ _ (c .before .before .before .before .entry-from .ensures .on) (λ e. c .if2 .left (e ∙ is-readable _ (o .pre .0) .used ∙ sym (c .before .read-u32 .ensures)))
+    stands-on _ _ (c .before .before .before .before .entry-from .ensures .on)
+    (λ e. c .if2 .left (e ∙ is-readable _ (o .pre .0) .used ∙ sym (c .before .read-u32 .ensures)))
 
 add-from : tie.Need-add-from
 add-from c =
@@ -50,14 +51,20 @@ part-place-in-start c = search needs
 part-place-in-end : tie.Need-part-place-in-end
 part-place-in-end c =
     let o = c .before .before .before .before .before .before .before in
-    omega (arith, entry-room (o .args .store .now) (c .before .before .before .before .before .entry-from .result) (record-end-requires (c .before) (o .κs)) .inside, c .record-end .ensures)
+    omega (
+      arith,
+      entry-room (o .args .store .now) (c .before .before .before .before .before .entry-from .result) (record-end-requires (c .before) (o .κs))
+          .inside,
+      c .record-end .ensures,
+    )
 
 place-in-requires : tie.Need-place-in-requires
 place-in-requires c κs =
     let d = c .before .before .before in
     let o = d .before .before .before .before .before .before in
     let at = d .before .before .before .before .entry-from .result in
-    rw (record-part (o .args .store .now) at (c .before .before .record-end .result) (c .before .before .record-end .ensures)) (entry-room (o .args .store .now) at (record-end-requires d (o .κs)) .formed)
+    rw (record-part (o .args .store .now) at (c .before .before .record-end .result) (c .before .before .record-end .ensures))
+    (entry-room (o .args .store .now) at (record-end-requires d (o .κs)) .formed)
 
 sub-item-suits : tie.Need-sub-item-suits
 sub-item-suits c = search needs
@@ -69,7 +76,12 @@ part-item-suits-end : tie.Need-part-item-suits-end
 part-item-suits-end c =
     let d = c .before .before .before .before in
     let o = d .before .before .before .before .before .before in
-    omega (arith, entry-room (o .args .store .now) (d .before .before .before .before .entry-from .result) (record-end-requires d (o .κs)) .inside, c .before .before .before .record-end .ensures)
+    omega (
+      arith,
+      entry-room (o .args .store .now) (d .before .before .before .before .entry-from .result) (record-end-requires d (o .κs)) .inside,
+      c .before
+          .before .before .record-end .ensures,
+    )
 
 item-suits-requires : tie.Need-item-suits-requires
 unfolding asItem
@@ -79,8 +91,12 @@ item-suits-requires c κs =
     let s = o .args .store .now in
     let at = d .before .before .before .before .entry-from .result in
     let h = record-end-requires d (o .κs) in
-    let e = record-part s at (c .before .before .before .before .record-end .result) (c .before .before .before .before .record-end .ensures) in
-    (rw e (entry-room s at h .formed), part-place s (asItem (o .args .x)) at _ h (d .before .before .if1 .left) e (o .args .walk) (c .before .place-in .result) (o .pre .2) (c .before .place-in .ensures), o .pre .3)
+    let e = record-part s at (c .before .before .before .before .record-end .result) (c .before .before .before .before .record-end .ensures) in (
+      rw e (entry-room s at h .formed),
+      part-place s (asItem (o .args .x)) at _ h (d .before .before .if1 .left) e (o .args .walk)
+          (c .before .place-in .result) (o .pre .2) (c .before .place-in .ensures),
+      o .pre .3,
+    )
 
 returns-3 : tie.Need-returns-3
 unfolding asItem
@@ -90,7 +106,8 @@ returns-3 c =
     let s = o .args .store .now in
     let at = d .before .before .before .before .entry-from .result in
     let h = record-end-requires d (o .κs) in
-    let e = record-part s at (c .before .before .before .before .before .before .record-end .result) (c .before .before .before .before .before .before .record-end .ensures) in
+    let e = record-part s at (c .before .before .before .before .before .before .record-end .result)
+    (c .before .before .before .before .before .before .record-end .ensures) in
     let x = asItem (o .args .x) in
     let p = d .before .before .if1 .left in
     (c .before .item-suits .ensures .0 ∙ sym (part-stored s x at _ h p e), λ t. part-walked s x at _ h p e _ (c .before .item-suits .ensures .1 t))

@@ -30,8 +30,11 @@ unfolding itemSuits asItem asReference
 returns-2 c =
     let n = c .before .before .before .before .before .before .before .before in
     let all = not-false _ (c .before .before .before .before .before .if1 .left) in
-    let votes = n .before .before .args .x .aggregator .votes in
-    (rw (sym (n .shares-in .ensures .0) ∙ all) (c .contains .ensures ∙ ap (λ (z : BlockReference). member votes (z .authority)) (c .before .before .before .before .reference .ensures)), λ _. n .shares-in .ensures .1 all)
+    let votes = n .before .before .args .x .aggregator .votes in (
+      rw (sym (n .shares-in .ensures .0) ∙ all) (c .contains .ensures ∙ ap (λ (z : BlockReference). member votes (z .authority))
+          (c .before .before .before .before .reference .ensures)),
+      λ _. n .shares-in .ensures .1 all,
+    )
 
 pub item-suits-spec : {M : Type 1} → statement M
 item-suits-spec =

@@ -28,8 +28,14 @@ loop-holds c = c .before .before .before .pre .1
 
 next-statement-requires : tie.Need-next-statement-requires Inv-loop μ-loop
 next-statement-requires c κs =
-    let l = c .before in
-    (l .before .before .before .before .pre .0, (l .loop .inv .right, omega (arith, l .loop .inv .before, l .before .before .statement-count .ensures, l .before .if1 .left, c .loop-test .taken)))
+    let l = c .before in (
+      l .before .before .before .before .pre .0,
+      (
+        l .loop .inv .right,
+        omega
+            (arith, l .loop .inv .before, l .before .before .statement-count .ensures, l .before .if1 .left, c .loop-test .taken),
+      ),
+    )
 
 loop-less : tie.Need-loop-less Inv-loop μ-loop
 loop-less c =
@@ -41,12 +47,20 @@ loop-again : tie.Need-loop-again Inv-loop μ-loop
 loop-again c =
     let n = c .before in
     let l = n .before .before in
-    placed-next _ _ (l .loop .cursor) _ (l .loop .inv) (n .before .loop-test .taken) (omega (arith, l .loop .inv .before, l .before .before .statement-count .ensures, l .before .if1 .left, n .before .loop-test .taken)) (n .next-statement .ensures .1 .0)
+    placed-next _ _ (l .loop .cursor) _ (l .loop .inv) (n .before .loop-test .taken)
+    (omega (arith, l .loop .inv .before, l .before .before .statement-count .ensures, l .before .if1 .left, n .before .loop-test .taken))
+    (n .next-statement .ensures .1 .0)
 
 next-statement-requires-2 : tie.Need-next-statement-requires-2 Inv-loop μ-loop
 next-statement-requires-2 c κs =
-    let l = c .before in
-    (l .before .before .before .before .pre .0, (l .loop .inv .right, omega (arith, l .loop .inv .before, l .before .before .statement-count .ensures, l .before .if1 .left)))
+    let l = c .before in (
+      l .before .before .before .before .pre .0,
+      (
+        l .loop .inv .right,
+        omega
+            (arith, l .loop .inv .before, l .before .before .statement-count .ensures, l .before .if1 .left),
+      ),
+    )
 
 is-share-requires : tie.Need-is-share-requires Inv-loop μ-loop
 is-share-requires c κs = search needs
@@ -56,7 +70,8 @@ returns-2 c =
     let l = c .before .before .before in
     let s = l .before .before .before .before .args .rec .now in
     let here : l .loop .cursor .index ≡ l .before .before .before .before .args .o = omega (arith, l .loop .inv .before, c .before .before .loop-test .left) in
-    let inside : l .before .before .before .before .args .o < length (blockIn s .statements) = omega (arith, l .before .before .statement-count .ensures, l .before .if1 .left) in
+    let inside : l .before .before .before .before .args .o < length (blockIn s .statements) = omega
+    (arith, l .before .before .statement-count .ensures, l .before .if1 .left) in
     (c .is-share .ensures s ∙ ap isShare (c .before .next-statement2 .ensures .0) ∙ rw here (sym (share-there (blockIn s) _ inside)), l .loop .inv)
 
 pub share-at-spec : {M : Type 1} → statement M

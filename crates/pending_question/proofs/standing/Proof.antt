@@ -22,17 +22,24 @@ enum-told c = search needs
 
 returns : tie.Need-returns
 unfolding asPending asLocator locator
-returns c = let o = c .before .before .before .before .before .before .before in sym (standing-none _ _ (asLocator (o .args .locator)) _ _ (o .pre .1) (c .before .before .before .lookup .ensures) (c .before .before .holding .ensures) (c .enum-told .given .1))
+returns c = let o = c .before .before .before .before .before .before .before in sym
+    (standing-none _ _ (asLocator (o .args .locator)) _ _ (o .pre .1) (c .before .before .before .lookup .ensures) (c .before .before .holding .ensures)
+    (c .enum-told .given .1))
 
 item-at-requires : tie.Need-item-at-requires
-item-at-requires c κs = let o = c .before .before .before .before .before .before .before .before in (o .pre .1 .laid, index-found _ _ _ _ (c .before .before .before .holding .ensures) (c .before .found .given .1))
+item-at-requires c κs = let o = c .before .before .before .before .before .before .before .before in
+    (o .pre .1 .laid, index-found _ _ _ _ (c .before .before .before .holding .ensures) (c .before .found .given .1))
 
 count-requires : tie.Need-count-requires
 count-requires c κs = search needs
 
 returns-2 : tie.Need-returns-2
 unfolding asPending asLocator locator asItem
-returns-2 c = let o = c .before .before .before .before .before .before .before .before .before .before .before .before .before in rw (c .count .ensures) (sym (standing-some _ _ (asLocator (o .args .locator)) _ _ (o .pre .1) (c .before .before .before .before .before .before .before .before .before .lookup .ensures) (c .before .before .before .before .before .before .before .before .holding .ensures) _ (asItem (c .before .before .before .before .item-at .result)) (c .before .before .before .before .before .before .found .given .1) (c .before .before .before .before .item-at .ensures)))
+returns-2 c = let o = c .before .before .before .before .before .before .before .before .before .before .before .before .before in rw (c .count .ensures)
+    (sym (standing-some _ _ (asLocator (o .args .locator)) _ _ (o .pre .1)
+    (c .before .before .before .before .before .before .before .before .before .lookup .ensures)
+    (c .before .before .before .before .before .before .before .before .holding .ensures) _ (asItem (c .before .before .before .before .item-at .result))
+    (c .before .before .before .before .before .before .found .given .1) (c .before .before .before .before .item-at .ensures)))
 
 pub standing-spec : {M : Type 1} → statement M
 standing-spec =

@@ -13,10 +13,12 @@ returns : tie.Need-returns
 returns c = let f = sym (c .before .table-formed .ensures) ∙ not-true _ (c .if1 .taken) in sym (order-parts _ _ _ ∙ rw f)
 
 items-stored-requires : tie.Need-items-stored-requires
-items-stored-requires c κs = let f = sym (c .before .table-formed .ensures) ∙ not-false _ (c .if1 .left) in (c .before .before .before .before .before .pre .1, formed _ _ f .holds)
+items-stored-requires c κs = let f = sym (c .before .table-formed .ensures) ∙ not-false _ (c .if1 .left) in
+    (c .before .before .before .before .before .pre .1, formed _ _ f .holds)
 
 returns-2 : tie.Need-returns-2
-returns-2 c = let f = sym (c .before .before .table-formed .ensures) ∙ not-false _ (c .before .if1 .left) in c .items-stored .ensures ∙ sym (order-parts _ _ _ ∙ rw f)
+returns-2 c = let f = sym (c .before .before .table-formed .ensures) ∙ not-false _ (c .before .if1 .left) in c .items-stored .ensures ∙ sym
+    (order-parts _ _ _ ∙ rw f)
 
 pub table-in-order-spec : {M : Type 1} → statement M
 table-in-order-spec =

@@ -44,9 +44,12 @@ cut-at-requires-2 c κs =
 vote-items-requires : tie.Need-vote-items-requires
 vote-items-requires c κs =
     let start = c .before .before .before .before .before .before .before .before .before .before .before .before .before .before .before .before in
-    let h = vote-range (start .pre .1 .1 .0) (c .before .before .before .before .before .before .before .before .before .before .before .before .before .if1 .left) (start .pre .1 .1 .1) in
-    let w = second-cut h (first-cut h (c .before .before .before .before .before .before .before .cut-at .ensures)) (c .before .before .before .cut-at2 .ensures) in
-    let s = known-sound _ _ _ (sym (c .before .before .before .before .before .before .before .before .before .before .before .before .get-stake .ensures) ∙ c .before .before .before .before .before .before .before .before .before .before .stake .given .1) in
+    let h = vote-range (start .pre .1 .1 .0) (c .before .before .before .before .before .before .before .before .before .before .before .before .before .if1
+    .left) (start .pre .1 .1 .1) in
+    let w = second-cut h (first-cut h (c .before .before .before .before .before .before .before .cut-at .ensures))
+    (c .before .before .before .cut-at2 .ensures) in
+    let s = known-sound _ _ _ (sym (c .before .before .before .before .before .before .before .before .before .before .before .before .get-stake .ensures) ∙ c
+    .before .before .before .before .before .before .before .before .before .before .stake .given .1) in
     (w .holds, few _ _ (start .pre .0) (start .pre .1 .0), cut-countable h (start .args .a .0) w (s .1) (start .pre .0) (start .pre .1 .0))
 
 same-length : tie.Need-same-length
@@ -54,10 +57,14 @@ same-length c = search needs
 
 returns-3 : tie.Need-returns-3
 returns-3 c =
-    let start = c .before .before .before .before .before .before .before .before .before .before .before .before .before .before .before .before .before .before .before in
-    let h = vote-range (start .pre .1 .1 .0) (c .before .before .before .before .before .before .before .before .before .before .before .before .before .before .before .before .if1 .left) (start .pre .1 .1 .1) in
-    let w = second-cut h (first-cut h (c .before .before .before .before .before .before .before .before .before .before .cut-at .ensures)) (c .before .before .before .before .before .before .cut-at2 .ensures) in
-    let s = known-sound _ _ _ (sym (c .before .before .before .before .before .before .before .before .before .before .before .before .before .before .before .get-stake .ensures) ∙ c .before .before .before .before .before .before .before .before .before .before .before .before .before .stake .given .1) in
+    let start = c .before .before .before .before .before .before .before .before .before .before .before .before .before .before .before .before .before
+    .before .before in
+    let h = vote-range (start .pre .1 .1 .0) (c .before .before .before .before .before .before .before .before .before .before .before .before .before
+    .before .before .before .if1 .left) (start .pre .1 .1 .1) in
+    let w = second-cut h (first-cut h (c .before .before .before .before .before .before .before .before .before .before .cut-at .ensures))
+    (c .before .before .before .before .before .before .cut-at2 .ensures) in
+    let s = known-sound _ _ _ (sym (c .before .before .before .before .before .before .before .before .before .before .before .before .before .before .before
+    .get-stake .ensures) ∙ c .before .before .before .before .before .before .before .before .before .before .before .before .before .stake .given .1) in
     all-voted h (start .args .a .0) w (s .1) (c .before .before .vote-items .ensures)
 
 pub vote-over-spec : {M : Type 1} → statement M

@@ -12,7 +12,8 @@ use Rattle.record_check_includes.proofs.includes_refusal.Tie as tie
 
 abbrev Inv-loop : tie.InvT-loop
 Inv-loop stakes rec reference count k₀ k =
-    (k ≤ length (blockIn rec .includes)) × (ofIncludes stakes (blockIn rec) (blockIn rec .includes) ≡ ofIncludes stakes (blockIn rec) (drop k (blockIn rec .includes)))
+    (k ≤ length (blockIn rec .includes)) × (ofIncludes stakes (blockIn rec) (blockIn rec .includes) ≡ ofIncludes stakes (blockIn rec)
+    (drop k (blockIn rec .includes)))
 
 abbrev μ-loop : tie.MeasureT-loop
 μ-loop stakes rec reference count k₀ k = length (blockIn rec .includes) - k
@@ -74,7 +75,8 @@ returns-2 c =
     let a = as-author (i .include .result) at (i .include .ensures) in
     let n = as-round (i .include .result) at (i .include .ensures) in
     let m = as-round (r .reference .result) (b .reference) (r .reference .ensures) in
-    let yes = lookup-known stakes (at .authority) _ (rw a at (sym (c .before .before .before .before .before .get-stake .ensures) ∙ c .before .before .before .enum-told .given .1)) in
+    let yes = lookup-known stakes (at .authority) _ (rw a at (sym (c .before .before .before .before .before .get-stake .ensures) ∙ c .before .before .before
+    .enum-told .given .1)) in
     sym (l .loop .inv .1 ∙ include-high stakes b (b .includes) k inside yes (omega (arith, n, m, c .if1 .taken)))
 
 add-k : tie.Need-add-k Inv-loop μ-loop
@@ -99,7 +101,8 @@ loop-again c =
     let a = as-author (i .include .result) at (i .include .ensures) in
     let n = as-round (i .include .result) at (i .include .ensures) in
     let m = as-round (r .reference .result) (b .reference) (r .reference .ensures) in
-    let yes = lookup-known stakes (at .authority) _ (rw a at (sym (c .before .before .before .before .before .get-stake .ensures) ∙ c .before .before .before .enum-told .given .1)) in
+    let yes = lookup-known stakes (at .authority) _ (rw a at (sym (c .before .before .before .before .before .get-stake .ensures) ∙ c .before .before .before
+    .enum-told .given .1)) in
     (omega arith, l .loop .inv .1 ∙ include-on stakes b (b .includes) k inside yes (omega (arith, n, m, c .if1 .left)))
 
 returns-3 : tie.Need-returns-3 Inv-loop μ-loop
@@ -108,7 +111,8 @@ returns-3 c =
     let l = c .before in
     let o = l .before .before .before .before .before in
     let b = blockIn (o .args .rec .now) in
-    sym (l .loop .inv .1 ∙ include-end (o .args .stakes .now) b (b .includes) (l .loop .k) (omega (arith, l .before .include-count .ensures, c .loop-test .left)))
+    sym (l .loop .inv .1 ∙ include-end (o .args .stakes .now) b (b .includes) (l .loop .k)
+    (omega (arith, l .before .include-count .ensures, c .loop-test .left)))
 
 pub includes-refusal-spec : {M : Type 1} → statement M
 includes-refusal-spec =

@@ -71,8 +71,11 @@ loop-again c =
     let at = getD (b .includes) (left - 1) noReference in
     let a = as-author (i .include .result) at (i .include .ensures) in
     let n = as-round (i .include .result) at (i .include .ensures) in
-    let m = as-round (r .reference .result) (b .reference) (r .reference .ensures) in
-    (omega (arith, l .loop .inv .0), c .with-include .ensures ∙ rw (a, n, m, l .loop .inv .1) (sym (authors-on b (b .includes) left (i .before .loop-test .taken) (l .loop .inv .0))))
+    let m = as-round (r .reference .result) (b .reference) (r .reference .ensures) in (
+      omega (arith, l .loop .inv .0),
+      c .with-include .ensures ∙ rw (a, n, m, l .loop .inv .1)
+          (sym (authors-on b (b .includes) left (i .before .loop-test .taken) (l .loop .inv .0))),
+    )
 
 returns : tie.Need-returns Inv-loop μ-loop
 returns c =

@@ -16,7 +16,8 @@ use Rattle.record_check_statements.proofs.statements_refusal.Tie as tie
 abbrev Inv-loop : tie.InvT-loop
 Inv-loop rec count cursor₀ cursor =
     (cursor ≡ cursorAt rec (cursor .index))
-    × ((cursor .index ≤ length (blockIn rec .statements)) × (ofStatements (blockIn rec .statements) ≡ ofStatements (drop (cursor .index) (blockIn rec .statements))))
+    × ((cursor .index ≤ length (blockIn rec .statements)) × (ofStatements (blockIn rec .statements) ≡ ofStatements
+    (drop (cursor .index) (blockIn rec .statements))))
 
 abbrev μ-loop : tie.MeasureT-loop
 μ-loop rec count cursor₀ cursor = length (blockIn rec .statements) - cursor .index
@@ -62,7 +63,13 @@ loop-less c =
     let n = c .before .before .before in
     let l = n .before .before .before in
     let r = l .before .before .before .before .args .rec .now in
-    omega (arith, placed-index r (n .next-statement .result .next) (l .loop .cursor .index + 1) (n .next-statement .ensures .1 .0), l .before .before .statement-count .ensures, n .before .if1 .taken)
+    omega (
+      arith,
+      placed-index r (n .next-statement .result .next) (l .loop .cursor .index + 1) (n .next-statement .ensures .1 .0),
+      l .before .before
+          .statement-count .ensures,
+      n .before .if1 .taken,
+    )
 
 loop-again : tie.Need-loop-again Inv-loop μ-loop
 loop-again c =
@@ -84,7 +91,8 @@ unfolding ofStatements
 returns-2 c =
     let l = c .before .before in
     let s = l .before .before .before .before .args .rec .now in
-    sym (l .loop .inv .1 .1 ∙ statement-end (blockIn s .statements) (l .loop .cursor .index) (omega (arith, l .before .before .statement-count .ensures, c .if1 .left)))
+    sym (l .loop .inv .1 .1 ∙ statement-end (blockIn s .statements) (l .loop .cursor .index)
+    (omega (arith, l .before .before .statement-count .ensures, c .if1 .left)))
 
 pub statements-refusal-spec : {M : Type 1} → statement M
 statements-refusal-spec =

@@ -33,7 +33,8 @@ returns-2 c =
     let k = o .args .stakes .now in
     let b = blockIn (o .args .rec .now) in
     let s = c .before in
-    s .statements-refusal .ensures ∙ sym (body-statements k b (sym (i .includes-refusal .ensures) ∙ s .before .if1 .left) (λ e. c .if2 .taken (s .statements-refusal .ensures ∙ e)))
+    s .statements-refusal .ensures ∙ sym (body-statements k b (sym (i .includes-refusal .ensures) ∙ s .before .if1 .left)
+    (λ e. c .if2 .taken (s .statements-refusal .ensures ∙ e)))
 
 reference-requires : tie.Need-reference-requires
 reference-requires c κs = search needs

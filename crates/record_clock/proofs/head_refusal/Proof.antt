@@ -41,7 +41,8 @@ returns-2 c =
     let b = blockIn (o .args .rec .now) in
     let a = as-author (r .reference .result) (b .reference) (r .reference .ensures) in
     let n = as-round (r .reference .result) (b .reference) (r .reference .ensures) in
-    let yes = lookup-known k (b .reference .authority) _ (rw a at (sym (c .before .before .before .before .get-stake .ensures) ∙ c .before .before .enum-told .given .1)) in
+    let yes = lookup-known k (b .reference .authority) _ (rw a at
+    (sym (c .before .before .before .before .get-stake .ensures) ∙ c .before .before .enum-told .given .1)) in
     sym (head-is k b ∙ rw (yes, ne-eqb (b .reference .round) 0 (λ e. c .if1 .taken (n ∙ e))))
 
 include-count-requires : tie.Need-include-count-requires
@@ -55,8 +56,14 @@ returns-3 c =
     let b = blockIn (o .args .rec .now) in
     let a = as-author (r .reference .result) (b .reference) (r .reference .ensures) in
     let n = as-round (r .reference .result) (b .reference) (r .reference .ensures) in
-    let yes = lookup-known k (b .reference .authority) _ (rw a at (sym (c .before .before .before .before .before .before .get-stake .ensures) ∙ c .before .before .before .before .enum-told .given .1)) in
-    sym (head-is k b ∙ rw (yes, eq-eqb (b .reference .round) 0 (sym n ∙ c .before .before .if1 .left), ne-eqb (length (b .includes)) 0 (λ e. c .if2 .taken (c .before .include-count .ensures ∙ e))))
+    let yes = lookup-known k (b .reference .authority) _ (rw a at
+    (sym (c .before .before .before .before .before .before .get-stake .ensures) ∙ c .before .before .before .before .enum-told .given .1)) in
+    sym (head-is k b ∙ rw (
+      yes,
+      eq-eqb (b .reference .round) 0 (sym n ∙ c .before .before .if1 .left),
+      ne-eqb (length (b .includes)) 0
+          (λ e. c .if2 .taken (c .before .include-count .ensures ∙ e)),
+    ))
 
 statement-count-requires : tie.Need-statement-count-requires
 statement-count-requires c κs = search needs
@@ -69,8 +76,17 @@ returns-4 c =
     let b = blockIn (o .args .rec .now) in
     let a = as-author (r .reference .result) (b .reference) (r .reference .ensures) in
     let n = as-round (r .reference .result) (b .reference) (r .reference .ensures) in
-    let yes = lookup-known k (b .reference .authority) _ (rw a at (sym (c .before .before .before .before .before .before .before .before .get-stake .ensures) ∙ c .before .before .before .before .before .before .enum-told .given .1)) in
-    sym (head-is k b ∙ rw (yes, eq-eqb (b .reference .round) 0 (sym n ∙ c .before .before .before .before .if1 .left), eq-eqb (length (b .includes)) 0 (sym (c .before .before .before .include-count .ensures) ∙ c .before .before .if2 .left), ne-eqb (length (b .statements)) 0 (λ e. c .if3 .taken (c .before .statement-count .ensures ∙ e))))
+    let yes = lookup-known k (b .reference .authority) _ (rw a at
+    (sym (c .before .before .before .before .before .before .before .before .get-stake .ensures) ∙ c .before .before .before .before .before .before
+    .enum-told .given .1)) in
+    sym (head-is k b ∙ rw (
+      yes,
+      eq-eqb (b .reference .round) 0 (sym n ∙ c .before .before .before .before .if1 .left),
+      eq-eqb (length (b .includes)) 0
+          (sym (c .before .before .before .include-count .ensures) ∙ c .before .before .if2 .left),
+      ne-eqb (length (b .statements)) 0
+          (λ e. c .if3 .taken (c .before .statement-count .ensures ∙ e)),
+    ))
 
 returns-5 : tie.Need-returns-5
 returns-5 c =
@@ -80,8 +96,17 @@ returns-5 c =
     let b = blockIn (o .args .rec .now) in
     let a = as-author (r .reference .result) (b .reference) (r .reference .ensures) in
     let n = as-round (r .reference .result) (b .reference) (r .reference .ensures) in
-    let yes = lookup-known k (b .reference .authority) _ (rw a at (sym (c .before .before .before .before .before .before .before .before .get-stake .ensures) ∙ c .before .before .before .before .before .before .enum-told .given .1)) in
-    sym (head-is k b ∙ rw (yes, eq-eqb (b .reference .round) 0 (sym n ∙ c .before .before .before .before .if1 .left), eq-eqb (length (b .includes)) 0 (sym (c .before .before .before .include-count .ensures) ∙ c .before .before .if2 .left), eq-eqb (length (b .statements)) 0 (sym (c .before .statement-count .ensures) ∙ c .if3 .left)))
+    let yes = lookup-known k (b .reference .authority) _ (rw a at
+    (sym (c .before .before .before .before .before .before .before .before .get-stake .ensures) ∙ c .before .before .before .before .before .before
+    .enum-told .given .1)) in
+    sym (head-is k b ∙ rw (
+      yes,
+      eq-eqb (b .reference .round) 0 (sym n ∙ c .before .before .before .before .if1 .left),
+      eq-eqb (length (b .includes)) 0
+          (sym (c .before .before .before .include-count .ensures) ∙ c .before .before .if2 .left),
+      eq-eqb (length (b .statements)) 0
+          (sym (c .before .statement-count .ensures) ∙ c .if3 .left),
+    ))
 
 pub head-refusal-spec : {M : Type 1} → statement M
 head-refusal-spec =

@@ -27,7 +27,8 @@ returns c =
     let o = c .before .before .before .before in
     let s = o .args .rec .now in
     let i = o .args .cursor .index in
-    let told : Took s (statementStart s i) Malformed = rw (← ap (λ (x : StatementCursor). x .at) (o .pre .1 .0), ← c .enum-told .given .1) (c .before .before .take-statement .ensures) in
+    let told : Took s (statementStart s i) Malformed = rw (← ap (λ (x : StatementCursor). x .at) (o .pre .1 .0), ← c .enum-told .given .1)
+    (c .before .before .take-statement .ensures) in
     absurd (took-none s (bytes-of s (λ j h. omega (arith, c .before .before .before .shared-slice-known .given j))) (o .pre .0) i (o .pre .1 .1) told)
 
 add-t8 : tie.Need-add-t8
@@ -45,8 +46,11 @@ returns-2 c =
     let i = o .args .cursor .index in
     let st = c .before .before .statement .given .0 .0 in
     let end = c .before .before .statement .given .0 .1 .0 in
-    let told : Took s (statementStart s i) (Statement st end) = rw (← ap (λ (x : StatementCursor). x .at) (o .pre .1 .0), ← c .before .before .statement .given .1) (c .before .before .before .before .take-statement .ensures) in
-    let r = took-some s (bytes-of s (λ j h. omega (arith, c .before .before .before .before .before .shared-slice-known .given j))) (o .pre .0) i end st (o .pre .1 .1) told in
+    let told : Took s (statementStart s i) (Statement st end) = rw
+    (← ap (λ (x : StatementCursor). x .at) (o .pre .1 .0), ← c .before .before .statement .given .1)
+    (c .before .before .before .before .take-statement .ensures) in
+    let r = took-some s (bytes-of s (λ j h. omega (arith, c .before .before .before .before .before .shared-slice-known .given j))) (o .pre .0) i end st
+    (o .pre .1 .1) told in
     (r .0, (rw (r .1 .0), rw (ap (λ (x : StatementCursor). x .at) (o .pre .1 .0)) (r .1 .1)))
 
 pub next-statement-spec : {M : Type 1} → statement M

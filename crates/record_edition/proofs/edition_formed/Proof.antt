@@ -28,10 +28,12 @@ shared-slice-read-if4 : tie.Need-shared-slice-read-if4
 shared-slice-read-if4 c = search needs
 
 returns-4 : tie.Need-returns-4
-returns-4 c = sym (is-neither (c .before .before .before .before .before .before .before .before .before .args .rec .now) (omega arith) (λ h. omega (arith, h)) (λ h. omega (arith, h)))
+returns-4 c = sym (is-neither (c .before .before .before .before .before .before .before .before .before .args .rec .now) (omega arith)
+    (λ h. omega (arith, h)) (λ h. omega (arith, h)))
 
 returns-5 : tie.Need-returns-5
-returns-5 c = sym (is-short (c .before .before .before .before .before .before .before .before .before .before .args .rec .now) (omega arith) (omega arith) (omega arith))
+returns-5 c = sym (is-short (c .before .before .before .before .before .before .before .before .before .before .args .rec .now) (omega arith) (omega arith)
+    (omega arith))
 
 read-u64-requires : tie.Need-read-u64-requires
 read-u64-requires c κs = search needs
@@ -39,7 +41,9 @@ read-u64-requires c κs = search needs
 returns-6 : tie.Need-returns-6
 returns-6 c =
     let s = c .before .before .before .before .before .before .before .before .before .before .before .args .rec .now in
-    rw (c .read-u64 .ensures) (sym (is-timed s (omega arith) (omega arith) (bytes-of s (λ j h. omega (arith, c .before .before .before .before .before .before .before .before .before .before .shared-slice-known .given j))) (omega arith) (omega arith) (omega arith)))
+    rw (c .read-u64 .ensures) (sym (is-timed s (omega arith) (omega arith)
+    (bytes-of s (λ j h. omega (arith, c .before .before .before .before .before .before .before .before .before .before .shared-slice-known .given j)))
+    (omega arith) (omega arith) (omega arith)))
 
 pub edition-formed-spec : {M : Type 1} → statement M
 edition-formed-spec =

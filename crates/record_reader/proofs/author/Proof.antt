@@ -11,7 +11,8 @@ read-u64-requires c κs = omega (arith, shape-in (c .before .args .rec .now) (c 
 
 returns : tie.Need-returns
 unfolding referenceAt
-returns c = c .read-u64 .ensures ∙ sym (ap (λ (r : BlockReference). r .authority) (shape-in (c .before .before .args .rec .now) (c .before .before .pre) .reference))
+returns c = c .read-u64 .ensures ∙ sym (ap (λ (r : BlockReference). r .authority)
+    (shape-in (c .before .before .args .rec .now) (c .before .before .pre) .reference))
 
 pub author-spec : {M : Type 1} → statement M
 author-spec = tie.close (tie.spec read-u64-requires returns)

@@ -31,7 +31,8 @@ returns-2 c =
     let o = c .before .before .before .before in
     let s = o .args .rec .now in
     let shape = shape-in s (o .pre) in
-    ap some (c .read-u64 .ensures) ∙ time-some s (shape .long) (bytes-of s (λ j h. omega (arith, c .before .before .before .shared-slice-known .given j))) (shape .head .edition) (omega arith) ∙ sym (shape .time)
+    ap some (c .read-u64 .ensures) ∙ time-some s (shape .long) (bytes-of s (λ j h. omega (arith, c .before .before .before .shared-slice-known .given j)))
+    (shape .head .edition) (omega arith) ∙ sym (shape .time)
 
 pub creation-time-spec : {M : Type 1} → statement M
 creation-time-spec = tie.close (tie.spec shared-slice-read-if1 returns read-u64-requires returns-2)

@@ -30,7 +30,9 @@ read-reference-requires c κs =
 returns : tie.Need-returns
 returns c =
     let s = c .before .before .before .args .rec .now in
-    c .read-reference .ensures ∙ rw (c .before .body-start .ensures) (sym (include-at s (blockIn s) (shape-in s (c .before .before .before .pre .0)) (c .before .before .before .args .k) (c .before .before .before .pre .1)))
+    c .read-reference .ensures ∙ rw (c .before .body-start .ensures)
+    (sym (include-at s (blockIn s) (shape-in s (c .before .before .before .pre .0)) (c .before .before .before .args .k)
+    (c .before .before .before .pre .1)))
 
 pub include-spec : {M : Type 1} → statement M
 include-spec =

@@ -35,7 +35,8 @@ cast-statements : tie.Need-cast-statements
 cast-statements c = search needs
 
 returns-4 : tie.Need-returns-4
-returns-4 c = let s = c .before .before .before .before .before .before .before .before .args .rec .now in sym (block-refused s (omega arith) (λ (h : Head s). omega arith))
+returns-4 c = let s = c .before .before .before .before .before .before .before .before .args .rec .now in sym
+    (block-refused s (omega arith) (λ (h : Head s). omega arith))
 
 edition-formed-requires : tie.Need-edition-formed-requires
 edition-formed-requires c κs = search needs
@@ -73,7 +74,12 @@ add-statements-only c = search needs
 statements-only-requires : tie.Need-statements-only-requires
 statements-only-requires c κs =
     let s = c .before .before .before .before .before .before .before .before .before .before .before .before .args .rec .now in
-    omega (arith, c .before .body-start .ensures, body-inside s (omega arith) (sym (c .before .before .before .edition-formed .ensures) ∙ not-false _ (c .before .before .if5 .left)))
+    omega (
+      arith,
+      c .before .body-start .ensures,
+      body-inside s (omega arith)
+          (sym (c .before .before .before .edition-formed .ensures) ∙ not-false _ (c .before .before .if5 .left)),
+    )
 
 returns-7 : tie.Need-returns-7
 returns-7 c =
@@ -81,7 +87,12 @@ returns-7 c =
     let yes : editionRight s ≡ true = sym (c .before .before .before .before .edition-formed .ensures) ∙ not-false _ (c .before .before .before .if5 .left) in
     let head : Head s = record { mark = omega arith; includes = omega arith; statements = omega arith; edition = yes } in
     c .statements-only .ensures
-    ∙ rw (c .before .before .body-start .ensures, c .before .before .before .before .before .before .before .before .read-u16 .ensures, c .before .before .before .before .before .before .read-u162 .ensures)
+    ∙ rw (
+      c .before .before .body-start .ensures,
+      c .before .before .before .before .before .before .before .before .read-u16 .ensures,
+      c .before .before
+          .before .before .before .before .read-u162 .ensures,
+    )
     (sym (block-on s (omega arith) head (omega (arith, c .before .before .body-start .ensures, body-inside s (omega arith) yes))))
 
 pub well-formed-spec : {M : Type 1} → statement M

@@ -28,7 +28,8 @@ returns : tie.Need-returns
 returns c =
     let s = c .before .before .before .before .before .args .s .now in
     let at = c .before .before .before .before .before .args .at in
-    read-four _ s at (c .before .before .before .read-high-u64 .ensures) (c .before .before .read-high-u642 .ensures) (c .before .read-high-u643 .ensures) (c .read-high-u644 .ensures)
+    read-four _ s at (c .before .before .before .read-high-u64 .ensures) (c .before .before .read-high-u642 .ensures) (c .before .read-high-u643 .ensures)
+    (c .read-high-u644 .ensures)
 
 pub read-digest-spec : {M : Type 1} → statement M
 read-digest-spec =

@@ -45,7 +45,13 @@ mul-result-3 : tie.Need-mul-result-3
 mul-result-3 c = omega (arith, c .shared-slice-known3 .given (c .before .before .before .args .at + 2))
 
 add-result-4 : tie.Need-add-result-4
-add-result-4 c = omega (arith, c .shared-slice-known3 .given (c .before .before .before .args .at), c .shared-slice-known3 .given (c .before .before .before .args .at + 1), c .shared-slice-known3 .given (c .before .before .before .args .at + 2))
+add-result-4 c = omega (
+  arith,
+  c .shared-slice-known3 .given (c .before .before .before .args .at),
+  c .shared-slice-known3 .given
+      (c .before .before .before .args .at + 1),
+  c .shared-slice-known3 .given (c .before .before .before .args .at + 2),
+)
 
 add-result-5 : tie.Need-add-result-5
 add-result-5 c = search needs
@@ -57,7 +63,15 @@ cast-result-4 : tie.Need-cast-result-4
 cast-result-4 c = omega (arith, c .shared-slice-known4 .given (c .before .before .before .before .args .at + 3))
 
 add-result-6 : tie.Need-add-result-6
-add-result-6 c = omega (arith, c .shared-slice-known4 .given (c .before .before .before .before .args .at), c .shared-slice-known4 .given (c .before .before .before .before .args .at + 1), c .shared-slice-known4 .given (c .before .before .before .before .args .at + 2), c .shared-slice-known4 .given (c .before .before .before .before .args .at + 3))
+add-result-6 c = omega (
+  arith,
+  c .shared-slice-known4 .given (c .before .before .before .before .args .at),
+  c .shared-slice-known4 .given
+      (c .before .before .before .before .args .at + 1),
+  c .shared-slice-known4 .given (c .before .before .before .before .args .at + 2),
+  c .shared-slice-known4
+      .given (c .before .before .before .before .args .at + 3),
+)
 
 returns : tie.Need-returns
 returns c =
@@ -65,9 +79,12 @@ returns c =
     let at = c .before .before .before .before .args .at in
     let byte = c .shared-slice-known4 .given in
     let last : at + 2 + 1 ≡ at + 3 = omega arith in
-    let high = read-double 1 s at (getD s at 0) (getD s (at + 1) 0) (omega (arith, byte (at + 1))) (read-single s at (omega arith) (omega (arith, byte at))) (read-single s (at + 1) (omega arith) (omega (arith, byte (at + 1)))) in
-    let low = read-double 1 s (at + 2) (getD s (at + 2) 0) (getD s (at + 2 + 1) 0) (omega (arith, byte (at + 2 + 1))) (read-single s (at + 2) (omega arith) (omega (arith, byte (at + 2)))) (read-single s (at + 2 + 1) (omega arith) (omega (arith, byte (at + 2 + 1)))) in
-    let both = read-double 2 s at (getD s at 0 * 256 + getD s (at + 1) 0) (getD s (at + 2) 0 * 256 + getD s (at + 2 + 1) 0) (omega (arith, byte (at + 2), byte (at + 2 + 1))) high low in
+    let high = read-double 1 s at (getD s at 0) (getD s (at + 1) 0) (omega (arith, byte (at + 1))) (read-single s at (omega arith) (omega (arith, byte at)))
+    (read-single s (at + 1) (omega arith) (omega (arith, byte (at + 1)))) in
+    let low = read-double 1 s (at + 2) (getD s (at + 2) 0) (getD s (at + 2 + 1) 0) (omega (arith, byte (at + 2 + 1)))
+    (read-single s (at + 2) (omega arith) (omega (arith, byte (at + 2)))) (read-single s (at + 2 + 1) (omega arith) (omega (arith, byte (at + 2 + 1)))) in
+    let both = read-double 2 s at (getD s at 0 * 256 + getD s (at + 1) 0) (getD s (at + 2) 0 * 256 + getD s (at + 2 + 1) 0)
+    (omega (arith, byte (at + 2), byte (at + 2 + 1))) high low in
     subst (λ (v : ℕ). beBytes 4 v ≡ take 4 (drop at s)) (rw last (omega arith)) both
 
 pub read-high-u32-spec : {M : Type 1} → statement M

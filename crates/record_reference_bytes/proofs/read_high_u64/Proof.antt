@@ -29,7 +29,8 @@ returns : tie.Need-returns
 returns c =
     let s = c .before .before .before .args .s .now in
     let at = c .before .before .before .args .at in
-    read-double 4 s at (c .before .read-high-u32 .result) (c .read-high-u322 .result) (omega arith) (c .before .read-high-u32 .ensures) (c .read-high-u322 .ensures)
+    read-double 4 s at (c .before .read-high-u32 .result) (c .read-high-u322 .result) (omega arith) (c .before .read-high-u32 .ensures)
+    (c .read-high-u322 .ensures)
 
 pub read-high-u64-spec : {M : Type 1} → statement M
 read-high-u64-spec =

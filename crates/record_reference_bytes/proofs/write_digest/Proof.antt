@@ -29,7 +29,16 @@ same-length : tie.Need-same-length
 same-length c = search needs
 
 returns : tie.Need-returns
-returns c = c .before .before .write-high-u644 .ensures ∙ rw (c .before .before .before .before .before .before .write-high-u643 .ensures, c .before .before .before .before .before .before .before .before .before .before .write-high-u642 .ensures, c .before .before .before .before .before .before .before .before .before .before .before .before .before .before .write-high-u64 .ensures) (high-four (c .before .before .before .before .before .before .before .before .before .before .before .before .before .before .before .before .before .args .digest) (c .before .before .before .before .before .before .before .before .before .before .before .before .before .before .before .before .before .args .s .now) (c .before .before .before .before .before .before .before .before .before .before .before .before .before .before .before .before .before .args .at))
+returns c = c .before .before .write-high-u644 .ensures ∙ rw (
+  c .before .before .before .before .before .before .write-high-u643 .ensures,
+  c .before .before .before .before .before .before .before .before .before
+      .before .write-high-u642 .ensures,
+  c .before .before .before .before .before .before .before .before .before .before .before .before .before .before
+      .write-high-u64 .ensures,
+) (high-four (c .before .before .before .before .before .before .before .before .before .before .before .before .before .before
+    .before .before .before .args .digest) (c .before .before .before .before .before .before .before .before .before .before .before .before .before .before
+    .before .before .before .args .s .now) (c .before .before .before .before .before .before .before .before .before .before .before .before .before .before
+    .before .before .before .args .at))
 
 pub write-digest-spec : {M : Type 1} → statement M
 write-digest-spec =

@@ -23,7 +23,10 @@ same-length : tie.Need-same-length
 same-length c = search needs
 
 returns : tie.Need-returns
-returns c = c .before .before .write-high-u322 .ensures ∙ rw (c .before .before .before .before .before .before .write-high-u32 .ensures) (high-double 4 (c .before .before .before .before .before .before .before .before .before .args .v) (c .before .before .before .before .before .before .before .before .before .args .s .now) (c .before .before .before .before .before .before .before .before .before .args .at))
+returns c = c .before .before .write-high-u322 .ensures ∙ rw (c .before .before .before .before .before .before .write-high-u32 .ensures)
+    (high-double 4 (c .before .before .before .before .before .before .before .before .before .args .v)
+    (c .before .before .before .before .before .before .before .before .before .args .s .now)
+    (c .before .before .before .before .before .before .before .before .before .args .at))
 
 pub write-high-u64-spec : {M : Type 1} → statement M
 write-high-u64-spec =

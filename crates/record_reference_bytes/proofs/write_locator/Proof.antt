@@ -19,7 +19,8 @@ same-length c = search needs
 returns : tie.Need-returns
 returns c =
     let start = c .before .before .before .before .before .before .before .before .before .args in
-    c .before .before .write-u64 .ensures ∙ rw (c .before .before .before .before .before .before .write-reference .ensures) (locator-written (start .locator) (start .s .now) (start .at))
+    c .before .before .write-u64 .ensures ∙ rw (c .before .before .before .before .before .before .write-reference .ensures)
+    (locator-written (start .locator) (start .s .now) (start .at))
 
 pub write-locator-spec : {M : Type 1} → statement M
 write-locator-spec =

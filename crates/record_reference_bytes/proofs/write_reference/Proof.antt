@@ -28,7 +28,11 @@ unfolding asReference
 returns c =
     let start = c .before .before .before .before .before .before .before .before .before .before .before .before .before .args in
     c .before .before .write-digest .ensures
-    ∙ rw (c .before .before .before .before .before .before .write-u642 .ensures, c .before .before .before .before .before .before .before .before .before .before .write-u64 .ensures)
+    ∙ rw (
+      c .before .before .before .before .before .before .write-u642 .ensures,
+      c .before .before .before .before .before .before .before .before .before
+          .before .write-u64 .ensures,
+    )
     (reference-written (asReference (start .block)) (start .s .now) (start .at))
 
 pub write-reference-spec : {M : Type 1} → statement M

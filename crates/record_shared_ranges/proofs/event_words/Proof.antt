@@ -15,7 +15,8 @@ abbrev Inv-loop : tie.InvT-loop
 Inv-loop rec count cursor₀ offsets₀ cursor offsets =
     (cursor ≡ cursorAt rec (cursor .index))
     × ((cursor .index ≤ length (blockIn rec .statements))
-    × ((offsets ≤ 1048575 * cursor .index) × (offsets + offsetsCounted (drop (cursor .index) (blockIn rec .statements)) ≡ offsetsCounted (blockIn rec .statements))))
+    × ((offsets ≤ 1048575 * cursor .index) × (offsets + offsetsCounted (drop (cursor .index) (blockIn rec .statements)) ≡ offsetsCounted
+    (blockIn rec .statements))))
 
 abbrev μ-loop : tie.MeasureT-loop
 μ-loop rec count cursor₀ offsets₀ cursor offsets = length (blockIn rec .statements) - cursor .index
@@ -61,14 +62,31 @@ add-offsets c =
     let inside : i < length ss = omega (arith, l .before .before .statement-count .ensures, n .before .if1 .taken) in
     let shape = shape-in s (o .pre .0) in
     let few = statement-count s (blockIn s) shape in
-    omega (arith, l .loop .inv .1 .1 .0, inside, few, shape .head .statements, c .counted-offsets .ensures s, ap (λ (x : Statement). countedOffsets (votedRange x)) (n .next-statement .ensures .0), counted-most (getD ss i noStatement) (passes-at ss i (o .pre .1) inside))
+    omega (
+      arith,
+      l .loop .inv .1 .1 .0,
+      inside,
+      few,
+      shape .head .statements,
+      c .counted-offsets .ensures s,
+      ap
+          (λ (x : Statement). countedOffsets (votedRange x)) (n .next-statement .ensures .0),
+      counted-most (getD ss i noStatement)
+          (passes-at ss i (o .pre .1) inside),
+    )
 
 loop-less : tie.Need-loop-less Inv-loop μ-loop
 loop-less c =
     let n = c .before .before in
     let l = n .before .before .before in
     let r = l .before .before .before .before .args .rec .now in
-    omega (arith, placed-index r (n .next-statement .result .next) (l .loop .cursor .index + 1) (n .next-statement .ensures .1 .0), l .before .before .statement-count .ensures, n .before .if1 .taken)
+    omega (
+      arith,
+      placed-index r (n .next-statement .result .next) (l .loop .cursor .index + 1) (n .next-statement .ensures .1 .0),
+      l .before .before
+          .statement-count .ensures,
+      n .before .if1 .taken,
+    )
 
 loop-again : tie.Need-loop-again Inv-loop μ-loop
 loop-again c =
@@ -82,11 +100,16 @@ loop-again c =
     let next = n .next-statement .result .next in
     let index = placed-index s next (i + 1) (n .next-statement .ensures .1 .0) in
     let here = c .before .counted-offsets .ensures s ∙ ap (λ (x : Statement). countedOffsets (votedRange x)) (n .next-statement .ensures .0) in
-    let on : offsetsCounted (drop i ss) ≡ countedOffsets (votedRange (getD ss i noStatement)) + offsetsCounted (drop (next .index) ss) = rw index (counted-on ss i inside) in (
+    let on : offsetsCounted (drop i ss) ≡ countedOffsets (votedRange (getD ss i noStatement)) + offsetsCounted (drop (next .index) ss) = rw index
+    (counted-on ss i inside) in (
       placed s next (i + 1) (n .next-statement .ensures .1 .0),
       (
         omega (arith, index, inside),
-        (omega (arith, index, here, l .loop .inv .1 .1 .0, counted-most (getD ss i noStatement) (passes-at ss i (o .pre .1) inside)), omega (arith, here, on, l .loop .inv .1 .1 .1)),
+        (
+          omega (arith, index, here, l .loop .inv .1 .1 .0, counted-most (getD ss i noStatement) (passes-at ss i (o .pre .1) inside)),
+          omega
+              (arith, here, on, l .loop .inv .1 .1 .1),
+        ),
       ),
     )
 

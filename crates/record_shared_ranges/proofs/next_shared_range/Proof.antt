@@ -30,8 +30,14 @@ skip-statements-requires-2 c κs =
     let o = k .before .before .before in
     let r = o .args .rec .now in
     let b = blockIn r in
-    let from = placed-index r (k .skip-statements .result) _ (k .skip-statements .ensures) in
-    (o .pre .0, (placed r (k .skip-statements .result) _ (k .skip-statements .ensures), omega (arith, from, run-from b (o .args .cursor .index) (o .pre .1 .1))))
+    let from = placed-index r (k .skip-statements .result) _ (k .skip-statements .ensures) in (
+      o .pre .0,
+      (
+        placed r (k .skip-statements .result) _ (k .skip-statements .ensures),
+        omega
+            (arith, from, run-from b (o .args .cursor .index) (o .pre .1 .1)),
+      ),
+    )
 
 returns-2 : tie.Need-returns-2
 unfolding runsTold FurtherOn
@@ -39,7 +45,8 @@ returns-2 c =
     let k = c .before .before .before in
     let o = k .before .before .before in
     let e = c .before in
-    run-told (blockIn (o .args .rec .now)) (o .args .cursor .index) (o .pre .1 .1) (o .args .rec .now) (k .skip-statements .result) (c .skip-statements2 .result) (k .skip-statements .ensures) (c .skip-statements2 .ensures)
+    run-told (blockIn (o .args .rec .now)) (o .args .cursor .index) (o .pre .1 .1) (o .args .rec .now) (k .skip-statements .result)
+    (c .skip-statements2 .result) (k .skip-statements .ensures) (c .skip-statements2 .ensures)
     (λ h. e .if1 .left (h ∙ sym (k .before .statement-count .ensures)))
 
 pub next-shared-range-spec : {M : Type 1} → statement M

@@ -15,7 +15,8 @@ abbrev Inv-loop : tie.InvT-loop
 Inv-loop rec shares count cursor₀ cursor =
     (cursor ≡ cursorAt rec (cursor .index))
     × ((cursor .index ≤ length (blockIn rec .statements))
-    × (cursor₀ .index + leading shares (drop (cursor₀ .index) (blockIn rec .statements)) ≡ cursor .index + leading shares (drop (cursor .index) (blockIn rec .statements))))
+    × (cursor₀ .index + leading shares (drop (cursor₀ .index) (blockIn rec .statements)) ≡ cursor .index + leading shares
+    (drop (cursor .index) (blockIn rec .statements))))
 
 abbrev μ-loop : tie.MeasureT-loop
 μ-loop rec shares count cursor₀ cursor = length (blockIn rec .statements) - cursor .index
@@ -42,7 +43,8 @@ returns c =
     let s = o .args .rec .now in
     let ss = blockIn s .statements in
     let i = l .loop .cursor .index in
-    let other = kind-other (o .args .shares) (c .before .is-share .result) (getD ss i noStatement) (c .before .is-share .ensures s ∙ ap isShare (n .next-statement .ensures .0)) (c .if2 .taken) in
+    let other = kind-other (o .args .shares) (c .before .is-share .result) (getD ss i noStatement)
+    (c .before .is-share .ensures s ∙ ap isShare (n .next-statement .ensures .0)) (c .if2 .taken) in
     let stop = leading-stop (o .args .shares) ss i (omega (arith, l .before .statement-count .ensures, n .before .if1 .taken)) other in
     l .loop .inv .0 ∙ ap (cursorAt s) (omega (arith, l .loop .inv .1 .1, stop))
 
@@ -51,7 +53,13 @@ loop-less c =
     let n = c .before .before .before in
     let l = n .before .before .before in
     let r = l .before .before .before .args .rec .now in
-    omega (arith, placed-index r (n .next-statement .result .next) (l .loop .cursor .index + 1) (n .next-statement .ensures .1 .0), l .before .statement-count .ensures, n .before .if1 .taken)
+    omega (
+      arith,
+      placed-index r (n .next-statement .result .next) (l .loop .cursor .index + 1) (n .next-statement .ensures .1 .0),
+      l .before .statement-count
+          .ensures,
+      n .before .if1 .taken,
+    )
 
 loop-again : tie.Need-loop-again Inv-loop μ-loop
 loop-again c =
@@ -64,8 +72,10 @@ loop-again c =
     let next = n .next-statement .result .next in
     let index = placed-index s next (i + 1) (n .next-statement .ensures .1 .0) in
     let inside : i < length ss = omega (arith, l .before .statement-count .ensures, n .before .if1 .taken) in
-    let same = kind-same (o .args .shares) (c .before .before .is-share .result) (getD ss i noStatement) (c .before .before .is-share .ensures s ∙ ap isShare (n .next-statement .ensures .0)) (c .before .if2 .left) in
-    let on : leading (o .args .shares) (drop i ss) ≡ suc (leading (o .args .shares) (drop (next .index) ss)) = rw index (leading-on (o .args .shares) ss i inside same) in
+    let same = kind-same (o .args .shares) (c .before .before .is-share .result) (getD ss i noStatement)
+    (c .before .before .is-share .ensures s ∙ ap isShare (n .next-statement .ensures .0)) (c .before .if2 .left) in
+    let on : leading (o .args .shares) (drop i ss) ≡ suc (leading (o .args .shares) (drop (next .index) ss)) = rw index
+    (leading-on (o .args .shares) ss i inside same) in
     (placed s next (i + 1) (n .next-statement .ensures .1 .0), (omega (arith, index, inside), omega (arith, l .loop .inv .1 .1, on, index)))
 
 returns-2 : tie.Need-returns-2 Inv-loop μ-loop

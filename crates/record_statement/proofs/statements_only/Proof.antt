@@ -49,8 +49,11 @@ loop-again c =
     let s = l .before .before .args .s .now in
     let st = c .before .next .given .0 .0 in
     let next = c .before .next .given .0 .1 .0 in
-    let told : Took s (l .loop .at) (Statement st next) = rw (c .before .next .given .1) at (c .before .before .before .take-statement .ensures) in
-    (told .1 .0, l .loop .inv .1 ∙ only-on (l .loop .left) (drop (l .loop .at) s) (part (asStatement s st) (drop next s)) (c .before .before .before .before .loop-test .taken) (told .0))
+    let told : Took s (l .loop .at) (Statement st next) = rw (c .before .next .given .1) at (c .before .before .before .take-statement .ensures) in (
+      told .1 .0,
+      l .loop .inv .1 ∙ only-on (l .loop .left) (drop (l .loop .at) s) (part (asStatement s st) (drop next s))
+          (c .before .before .before .before .loop-test .taken) (told .0),
+    )
 
 returns-2 : tie.Need-returns-2 Inv-loop μ-loop
 returns-2 c =

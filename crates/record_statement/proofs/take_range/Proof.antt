@@ -47,8 +47,11 @@ unfolding Took asStatement payloadBetween
 returns-2 c =
     let o = c .before .before .before .before .before .before in
     let s = o .args .s .now in
-    let p = o .args .at in
-    (rw (c .new .ensures, c .before .before .before .read-reference .ensures, c .before .before .read-u64 .ensures, c .before .read-u642 .ensures) (range-reads s p (o .pre .0) (o .pre .1) (omega arith)), (omega arith, refl))
+    let p = o .args .at in (
+      rw (c .new .ensures, c .before .before .before .read-reference .ensures, c .before .before .read-u64 .ensures, c .before .read-u642 .ensures)
+          (range-reads s p (o .pre .0) (o .pre .1) (omega arith)),
+      (omega arith, refl),
+    )
 
 pub take-range-spec : {M : Type 1} → statement M
 take-range-spec =

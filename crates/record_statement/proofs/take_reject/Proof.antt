@@ -74,8 +74,11 @@ unfolding Took asStatement payloadBetween
 returns-5 c =
     let o = c .before .before .before .before .before .before .before .before in
     let s = o .args .s .now in
-    let p = o .args .at in
-    (rw (c .before .before .before .before .before .read-locator .ensures, c .read-locator2 .ensures) (reject-for-reads s p (o .pre .0) (o .pre .1) (omega arith) (c .before .before .if3 .left)), (omega arith, refl))
+    let p = o .args .at in (
+      rw (c .before .before .before .before .before .read-locator .ensures, c .read-locator2 .ensures)
+          (reject-for-reads s p (o .pre .0) (o .pre .1) (omega arith) (c .before .before .if3 .left)),
+      (omega arith, refl),
+    )
 
 pub take-reject-spec : {M : Type 1} → statement M
 take-reject-spec =

@@ -54,8 +54,10 @@ returns-3 c =
     let o = c .before .before .before .before in
     let s = o .args .s .now in
     let p = o .args .at in
-    let n = c .before .read-u16 .result in
-    (share-reads s p (o .pre .0) (o .pre .1) n (c .before .read-u16 .ensures) (omega arith), (omega arith, and-both (eqb (p + 3) (p + 3)) (eqb (p + 3 + n) (p + 3 + n)) (eq-eqb (p + 3) (p + 3) refl) (eq-eqb (p + 3 + n) (p + 3 + n) refl)))
+    let n = c .before .read-u16 .result in (
+      share-reads s p (o .pre .0) (o .pre .1) n (c .before .read-u16 .ensures) (omega arith),
+      (omega arith, and-both (eqb (p + 3) (p + 3)) (eqb (p + 3 + n) (p + 3 + n)) (eq-eqb (p + 3) (p + 3) refl) (eq-eqb (p + 3 + n) (p + 3 + n) refl)),
+    )
 
 pub take-share-spec : {M : Type 1} → statement M
 take-share-spec =

@@ -62,7 +62,8 @@ mul-stake c =
 
 shared-slice-read-stake : tie.Need-shared-slice-read-stake Inv-loop μ-loop
 shared-slice-read-stake c =
-    first-known (c .before .before .before .before .before .before .before .before .before .before .args .stakes .now) _ _ _ (c .before .before .before .next-to-ring .ensures)
+    first-known (c .before .before .before .before .before .before .before .before .before .before .args .stakes .now) _ _ _
+    (c .before .before .before .next-to-ring .ensures)
 
 add-stake : tie.Need-add-stake Inv-loop μ-loop
 unfolding getStake
@@ -79,7 +80,8 @@ loop-less c =
     let l = start .args .stakes .now in
     let next = c .before .before .before .next-to-ring .ensures in
     let below = first-known l _ _ _ next in
-    rw (c .before .insert2 .ensures) (counted-more l (c .before .before .before .before .before .before .loop .counted) _ _ next (omega (arith, below, few-members l (start .pre .0))))
+    rw (c .before .insert2 .ensures) (counted-more l (c .before .before .before .before .before .before .loop .counted) _ _ next
+    (omega (arith, below, few-members l (start .pre .0))))
 
 loop-again : tie.Need-loop-again Inv-loop μ-loop
 unfolding getStake
@@ -87,9 +89,11 @@ loop-again c =
     let start = c .before .before .before .before .before .before .before .before .before .before in
     let l = start .args .stakes .now in
     let at = c .before .before .before .before .before .before .loop in
-    let missed = sym (quorum-is l _ (at .stake) (start .pre .1)) ∙ sym (c .before .before .before .before .before .is-quorum .ensures) ∙ not-true _ (c .before .before .before .before .if1 .taken) in
+    let missed = sym (quorum-is l _ (at .stake) (start .pre .1)) ∙ sym (c .before .before .before .before .before .is-quorum .ensures) ∙ not-true _
+    (c .before .before .before .before .if1 .taken) in
     rw (c .before .before .insert .ensures, c .before .insert2 .ensures)
-    (ringing-turn l _ _ (at .owners) (at .counted) (at .stake) (at .inv) (few-members l (start .pre .0)) missed _ (c .before .before .before .next-to-ring .ensures))
+    (ringing-turn l _ _ (at .owners) (at .counted) (at .stake) (at .inv) (few-members l (start .pre .0)) missed _
+    (c .before .before .before .next-to-ring .ensures))
 
 returns : tie.Need-returns Inv-loop μ-loop
 returns c =

@@ -31,8 +31,16 @@ loop-again c =
     let at = c .before .before .before .loop in
     let start = c .before .before .before .before .before in
     ⊎-elim
-    (λ w. (omega arith, rw (w .1, w .2 ∙ c .before .gain .ensures) (scan-better _ _ _ (at .i) (at .best) (at .most) (rw (c .before .gain .ensures) at (w .0 .taken)) (at .inv .1))))
-    (λ w. (omega arith, rw (w .1, w .2) (scan-worse _ _ _ (at .i) (at .best) (at .most) (start .pre .0) (c .before .before .loop-test .taken) (rw (c .before .gain .ensures) at (w .0 .left)) (at .inv .1))))
+    (λ w. (
+      omega arith,
+      rw (w .1, w .2 ∙ c .before .gain .ensures)
+          (scan-better _ _ _ (at .i) (at .best) (at .most) (rw (c .before .gain .ensures) at (w .0 .taken)) (at .inv .1)),
+    ))
+    (λ w. (
+      omega arith,
+      rw (w .1, w .2) (scan-worse _ _ _ (at .i) (at .best) (at .most) (start .pre .0) (c .before .before .loop-test .taken)
+          (rw (c .before .gain .ensures) at (w .0 .left)) (at .inv .1)),
+    ))
     (c .if1 .came)
 
 returns : tie.Need-returns Inv-loop μ-loop

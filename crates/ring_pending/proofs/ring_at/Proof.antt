@@ -23,10 +23,13 @@ enum-told c = search needs
 
 returns : tie.Need-returns
 unfolding asRing asLocator locator
-returns c = let o = c .before .before .before .before .before .before .before .before in sym (ring-none _ _ _ _ (asLocator (o .args .locator)) _ _ (o .pre .1) (c .before .before .before .lookup .ensures) (c .before .before .holding .ensures) (c .enum-told .given .1))
+returns c = let o = c .before .before .before .before .before .before .before .before in sym
+    (ring-none _ _ _ _ (asLocator (o .args .locator)) _ _ (o .pre .1) (c .before .before .before .lookup .ensures) (c .before .before .holding .ensures)
+    (c .enum-told .given .1))
 
 item-at-requires : tie.Need-item-at-requires
-item-at-requires c κs = let o = c .before .before .before .before .before .before .before .before .before in (o .pre .1 .laid, index-found _ _ _ _ (c .before .before .before .holding .ensures) (c .before .found .given .1))
+item-at-requires c κs = let o = c .before .before .before .before .before .before .before .before .before in
+    (o .pre .1 .laid, index-found _ _ _ _ (c .before .before .before .holding .ensures) (c .before .found .given .1))
 
 fewest-owners-requires : tie.Need-fewest-owners-requires
 fewest-owners-requires c κs = search needs
@@ -36,7 +39,10 @@ unfolding asLocator locator asItem
 returns-2 c =
     let o = c .before .before .before .before .before .before .before .before .before .before .before .before .before in
     c .fewest-owners .ensures
-    ∙ sym (ring-some _ _ _ _ (asLocator (o .args .locator)) _ _ (o .pre .1) (c .before .before .before .before .before .before .before .before .lookup .ensures) (c .before .before .before .before .before .before .before .holding .ensures) _ (asItem (c .before .before .before .item-at .result)) (c .before .before .before .before .before .found .given .1) (c .before .before .before .item-at .ensures))
+    ∙ sym (ring-some _ _ _ _ (asLocator (o .args .locator)) _ _ (o .pre .1)
+    (c .before .before .before .before .before .before .before .before .lookup .ensures)
+    (c .before .before .before .before .before .before .before .holding .ensures) _ (asItem (c .before .before .before .item-at .result))
+    (c .before .before .before .before .before .found .given .1) (c .before .before .before .item-at .ensures))
 
 pub ring-at-spec : {M : Type 1} → statement M
 ring-at-spec =

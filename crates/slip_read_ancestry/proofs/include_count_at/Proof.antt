@@ -28,14 +28,22 @@ part-include-count-start : tie.Need-part-include-count-start
 part-include-count-start c = search needs
 
 part-include-count-end : tie.Need-part-include-count-end
-part-include-count-end c = omega (arith, c .before .before .before .before .pre .0 .framed (c .before .before .before .before .args .place) (c .before .before .before .before .pre .1) .inside, c .record-end .ensures)
+part-include-count-end c = omega (
+  arith,
+  c .before .before .before .before .pre .0 .framed (c .before .before .before .before .args .place)
+      (c .before .before .before .before .pre .1) .inside,
+  c .record-end .ensures,
+)
 
 include-count-requires : tie.Need-include-count-requires
-include-count-requires c κs = rw (record-part _ _ (c .before .record-end .result) (c .before .record-end .ensures)) (c .before .before .before .before .before .pre .0 .framed (c .before .before .before .before .before .args .place) (c .before .before .before .before .before .pre .1) .formed)
+include-count-requires c κs = rw (record-part _ _ (c .before .record-end .result) (c .before .record-end .ensures))
+    (c .before .before .before .before .before .pre .0 .framed (c .before .before .before .before .before .args .place)
+    (c .before .before .before .before .before .pre .1) .formed)
 
 returns : tie.Need-returns
 unfolding blockAtPlace blockFrom
-returns c = c .include-count .ensures ∙ ap (λ (x : Bytes). length (blockIn x .includes)) (record-part _ _ (c .before .before .record-end .result) (c .before .before .record-end .ensures))
+returns c = c .include-count .ensures ∙ ap (λ (x : Bytes). length (blockIn x .includes))
+    (record-part _ _ (c .before .before .record-end .result) (c .before .before .record-end .ensures))
 
 pub include-count-at-spec : {M : Type 1} → statement M
 include-count-at-spec =

@@ -10,7 +10,8 @@ enum-known-include c = search needs
 
 shared-slice-read-result : tie.Need-shared-slice-read-result
 unfolding InPlace
-shared-slice-read-result c = subst (InPlace (c .before .before .before .before .args .lacking .now)) (c .before .before .include .given .1) (c .before .before .before .before .pre)
+shared-slice-read-result c = subst (InPlace (c .before .before .before .before .args .lacking .now)) (c .before .before .include .given .1)
+    (c .before .before .before .before .pre)
 
 enum-told : tie.Need-enum-told
 enum-told c = search needs

@@ -14,7 +14,8 @@ use Rattle.slip_read_ancestry.proofs.lacks_ancestor.Statement.{statemen
 use Rattle.slip_read_ancestry.proofs.lacks_ancestor.Tie as tie
 
 abbrev Inv-loop : tie.InvT-loop
-Inv-loop records order lacking place count k₀ k = (i : ℕ) → i < k → lost (suppliedBlocks records) (getD (blockAtPlace records order place .includes) i noReference) ≡ false
+Inv-loop records order lacking place count k₀ k = (i : ℕ) → i < k → lost (suppliedBlocks records)
+    (getD (blockAtPlace records order place .includes) i noReference) ≡ false
 
 abbrev μ-loop : tie.MeasureT-loop
 μ-loop records order lacking place count k₀ k = count - k
@@ -36,9 +37,12 @@ returns c =
     let a = c .before .before .before .before .before .before .before .before .before .args in
     let q = c .before .before .before .before .before .before .before .before .before .pre in
     let f = right-falls (a .records .now) (q .0 .1) in
-    let m : c .before .before .before .before .loop .k < length (blockAtPlace (a .records .now) (a .order .now) (a .place) .includes) = omega (arith, c .before .before .before .before .before .include-count-at .ensures, c .before .before .before .loop-test .taken) in
-    let e = noted-lost (a .records .now) (a .order .now) (q .0 .0) f (a .lacking .now) (a .place) (q .1 .0 .0) (q .1 .1) (c .before .before .before .before .loop .k) m (c .before .before .step .result) (c .before .before .step .ensures) in
-    lacks-one (a .records .now) (a .order .now) (q .0 .0) f (a .lacking .now) (a .place) (q .1 .0 .0) (q .1 .1) (c .before .before .before .before .loop .k) m (sym e ∙ sym (c .before .is-lost .ensures) ∙ c .if1 .taken)
+    let m : c .before .before .before .before .loop .k < length (blockAtPlace (a .records .now) (a .order .now) (a .place) .includes) = omega
+    (arith, c .before .before .before .before .before .include-count-at .ensures, c .before .before .before .loop-test .taken) in
+    let e = noted-lost (a .records .now) (a .order .now) (q .0 .0) f (a .lacking .now) (a .place) (q .1 .0 .0) (q .1 .1)
+    (c .before .before .before .before .loop .k) m (c .before .before .step .result) (c .before .before .step .ensures) in
+    lacks-one (a .records .now) (a .order .now) (q .0 .0) f (a .lacking .now) (a .place) (q .1 .0 .0) (q .1 .1) (c .before .before .before .before .loop .k) m
+    (sym e ∙ sym (c .before .is-lost .ensures) ∙ c .if1 .taken)
 
 add-k : tie.Need-add-k Inv-loop μ-loop
 add-k c = search needs
@@ -51,9 +55,12 @@ loop-again c =
     let a = c .before .before .before .before .before .before .before .before .before .args in
     let q = c .before .before .before .before .before .before .before .before .before .pre in
     let f = right-falls (a .records .now) (q .0 .1) in
-    let m : c .before .before .before .before .loop .k < length (blockAtPlace (a .records .now) (a .order .now) (a .place) .includes) = omega (arith, c .before .before .before .before .before .include-count-at .ensures, c .before .before .before .loop-test .taken) in
-    let e = noted-lost (a .records .now) (a .order .now) (q .0 .0) f (a .lacking .now) (a .place) (q .1 .0 .0) (q .1 .1) (c .before .before .before .before .loop .k) m (c .before .before .step .result) (c .before .before .step .ensures) in
-    none-more (λ i. lost (suppliedBlocks (a .records .now)) (getD (blockAtPlace (a .records .now) (a .order .now) (a .place) .includes) i noReference)) (c .before .before .before .before .loop .k) (c .before .before .before .before .loop .inv) (sym e ∙ sym (c .before .is-lost .ensures) ∙ c .if1 .left)
+    let m : c .before .before .before .before .loop .k < length (blockAtPlace (a .records .now) (a .order .now) (a .place) .includes) = omega
+    (arith, c .before .before .before .before .before .include-count-at .ensures, c .before .before .before .loop-test .taken) in
+    let e = noted-lost (a .records .now) (a .order .now) (q .0 .0) f (a .lacking .now) (a .place) (q .1 .0 .0) (q .1 .1)
+    (c .before .before .before .before .loop .k) m (c .before .before .step .result) (c .before .before .step .ensures) in
+    none-more (λ i. lost (suppliedBlocks (a .records .now)) (getD (blockAtPlace (a .records .now) (a .order .now) (a .place) .includes) i noReference))
+    (c .before .before .before .before .loop .k) (c .before .before .before .before .loop .inv) (sym e ∙ sym (c .before .is-lost .ensures) ∙ c .if1 .left)
 
 returns-2 : tie.Need-returns-2 Inv-loop μ-loop
 returns-2 c =

@@ -28,16 +28,40 @@ enum-told-2 : tie.Need-enum-told-2 Inv-loop μ-loop
 enum-told-2 c = search needs
 
 loop-holds : tie.Need-loop-holds Inv-loop μ-loop
-loop-holds c = (lacking-none _ _ (c .before .before .before .before .before .pre .0 .0) (right-falls _ (c .before .before .before .before .before .pre .0 .1)) _, (refl, omega arith))
+loop-holds c = (
+  lacking-none _ _ (c .before .before .before .before .before .pre .0 .0) (right-falls _ (c .before .before .before .before .before .pre .0 .1))
+      _,
+  (refl, omega arith),
+)
 
 lacks-ancestor-requires : tie.Need-lacks-ancestor-requires Inv-loop μ-loop
-lacks-ancestor-requires c κs = (c .before .before .before .before .before .before .before .before .pre .0, ((c .before .loop-test .taken, omega (arith, c .before .before .before .before .before .before .before .before .pre .1 .0, c .before .before .loop .inv .1 .0)), c .before .before .loop .inv .0))
+lacks-ancestor-requires c κs = (
+  c .before .before .before .before .before .before .before .before .pre .0,
+  (
+    (
+      c .before .loop-test .taken,
+      omega (
+        arith,
+        c .before .before .before .before .before .before .before .before .pre .1 .0,
+        c .before .before .loop .inv .1
+            .0,
+      ),
+    ),
+    c .before .before .loop .inv .0,
+  ),
+)
 
 cast-lacking : tie.Need-cast-lacking Inv-loop μ-loop
 cast-lacking c = search needs
 
 slice-write-lacking : tie.Need-slice-write-lacking Inv-loop μ-loop
-slice-write-lacking c = omega (arith, c .before .before .before .before .before .before .before .before .before .pre .1 .0, c .before .before .before .loop .inv .1 .0, c .before .before .loop-test .taken)
+slice-write-lacking c = omega (
+  arith,
+  c .before .before .before .before .before .before .before .before .before .pre .1 .0,
+  c .before .before .before .loop
+      .inv .1 .0,
+  c .before .before .loop-test .taken,
+)
 
 add-j : tie.Need-add-j Inv-loop μ-loop
 add-j c = search needs
@@ -47,7 +71,15 @@ loop-less c = search needs
 
 loop-again : tie.Need-loop-again Inv-loop μ-loop
 loop-again c = (
-  lacking-more _ _ (c .before .before .before .before .before .before .before .before .before .pre .0 .0) (right-falls _ (c .before .before .before .before .before .before .before .before .before .pre .0 .1)) _ _ _ (c .before .before .before .loop .inv .0) (omega (arith, c .before .before .before .before .before .before .before .before .before .pre .1 .0, c .before .before .before .loop .inv .1 .0, c .before .before .loop-test .taken)) (byte-of _ _ (c .lacks-ancestor .ensures)),
+  lacking-more _ _ (c .before .before .before .before .before .before .before .before .before .pre .0 .0)
+      (right-falls _ (c .before .before .before .before .before .before .before .before .before .pre .0 .1)) _ _ _ (c .before .before .before .loop .inv .0)
+      (omega (
+        arith,
+        c .before .before .before .before .before .before .before .before .before .pre .1 .0,
+        c .before .before .before .loop .inv .1 .0,
+        c
+            .before .before .loop-test .taken,
+      )) (byte-of _ _ (c .lacks-ancestor .ensures)),
   (simp length-set (c .before .before .before .loop .inv .1 .0), omega (arith, c .before .before .loop-test .taken)),
 )
 
@@ -56,9 +88,13 @@ same-length c = c .before .loop .inv .1 .0
 
 returns-2 : tie.Need-returns-2 Inv-loop μ-loop
 unfolding asReading
-returns-2 c = let e : c .before .loop .j ≡ length (c .before .before .before .before .before .before .before .args .order .now) = omega (arith, c .before .loop .inv .1 .1, c .loop-test .left) in
+returns-2 c = let e : c .before .loop .j ≡ length (c .before .before .before .before .before .before .before .args .order .now) = omega
+    (arith, c .before .loop .inv .1 .1, c .loop-test .left) in
     rw (c .before .before .enum-told2 .given .1)
-    (lacking-all _ _ (c .before .before .before .before .before .before .before .pre .0 .0) (right-falls _ (c .before .before .before .before .before .before .before .pre .0 .1)) _ (subst (λ (n : ℕ). Lacking (c .before .before .before .before .before .before .before .args .records .now) (c .before .before .before .before .before .before .before .args .order .now) n (c .before .loop .lacking)) e (c .before .loop .inv .0)))
+    (lacking-all _ _ (c .before .before .before .before .before .before .before .pre .0 .0)
+    (right-falls _ (c .before .before .before .before .before .before .before .pre .0 .1)) _
+    (subst (λ (n : ℕ). Lacking (c .before .before .before .before .before .before .before .args .records .now)
+    (c .before .before .before .before .before .before .before .args .order .now) n (c .before .loop .lacking)) e (c .before .loop .inv .0)))
 
 pub note-lacking-spec : {M : Type 1} → statement M
 note-lacking-spec =

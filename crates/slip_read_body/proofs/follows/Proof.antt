@@ -31,18 +31,21 @@ enum-told-3 c = search needs
 
 returns-2 : tie.Need-returns-2
 returns-2 c =
-    let e = c .before .before .compare .ensures ∙ ap₂ referenceOrder (c .before .before .before .before .read-reference .ensures) (c .before .before .before .read-reference2 .ensures) in
+    let e = c .before .before .compare .ensures ∙ ap₂ referenceOrder (c .before .before .before .before .read-reference .ensures)
+    (c .before .before .before .read-reference2 .ensures) in
     rw (ne-eqb _ _ (c .before .before .before .before .before .if1 .left), compared-less _ _ (sym e ∙ c .enum-told .given .1) .1)
 
 returns-3 : tie.Need-returns-3
 returns-3 c =
-    let e = c .before .before .compare .ensures ∙ ap₂ referenceOrder (c .before .before .before .before .read-reference .ensures) (c .before .before .before .read-reference2 .ensures) in
+    let e = c .before .before .compare .ensures ∙ ap₂ referenceOrder (c .before .before .before .before .read-reference .ensures)
+    (c .before .before .before .read-reference2 .ensures) in
     let same = reference-same _ _ (compared-equal _ _ (sym e ∙ c .enum-told2 .given .1)) in
     rw (ne-eqb _ _ (c .before .before .before .before .before .if1 .left), same) (sym (fails _ (λ t. reference-irrefl _ t)))
 
 returns-4 : tie.Need-returns-4
 returns-4 c =
-    let e = c .before .before .compare .ensures ∙ ap₂ referenceOrder (c .before .before .before .before .read-reference .ensures) (c .before .before .before .read-reference2 .ensures) in
+    let e = c .before .before .compare .ensures ∙ ap₂ referenceOrder (c .before .before .before .before .read-reference .ensures)
+    (c .before .before .before .read-reference2 .ensures) in
     rw (ne-eqb _ _ (c .before .before .before .before .before .if1 .left), reference-asymmetric _ _ (compared-greater _ _ (sym e ∙ c .enum-told3 .given .1) .1))
 
 pub follows-spec : {M : Type 1} → statement M

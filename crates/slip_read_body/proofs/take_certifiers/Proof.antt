@@ -11,13 +11,18 @@ use Rattle.slip_read_body.proofs.take_certifiers.Statement.{statement}
 use Rattle.slip_read_body.proofs.take_certifiers.Tie as tie
 
 abbrev Inv-loop : tie.InvT-loop
-Inv-loop stakes total slip records order votes lacking rejecting count at₀ authors₀ shown₀ last₀ i₀ at authors shown last i = Gathering stakes slip records order votes lacking rejecting at authors shown last i
+Inv-loop stakes total slip records order votes lacking rejecting count at₀ authors₀ shown₀ last₀ i₀ at authors shown last i = Gathering stakes slip records
+    order votes lacking rejecting at authors shown last i
 
 abbrev μ-loop : tie.MeasureT-loop
 μ-loop stakes total slip records order votes lacking rejecting count at₀ authors₀ shown₀ last₀ i₀ at authors shown last i = count - i
 
 read-u16-requires : tie.Need-read-u16-requires Inv-loop μ-loop
-read-u16-requires c κs = omega (arith, head-long (c .before .before .before .before .before .before .before .args .slip .now) (c .before .before .before .before .before .before .before .pre .0))
+read-u16-requires c κs = omega (
+  arith,
+  head-long (c .before .before .before .before .before .before .before .args .slip .now)
+      (c .before .before .before .before .before .before .before .pre .0),
+)
 
 cast-count : tie.Need-cast-count Inv-loop μ-loop
 cast-count c = search needs
@@ -26,10 +31,16 @@ new-requires : tie.Need-new-requires Inv-loop μ-loop
 new-requires c κs = search needs
 
 loop-holds : tie.Need-loop-holds Inv-loop μ-loop
-loop-holds c = rw (c .new .ensures) (gathering-start _ _ _ _ _ _ _ (head-long (c .before .before .before .before .before .before .before .before .before .args .slip .now) (c .before .before .before .before .before .before .before .before .before .pre .0)))
+loop-holds c = rw (c .new .ensures) (gathering-start _ _ _ _ _ _ _
+    (head-long (c .before .before .before .before .before .before .before .before .before .args .slip .now)
+    (c .before .before .before .before .before .before .before .before .before .pre .0)))
 
 take-certifier-requires : tie.Need-take-certifier-requires Inv-loop μ-loop
-take-certifier-requires c κs = (c .before .loop .inv .listed .inside, c .before .before .before .before .before .before .before .before .before .before .before .pre .1)
+take-certifier-requires c κs = (
+  c .before .loop .inv .listed .inside,
+  c .before .before .before .before .before .before .before .before .before .before
+      .before .pre .1,
+)
 
 enum-known-end : tie.Need-enum-known-end Inv-loop μ-loop
 enum-known-end c = search needs
@@ -40,7 +51,9 @@ enum-told c = search needs
 returns : tie.Need-returns Inv-loop μ-loop
 unfolding TookCertifiers TookCertifier
 returns c =
-    gathering-none _ _ _ _ _ _ _ _ _ _ _ _ (c .before .before .before .before .loop .inv) (omega (arith, c .before .before .before .before .before .before .read-u16 .ensures)) (subst (TookCertifier _ _ _ _ _ _ _ _) (c .enum-told .given .1) (c .before .before .take-certifier .ensures))
+    gathering-none _ _ _ _ _ _ _ _ _ _ _ _ (c .before .before .before .before .loop .inv)
+    (omega (arith, c .before .before .before .before .before .before .read-u16 .ensures))
+    (subst (TookCertifier _ _ _ _ _ _ _ _) (c .enum-told .given .1) (c .before .before .take-certifier .ensures))
 
 follows-requires : tie.Need-follows-requires Inv-loop μ-loop
 unfolding TookCertifier
@@ -51,13 +64,17 @@ follows-requires c κs =
 returns-2 : tie.Need-returns-2 Inv-loop μ-loop
 unfolding TookCertifiers TookCertifier
 returns-2 c =
-    let one = subst (TookCertifier _ _ _ _ _ _ _ _) (c .before .before .before .end .given .1) (c .before .before .before .before .before .take-certifier .ensures) in
-    gathering-falls _ _ _ _ _ _ _ _ _ _ _ _ (c .before .before .before .before .before .before .before .loop .inv) (omega (arith, c .before .before .before .before .before .before .before .before .before .read-u16 .ensures)) _ _ one (sym (c .before .follows .ensures) ∙ not-true (c .before .follows .result) (c .if1 .taken))
+    let one = subst (TookCertifier _ _ _ _ _ _ _ _) (c .before .before .before .end .given .1)
+    (c .before .before .before .before .before .take-certifier .ensures) in
+    gathering-falls _ _ _ _ _ _ _ _ _ _ _ _ (c .before .before .before .before .before .before .before .loop .inv)
+    (omega (arith, c .before .before .before .before .before .before .before .before .before .read-u16 .ensures)) _ _ one
+    (sym (c .before .follows .ensures) ∙ not-true (c .before .follows .result) (c .if1 .taken))
 
 read-u64-requires : tie.Need-read-u64-requires Inv-loop μ-loop
 unfolding TookCertifier
 read-u64-requires c κs =
-    let one = subst (TookCertifier _ _ _ _ _ _ _ _) (c .before .before .before .end .given .1) (c .before .before .before .before .before .take-certifier .ensures) in
+    let one = subst (TookCertifier _ _ _ _ _ _ _ _) (c .before .before .before .end .given .1)
+    (c .before .before .before .before .before .take-certifier .ensures) in
     omega (arith, one .long)
 
 with-author-requires : tie.Need-with-author-requires Inv-loop μ-loop
@@ -75,8 +92,12 @@ loop-less c = search needs
 loop-again : tie.Need-loop-again Inv-loop μ-loop
 unfolding TookCertifier
 loop-again c =
-    let one = subst (TookCertifier _ _ _ _ _ _ _ _) (c .before .before .before .before .before .before .end .given .1) (c .before .before .before .before .before .before .before .before .take-certifier .ensures) in
-    gathering-on _ _ _ _ _ _ _ _ _ _ _ _ (c .before .before .before .before .before .before .before .before .before .before .loop .inv) (omega (arith, c .before .before .before .before .before .before .before .before .before .before .before .before .read-u16 .ensures)) _ _ one _ _ _ (sym (c .before .before .before .before .follows .ensures) ∙ not-false (c .before .before .before .before .follows .result) (c .before .before .before .if1 .left)) (c .before .before .read-u64 .ensures) (c .before .with-author .ensures) (c .worse .ensures)
+    let one = subst (TookCertifier _ _ _ _ _ _ _ _) (c .before .before .before .before .before .before .end .given .1)
+    (c .before .before .before .before .before .before .before .before .take-certifier .ensures) in
+    gathering-on _ _ _ _ _ _ _ _ _ _ _ _ (c .before .before .before .before .before .before .before .before .before .before .loop .inv)
+    (omega (arith, c .before .before .before .before .before .before .before .before .before .before .before .before .read-u16 .ensures)) _ _ one _ _ _
+    (sym (c .before .before .before .before .follows .ensures) ∙ not-false (c .before .before .before .before .follows .result)
+    (c .before .before .before .if1 .left)) (c .before .before .read-u64 .ensures) (c .before .with-author .ensures) (c .worse .ensures)
 
 returns-3 : tie.Need-returns-3 Inv-loop μ-loop
 unfolding TookCertifiers

@@ -19,34 +19,50 @@ enum-told c = search needs
 
 returns : tie.Need-returns
 unfolding TookSlip TookCertifiers
-returns c = slip-none _ (c .before .before .before .before .before .before .before .before .before .before .pre .0) (subst (TookCertifiers _ _ _ _ _ _ _) (c .enum-told .given .1) (c .before .before .take-certifiers .ensures))
+returns c = slip-none _ (c .before .before .before .before .before .before .before .before .before .before .pre .0)
+    (subst (TookCertifiers _ _ _ _ _ _ _) (c .enum-told .given .1) (c .before .before .take-certifiers .ensures))
 
 returns-2 : tie.Need-returns-2
 unfolding TookSlip TookCertifiers
 returns-2 c =
     let read = subst (TookCertifiers _ _ _ _ _ _ _) (c .before .before .end .given .1) (c .before .before .before .before .take-certifiers .ensures) in
-    after-all _ _ _ _ _ _ _ _ _ _ (c .before .before .before .before .before .before .before .before .before .before .before .before .pre .1 .sound) (c .before .before .before .before .before .before .before .before .before .before .before .before .pre .0) read (λ (e : _ ≡ _). omega (arith, e, c .if1 .taken))
+    after-all _ _ _ _ _ _ _ _ _ _ (c .before .before .before .before .before .before .before .before .before .before .before .before .pre .1 .sound)
+    (c .before .before .before .before .before .before .before .before .before .before .before .before .pre .0) read
+    (λ (e : _ ≡ _). omega (arith, e, c .if1 .taken))
 
 returns-3 : tie.Need-returns-3
 unfolding TookSlip TookCertifiers
 returns-3 c =
-    let read = subst (TookCertifiers _ _ _ _ _ _ _) (c .before .before .before .end .given .1) (c .before .before .before .before .before .take-certifiers .ensures) in
-    all-found _ _ _ _ _ _ _ _ _ _ (c .before .before .before .before .before .before .before .before .before .before .before .before .before .pre .1 .sound) (c .before .before .before .before .before .before .before .before .before .before .before .before .before .pre .0) read (omega (arith, c .before .if1 .left)) (c .if2 .taken)
+    let read = subst (TookCertifiers _ _ _ _ _ _ _) (c .before .before .before .end .given .1)
+    (c .before .before .before .before .before .take-certifiers .ensures) in
+    all-found _ _ _ _ _ _ _ _ _ _ (c .before .before .before .before .before .before .before .before .before .before .before .before .before .pre .1 .sound)
+    (c .before .before .before .before .before .before .before .before .before .before .before .before .before .pre .0) read
+    (omega (arith, c .before .if1 .left)) (c .if2 .taken)
 
 hold-quorum-requires : tie.Need-hold-quorum-requires
-hold-quorum-requires c κs = (c .before .before .before .before .before .before .before .before .before .before .before .before .before .pre .1 .sound, c .before .before .before .before .before .before .before .before .before .before .before .before .before .pre .1 .all)
+hold-quorum-requires c κs = (
+  c .before .before .before .before .before .before .before .before .before .before .before .before .before .pre .1 .sound,
+  c
+      .before .before .before .before .before .before .before .before .before .before .before .before .before .pre .1 .all,
+)
 
 returns-4 : tie.Need-returns-4
 unfolding TookSlip TookCertifiers
 returns-4 c =
-    let read = subst (TookCertifiers _ _ _ _ _ _ _) (c .before .before .before .before .before .end .given .1) (c .before .before .before .before .before .before .before .take-certifiers .ensures) in
-    all-quorum _ _ _ _ _ _ _ _ _ _ (c .before .before .before .before .before .before .before .before .before .before .before .before .before .before .before .pre .1 .sound) (c .before .before .before .before .before .before .before .before .before .before .before .before .before .before .before .pre .0) read (omega (arith, c .before .before .before .if1 .left)) true (c .before .before .if2 .left) (sym (c .if3 .taken) ∙ c .before .hold-quorum .ensures)
+    let read = subst (TookCertifiers _ _ _ _ _ _ _) (c .before .before .before .before .before .end .given .1)
+    (c .before .before .before .before .before .before .before .take-certifiers .ensures) in
+    all-quorum _ _ _ _ _ _ _ _ _ _ (c .before .before .before .before .before .before .before .before .before .before .before .before .before .before .before
+    .pre .1 .sound) (c .before .before .before .before .before .before .before .before .before .before .before .before .before .before .before .pre .0)
+    read (omega (arith, c .before .before .before .if1 .left)) true (c .before .before .if2 .left) (sym (c .if3 .taken) ∙ c .before .hold-quorum .ensures)
 
 returns-5 : tie.Need-returns-5
 unfolding TookSlip TookCertifiers
 returns-5 c =
-    let read = subst (TookCertifiers _ _ _ _ _ _ _) (c .before .before .before .before .before .end .given .1) (c .before .before .before .before .before .before .before .take-certifiers .ensures) in
-    all-quorum _ _ _ _ _ _ _ _ _ _ (c .before .before .before .before .before .before .before .before .before .before .before .before .before .before .before .pre .1 .sound) (c .before .before .before .before .before .before .before .before .before .before .before .before .before .before .before .pre .0) read (omega (arith, c .before .before .before .if1 .left)) false (c .before .before .if2 .left) (sym (c .if3 .left) ∙ c .before .hold-quorum .ensures)
+    let read = subst (TookCertifiers _ _ _ _ _ _ _) (c .before .before .before .before .before .end .given .1)
+    (c .before .before .before .before .before .before .before .take-certifiers .ensures) in
+    all-quorum _ _ _ _ _ _ _ _ _ _ (c .before .before .before .before .before .before .before .before .before .before .before .before .before .before .before
+    .pre .1 .sound) (c .before .before .before .before .before .before .before .before .before .before .before .before .before .before .before .pre .0)
+    read (omega (arith, c .before .before .before .if1 .left)) false (c .before .before .if2 .left) (sym (c .if3 .left) ∙ c .before .hold-quorum .ensures)
 
 pub take-slip-spec : {M : Type 1} → statement M
 take-slip-spec =

@@ -10,7 +10,11 @@ read-locator-requires : tie.Need-read-locator-requires
 read-locator-requires c κs = omega (arith, head-long (c .before .before .before .before .args .slip .now) (c .before .before .before .before .pre .0 .0))
 
 named-reading-requires : tie.Need-named-reading-requires
-named-reading-requires c κs = omega (arith, head-long (c .before .before .before .before .before .args .slip .now) (c .before .before .before .before .before .pre .0 .0))
+named-reading-requires c κs = omega (
+  arith,
+  head-long (c .before .before .before .before .before .args .slip .now)
+      (c .before .before .before .before .before .pre .0 .0),
+)
 
 slice-aggregate-note-votes : tie.Need-slice-aggregate-note-votes
 slice-aggregate-note-votes c = search needs
@@ -22,13 +26,19 @@ slice-aggregate-note-lacking : tie.Need-slice-aggregate-note-lacking
 slice-aggregate-note-lacking c = search needs
 
 note-lacking-requires : tie.Need-note-lacking-requires
-note-lacking-requires c κs = (c .before .before .before .before .before .before .before .before .before .before .pre .1 .0, (c .before .before .before .before .before .before .before .before .before .before .pre .1 .1, zeros-at 1024))
+note-lacking-requires c κs = (
+  c .before .before .before .before .before .before .before .before .before .before .pre .1 .0,
+  (c .before .before .before .before .before .before .before .before .before .before .pre .1 .1, zeros-at 1024),
+)
 
 slice-aggregate-note-rejecters : tie.Need-slice-aggregate-note-rejecters
 slice-aggregate-note-rejecters c = search needs
 
 note-rejecters-requires : tie.Need-note-rejecters-requires
-note-rejecters-requires c κs = (c .before .before .before .before .before .before .before .before .before .before .before .before .before .pre .1 .0, (omega (arith, c .before .before .before .before .before .before .before .before .before .before .before .before .before .pre .1 .1), zeros-at 2048))
+note-rejecters-requires c κs = (
+  c .before .before .before .before .before .before .before .before .before .before .before .before .before .pre .1 .0,
+  (omega (arith, c .before .before .before .before .before .before .before .before .before .before .before .before .before .pre .1 .1), zeros-at 2048),
+)
 
 slice-aggregate-take-slip : tie.Need-slice-aggregate-take-slip
 slice-aggregate-take-slip c = search needs
@@ -41,7 +51,8 @@ slice-aggregate-take-slip-3 c = search needs
 
 take-slip-requires : tie.Need-take-slip-requires
 take-slip-requires c κs =
-    let p = c .before .before .before .before .before .before .before .before .before .before .before .before .before .before .before .before .before .before .pre in (
+    let p = c .before .before .before .before .before .before .before .before .before .before .before .before .before .before .before .before .before .before
+    .pre in (
       p .0 .0,
       record {
         sound = p .0 .1 .0;
@@ -56,9 +67,15 @@ take-slip-requires c κs =
 
 returns : tie.Need-returns
 returns c =
-    let a = c .before .before .before .before .before .before .before .before .before .before .before .before .before .before .before .before .before .before .before .args in
+    let a = c .before .before .before .before .before .before .before .before .before .before .before .before .before .before .before .before .before .before
+    .before .args in
     shown-slip _ (a .slip .now) (a .records .now) (a .order .now) _ _ _ (c .take-slip .result)
-    (known-all (a .slip .now) (a .records .now) (a .order .now) _ _ _ _ _ (c .before .before .before .before .before .before .before .before .before .before .before .before .before .named-reading .ensures) (c .before .before .before .before .before .before .before .before .before .before .before .before .before .before .read-locator .ensures) (c .before .before .before .before .before .before .before .before .before .before .before .note-votes .ensures) (c .before .before .before .before .before .before .before .before .note-lacking .ensures) (c .before .before .before .before .before .note-rejecters .ensures))
+    (known-all (a .slip .now) (a .records .now) (a .order .now) _ _ _ _ _
+    (c .before .before .before .before .before .before .before .before .before .before .before .before .before .named-reading .ensures)
+    (c .before .before .before .before .before .before .before .before .before .before .before .before .before .before .read-locator .ensures)
+    (c .before .before .before .before .before .before .before .before .before .before .before .note-votes .ensures)
+    (c .before .before .before .before .before .before .before .before .note-lacking .ensures)
+    (c .before .before .before .before .before .note-rejecters .ensures))
     (c .take-slip .ensures)
 
 pub show-slip-spec : {M : Type 1} → statement M

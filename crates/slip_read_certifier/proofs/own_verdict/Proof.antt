@@ -13,11 +13,21 @@ enum-known-certifier c = search needs
 
 epoch-changed-at-requires : tie.Need-epoch-changed-at-requires
 unfolding InPlace
-epoch-changed-at-requires c κs = (c .before .before .before .before .before .pre .0 .sorted, subst (InPlace (c .before .before .before .before .before .args .order .now)) (c .before .certifier .given .1) (c .before .before .before .before .before .pre .1))
+epoch-changed-at-requires c κs = (
+  c .before .before .before .before .before .pre .0 .sorted,
+  subst
+      (InPlace (c .before .before .before .before .before .args .order .now)) (c .before .certifier .given .1)
+      (c .before .before .before .before .before .pre .1),
+)
 
 returns : tie.Need-returns
 unfolding ownVerdict verdict isNone holds
-returns c = λ o h. rw (from-block o _ (led-block _ _ _ _ _ (c .before .before .before .certifier .given .1) h .1), ← c .before .epoch-changed-at .ensures, c .if1 .taken)
+returns c = λ o h. rw (
+  from-block o _ (led-block _ _ _ _ _ (c .before .before .before .certifier .given .1) h .1),
+  ← c .before .epoch-changed-at .ensures,
+  c
+      .if1 .taken,
+)
 
 enum-told : tie.Need-enum-told
 enum-told c = search needs
@@ -27,7 +37,12 @@ enum-told-2 c = search needs
 
 returns-2 : tie.Need-returns-2
 unfolding ownVerdict verdict isNone holds
-returns-2 c = λ o h. rw (from-block o _ (led-block _ _ _ _ _ (c .before .before .before .certifier .given .1) h .1), ← c .before .epoch-changed-at .ensures, c .if1 .left)
+returns-2 c = λ o h. rw (
+  from-block o _ (led-block _ _ _ _ _ (c .before .before .before .certifier .given .1) h .1),
+  ← c .before .epoch-changed-at .ensures,
+  c
+      .if1 .left,
+)
 
 returns-3 : tie.Need-returns-3
 returns-3 c = λ o h. absurd (from-somewhere o (led-nowhere _ _ _ _ (c .enum-told .given .1) h))

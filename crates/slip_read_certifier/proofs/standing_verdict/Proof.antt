@@ -16,7 +16,8 @@ enum-known-certifier c = search needs
 
 shared-slice-read-if1 : tie.Need-shared-slice-read-if1
 unfolding InPlace
-shared-slice-read-if1 c = subst (InPlace (c .before .before .before .before .before .before .args .lacking .now)) (c .before .before .certifier .given .1) (c .before .before .before .before .before .before .pre .0)
+shared-slice-read-if1 c = subst (InPlace (c .before .before .before .before .before .before .args .lacking .now)) (c .before .before .certifier .given .1)
+    (c .before .before .before .before .before .before .pre .0)
 
 returns : tie.Need-returns
 unfolding Stands
@@ -26,7 +27,8 @@ returns c = λ reading q order l vs o fit p n k speak d.
 
 set-at-requires : tie.Need-set-at-requires
 unfolding InTable
-set-at-requires c κs = subst (InTable (c .before .before .before .before .before .before .before .args .rejecting .now)) (c .before .before .before .certifier .given .1) (c .before .before .before .before .before .before .before .pre .1)
+set-at-requires c κs = subst (InTable (c .before .before .before .before .before .before .before .args .rejecting .now))
+    (c .before .before .before .certifier .given .1) (c .before .before .before .before .before .before .before .pre .1)
 
 meet-requires : tie.Need-meet-requires
 meet-requires c κs = search needs
@@ -35,8 +37,11 @@ returns-2 : tie.Need-returns-2
 unfolding Stands
 returns-2 c = λ reading q order l vs o fit p n k speak d.
     let x = led-block q order _ _ _ (c .before .before .before .before .before .before .certifier .given .1) d in
-    let e = subst (Meeting (c .before .before .before .before .before .before .before .before .before .before .args .voters) (c .before .before .set-at .result)) (c .if2 .taken) (c .before .meet .ensures) in
-    rw (from-block o _ (x .1)) (stands-rejected reading q order l vs fit p _ _ n k _ (x .0) (c .before .before .before .if1 .left) _ speak (subst (λ (w : AuthoritySet). Meeting (c .before .before .before .before .before .before .before .before .before .before .args .voters) w true) (c .before .before .set-at .ensures) e))
+    let e = subst (Meeting (c .before .before .before .before .before .before .before .before .before .before .args .voters)
+    (c .before .before .set-at .result)) (c .if2 .taken) (c .before .meet .ensures) in
+    rw (from-block o _ (x .1)) (stands-rejected reading q order l vs fit p _ _ n k _ (x .0) (c .before .before .before .if1 .left) _ speak
+    (subst (λ (w : AuthoritySet). Meeting (c .before .before .before .before .before .before .before .before .before .before .args .voters) w true)
+    (c .before .before .set-at .ensures) e))
 
 enum-told : tie.Need-enum-told
 enum-told c = search needs
@@ -48,8 +53,11 @@ returns-3 : tie.Need-returns-3
 unfolding Stands
 returns-3 c = λ reading q order l vs o fit p n k speak d.
     let x = led-block q order _ _ _ (c .before .before .before .before .before .before .certifier .given .1) d in
-    let e = subst (Meeting (c .before .before .before .before .before .before .before .before .before .before .args .voters) (c .before .before .set-at .result)) (c .if2 .left) (c .before .meet .ensures) in
-    rw (from-block o _ (x .1)) (stands-kept reading q order l vs fit p _ _ n k _ (x .0) (c .before .before .before .if1 .left) _ speak (subst (λ (w : AuthoritySet). Meeting (c .before .before .before .before .before .before .before .before .before .before .args .voters) w false) (c .before .before .set-at .ensures) e))
+    let e = subst (Meeting (c .before .before .before .before .before .before .before .before .before .before .args .voters)
+    (c .before .before .set-at .result)) (c .if2 .left) (c .before .meet .ensures) in
+    rw (from-block o _ (x .1)) (stands-kept reading q order l vs fit p _ _ n k _ (x .0) (c .before .before .before .if1 .left) _ speak
+    (subst (λ (w : AuthoritySet). Meeting (c .before .before .before .before .before .before .before .before .before .before .args .voters) w false)
+    (c .before .before .set-at .ensures) e))
 
 returns-4 : tie.Need-returns-4
 unfolding Stands standingVerdict

@@ -27,14 +27,22 @@ part-epoch-changed-start : tie.Need-part-epoch-changed-start
 part-epoch-changed-start c = search needs
 
 part-epoch-changed-end : tie.Need-part-epoch-changed-end
-part-epoch-changed-end c = omega (arith, c .before .before .before .before .pre .0 .framed (c .before .before .before .before .args .place) (c .before .before .before .before .pre .1) .inside, c .record-end .ensures)
+part-epoch-changed-end c = omega (
+  arith,
+  c .before .before .before .before .pre .0 .framed (c .before .before .before .before .args .place)
+      (c .before .before .before .before .pre .1) .inside,
+  c .record-end .ensures,
+)
 
 epoch-changed-requires : tie.Need-epoch-changed-requires
-epoch-changed-requires c κs = rw (record-part _ _ (c .before .record-end .result) (c .before .record-end .ensures)) (c .before .before .before .before .before .pre .0 .framed (c .before .before .before .before .before .args .place) (c .before .before .before .before .before .pre .1) .formed)
+epoch-changed-requires c κs = rw (record-part _ _ (c .before .record-end .result) (c .before .record-end .ensures))
+    (c .before .before .before .before .before .pre .0 .framed (c .before .before .before .before .before .args .place)
+    (c .before .before .before .before .before .pre .1) .formed)
 
 returns : tie.Need-returns
 unfolding blockAtPlace blockFrom
-returns c = c .epoch-changed .ensures ∙ ap (λ (x : Bytes). blockIn x .marked) (record-part _ _ (c .before .before .record-end .result) (c .before .before .record-end .ensures))
+returns c = c .epoch-changed .ensures ∙ ap (λ (x : Bytes). blockIn x .marked)
+    (record-part _ _ (c .before .before .record-end .result) (c .before .before .record-end .ensures))
 
 pub epoch-changed-at-spec : {M : Type 1} → statement M
 epoch-changed-at-spec =

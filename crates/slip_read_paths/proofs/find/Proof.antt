@@ -18,13 +18,15 @@ enum-told c = search needs
 returns : tie.Need-returns
 unfolding onFrom
 returns c =
-    let found = sorted-at _ _ (c .before .before .before .before .before .before .pre .sorted) _ _ _ (c .before .found .given .1) (c .before .before .before .find-place .ensures) in
+    let found = sorted-at _ _ (c .before .before .before .before .before .before .pre .sorted) _ _ _ (c .before .found .given .1)
+    (c .before .before .before .find-place .ensures) in
     rw (named-there _ _ _ (c .before .before .before .before .before .before .pre) _ _ (found .0) (found .1)) (toPlace _ (found .0))
 
 returns-2 : tie.Need-returns-2
 unfolding onFrom
 returns-2 c =
-    let found = sorted-between _ _ (c .before .before .before .before .before .pre .sorted) _ _ _ (c .enum-told .given .1) (c .before .before .find-place .ensures) in
+    let found = sorted-between _ _ (c .before .before .before .before .before .pre .sorted) _ _ _ (c .enum-told .given .1)
+    (c .before .before .find-place .ensures) in
     rw (named-nowhere _ _ _ (c .before .before .before .before .before .pre) _ _ found) missing
 
 pub find-spec : {M : Type 1} → statement M

@@ -42,10 +42,17 @@ part-votes-for-start : tie.Need-part-votes-for-start Inv-loop μ-loop
 part-votes-for-start c = search needs
 
 part-votes-for-end : tie.Need-part-votes-for-end Inv-loop μ-loop
-part-votes-for-end c = omega (arith, c .before .before .before .before .before .before .before .pre .0 .framed (c .before .before .before .loop .j) (c .before .before .loop-test .taken) .inside, c .record-end .ensures)
+part-votes-for-end c = omega (
+  arith,
+  c .before .before .before .before .before .before .before .pre .0 .framed (c .before .before .before .loop .j)
+      (c .before .before .loop-test .taken) .inside,
+  c .record-end .ensures,
+)
 
 votes-for-requires : tie.Need-votes-for-requires Inv-loop μ-loop
-votes-for-requires c κs = rw (record-part _ _ (c .before .record-end .result) (c .before .record-end .ensures)) (c .before .before .before .before .before .before .before .before .pre .0 .framed (c .before .before .before .before .loop .j) (c .before .before .before .loop-test .taken) .formed)
+votes-for-requires c κs = rw (record-part _ _ (c .before .record-end .result) (c .before .record-end .ensures))
+    (c .before .before .before .before .before .before .before .before .pre .0 .framed (c .before .before .before .before .loop .j)
+    (c .before .before .before .loop-test .taken) .formed)
 
 cast-votes : tie.Need-cast-votes Inv-loop μ-loop
 cast-votes c = search needs
@@ -64,7 +71,9 @@ unfolding blockAtPlace blockFrom
 loop-again c =
     let l = c .before .before .before .before .before .loop in
     let a = c .before .before .before .before .before .before .before .before .before .args in (
-      noted-more _ _ _ _ _ _ (l .inv .0) (omega (arith, l .inv .1 .0, c .before .before .before .before .before .before .before .before .before .pre .1)) (byte-of _ _ (c .votes-for .ensures ∙ ap (λ (x : Bytes). votesFor (blockIn x) (asLocator (a .locator))) (record-part _ _ (c .before .before .record-end .result) (c .before .before .record-end .ensures)))),
+      noted-more _ _ _ _ _ _ (l .inv .0) (omega (arith, l .inv .1 .0, c .before .before .before .before .before .before .before .before .before .pre .1))
+          (byte-of _ _ (c .votes-for .ensures ∙ ap (λ (x : Bytes). votesFor (blockIn x) (asLocator (a .locator)))
+          (record-part _ _ (c .before .before .record-end .result) (c .before .before .record-end .ensures)))),
       (simp length-set (l .inv .1 .0), omega arith),
     )
 
@@ -72,7 +81,8 @@ same-length : tie.Need-same-length Inv-loop μ-loop
 same-length c = c .before .loop .inv .1 .0
 
 returns : tie.Need-returns Inv-loop μ-loop
-returns c = let e : c .before .loop .j ≡ length (c .before .before .before .before .before .args .order .now) = omega (arith, c .before .loop .inv .1 .1) in rw (← e) (c .before .loop .inv .0)
+returns c = let e : c .before .loop .j ≡ length (c .before .before .before .before .before .args .order .now) = omega (arith, c .before .loop .inv .1 .1) in
+    rw (← e) (c .before .loop .inv .0)
 
 pub note-votes-spec : {M : Type 1} → statement M
 note-votes-spec =

@@ -19,7 +19,11 @@ shared-slice-read-at : tie.Need-shared-slice-read-at
 shared-slice-read-at c = search needs
 
 add-from : tie.Need-add-from
-add-from c = omega (arith, c .before .before .before .pre .0 .sorted .framed (c .before .before .before .args .place) (c .before .before .before .pre .1) .inside)
+add-from c = omega (
+  arith,
+  c .before .before .before .pre .0 .sorted .framed (c .before .before .before .args .place) (c .before .before .before .pre .1)
+      .inside,
+)
 
 record-end-requires : tie.Need-record-end-requires
 record-end-requires c κs = c .before .before .before .pre .0 .sorted .framed (c .before .before .before .args .place) (c .before .before .before .pre .1)
@@ -31,17 +35,26 @@ part-include-count-start : tie.Need-part-include-count-start
 part-include-count-start c = search needs
 
 part-include-count-end : tie.Need-part-include-count-end
-part-include-count-end c = omega (arith, c .before .before .before .before .pre .0 .sorted .framed (c .before .before .before .before .args .place) (c .before .before .before .before .pre .1) .inside, c .record-end .ensures)
+part-include-count-end c = omega (
+  arith,
+  c .before .before .before .before .pre .0 .sorted .framed (c .before .before .before .before .args .place)
+      (c .before .before .before .before .pre .1) .inside,
+  c .record-end .ensures,
+)
 
 include-count-requires : tie.Need-include-count-requires
-include-count-requires c κs = rw (record-part _ _ (c .before .record-end .result) (c .before .record-end .ensures)) (c .before .before .before .before .before .pre .0 .sorted .framed (c .before .before .before .before .before .args .place) (c .before .before .before .before .before .pre .1) .formed)
+include-count-requires c κs = rw (record-part _ _ (c .before .record-end .result) (c .before .record-end .ensures))
+    (c .before .before .before .before .before .pre .0 .sorted .framed (c .before .before .before .before .before .args .place)
+    (c .before .before .before .before .before .pre .1) .formed)
 
 returns : tie.Need-returns
 unfolding blockAtPlace blockFrom
 returns c =
     let a = c .before .before .before .before .before .before .before .args in
     let b : Block = blockAtPlace (a .records .now) (a .order .now) (a .place) in
-    let e : length (b .includes) ≡ c .before .include-count .result = ap (λ (x : Bytes). length (blockIn x .includes)) (sym (record-part _ _ (c .before .before .before .record-end .result) (c .before .before .before .record-end .ensures))) ∙ sym (c .before .include-count .ensures) in
+    let e : length (b .includes) ≡ c .before .include-count .result = ap (λ (x : Bytes). length (blockIn x .includes))
+    (sym (record-part _ _ (c .before .before .before .record-end .result) (c .before .before .before .record-end .ensures))) ∙ sym
+    (c .before .include-count .ensures) in
     rw (step-past _ b (a .k) (omega arith)) ends
 
 sub-include : tie.Need-sub-include
@@ -51,12 +64,22 @@ part-include-start : tie.Need-part-include-start
 part-include-start c = search needs
 
 part-include-end : tie.Need-part-include-end
-part-include-end c = omega (arith, c .before .before .before .before .before .before .before .pre .0 .sorted .framed (c .before .before .before .before .before .before .before .args .place) (c .before .before .before .before .before .before .before .pre .1) .inside, c .before .before .before .record-end .ensures)
+part-include-end c = omega (
+  arith,
+  c .before .before .before .before .before .before .before .pre .0 .sorted .framed
+      (c .before .before .before .before .before .before .before .args .place) (c .before .before .before .before .before .before .before .pre .1) .inside,
+  c
+      .before .before .before .record-end .ensures,
+)
 
 include-requires : tie.Need-include-requires
 include-requires c κs =
-    let same = record-part _ _ (c .before .before .before .before .record-end .result) (c .before .before .before .before .record-end .ensures) in
-    (rw same (c .before .before .before .before .before .before .before .before .pre .0 .sorted .framed (c .before .before .before .before .before .before .before .before .args .place) (c .before .before .before .before .before .before .before .before .pre .1) .formed), omega (arith, c .before .before .include-count .ensures))
+    let same = record-part _ _ (c .before .before .before .before .record-end .result) (c .before .before .before .before .record-end .ensures) in (
+      rw same (c .before .before .before .before .before .before .before .before .pre .0 .sorted .framed
+          (c .before .before .before .before .before .before .before .before .args .place)
+          (c .before .before .before .before .before .before .before .before .pre .1) .formed),
+      omega (arith, c .before .before .include-count .ensures),
+    )
 
 find-requires : tie.Need-find-requires
 find-requires c κs = search needs
@@ -66,8 +89,10 @@ unfolding blockAtPlace blockFrom
 returns-2 c =
     let a = c .before .before .before .before .before .before .before .before .before .before .args in
     let b : Block = blockAtPlace (a .records .now) (a .order .now) (a .place) in
-    let same = record-part _ _ (c .before .before .before .before .before .before .record-end .result) (c .before .before .before .before .before .before .record-end .ensures) in
-    let e : length (b .includes) ≡ c .before .before .before .before .include-count .result = ap (λ (x : Bytes). length (blockIn x .includes)) (sym same) ∙ sym (c .before .before .before .before .include-count .ensures) in
+    let same = record-part _ _ (c .before .before .before .before .before .before .record-end .result)
+    (c .before .before .before .before .before .before .record-end .ensures) in
+    let e : length (b .includes) ≡ c .before .before .before .before .include-count .result = ap (λ (x : Bytes). length (blockIn x .includes)) (sym same) ∙
+    sym (c .before .before .before .before .include-count .ensures) in
     let i = c .before .include .ensures ∙ ap (λ (x : Bytes). getD (blockIn x .includes) (a .k) noReference) same in
     rw (step-at _ b (a .k) (omega arith), ← i) (c .find .ensures)
 

@@ -12,7 +12,8 @@ use Rattle.slip_read_paths.proofs.walk.Statement.{statement}
 use Rattle.slip_read_paths.proofs.walk.Tie as tie
 
 abbrev Inv-loop : tie.InvT-loop
-Inv-loop records order start path place₀ i₀ place i = (place < length order) × (leads (suppliedBlocks records) path (blockAtPlace records order start) ≡ leads (suppliedBlocks records) (drop i path) (blockAtPlace records order place))
+Inv-loop records order start path place₀ i₀ place i = (place < length order) ×
+    (leads (suppliedBlocks records) path (blockAtPlace records order start) ≡ leads (suppliedBlocks records) (drop i path) (blockAtPlace records order place))
 
 abbrev μ-loop : tie.MeasureT-loop
 μ-loop records order start path place₀ i₀ place i = length path - i
@@ -40,20 +41,25 @@ loop-less c = search needs
 
 loop-again : tie.Need-loop-again Inv-loop μ-loop
 loop-again c =
-    let led = led-block _ _ _ _ _ (c .before .led .given .1) (c .before .before .before .step .ensures) in
-    (led .0, c .before .before .before .before .before .before .loop .inv .1 ∙ walks-on _ _ _ _ _ (c .before .before .before .before .before .loop-test .taken) (led .1))
+    let led = led-block _ _ _ _ _ (c .before .led .given .1) (c .before .before .before .step .ensures) in (
+      led .0,
+      c .before .before .before .before .before .before .loop .inv .1 ∙ walks-on _ _ _ _ _
+          (c .before .before .before .before .before .loop-test .taken) (led .1),
+    )
 
 enum-told : tie.Need-enum-told Inv-loop μ-loop
 enum-told c = search needs
 
 returns : tie.Need-returns Inv-loop μ-loop
-returns c = rw (c .before .before .before .before .before .loop .inv .1 ∙ walks-nowhere _ _ _ _ (c .before .before .before .before .loop-test .taken) (led-nowhere _ _ _ _ (c .enum-told .given .1) (c .before .before .step .ensures))) ends
+returns c = rw (c .before .before .before .before .before .loop .inv .1 ∙ walks-nowhere _ _ _ _ (c .before .before .before .before .loop-test .taken)
+    (led-nowhere _ _ _ _ (c .enum-told .given .1) (c .before .before .step .ensures))) ends
 
 enum-told-2 : tie.Need-enum-told-2 Inv-loop μ-loop
 enum-told-2 c = search needs
 
 returns-2 : tie.Need-returns-2 Inv-loop μ-loop
-returns-2 c = rw (c .before .before .before .before .before .loop .inv .1 ∙ walks-missing _ _ _ _ (c .before .before .before .before .loop-test .taken) (led-missing _ _ _ _ (c .enum-told2 .given .1) (c .before .before .step .ensures))) missing
+returns-2 c = rw (c .before .before .before .before .before .loop .inv .1 ∙ walks-missing _ _ _ _ (c .before .before .before .before .loop-test .taken)
+    (led-missing _ _ _ _ (c .enum-told2 .given .1) (c .before .before .step .ensures))) missing
 
 returns-3 : tie.Need-returns-3 Inv-loop μ-loop
 returns-3 c = rw (c .before .loop .inv .1 ∙ walks-end _ _ _ _ (c .loop-test .left)) (toPlace _ (c .before .loop .inv .0))

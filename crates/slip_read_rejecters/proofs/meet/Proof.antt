@@ -32,7 +32,8 @@ loop-less : tie.Need-loop-less Inv-loop μ-loop
 loop-less c = search needs
 
 loop-again : tie.Need-loop-again Inv-loop μ-loop
-loop-again c = none-more (λ j. member (c .before .before .before .before .args .a) j && member (c .before .before .before .before .args .b) j) (c .before .before .before .loop .i) (c .before .before .before .loop .inv) (sym (c .before .in-both .ensures) ∙ c .if1 .left)
+loop-again c = none-more (λ j. member (c .before .before .before .before .args .a) j && member (c .before .before .before .before .args .b) j)
+    (c .before .before .before .loop .i) (c .before .before .before .loop .inv) (sym (c .before .in-both .ensures) ∙ c .if1 .left)
 
 returns-2 : tie.Need-returns-2 Inv-loop μ-loop
 unfolding Meeting

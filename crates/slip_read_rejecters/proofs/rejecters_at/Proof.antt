@@ -9,7 +9,8 @@ enum-known-include c = search needs
 
 set-at-requires : tie.Need-set-at-requires
 unfolding InTable
-set-at-requires c κs = subst (InTable (c .before .before .before .before .args .rejecting .now)) (c .before .include .given .1) (c .before .before .before .before .pre)
+set-at-requires c κs = subst (InTable (c .before .before .before .before .args .rejecting .now)) (c .before .include .given .1)
+    (c .before .before .before .before .pre)
 
 enum-told : tie.Need-enum-told
 enum-told c = search needs

@@ -20,16 +20,27 @@ include-count-at-requires : tie.Need-include-count-at-requires Inv-loop μ-loop
 include-count-at-requires c κs = (c .before .before .before .pre .0 .0 .sorted, c .before .before .before .pre .1 .0 .0)
 
 own-reject-requires : tie.Need-own-reject-requires Inv-loop μ-loop
-own-reject-requires c κs = ((c .before .before .before .before .pre .0 .0 .sorted, c .before .before .before .before .pre .1 .0 .0), right-small (c .before .before .before .before .args .records .now) (c .before .before .before .before .pre .0 .1) _ (c .before .before .before .before .pre .0 .0 .only (c .before .before .before .before .args .place) (c .before .before .before .before .pre .1 .0 .0)))
+own-reject-requires c κs = (
+  (c .before .before .before .before .pre .0 .0 .sorted, c .before .before .before .before .pre .1 .0 .0),
+  right-small
+      (c .before .before .before .before .args .records .now) (c .before .before .before .before .pre .0 .1) _
+      (c .before .before .before .before .pre .0 .0 .only (c .before .before .before .before .args .place) (c .before .before .before .before .pre .1 .0 .0)),
+)
 
 loop-holds : tie.Need-loop-holds Inv-loop μ-loop
-loop-holds c = joined-none _ _ (c .before .before .before .before .before .pre .0 .0) (right-falls _ (c .before .before .before .before .before .pre .0 .1)) _ _ _
+loop-holds c = joined-none _ _ (c .before .before .before .before .before .pre .0 .0) (right-falls _ (c .before .before .before .before .before .pre .0 .1)) _
+    _ _
 
 step-requires : tie.Need-step-requires Inv-loop μ-loop
-step-requires c κs = (c .before .before .before .before .before .before .before .pre .0 .0, c .before .before .before .before .before .before .before .pre .1 .0 .0)
+step-requires c κs = (
+  c .before .before .before .before .before .before .before .pre .0 .0,
+  c .before .before .before .before .before .before .before .pre .1
+      .0 .0,
+)
 
 rejecters-at-requires : tie.Need-rejecters-at-requires Inv-loop μ-loop
-rejecters-at-requires c κs = in-table _ _ _ (c .before .before .before .before .before .before .before .before .pre .1 .0 .1) (in-place _ _ _ _ (c .step .ensures))
+rejecters-at-requires c κs = in-table _ _ _ (c .before .before .before .before .before .before .before .before .pre .1 .0 .1)
+    (in-place _ _ _ _ (c .step .ensures))
 
 union-requires : tie.Need-union-requires Inv-loop μ-loop
 union-requires c κs = search needs
@@ -43,12 +54,21 @@ loop-less c = search needs
 loop-again : tie.Need-loop-again Inv-loop μ-loop
 loop-again c =
     let q = c .before .before .before .before .before .before .before .before .before .before .pre in
-    joined-more _ _ (q .0 .0) (right-falls _ (q .0 .1)) _ _ (q .1 .0 .0) _ _ _ (c .before .before .before .before .loop .inv) _ (c .before .before .step .result) (omega (arith, c .before .before .before .before .before .before .include-count-at .ensures, c .before .before .before .loop-test .taken)) (c .before .before .step .ensures) (c .union .ensures ∙ ap (united (c .before .before .before .before .loop .found)) (c .before .rejecters-at .ensures))
+    joined-more _ _ (q .0 .0) (right-falls _ (q .0 .1)) _ _ (q .1 .0 .0) _ _ _ (c .before .before .before .before .loop .inv) _
+    (c .before .before .step .result) (omega (
+      arith,
+      c .before .before .before .before .before .before .include-count-at .ensures,
+      c .before .before
+          .before .loop-test .taken,
+    )) (c .before .before .step .ensures)
+    (c .union .ensures ∙ ap (united (c .before .before .before .before .loop .found)) (c .before .rejecters-at .ensures))
 
 returns : tie.Need-returns Inv-loop μ-loop
 returns c =
     let q = c .before .before .before .before .before .before .before .pre in
-    joined-all _ _ (q .0 .0) (right-falls _ (q .0 .1)) _ _ (q .1 .0 .0) _ _ _ (c .before .loop .inv) (asLocator (c .before .before .before .before .before .before .before .args .locator)) (c .before .before .own-reject .ensures) (omega (arith, c .before .before .before .include-count-at .ensures, c .loop-test .left)) (q .1 .1)
+    joined-all _ _ (q .0 .0) (right-falls _ (q .0 .1)) _ _ (q .1 .0 .0) _ _ _ (c .before .loop .inv)
+    (asLocator (c .before .before .before .before .before .before .before .args .locator)) (c .before .before .own-reject .ensures)
+    (omega (arith, c .before .before .before .include-count-at .ensures, c .loop-test .left)) (q .1 .1)
 
 pub rejecters-of-spec : {M : Type 1} → statement M
 rejecters-of-spec =

@@ -13,7 +13,8 @@ shared-slice-read-reference-at : tie.Need-shared-slice-read-reference-at
 shared-slice-read-reference-at c = search needs
 
 reference-at-requires : tie.Need-reference-at-requires
-reference-at-requires c κs = c .before .before .before .before .pre .0 .framed (c .before .before .before .before .args .place) (c .before .before .before .before .pre .1 .0)
+reference-at-requires c κs = c .before .before .before .before .pre .0 .framed (c .before .before .before .before .args .place)
+    (c .before .before .before .before .pre .1 .0)
 
 returns : tie.Need-returns
 unfolding blockAtPlace
@@ -24,7 +25,8 @@ shared-slice-read-result c = search needs
 
 returns-2 : tie.Need-returns-2
 unfolding blockAtPlace
-returns-2 c = λ l n. vote-noted _ _ _ l _ _ _ n (c .before .before .before .before .before .before .before .before .pre .1 .0) (sym (as-author _ _ (c .before .before .before .reference-at .ensures)) ∙ c .before .if1 .left)
+returns-2 c = λ l n. vote-noted _ _ _ l _ _ _ n (c .before .before .before .before .before .before .before .before .pre .1 .0)
+    (sym (as-author _ _ (c .before .before .before .reference-at .ensures)) ∙ c .before .if1 .left)
 
 pub is-vote-spec : {M : Type 1} → statement M
 is-vote-spec =

@@ -13,10 +13,18 @@ enum-known-end : tie.Need-enum-known-end
 enum-known-end c = search needs
 
 is-vote-requires : tie.Need-is-vote-requires
-is-vote-requires c κs = (c .before .before .before .before .before .before .before .before .pre .0 .sorted, (led-block _ _ _ _ _ (c .before .end .given .1) (c .before .before .before .walk .ensures) .0, c .before .before .before .before .before .before .before .before .pre .1 .1))
+is-vote-requires c κs = (
+  c .before .before .before .before .before .before .before .before .pre .0 .sorted,
+  (
+    led-block _ _ _ _ _ (c .before .end .given .1) (c .before .before .before .walk .ensures) .0,
+    c .before .before .before .before .before .before .before
+        .before .pre .1 .1,
+  ),
+)
 
 returns : tie.Need-returns
-returns c = λ l n. shows-block _ l _ _ _ _ true (led-block _ _ _ _ _ (c .before .before .before .end .given .1) (c .before .before .before .before .before .walk .ensures) .1) (sym (c .if1 .taken) ∙ c .before .is-vote .ensures l n)
+returns c = λ l n. shows-block _ l _ _ _ _ true (led-block _ _ _ _ _ (c .before .before .before .end .given .1)
+    (c .before .before .before .before .before .walk .ensures) .1) (sym (c .if1 .taken) ∙ c .before .is-vote .ensures l n)
 
 enum-told : tie.Need-enum-told
 enum-told c = search needs
@@ -25,7 +33,8 @@ enum-told-2 : tie.Need-enum-told-2
 enum-told-2 c = search needs
 
 returns-2 : tie.Need-returns-2
-returns-2 c = λ l n. shows-block _ l _ _ _ _ false (led-block _ _ _ _ _ (c .before .before .before .end .given .1) (c .before .before .before .before .before .walk .ensures) .1) (sym (c .if1 .left) ∙ c .before .is-vote .ensures l n)
+returns-2 c = λ l n. shows-block _ l _ _ _ _ false (led-block _ _ _ _ _ (c .before .before .before .end .given .1)
+    (c .before .before .before .before .before .walk .ensures) .1) (sym (c .if1 .left) ∙ c .before .is-vote .ensures l n)
 
 returns-3 : tie.Need-returns-3
 returns-3 c = λ l n. shows-nowhere _ l _ _ _ (led-nowhere _ _ _ _ (c .enum-told .given .1) (c .before .before .walk .ensures))

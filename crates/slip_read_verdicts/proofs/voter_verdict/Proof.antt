@@ -11,7 +11,14 @@ enum-known-certifier c = search needs
 
 path-verdict-requires : tie.Need-path-verdict-requires
 unfolding InPlace
-path-verdict-requires c κs = (c .before .before .before .before .before .before .before .pre .0, (subst (InPlace (c .before .before .before .before .before .before .before .args .order .now)) (c .before .certifier .given .1) (c .before .before .before .before .before .before .before .pre .1 .0), c .before .before .before .before .before .before .before .pre .1 .1))
+path-verdict-requires c κs = (
+  c .before .before .before .before .before .before .before .pre .0,
+  (
+    subst (InPlace (c .before .before .before .before .before .before .before .args .order .now)) (c .before .certifier .given .1)
+        (c .before .before .before .before .before .before .before .pre .1 .0),
+    c .before .before .before .before .before .before .before .pre .1 .1,
+  ),
+)
 
 enum-told : tie.Need-enum-told
 enum-told c = search needs

@@ -32,14 +32,19 @@ sub-if2 c = search needs
 
 returns-2 : tie.Need-returns-2
 unfolding TookVoter
-returns-2 c = voter-cut (c .before .before .before .before .before .args .slip .now) (c .before .before .before .before .before .args .at) (omega arith) (omega (arith, c .before .read-u16 .ensures))
+returns-2 c = voter-cut (c .before .before .before .before .before .args .slip .now) (c .before .before .before .before .before .args .at) (omega arith)
+    (omega (arith, c .before .read-u16 .ensures))
 
 add-t7 : tie.Need-add-t7
 add-t7 c = search needs
 
 returns-3 : tie.Need-returns-3
 unfolding TookVoter
-returns-3 c = (voter-reads (c .before .before .before .before .before .args .slip .now) (c .before .before .before .before .before .args .at) (c .before .before .read-u64 .result) (c .before .read-u16 .result) (c .before .before .read-u64 .ensures) (c .before .read-u16 .ensures) (omega arith), (omega arith, omega arith))
+returns-3 c = (
+  voter-reads (c .before .before .before .before .before .args .slip .now) (c .before .before .before .before .before .args .at)
+      (c .before .before .read-u64 .result) (c .before .read-u16 .result) (c .before .before .read-u64 .ensures) (c .before .read-u16 .ensures) (omega arith),
+  (omega arith, omega arith),
+)
 
 pub take-voter-spec : {M : Type 1} → statement M
 take-voter-spec =

@@ -9,7 +9,8 @@ use Rattle.slip_read_voters.proofs.take_voters.Statement.{statement}
 use Rattle.slip_read_voters.proofs.take_voters.Tie as tie
 
 abbrev Inv-loop : tie.InvT-loop
-Inv-loop slip from count records order votes certifier at₀ authors₀ shown₀ last₀ i₀ at authors shown last i = Taking slip from count records order votes certifier at authors shown last i
+Inv-loop slip from count records order votes certifier at₀ authors₀ shown₀ last₀ i₀ at authors shown last i = Taking slip from count records order votes
+    certifier at authors shown last i
 
 abbrev μ-loop : tie.MeasureT-loop
 μ-loop slip from count records order votes certifier at₀ authors₀ shown₀ last₀ i₀ at authors shown last i = count - i
@@ -31,7 +32,8 @@ enum-told c = search needs
 
 returns : tie.Need-returns Inv-loop μ-loop
 unfolding TookVoters TookVoter
-returns c = taking-none _ _ _ _ _ _ _ _ _ _ _ _ (c .before .before .before .before .loop .inv) (c .before .before .before .loop-test .taken) (subst (TookVoter _ _) (c .enum-told .given .1) (c .before .before .take-voter .ensures))
+returns c = taking-none _ _ _ _ _ _ _ _ _ _ _ _ (c .before .before .before .before .loop .inv) (c .before .before .before .loop-test .taken)
+    (subst (TookVoter _ _) (c .enum-told .given .1) (c .before .before .take-voter .ensures))
 
 follows-requires : tie.Need-follows-requires Inv-loop μ-loop
 follows-requires c κs = search needs
@@ -40,7 +42,9 @@ returns-2 : tie.Need-returns-2 Inv-loop μ-loop
 unfolding TookVoters TookVoter
 returns-2 c =
     let took = subst (TookVoter _ _) (c .before .before .before .author .given .1) (c .before .before .before .before .before .take-voter .ensures) in
-    taking-falls _ _ _ _ _ _ _ _ _ _ _ _ (c .before .before .before .before .before .before .before .loop .inv) (c .before .before .before .before .before .before .loop-test .taken) _ _ (took .0) (sym (c .before .follows .ensures) ∙ not-true (c .before .follows .result) (c .if1 .taken))
+    taking-falls _ _ _ _ _ _ _ _ _ _ _ _ (c .before .before .before .before .before .before .before .loop .inv)
+    (c .before .before .before .before .before .before .loop-test .taken) _ _ (took .0)
+    (sym (c .before .follows .ensures) ∙ not-true (c .before .follows .result) (c .if1 .taken))
 
 add-path : tie.Need-add-path Inv-loop μ-loop
 unfolding TookVoter
@@ -84,8 +88,13 @@ loop-less c = search needs
 loop-again : tie.Need-loop-again Inv-loop μ-loop
 unfolding TookVoter
 loop-again c =
-    let took = subst (TookVoter _ _) (c .before .before .before .before .before .before .before .author .given .1) (c .before .before .before .before .before .before .before .before .before .take-voter .ensures) in
-    taking-on _ _ _ _ _ _ _ _ _ _ _ _ (c .before .before .before .before .before .before .before .before .before .before .before .loop .inv) (c .before .before .before .before .before .before .before .before .before .before .loop-test .taken) _ _ (took .0) (c .before .before .voter-verdict .result) _ _ (sym (c .before .before .before .before .before .follows .ensures) ∙ not-false (c .before .before .before .before .before .follows .result) (c .before .before .before .before .if1 .left)) (took .1 .1) (c .before .with-author .ensures) (c .worse .ensures) (c .before .before .voter-verdict .ensures)
+    let took = subst (TookVoter _ _) (c .before .before .before .before .before .before .before .author .given .1)
+    (c .before .before .before .before .before .before .before .before .before .take-voter .ensures) in
+    taking-on _ _ _ _ _ _ _ _ _ _ _ _ (c .before .before .before .before .before .before .before .before .before .before .before .loop .inv)
+    (c .before .before .before .before .before .before .before .before .before .before .loop-test .taken) _ _ (took .0)
+    (c .before .before .voter-verdict .result) _ _ (sym (c .before .before .before .before .before .follows .ensures) ∙ not-false
+    (c .before .before .before .before .before .follows .result) (c .before .before .before .before .if1 .left)) (took .1 .1)
+    (c .before .with-author .ensures) (c .worse .ensures) (c .before .before .voter-verdict .ensures)
 
 returns-3 : tie.Need-returns-3 Inv-loop μ-loop
 unfolding TookVoters

@@ -27,8 +27,11 @@ slice-aggregate-find-distances-2 c = search needs
 
 find-distances-requires : tie.Need-find-distances-requires
 find-distances-requires c κs = let a = c .before .before .before .before .before .before .args in
-    let q = c .before .before .before .before .before .before .pre in
-    ((q .0 .0, q .0 .1), fresh-tables (a .store .now) (a .order .now) (asLocator (a .locator)) _ _ (length-replicate {A = ℕ} 131072 0) (length-replicate {A = ℕ} 131072 0) (zeros-at 131072))
+    let q = c .before .before .before .before .before .before .pre in (
+      (q .0 .0, q .0 .1),
+      fresh-tables (a .store .now) (a .order .now) (asLocator (a .locator)) _ _ (length-replicate {A = ℕ} 131072 0)
+          (length-replicate {A = ℕ} 131072 0) (zeros-at 131072),
+    )
 
 slice-aggregate-parts-size : tie.Need-slice-aggregate-parts-size
 slice-aggregate-parts-size c = search needs
@@ -48,9 +51,14 @@ returns c = let a = c .before .before .before .before .before .before .before .b
     let l = asLocator (a .locator) in
     let first = readingByte (asReading (a .reading)) in
     let d = c .before .before .before .before .before .find-distances .ensures in
-    let bytes = bytes-of s (λ j h. omega (arith, c .before .before .before .before .before .before .before .before .before .before .before .shared-slice-known .given j)) in
+    let bytes = bytes-of s (λ j h. omega (
+      arith,
+      c .before .before .before .before .before .before .before .before .before .before .before .shared-slice-known
+          .given j,
+    )) in
     let size = listed-length s o l _ _ d (a .certifiers .now) (a .n) (q .1 .1) (q .0 .0) bytes (length-locatorBytes (a .locator)) first in
-    let e = over-short (listedBytes s o l first (a .certifiers .now) (a .n)) (a .out .now) (omega (arith, size, c .before .parts-size .ensures, c .if1 .taken)) in
+    let e = over-short (listedBytes s o l first (a .certifiers .now) (a .n)) (a .out .now)
+    (omega (arith, size, c .before .parts-size .ensures, c .if1 .taken)) in
     (ap (λ (w : Written). w .answer) e, ap (λ (w : Written). w .out) e)
 
 reading-byte-requires : tie.Need-reading-byte-requires
@@ -63,27 +71,41 @@ slice-aggregate-write-parts-2 : tie.Need-slice-aggregate-write-parts-2
 slice-aggregate-write-parts-2 c = search needs
 
 write-parts-requires : tie.Need-write-parts-requires
-write-parts-requires c κs = let q = c .before .before .before .before .before .before .before .before .before .before .before .before .before .before .before .before .pre in
-    ((q .0, c .before .before .before .before .before .before .before .before .before .find-distances .ensures), (q .1, omega (arith, c .before .before .before .before .before .parts-size .ensures, c .before .before .before .before .if1 .left)))
+write-parts-requires c κs = let q = c .before .before .before .before .before .before .before .before .before .before .before .before .before .before .before
+    .before .pre in (
+      (q .0, c .before .before .before .before .before .before .before .before .before .find-distances .ensures),
+      (q .1, omega (arith, c .before .before .before .before .before .parts-size .ensures, c .before .before .before .before .if1 .left)),
+    )
 
 same-length : tie.Need-same-length
 same-length c = search needs
 
 returns-2 : tie.Need-returns-2
 unfolding asSlipAnswer
-returns-2 c = let a = c .before .before .before .before .before .before .before .before .before .before .before .before .before .before .before .before .before .before .before .args in
-    let q = c .before .before .before .before .before .before .before .before .before .before .before .before .before .before .before .before .before .before .before .pre in
+returns-2 c = let a = c .before .before .before .before .before .before .before .before .before .before .before .before .before .before .before .before
+    .before .before .before .args in
+    let q = c .before .before .before .before .before .before .before .before .before .before .before .before .before .before .before .before .before .before
+    .before .pre in
     let s = a .store .now in
     let o = a .order .now in
     let l = asLocator (a .locator) in
     let first = readingByte (asReading (a .reading)) in
     let d = c .before .before .before .before .before .before .before .before .before .before .before .before .find-distances .ensures in
-    let bytes = bytes-of s (λ j h. omega (arith, c .before .before .before .before .before .before .before .before .before .before .before .before .before .before .before .before .before .before .shared-slice-known .given j)) in
+    let bytes = bytes-of s (λ j h. omega (
+      arith,
+      c .before .before .before .before .before .before .before .before .before .before .before .before .before
+          .before .before .before .before .before .shared-slice-known .given j,
+    )) in
     let size = listed-length s o l _ _ d (a .certifiers .now) (a .n) (q .1 .1) (q .0 .0) bytes (length-locatorBytes (a .locator)) first in
     let r = c .before .before .before .before .before .before .before .before .parts-size .ensures in
-    let h : length (listedBytes s o l first (a .certifiers .now) (a .n)) ≤ length (a .out .now) = omega (arith, size, r, c .before .before .before .before .before .before .before .if1 .left) in
-    let e = over-long (listedBytes s o l first (a .certifiers .now) (a .n)) (a .out .now) h (c .before .before .before .before .before .before .before .before .parts-size .result) (omega (arith, size, r)) in
-    (ap (λ (x : Written). x .answer) e, rw (c .before .before .before .before .before .before .reading-byte .ensures) at (c .before .before .write-parts .ensures) ∙ ap (λ (x : Written). x .out) e)
+    let h : length (listedBytes s o l first (a .certifiers .now) (a .n)) ≤ length (a .out .now) = omega
+    (arith, size, r, c .before .before .before .before .before .before .before .if1 .left) in
+    let e = over-long (listedBytes s o l first (a .certifiers .now) (a .n)) (a .out .now) h
+    (c .before .before .before .before .before .before .before .before .parts-size .result) (omega (arith, size, r)) in (
+      ap (λ (x : Written). x .answer) e,
+      rw (c .before .before .before .before .before .before .reading-byte .ensures) at
+          (c .before .before .write-parts .ensures) ∙ ap (λ (x : Written). x .out) e,
+    )
 
 pub write-listed-spec : {M : Type 1} → statement M
 write-listed-spec =

@@ -36,7 +36,8 @@ slice-aggregate-list-certifiers c = let a = c .before .before .before .before .b
     let v = c .before .before .before .find-certifying-blocks in
     let r = v .ensures in
     let m = v .result .blocks in
-    let are : take m (v .last .1 .1 .1 .1 .1 .1 .0) ≡ certifyingPositionsIn (asReading (a .reading)) (a .stakes .now) (a .store .now) (asLocator (a .locator)) = ap (take m) (r .1 .1 .0) ∙ front _ _ m (r .0) in
+    let are : take m (v .last .1 .1 .1 .1 .1 .1 .0) ≡ certifyingPositionsIn (asReading (a .reading)) (a .stakes .now) (a .store .now)
+    (asLocator (a .locator)) = ap (take m) (r .1 .1 .0) ∙ front _ _ m (r .0) in
     r .0 ∙ sym (ap length are)
 
 slice-aggregate-list-certifiers-2 : tie.Need-slice-aggregate-list-certifiers-2
@@ -49,10 +50,16 @@ list-certifiers-requires c κs = let a = c .before .before .before .before .befo
     let v = c .before .before .before .before .before .find-certifying-blocks in
     let r = v .ensures in
     let m = v .result .blocks in
-    let are : take m (v .last .1 .1 .1 .1 .1 .1 .0) ≡ certifyingPositionsIn (asReading (a .reading)) (a .stakes .now) (a .store .now) l = ap (take m) (r .1 .1 .0) ∙ front _ _ m (r .0) in
+    let are : take m (v .last .1 .1 .1 .1 .1 .1 .0) ≡ certifyingPositionsIn (asReading (a .reading)) (a .stakes .now) (a .store .now) l = ap (take m)
+    (r .1 .1 .0) ∙ front _ _ m (r .0) in
     let few = certifying-few (asReading (a .reading)) (a .stakes .now) (a .store .now) l (a .order .now) (p .0 .0) in (
       (some-committee (p .0 .0), r .1 .1 .1),
-      (λ i h. subst (λ (ps : List ℕ). getD ps i 0 ∈ a .order .now) (sym are) (certifying-place (asReading (a .reading)) (a .stakes .now) (a .store .now) l (a .order .now) (p .0 .0) i (subst (λ (ps : List ℕ). i < length ps) are h)), omega (arith, ap length are, few, p .1 .0, p .1 .1)),
+      (
+        λ i h. subst (λ (ps : List ℕ). getD ps i 0 ∈ a .order .now) (sym are)
+            (certifying-place (asReading (a .reading)) (a .stakes .now) (a .store .now) l (a .order .now) (p .0 .0) i
+            (subst (λ (ps : List ℕ). i < length ps) are h)),
+        omega (arith, ap length are, few, p .1 .0, p .1 .1),
+      ),
     )
 
 same-length : tie.Need-same-length
@@ -64,8 +71,15 @@ returns c = let a = c .before .before .before .before .before .before .before .b
     let v = c .before .before .before .before .before .before .before .before .before .find-certifying-blocks in
     let r = v .ensures in
     let m = v .result .blocks in
-    let are : take m (v .last .1 .1 .1 .1 .1 .1 .0) ≡ certifyingPositionsIn (asReading (a .reading)) (a .stakes .now) (a .store .now) l = ap (take m) (r .1 .1 .0) ∙ front _ _ m (r .0) in
-    (r .0, (r .1 .0, table-of (asReading (a .reading)) (a .store .now) (a .order .now) l _ _ m (r .0) _ are (c .before .before .before .list-certifiers .ensures)))
+    let are : take m (v .last .1 .1 .1 .1 .1 .1 .0) ≡ certifyingPositionsIn (asReading (a .reading)) (a .stakes .now) (a .store .now) l = ap (take m)
+    (r .1 .1 .0) ∙ front _ _ m (r .0) in (
+      r .0,
+      (
+        r .1 .0,
+        table-of (asReading (a .reading)) (a .store .now) (a .order .now) l _ _ m (r .0) _ are
+            (c .before .before .before .list-certifiers .ensures),
+      ),
+    )
 
 pub list-found-spec : {M : Type 1} → statement M
 list-found-spec =

@@ -38,7 +38,8 @@ returns c = let a = c .before .before .before .before .before .before .before .b
     let r = c .before .before .before .before .list-found .ensures in
     let v = c .before .before .before .before .list-found .result .authors in
     let f = final-in-by (asReading (a .reading)) (a .stakes .now) (a .store .now) l (a .total .0) v (q .1) (r .1 .0) in
-    let g : false ≡ quorumOf (a .total .0) (stakeOf (a .stakes .now) v) = rw (← c .before .before .stake-of .ensures) (sym (not-true _ (c .if1 .taken)) ∙ c .before .is-quorum .ensures) in
+    let g : false ≡ quorumOf (a .total .0) (stakeOf (a .stakes .now) v) = rw (← c .before .before .stake-of .ensures)
+    (sym (not-true _ (c .if1 .taken)) ∙ c .before .is-quorum .ensures) in
     let e = slip-not-final (asReading (a .reading)) (a .stakes .now) (a .store .now) (a .out .now) l (q .0 .sound) (q .0 .inOrder) (sym (g ∙ f)) in
     (ap (λ (x : Written). x .answer) e, ap (λ (x : Written). x .out) e)
 
@@ -76,11 +77,14 @@ returns-2 c = let a = c .before .before .before .before .before .before .before 
     let r = c .before .before .before .before .before .before .before .before .before .list-found .ensures in
     let v = c .before .before .before .before .before .before .before .before .before .list-found .result .authors in
     let ps = certifyingPositionsIn reading (a .stakes .now) s l in
-    let same = table-bytes reading s o l ps _ (c .before .before .before .before .before .before .before .before .before .list-found .result .blocks) (r .0) (r .1 .1) in
+    let same = table-bytes reading s o l ps _ (c .before .before .before .before .before .before .before .before .before .list-found .result .blocks) (r .0)
+    (r .1 .1) in
     let f = final-in-by reading (a .stakes .now) s l (a .total .0) v (q .1) (r .1 .0) in
-    let g : true ≡ quorumOf (a .total .0) (stakeOf (a .stakes .now) v) = rw (← c .before .before .before .before .before .before .before .stake-of .ensures) (sym (not-false _ (c .before .before .before .before .before .if1 .left)) ∙ c .before .before .before .before .before .before .is-quorum .ensures) in
+    let g : true ≡ quorumOf (a .total .0) (stakeOf (a .stakes .now) v) = rw (← c .before .before .before .before .before .before .before .stake-of .ensures)
+    (sym (not-false _ (c .before .before .before .before .before .if1 .left)) ∙ c .before .before .before .before .before .before .is-quorum .ensures) in
     let x = c .before .before .write-listed .ensures in
-    let e = ap (λ (bytes : Bytes). writtenOver bytes (a .out .now)) same ∙ slip-final reading (a .stakes .now) s (a .out .now) l (q .0 .sound) (q .0 .inOrder) (sym (g ∙ f)) in
+    let e = ap (λ (bytes : Bytes). writtenOver bytes (a .out .now)) same ∙ slip-final reading (a .stakes .now) s (a .out .now) l (q .0 .sound) (q .0 .inOrder)
+    (sym (g ∙ f)) in
     (x .0 ∙ ap (λ (z : Written). z .answer) e, x .1 ∙ ap (λ (z : Written). z .out) e)
 
 pub write-found-spec : {M : Type 1} → statement M

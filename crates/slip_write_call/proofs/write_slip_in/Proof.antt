@@ -30,7 +30,8 @@ returns : tie.Need-returns
 unfolding asSlipAnswer
 returns c = let a = c .before .before .before .before .before .before .args in
     let told = c .enum-told .given in
-    let e = slip-broken (asReading (a .reading)) (a .stakes .now) (a .store .now) (a .out .now) (asLocator (a .locator)) (broken-sound (a .stakes .now) (told .0 .0) (ap asNewCommittee (sym (told .1)) ∙ c .before .before .new-committee .ensures)) in
+    let e = slip-broken (asReading (a .reading)) (a .stakes .now) (a .store .now) (a .out .now) (asLocator (a .locator))
+    (broken-sound (a .stakes .now) (told .0 .0) (ap asNewCommittee (sym (told .1)) ∙ c .before .before .new-committee .ensures)) in
     (ap (λ (x : Written). x .answer) e, ap (λ (x : Written). x .out) e)
 
 in-order-requires : tie.Need-in-order-requires
@@ -44,7 +45,8 @@ unfolding asSlipAnswer
 returns-2 c = let a = c .before .before .before .before .before .before .before .before .before .args in
     let told = c .before .before .before .total .given in
     let t = taken-sound (a .stakes .now) (told .0 .0) (ap asNewCommittee (sym (told .1)) ∙ c .before .before .before .before .before .new-committee .ensures) in
-    let e = slip-disordered (asReading (a .reading)) (a .stakes .now) (a .store .now) (a .out .now) (asLocator (a .locator)) (t .0) (sym (c .before .in-order .ensures) ∙ not-true _ (c .if1 .taken)) in
+    let e = slip-disordered (asReading (a .reading)) (a .stakes .now) (a .store .now) (a .out .now) (asLocator (a .locator)) (t .0)
+    (sym (c .before .in-order .ensures) ∙ not-true _ (c .if1 .taken)) in
     (ap (λ (x : Written). x .answer) e, ap (λ (x : Written). x .out) e)
 
 slice-aggregate-sorted-positions : tie.Need-slice-aggregate-sorted-positions
@@ -60,18 +62,24 @@ array-share-prefix-order c = search needs
 
 slice-aggregate-write-found : tie.Need-slice-aggregate-write-found
 slice-aggregate-write-found c = let a = c .before .before .before .before .before .before .before .before .before .before .before .before .before .args in
-    let o : storeInOrder (a .stakes .now) (a .store .now) ≡ true = sym (c .before .before .before .before .before .in-order .ensures) ∙ not-false _ (c .before .before .before .before .if1 .left) in
+    let o : storeInOrder (a .stakes .now) (a .store .now) ≡ true = sym (c .before .before .before .before .before .in-order .ensures) ∙ not-false _
+    (c .before .before .before .before .if1 .left) in
     let p = c .before .before .sorted-positions .ensures in
     p .1 .0 ∙ sym (ap length (p .1 .1) ∙ sorted-count (a .store .now) (order-laid (a .stakes .now) (a .store .now) o))
 
 write-found-requires : tie.Need-write-found-requires
 write-found-requires c κs = let a = c .before .before .before .before .before .before .before .before .before .before .before .before .before .before .args in
     let told = c .before .before .before .before .before .before .before .before .total .given in
-    let t = taken-sound (a .stakes .now) (told .0 .0) (ap asNewCommittee (sym (told .1)) ∙ c .before .before .before .before .before .before .before .before .before .before .new-committee .ensures) in
-    let o : storeInOrder (a .stakes .now) (a .store .now) ≡ true = sym (c .before .before .before .before .before .before .in-order .ensures) ∙ not-false _ (c .before .before .before .before .before .if1 .left) in
+    let t = taken-sound (a .stakes .now) (told .0 .0) (ap asNewCommittee (sym (told .1)) ∙ c .before .before .before .before .before .before .before .before
+    .before .before .new-committee .ensures) in
+    let o : storeInOrder (a .stakes .now) (a .store .now) ≡ true = sym (c .before .before .before .before .before .before .in-order .ensures) ∙ not-false _
+    (c .before .before .before .before .before .if1 .left) in
     let p = c .before .before .before .sorted-positions .ensures in
-    let laid = order-laid (a .stakes .now) (a .store .now) o in
-    ((record { sound = t .0; inOrder = o; laid = laid; places = p .1 .1 }, t .1), omega (arith, p .0, p .1 .0, ap length (p .1 .1) ∙ sorted-count (a .store .now) laid))
+    let laid = order-laid (a .stakes .now) (a .store .now) o in (
+      (record { sound = t .0; inOrder = o; laid = laid; places = p .1 .1 }, t .1),
+      omega
+          (arith, p .0, p .1 .0, ap length (p .1 .1) ∙ sorted-count (a .store .now) laid),
+    )
 
 same-length : tie.Need-same-length
 same-length c = search needs

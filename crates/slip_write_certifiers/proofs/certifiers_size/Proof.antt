@@ -58,10 +58,24 @@ voters-size-requires c κs = let q = c .before .before .before .before .before .
     omega (arith, q .0 .0, q .1 .1 (c .before .before .before .before .loop .i) (c .before .before .before .loop-test .taken))
 
 add-size : tie.Need-add-size Inv-loop μ-loop
-add-size c = omega (arith, c .voters-size .ensures .1, c .before .before .before .before .before .loop .inv .1 .0, c .before .before .before .before .loop-test .taken, c .before .before .before .before .before .before .before .before .pre .0 .1)
+add-size c = omega (
+  arith,
+  c .voters-size .ensures .1,
+  c .before .before .before .before .before .loop .inv .1 .0,
+  c .before .before .before .before
+      .loop-test .taken,
+  c .before .before .before .before .before .before .before .before .pre .0 .1,
+)
 
 add-size-2 : tie.Need-add-size-2 Inv-loop μ-loop
-add-size-2 c = omega (arith, c .voters-size .ensures .1, c .before .before .before .before .before .loop .inv .1 .0, c .before .before .before .before .loop-test .taken, c .before .before .before .before .before .before .before .before .pre .0 .1)
+add-size-2 c = omega (
+  arith,
+  c .voters-size .ensures .1,
+  c .before .before .before .before .before .loop .inv .1 .0,
+  c .before .before .before .before
+      .loop-test .taken,
+  c .before .before .before .before .before .before .before .before .pre .0 .1,
+)
 
 add-i : tie.Need-add-i Inv-loop μ-loop
 add-i c = search needs
@@ -79,8 +93,11 @@ loop-again c = let a = c .before .before .before .before .before .before .before
 
 returns : tie.Need-returns Inv-loop μ-loop
 returns c = let a = c .before .before .before .before .args in
-    let g = c .before .loop in
-    (omega (arith, g .inv .1 .1, size-last (a .near .now) (a .certifiers .now) (a .n) (g .i) (c .loop-test .left)), omega (arith, g .inv .0, g .inv .1 .0, c .before .before .before .before .pre .0 .1))
+    let g = c .before .loop in (
+      omega (arith, g .inv .1 .1, size-last (a .near .now) (a .certifiers .now) (a .n) (g .i) (c .loop-test .left)),
+      omega
+          (arith, g .inv .0, g .inv .1 .0, c .before .before .before .before .pre .0 .1),
+    )
 
 pub certifiers-size-spec : {M : Type 1} → statement M
 certifiers-size-spec =

@@ -28,7 +28,12 @@ count-requires : tie.Need-count-requires
 count-requires c κs = search needs
 
 cast-out : tie.Need-cast-out
-cast-out c = omega (arith, c .count .ensures, few-voters (c .before .before .before .before .before .before .before .before .before .before .before .before .args .voters))
+cast-out c = omega (
+  arith,
+  c .count .ensures,
+  few-voters (c .before .before .before .before .before .before .before .before .before .before .before .before
+      .args .voters),
+)
 
 add-out : tie.Need-add-out
 add-out c = search needs
@@ -40,19 +45,46 @@ add-write-voters : tie.Need-add-write-voters
 add-write-voters c = search needs
 
 write-voters-requires : tie.Need-write-voters-requires
-write-voters-requires c κs = let q = c .before .before .before .before .before .before .before .before .before .before .before .before .before .pre in
-    (q .0, (q .1 .0, omega (arith, q .1 .1, length-set (c .before .before .before .before .write-reference .last .0) (c .before .before .before .before .before .before .before .before .before .before .before .before .before .args .at + 48) (c .before .count .result), c .before .before .before .before .write-reference .kept .0)))
+write-voters-requires c κs = let q = c .before .before .before .before .before .before .before .before .before .before .before .before .before .pre in (
+  q .0,
+  (
+    q .1 .0,
+    omega (
+      arith,
+      q .1 .1,
+      length-set (c .before .before .before .before .write-reference .last .0)
+          (c .before .before .before .before .before .before .before .before .before .before .before .before .before .args .at + 48) (c .before .count .result),
+      c .before .before .before .before .write-reference .kept .0,
+    ),
+  ),
+)
 
 same-length : tie.Need-same-length
-same-length c = c .before .before .write-voters .kept .1 .1 .1 .1 .1 .1 .0 ∙ length-set (c .before .before .before .before .before .before .before .write-reference .last .0) (c .before .before .before .before .before .before .before .before .before .before .before .before .before .before .before .before .args .at + 48) (c .before .before .before .before .count .result) ∙ c .before .before .before .before .before .before .before .write-reference .kept .0
+same-length c = c .before .before .write-voters .kept .1 .1 .1 .1 .1 .1 .0 ∙ length-set
+    (c .before .before .before .before .before .before .before .write-reference .last .0)
+    (c .before .before .before .before .before .before .before .before .before .before .before .before .before .before .before .before .args .at + 48)
+    (c .before .before .before .before .count .result) ∙ c .before .before .before .before .before .before .before .write-reference .kept .0
 
 returns : tie.Need-returns
 unfolding blockAtPlace
 returns c = let a = c .before .before .before .before .before .before .before .before .before .before .before .before .before .before .before .before .args in
     let q = c .before .before .before .before .before .before .before .before .before .before .before .before .before .before .before .before .pre in
-    let bytes = bytes-of (a .store .now) (λ j h. omega (arith, c .before .before .before .before .before .before .before .before .before .before .before .before .before .before .before .shared-slice-known .given j)) in
-    let e = c .before .before .write-voters .ensures in
-    (omega (arith, e .0), λ l d. e .1 l d ∙ rw (c .before .before .before .before .count .ensures, c .before .before .before .before .before .before .before .write-reference .ensures, c .before .before .before .before .before .before .before .before .before .reference-at .ensures) (certifier-written (a .store .now) (a .order .now) l (a .near .now) (a .steps .now) (q .0 .0 .0) bytes d (a .k) (q .0 .1 .0) (a .voters) (q .1 .0) (a .out .now) (a .at)))
+    let bytes = bytes-of (a .store .now) (λ j h. omega (
+      arith,
+      c .before .before .before .before .before .before .before .before .before .before .before
+          .before .before .before .before .shared-slice-known .given j,
+    )) in
+    let e = c .before .before .write-voters .ensures in (
+      omega (arith, e .0),
+      λ l d. e .1 l d ∙ rw (
+        c .before .before .before .before .count .ensures,
+        c .before .before .before .before .before .before .before
+            .write-reference .ensures,
+        c .before .before .before .before .before .before .before .before .before .reference-at .ensures,
+      )
+          (certifier-written (a .store .now) (a .order .now) l (a .near .now) (a .steps .now) (q .0 .0 .0) bytes d (a .k) (q .0 .1 .0) (a .voters) (q .1 .0)
+          (a .out .now) (a .at)),
+    )
 
 pub write-certifier-spec : {M : Type 1} → statement M
 write-certifier-spec =

@@ -26,8 +26,13 @@ abbrev μ-loop : tie.MeasureT-loop
     n - i
 
 loop-holds : tie.Need-loop-holds Inv-loop μ-loop
-loop-holds c = let a = c .before .before .before .before .before .before .args in
-    (omega arith, (omega (arith, size-first (a .near .now) (a .certifiers .now) (a .n)), (refl, λ l d. ap (sets (a .out .now) (a .at)) (sym (bytes-first (a .store .now) (a .order .now) l (a .certifiers .now) (a .n))))))
+loop-holds c = let a = c .before .before .before .before .before .before .args in (
+  omega arith,
+  (
+    omega (arith, size-first (a .near .now) (a .certifiers .now) (a .n)),
+    (refl, λ l d. ap (sets (a .out .now) (a .at)) (sym (bytes-first (a .store .now) (a .order .now) l (a .certifiers .now) (a .n)))),
+  ),
+)
 
 mul-k : tie.Need-mul-k Inv-loop μ-loop
 mul-k c = search needs
@@ -68,8 +73,20 @@ write-certifier-requires c κs = let a = c .before .before .before .before .befo
     let q = c .before .before .before .before .before .before .before .before .before .before .before .before .pre in
     let g = c .before .before .before .before .before .loop in
     let t = c .before .before .before .before .loop-test .taken in
-    let r = q .1 .1 .0 (g .i) t in
-    ((q .0 .0, (r .0, q .0 .1)), (r .1, omega (arith, g .inv .1 .0, g .inv .1 .1 .0, q .1 .1 .1, size-next (a .near .now) (a .certifiers .now) (a .n) (g .i) t)))
+    let r = q .1 .1 .0 (g .i) t in (
+      (q .0 .0, (r .0, q .0 .1)),
+      (
+        r .1,
+        omega (
+          arith,
+          g .inv .1 .0,
+          g .inv .1 .1 .0,
+          q .1 .1 .1,
+          size-next (a .near .now) (a .certifiers .now) (a .n) (g .i)
+              t,
+        ),
+      ),
+    )
 
 add-i : tie.Need-add-i Inv-loop μ-loop
 add-i c = search needs
@@ -84,8 +101,22 @@ loop-again c = let a = c .before .before .before .before .before .before .before
     let g = c .before .before .before .before .before .before .before .before .loop in
     let t = c .before .before .before .before .before .before .before .loop-test .taken in
     let e = c .before .before .write-certifier .ensures in
-    let bytes = bytes-of (a .store .now) (λ j h. omega (arith, c .before .before .before .before .before .before .before .before .before .before .before .before .before .before .shared-slice-known .given j)) in
-    (omega (arith, t), (omega (arith, e .0, g .inv .1 .0, size-next (a .near .now) (a .certifiers .now) (a .n) (g .i) t), (c .before .before .write-certifier .kept .1 .1 .1 .1 .1 .1 .0 ∙ g .inv .1 .1 .0, λ l d. g .inv .1 .1 .1 l d ∙ bytes-next (a .store .now) (a .order .now) l (a .near .now) (a .steps .now) (q .0 .0 .0) bytes d (a .certifiers .now) (a .n) (q .1 .1 .0) (g .i) t (g .out) (g .to) ∙ rw (← e .1 l d, ← e .0))))
+    let bytes = bytes-of (a .store .now) (λ j h. omega (
+      arith,
+      c .before .before .before .before .before .before .before .before .before .before .before
+          .before .before .before .shared-slice-known .given j,
+    )) in (
+      omega (arith, t),
+      (
+        omega (arith, e .0, g .inv .1 .0, size-next (a .near .now) (a .certifiers .now) (a .n) (g .i) t),
+        (
+          c .before .before .write-certifier .kept .1 .1 .1 .1 .1 .1 .0 ∙ g .inv .1 .1 .0,
+          λ l d. g .inv .1 .1 .1 l d ∙ bytes-next (a .store .now)
+              (a .order .now) l (a .near .now) (a .steps .now) (q .0 .0 .0) bytes d (a .certifiers .now) (a .n) (q .1 .1 .0) (g .i) t (g .out) (g .to) ∙ rw
+              (← e .1 l d, ← e .0),
+        ),
+      ),
+    )
 
 same-length : tie.Need-same-length Inv-loop μ-loop
 same-length c = c .before .loop .inv .1 .1 .0
@@ -93,7 +124,8 @@ same-length c = c .before .loop .inv .1 .1 .0
 returns : tie.Need-returns Inv-loop μ-loop
 returns c = let a = c .before .before .before .before .before .before .before .before .args in
     let g = c .before .loop in
-    λ l d. sym (g .inv .1 .1 .1 l d ∙ ap (sets (g .out) (g .to)) (bytes-last (a .store .now) (a .order .now) l (a .certifiers .now) (a .n) (g .i) (c .loop-test .left)))
+    λ l d. sym (g .inv .1 .1 .1 l d ∙ ap (sets (g .out) (g .to))
+    (bytes-last (a .store .now) (a .order .now) l (a .certifiers .now) (a .n) (g .i) (c .loop-test .left)))
 
 pub write-certifiers-spec : {M : Type 1} → statement M
 write-certifiers-spec =

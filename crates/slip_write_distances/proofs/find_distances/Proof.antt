@@ -18,7 +18,14 @@ loop-holds : tie.Need-loop-holds Inv-loop μ-loop
 loop-holds c = (omega arith, c .before .before .before .before .pre .1)
 
 read-block-requires : tie.Need-read-block-requires Inv-loop μ-loop
-read-block-requires c κs = (((c .before .before .before .before .before .before .before .before .pre .0 .0, c .before .before .loop-test .taken), c .before .before .before .before .before .before .before .before .pre .0 .1), c .before .before .before .loop .inv .1)
+read-block-requires c κs = (
+  (
+    (c .before .before .before .before .before .before .before .before .pre .0 .0, c .before .before .loop-test .taken),
+    c .before
+        .before .before .before .before .before .before .before .pre .0 .1,
+  ),
+  c .before .before .before .loop .inv .1,
+)
 
 add-k : tie.Need-add-k Inv-loop μ-loop
 add-k c = search needs
@@ -27,7 +34,11 @@ loop-less : tie.Need-loop-less Inv-loop μ-loop
 loop-less c = search needs
 
 loop-again : tie.Need-loop-again Inv-loop μ-loop
-loop-again c = (omega (arith, c .before .before .before .before .before .before .before .loop-test .taken), c .before .before .before .before .read-block .ensures)
+loop-again c = (
+  omega (arith, c .before .before .before .before .before .before .before .loop-test .taken),
+  c .before .before .before .before .read-block
+      .ensures,
+)
 
 same-length : tie.Need-same-length Inv-loop μ-loop
 same-length c = c .before .loop .inv .1 .long ∙ sym (c .before .before .before .before .before .before .pre .1 .long)

@@ -21,8 +21,11 @@ shared-slice-read-at c = search needs
 
 own-vote-at-requires : tie.Need-own-vote-at-requires
 own-vote-at-requires c κs = let a = c .before .before .before .before .args in
-    let q = c .before .before .before .before .pre in
-    (place-entry (a .store .now) (a .order .now) (q .0 .0) (a .k) (q .0 .1), unfold blockAtPlace in place-author (a .store .now) (a .order .now) (q .0 .0) (a .k) (q .0 .1))
+    let q = c .before .before .before .before .pre in (
+      place-entry (a .store .now) (a .order .now) (q .0 .0) (a .k) (q .0 .1),
+      unfold blockAtPlace in place-author (a .store .now) (a .order .now) (q .0 .0)
+          (a .k) (q .0 .1),
+    )
 
 reference-at-requires : tie.Need-reference-at-requires
 reference-at-requires c κs = let a = c .before .before .before .before .before .args in
@@ -36,7 +39,8 @@ returns : tie.Need-returns
 unfolding asReference blockAtPlace
 returns c = let a = c .before .before .before .before .before .before .before .before .args in
     let e = ap (λ (r : BlockReference). r .authority) (c .before .before .reference-at .ensures) in
-    let v = c .before .contains .ensures ∙ ap₂ member (c .before .before .before .own-vote-at .ensures) e ∙ own-member (blockAtPlace (a .store .now) (a .order .now) (a .k)) (asLocator (a .locator)) in
+    let v = c .before .contains .ensures ∙ ap₂ member (c .before .before .before .own-vote-at .ensures) e ∙ own-member
+    (blockAtPlace (a .store .now) (a .order .now) (a .k)) (asLocator (a .locator)) in
     rw (sym v ∙ not-true _ (c .if1 .taken))
 
 mul-near : tie.Need-mul-near
@@ -73,7 +77,8 @@ returns-2 : tie.Need-returns-2
 unfolding asReference blockAtPlace
 returns-2 c = let a = c .before .before .before .before .before .before .before .before .args in
     let e = ap (λ (r : BlockReference). r .authority) (c .before .before .reference-at .ensures) in
-    let v = c .before .contains .ensures ∙ ap₂ member (c .before .before .before .own-vote-at .ensures) e ∙ own-member (blockAtPlace (a .store .now) (a .order .now) (a .k)) (asLocator (a .locator)) in
+    let v = c .before .contains .ensures ∙ ap₂ member (c .before .before .before .own-vote-at .ensures) e ∙ own-member
+    (blockAtPlace (a .store .now) (a .order .now) (a .k)) (asLocator (a .locator)) in
     rw (sym v ∙ not-false _ (c .if1 .left), e)
 
 pub note-own-spec : {M : Type 1} → statement M

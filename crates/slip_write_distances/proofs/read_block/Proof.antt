@@ -26,11 +26,15 @@ shared-slice-read-at c = search needs
 
 include-count-at-requires : tie.Need-include-count-at-requires Inv-loop μ-loop
 include-count-at-requires c κs = let a = c .before .before .before .before .before .args in
-    place-entry (a .store .now) (a .order .now) (c .before .before .before .before .before .pre .0 .0 .0) (a .k) (c .before .before .before .before .before .pre .0 .0 .1)
+    place-entry (a .store .now) (a .order .now) (c .before .before .before .before .before .pre .0 .0 .0) (a .k)
+    (c .before .before .before .before .before .pre .0 .0 .1)
 
 loop-holds : tie.Need-loop-holds Inv-loop μ-loop
-loop-holds c = let a = c .before .before .before .before .before .before .args in
-    (omega arith, reading-start (a .store .now) (a .order .now) (asLocator (a .locator)) (a .near .now) (a .steps .now) (a .k) (c .before .before .before .before .before .before .pre .1))
+loop-holds c = let a = c .before .before .before .before .before .before .args in (
+  omega arith,
+  reading-start (a .store .now) (a .order .now) (asLocator (a .locator)) (a .near .now) (a .steps .now) (a .k)
+      (c .before .before .before .before .before .before .pre .1),
+)
 
 include-at-requires : tie.Need-include-at-requires Inv-loop μ-loop
 unfolding blockAtPlace
@@ -41,15 +45,27 @@ include-at-requires c κs = let a = c .before .before .before .before .before .b
 place-of-requires : tie.Need-place-of-requires Inv-loop μ-loop
 unfolding blockAtPlace
 place-of-requires c κs = let a = c .before .before .before .before .before .before .before .before .before .args in
-    let q = c .before .before .before .before .before .before .before .before .before .pre .0 .0 in
-    (q .0, rw (c .include-at .ensures) (include-found (a .store .now) (a .order .now) (q .0) (a .k) (q .1) (c .before .before .loop .j) (omega (arith, c .before .loop-test .taken, c .before .before .before .include-count-at .ensures))))
+    let q = c .before .before .before .before .before .before .before .before .before .pre .0 .0 in (
+      q .0,
+      rw (c .include-at .ensures) (include-found (a .store .now) (a .order .now) (q .0) (a .k) (q .1) (c .before .before .loop .j)
+          (omega (arith, c .before .loop-test .taken, c .before .before .before .include-count-at .ensures))),
+    )
 
 cast-fold-include : tie.Need-cast-fold-include Inv-loop μ-loop
 unfolding blockAtPlace
 cast-fold-include c = let a = c .before .before .before .before .before .before .before .before .before .before .before .before .args in
     let q = c .before .before .before .before .before .before .before .before .before .before .before .before .pre .0 .0 in
-    let bytes = bytes-of (a .store .now) (λ j h. omega (arith, c .before .before .before .before .before .before .before .before .before .before .before .shared-slice-known .given j)) in
-    omega (arith, c .before .before .before .before .loop-test .taken, c .before .before .before .before .before .before .include-count-at .ensures, few-includes (a .store .now) (a .order .now) (asLocator (a .locator)) (q .0) bytes (a .k) (q .1))
+    let bytes = bytes-of (a .store .now) (λ j h. omega (
+      arith,
+      c .before .before .before .before .before .before .before .before .before .before .before
+          .shared-slice-known .given j,
+    )) in
+    omega (
+      arith,
+      c .before .before .before .before .loop-test .taken,
+      c .before .before .before .before .before .before .include-count-at .ensures,
+      few-includes (a .store .now) (a .order .now) (asLocator (a .locator)) (q .0) bytes (a .k) (q .1),
+    )
 
 fold-include-requires : tie.Need-fold-include-requires Inv-loop μ-loop
 unfolding blockAtPlace
@@ -59,10 +75,22 @@ fold-include-requires c κs = let a = c .before .before .before .before .before 
     let i = c .before .before .place-of .result in
     let s = a .store .now in
     let o = a .order .now in
-    let n : g .j < length (blockAtPlace s o (a .k) .includes) = omega (arith, c .before .before .before .before .loop-test .taken, c .before .before .before .before .before .before .include-count-at .ensures) in
-    let e : blockAtPlace s o i .reference ≡ getD (blockAtPlace s o (a .k) .includes) (g .j) noReference = c .before .before .place-of .ensures .1 ∙ c .before .before .before .include-at .ensures in
-    let low = include-lower s o (p .0 .0 .0) (a .k) (p .0 .0 .1) (g .j) n i (c .before .before .place-of .ensures .0) e in
-    ((g .inv .1 .words .beside .long ∙ p .1 .long, g .inv .1 .beside .long ∙ p .1 .longSteps), ((low, omega (arith, p .0 .0 .1, p .0 .1)), λ x w. omega (arith, include-word s o (asLocator (a .locator)) (a .near .now) (a .steps .now) (a .k) (p .1) (g .near) (g .steps) (g .j) (g .inv .1) n i low e x w, few-steps s o (asLocator (a .locator)) (p .0 .0 .0) x (getD (blockAtPlace s o (a .k) .includes) (g .j) noReference), p .0 .1)))
+    let n : g .j < length (blockAtPlace s o (a .k) .includes) = omega
+    (arith, c .before .before .before .before .loop-test .taken, c .before .before .before .before .before .before .include-count-at .ensures) in
+    let e : blockAtPlace s o i .reference ≡ getD (blockAtPlace s o (a .k) .includes) (g .j) noReference = c .before .before .place-of .ensures .1 ∙ c .before
+    .before .before .include-at .ensures in
+    let low = include-lower s o (p .0 .0 .0) (a .k) (p .0 .0 .1) (g .j) n i (c .before .before .place-of .ensures .0) e in (
+      (g .inv .1 .words .beside .long ∙ p .1 .long, g .inv .1 .beside .long ∙ p .1 .longSteps),
+      (
+        (low, omega (arith, p .0 .0 .1, p .0 .1)),
+        λ x w. omega (
+          arith,
+          include-word s o (asLocator (a .locator)) (a .near .now) (a .steps .now) (a .k) (p .1) (g .near) (g .steps) (g .j) (g .inv .1) n i low e x w,
+          few-steps s o (asLocator (a .locator)) (p .0 .0 .0) x (getD (blockAtPlace s o (a .k) .includes) (g .j) noReference),
+          p .0 .1,
+        ),
+      ),
+    )
 
 add-j : tie.Need-add-j Inv-loop μ-loop
 add-j c = search needs
@@ -72,16 +100,28 @@ loop-less c = search needs
 
 loop-again : tie.Need-loop-again Inv-loop μ-loop
 unfolding blockAtPlace
-loop-again c = let a = c .before .before .before .before .before .before .before .before .before .before .before .before .before .before .before .before .before .args in
+loop-again c = let a = c .before .before .before .before .before .before .before .before .before .before .before .before .before .before .before .before
+    .before .args in
     let p = c .before .before .before .before .before .before .before .before .before .before .before .before .before .before .before .before .before .pre in
     let g = c .before .before .before .before .before .before .before .before .before .before .loop in
     let i = c .before .before .before .before .before .before .before .place-of .result in
     let s = a .store .now in
     let o = a .order .now in
-    let n : g .j < length (blockAtPlace s o (a .k) .includes) = omega (arith, c .before .before .before .before .before .before .before .before .before .loop-test .taken, c .before .before .before .before .before .before .before .before .before .before .before .include-count-at .ensures) in
-    let e : blockAtPlace s o i .reference ≡ getD (blockAtPlace s o (a .k) .includes) (g .j) noReference = c .before .before .before .before .before .before .before .place-of .ensures .1 ∙ c .before .before .before .before .before .before .before .before .include-at .ensures in
-    let low = include-lower s o (p .0 .0 .0) (a .k) (p .0 .0 .1) (g .j) n i (c .before .before .before .before .before .before .before .place-of .ensures .0) e in
-    (omega (arith, c .before .before .before .before .before .before .before .before .before .loop-test .taken), reading-more s o (asLocator (a .locator)) (a .near .now) (a .steps .now) (a .k) (p .1) (g .near) (g .steps) (g .j) (g .inv .1) n i low e _ _ (c .before .before .before .before .fold-include .ensures))
+    let n : g .j < length (blockAtPlace s o (a .k) .includes) = omega (
+      arith,
+      c .before .before .before .before .before .before .before .before .before .loop-test .taken,
+      c .before .before .before .before .before .before
+          .before .before .before .before .before .include-count-at .ensures,
+    ) in
+    let e : blockAtPlace s o i .reference ≡ getD (blockAtPlace s o (a .k) .includes) (g .j) noReference = c .before .before .before .before .before .before
+    .before .place-of .ensures .1 ∙ c .before .before .before .before .before .before .before .before .include-at .ensures in
+    let low = include-lower s o (p .0 .0 .0) (a .k) (p .0 .0 .1) (g .j) n i (c .before .before .before .before .before .before .before .place-of .ensures .0)
+    e in (
+      omega (arith, c .before .before .before .before .before .before .before .before .before .loop-test .taken),
+      reading-more s o (asLocator (a .locator))
+          (a .near .now) (a .steps .now) (a .k) (p .1) (g .near) (g .steps) (g .j) (g .inv .1) n i low e _ _
+          (c .before .before .before .before .fold-include .ensures),
+    )
 
 note-own-requires : tie.Need-note-own-requires Inv-loop μ-loop
 note-own-requires c κs = let p = c .before .before .before .before .before .before .before .before .before .pre in
@@ -100,9 +140,11 @@ returns c = let a = c .before .before .before .before .before .before .before .b
     let g = c .before .before .before .before .before .loop in
     let s = a .store .now in
     let o = a .order .now in
-    let n : g .j ≡ length (blockAtPlace s o (a .k) .includes) = omega (arith, c .before .before .before .before .loop-test .left, g .inv .0, c .before .before .before .before .before .before .include-count-at .ensures) in
+    let n : g .j ≡ length (blockAtPlace s o (a .k) .includes) = omega
+    (arith, c .before .before .before .before .loop-test .left, g .inv .0, c .before .before .before .before .before .before .include-count-at .ensures) in
     let r = subst (λ (j : ℕ). Reading s o (asLocator (a .locator)) (a .near .now) (a .steps .now) (a .k) (g .near) (g .steps) j) n (g .inv .1) in
-    reading-done s o (asLocator (a .locator)) (a .near .now) (a .steps .now) (a .k) (p .1) (p .0 .0 .0) (p .0 .0 .1) (g .near) (g .steps) r (omega (arith, p .0 .0 .1, p .0 .1)) _ (c .before .before .note-own .ensures)
+    reading-done s o (asLocator (a .locator)) (a .near .now) (a .steps .now) (a .k) (p .1) (p .0 .0 .0) (p .0 .0 .1) (g .near) (g .steps) r
+    (omega (arith, p .0 .0 .1, p .0 .1)) _ (c .before .before .note-own .ensures)
 
 pub read-block-spec : {M : Type 1} → statement M
 read-block-spec =

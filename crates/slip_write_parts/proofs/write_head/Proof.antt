@@ -17,15 +17,23 @@ write-locator-requires c κs = let a = c .before .before .args in
 
 write-u16-requires : tie.Need-write-u16-requires
 write-u16-requires c κs = let a = c .before .before .before .before .before .before .args in
-    omega (arith, c .before .before .before .before .before .before .pre, length-set (a .out .now) 0 (a .head .first), c .before .before .before .write-locator .kept .0)
+    omega (
+      arith,
+      c .before .before .before .before .before .before .pre,
+      length-set (a .out .now) 0 (a .head .first),
+      c .before .before .before
+          .write-locator .kept .0,
+    )
 
 same-length : tie.Need-same-length
 same-length c = let a = c .before .before .before .before .before .before .before .before .before .args in
-    c .before .before .write-u16 .kept .0 ∙ c .before .before .before .before .before .before .write-locator .kept .0 ∙ length-set (a .out .now) 0 (a .head .first)
+    c .before .before .write-u16 .kept .0 ∙ c .before .before .before .before .before .before .write-locator .kept .0 ∙ length-set (a .out .now) 0
+    (a .head .first)
 
 returns : tie.Need-returns
 returns c = let a = c .before .before .before .before .before .before .before .before .before .args in
-    c .before .before .write-u16 .ensures ∙ rw (c .before .before .before .before .before .before .write-locator .ensures) (head-written (asLocator (a .head .locator)) (length-locatorBytes (a .head .locator)) (a .out .now) (a .head .first) (a .count))
+    c .before .before .write-u16 .ensures ∙ rw (c .before .before .before .before .before .before .write-locator .ensures)
+    (head-written (asLocator (a .head .locator)) (length-locatorBytes (a .head .locator)) (a .out .now) (a .head .first) (a .count))
 
 pub write-head-spec : {M : Type 1} → statement M
 write-head-spec =

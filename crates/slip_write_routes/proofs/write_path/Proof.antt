@@ -23,7 +23,8 @@ Inv-loop store order near steps k a out₀ at p₀ left₀ to₀ out p left to =
     × ((to + left + 1 ≡ at + getD near (128 * k + a) 0)
     × ((length out ≡ length out₀)
     × ((l : TransactionLocator) → Distances store order l near steps (length order)
-    → sets out₀ at (pathTo (votesAs l a) (blocksOf store) (blockAtPlace store order k)) ≡ sets out to (stepsFrom (votesAs l a) (blocksOf store) left (blockAtPlace store order p)))))
+    → sets out₀ at (pathTo (votesAs l a) (blocksOf store) (blockAtPlace store order k)) ≡ sets out to
+    (stepsFrom (votesAs l a) (blocksOf store) left (blockAtPlace store order p)))))
 
 abbrev μ-loop : tie.MeasureT-loop
 μ-loop store order near steps k a out₀ at p₀ left₀ to₀ out p left to = left
@@ -68,8 +69,17 @@ unfolding Found
 loop-holds c = let a = c .before .before .before .before .before .before .args in
     let q = c .before .before .before .before .before .before .pre in
     let f = q .0 .0 .1 in
-    let n : getD (a .near .now) (128 * a .k + a .a) 0 ≡ getD (a .near .now) (128 * a .k + a .a) 0 - 1 + 1 = omega (arith, q .1 .1 .0) in
-    ((q .0 .1 .0, n), (omega (arith, n), (refl, λ l d. ap (sets (a .out .now) (a .at)) (path-starts (a .store .now) (a .order .now) l (a .near .now) (a .steps .now) (q .0 .0 .0) d (a .k) (q .0 .1 .0) (a .a) (q .1 .0) _ n))))
+    let n : getD (a .near .now) (128 * a .k + a .a) 0 ≡ getD (a .near .now) (128 * a .k + a .a) 0 - 1 + 1 = omega (arith, q .1 .1 .0) in (
+      (q .0 .1 .0, n),
+      (
+        omega (arith, n),
+        (
+          refl,
+          λ l d. ap (sets (a .out .now) (a .at))
+              (path-starts (a .store .now) (a .order .now) l (a .near .now) (a .steps .now) (q .0 .0 .0) d (a .k) (q .0 .1 .0) (a .a) (q .1 .0) _ n),
+        ),
+      ),
+    )
 
 mul-j : tie.Need-mul-j Inv-loop μ-loop
 unfolding Found
@@ -119,7 +129,11 @@ shared-slice-read-include-at c = let a = c .before .before .before .before .befo
     omega (arith, f .1 .long, f .1 .longSteps, g .inv .0 .0, q .0 .1 .1, q .1 .0)
 
 cast-include-at : tie.Need-cast-include-at Inv-loop μ-loop
-cast-include-at c = omega (arith, c .before .shared-slice-known6 .given (128 * c .before .before .before .loop .p + c .before .before .before .before .before .before .before .before .before .before .args .a))
+cast-include-at c = omega (
+  arith,
+  c .before .shared-slice-known6 .given
+      (128 * c .before .before .before .loop .p + c .before .before .before .before .before .before .before .before .before .before .args .a),
+)
 
 include-at-requires : tie.Need-include-at-requires Inv-loop μ-loop
 unfolding Found blockAtPlace
@@ -129,7 +143,8 @@ include-at-requires c κs = let a = c .before .before .before .before .before .b
     let g = c .before .before .before .loop in
     let s = a .store .now in
     let o = a .order .now in
-    let i = step-inside s o (f .0) (a .near .now) (a .steps .now) (q .0 .0 .0) (f .1) (g .p) (g .inv .0 .0) (a .a) (q .1 .0) (g .left) (omega (arith, c .before .before .loop-test .taken)) (g .inv .0 .1) in
+    let i = step-inside s o (f .0) (a .near .now) (a .steps .now) (q .0 .0 .0) (f .1) (g .p) (g .inv .0 .0) (a .a) (q .1 .0) (g .left)
+    (omega (arith, c .before .before .loop-test .taken)) (g .inv .0 .1) in
     (place-entry s o (q .0 .0 .0) (g .p) (g .inv .0 .0), i)
 
 place-of-requires : tie.Need-place-of-requires Inv-loop μ-loop
@@ -140,7 +155,8 @@ place-of-requires c κs = let a = c .before .before .before .before .before .bef
     let g = c .before .before .before .before .loop in
     let s = a .store .now in
     let o = a .order .now in
-    let i = step-inside s o (f .0) (a .near .now) (a .steps .now) (q .0 .0 .0) (f .1) (g .p) (g .inv .0 .0) (a .a) (q .1 .0) (g .left) (omega (arith, c .before .before .before .loop-test .taken)) (g .inv .0 .1) in
+    let i = step-inside s o (f .0) (a .near .now) (a .steps .now) (q .0 .0 .0) (f .1) (g .p) (g .inv .0 .0) (a .a) (q .1 .0) (g .left)
+    (omega (arith, c .before .before .before .loop-test .taken)) (g .inv .0 .1) in
     (q .0 .0 .0, rw (c .include-at .ensures) (include-found s o (q .0 .0 .0) (g .p) (g .inv .0 .0) (getD (a .steps .now) (128 * g .p + a .a) 0) i))
 
 sub-left-2 : tie.Need-sub-left-2 Inv-loop μ-loop
@@ -151,7 +167,15 @@ add-to c = let a = c .before .before .before .before .before .before .before .be
     let q = c .before .before .before .before .before .before .before .before .before .before .before .before .pre in
     let f = q .0 .0 .1 in
     let g = c .before .before .before .before .before .loop in
-    omega (arith, g .inv .1 .0, g .inv .1 .1 .0, q .1 .1 .1, c .before .before .before .before .loop-test .taken, c .before .before .before .before .before .before .before .before .before .before .before .before .good)
+    omega (
+      arith,
+      g .inv .1 .0,
+      g .inv .1 .1 .0,
+      q .1 .1 .1,
+      c .before .before .before .before .loop-test .taken,
+      c .before .before .before .before .before
+          .before .before .before .before .before .before .before .good,
+    )
 
 loop-less : tie.Need-loop-less Inv-loop μ-loop
 loop-less c = search needs
@@ -166,9 +190,19 @@ loop-again c = let a = c .before .before .before .before .before .before .before
     let o = a .order .now in
     let t : 0 < g .left = omega (arith, c .before .before .before .before .loop-test .taken) in
     let p = c .place-of .result in
-    let r : blockAtPlace s o p .reference ≡ getD (blockAtPlace s o (g .p) .includes) (getD (a .steps .now) (128 * g .p + a .a) 0) noReference = c .place-of .ensures .1 ∙ c .before .include-at .ensures in
-    let m = c .place-of .ensures .0 in
-    ((m, step-word s o (f .0) (a .near .now) (a .steps .now) (q .0 .0 .0) (f .1) (g .p) (g .inv .0 .0) (a .a) (q .1 .0) (g .left) t (g .inv .0 .1) p m r), (omega (arith, g .inv .1 .0, t), (length-set (g .out) _ _ ∙ g .inv .1 .1 .0, λ l d. g .inv .1 .1 .1 l d ∙ step-written s o l (a .near .now) (a .steps .now) (q .0 .0 .0) d (g .p) (g .inv .0 .0) (a .a) (q .1 .0) (g .left) t (g .inv .0 .1) p m r (g .out) (g .to))))
+    let r : blockAtPlace s o p .reference ≡ getD (blockAtPlace s o (g .p) .includes) (getD (a .steps .now) (128 * g .p + a .a) 0) noReference = c .place-of
+    .ensures .1 ∙ c .before .include-at .ensures in
+    let m = c .place-of .ensures .0 in (
+      (m, step-word s o (f .0) (a .near .now) (a .steps .now) (q .0 .0 .0) (f .1) (g .p) (g .inv .0 .0) (a .a) (q .1 .0) (g .left) t (g .inv .0 .1) p m r),
+      (
+        omega (arith, g .inv .1 .0, t),
+        (
+          length-set (g .out) _ _ ∙ g .inv .1 .1 .0,
+          λ l d. g .inv .1 .1 .1 l d ∙ step-written s o l (a .near .now)
+              (a .steps .now) (q .0 .0 .0) d (g .p) (g .inv .0 .0) (a .a) (q .1 .0) (g .left) t (g .inv .0 .1) p m r (g .out) (g .to),
+        ),
+      ),
+    )
 
 same-length : tie.Need-same-length Inv-loop μ-loop
 same-length c = c .before .loop .inv .1 .1 .0

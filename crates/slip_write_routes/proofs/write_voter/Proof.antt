@@ -37,8 +37,23 @@ add-write-path : tie.Need-add-write-path
 add-write-path c = search needs
 
 write-path-requires : tie.Need-write-path-requires
-write-path-requires c κs = let q = c .before .before .before .before .before .before .before .before .before .before .before .before .before .before .before .pre in
-    (q .0, (q .1 .0, (q .1 .1 .0, omega (arith, q .1 .1 .1, c .before .before .before .write-u16 .kept .0, c .before .before .before .before .before .before .before .write-u64 .kept .0))))
+write-path-requires c κs = let q = c .before .before .before .before .before .before .before .before .before .before .before .before .before .before .before
+    .pre in (
+      q .0,
+      (
+        q .1 .0,
+        (
+          q .1 .1 .0,
+          omega (
+            arith,
+            q .1 .1 .1,
+            c .before .before .before .write-u16 .kept .0,
+            c .before .before .before .before .before .before
+                .before .write-u64 .kept .0,
+          ),
+        ),
+      ),
+    )
 
 cast-result : tie.Need-cast-result
 cast-result c = search needs
@@ -53,9 +68,18 @@ same-length : tie.Need-same-length
 same-length c = search needs
 
 returns : tie.Need-returns
-returns c = let a = c .before .before .before .before .before .before .before .before .before .before .before .before .before .before .before .before .before .before .args in
-    let q = c .before .before .before .before .before .before .before .before .before .before .before .before .before .before .before .before .before .before .pre in
-    (refl, λ l d. c .before .before .write-path .ensures l d ∙ rw (c .before .before .before .before .before .before .write-u16 .ensures, c .before .before .before .before .before .before .before .before .before .before .write-u64 .ensures) (voter-written (a .store .now) (a .order .now) l (a .near .now) (a .steps .now) (q .0 .0 .0) d (a .k) (q .0 .1 .0) (a .a) (q .1 .0) (q .1 .1 .0) (a .out .now) (a .at)))
+returns c = let a = c .before .before .before .before .before .before .before .before .before .before .before .before .before .before .before .before .before
+    .before .args in
+    let q = c .before .before .before .before .before .before .before .before .before .before .before .before .before .before .before .before .before .before
+    .pre in (
+      refl,
+      λ l d. c .before .before .write-path .ensures l d ∙ rw (
+        c .before .before .before .before .before .before .write-u16 .ensures,
+        c .before .before .before .before .before .before .before .before .before
+            .before .write-u64 .ensures,
+      ) (voter-written (a .store .now) (a .order .now) l (a .near .now) (a .steps .now) (q .0 .0 .0) d (a .k) (q .0 .1 .0) (a .a)
+          (q .1 .0) (q .1 .1 .0) (a .out .now) (a .at)),
+    )
 
 pub write-voter-spec : {M : Type 1} → statement M
 write-voter-spec =

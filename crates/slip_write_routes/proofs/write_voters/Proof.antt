@@ -24,8 +24,13 @@ abbrev μ-loop : tie.MeasureT-loop
 μ-loop store order near steps k voters out₀ at to₀ a₀ out to a = 128 - a
 
 loop-holds : tie.Need-loop-holds Inv-loop μ-loop
-loop-holds c = let a = c .before .before .before .before .before .args in
-    (omega arith, (omega (arith, size-all (a .near .now) (a .k) (a .voters)), (refl, λ l d. ap (sets (a .out .now) (a .at)) (sym (bytes-all (a .store .now) (a .order .now) l (a .k) (a .voters))))))
+loop-holds c = let a = c .before .before .before .before .before .args in (
+  omega arith,
+  (
+    omega (arith, size-all (a .near .now) (a .k) (a .voters)),
+    (refl, λ l d. ap (sets (a .out .now) (a .at)) (sym (bytes-all (a .store .now) (a .order .now) l (a .k) (a .voters)))),
+  ),
+)
 
 add-a : tie.Need-add-a Inv-loop μ-loop
 add-a c = search needs
@@ -43,8 +48,13 @@ loop-again c = let a = c .before .before .before .before .before .before .before
     let w = a .near .now in
     let g = c .before .before .before .loop in
     let t = c .before .before .loop-test .taken in
-    let e = sym (c .before .contains .ensures) ∙ not-true _ (c .if1 .taken) in
-    (omega (arith, t), (omega (arith, g .inv .1 .0, size-no w (a .k) (a .voters) (g .a) t e), (g .inv .1 .1 .0, λ l d. g .inv .1 .1 .1 l d ∙ ap (sets (g .out) (g .to)) (bytes-no s o l (a .k) (a .voters) (g .a) t e))))
+    let e = sym (c .before .contains .ensures) ∙ not-true _ (c .if1 .taken) in (
+      omega (arith, t),
+      (
+        omega (arith, g .inv .1 .0, size-no w (a .k) (a .voters) (g .a) t e),
+        (g .inv .1 .1 .0, λ l d. g .inv .1 .1 .1 l d ∙ ap (sets (g .out) (g .to)) (bytes-no s o l (a .k) (a .voters) (g .a) t e)),
+      ),
+    )
 
 write-voter-requires : tie.Need-write-voter-requires Inv-loop μ-loop
 unfolding Reached
@@ -73,8 +83,17 @@ loop-again-2 c = let a = c .before .before .before .before .before .before .befo
     let t = c .before .before .before .before .before .before .loop-test .taken in
     let e = sym (c .before .before .before .before .before .contains .ensures) ∙ not-false _ (c .before .before .before .before .if1 .left) in
     let r = q .1 .0 (g .a) t e in
-    let x = c .before .before .write-voter .ensures in
-    (omega (arith, t), (omega (arith, x .0, g .inv .1 .0, size-yes w (a .k) (a .voters) (g .a) t e), (c .before .before .write-voter .kept .1 .1 .1 .1 .1 .1 .0 ∙ g .inv .1 .1 .0, λ l d. g .inv .1 .1 .1 l d ∙ bytes-yes s o l w (a .steps .now) (q .0 .0 .0) d (a .k) (q .0 .1 .0) (a .voters) (g .a) t e r (g .out) (g .to) ∙ rw (← x .1 l d, ← x .0))))
+    let x = c .before .before .write-voter .ensures in (
+      omega (arith, t),
+      (
+        omega (arith, x .0, g .inv .1 .0, size-yes w (a .k) (a .voters) (g .a) t e),
+        (
+          c .before .before .write-voter .kept .1 .1 .1 .1 .1 .1 .0 ∙ g .inv .1 .1 .0,
+          λ l d. g .inv .1 .1 .1 l d ∙ bytes-yes s o l w (a .steps .now)
+              (q .0 .0 .0) d (a .k) (q .0 .1 .0) (a .voters) (g .a) t e r (g .out) (g .to) ∙ rw (← x .1 l d, ← x .0),
+        ),
+      ),
+    )
 
 same-length : tie.Need-same-length Inv-loop μ-loop
 same-length c = c .before .loop .inv .1 .1 .0
@@ -82,8 +101,11 @@ same-length c = c .before .loop .inv .1 .1 .0
 returns : tie.Need-returns Inv-loop μ-loop
 returns c = let a = c .before .before .before .before .before .before .before .args in
     let g = c .before .loop in
-    let e = c .loop-test .left in
-    (omega (arith, g .inv .1 .0, size-end (a .near .now) (a .k) (a .voters) (g .a) e), λ l d. sym (g .inv .1 .1 .1 l d ∙ ap (sets (g .out) (g .to)) (bytes-end (a .store .now) (a .order .now) l (a .k) (a .voters) (g .a) e)))
+    let e = c .loop-test .left in (
+      omega (arith, g .inv .1 .0, size-end (a .near .now) (a .k) (a .voters) (g .a) e),
+      λ l d. sym
+          (g .inv .1 .1 .1 l d ∙ ap (sets (g .out) (g .to)) (bytes-end (a .store .now) (a .order .now) l (a .k) (a .voters) (g .a) e)),
+    )
 
 pub write-voters-spec : {M : Type 1} → statement M
 write-voters-spec =

@@ -54,8 +54,12 @@ loop-less c = search needs
 loop-again : tie.Need-loop-again Inv-loop μ-loop
 loop-again c = let a = c .before .before .before .before .before .before .before .before .args in
     let g = c .before .before .before .before .before .loop in
-    let t = c .before .before .before .before .loop-test .taken in
-    (omega (arith, t), folded-no (a .near .now) (a .steps .now) (a .k) (a .i) (a .j) (g .near) (g .steps) (g .a) (g .inv .1) (c .before .before .before .before .before .before .before .before .pre .1 .0 .0) t (sym (c .before .is-nearer .ensures) ∙ not-true _ (c .if1 .taken)))
+    let t = c .before .before .before .before .loop-test .taken in (
+      omega (arith, t),
+      folded-no (a .near .now) (a .steps .now) (a .k) (a .i) (a .j) (g .near) (g .steps) (g .a) (g .inv .1)
+          (c .before .before .before .before .before .before .before .before .pre .1 .0 .0) t
+          (sym (c .before .is-nearer .ensures) ∙ not-true _ (c .if1 .taken)),
+    )
 
 add-near : tie.Need-add-near Inv-loop μ-loop
 add-near c = let a = c .before .before .before .before .before .before .before .before .args in
@@ -80,8 +84,12 @@ loop-again-2 : tie.Need-loop-again-2 Inv-loop μ-loop
 loop-again-2 c = let a = c .before .before .before .before .before .before .before .before .args in
     let g = c .before .before .before .before .before .loop in
     let t = c .before .before .before .before .loop-test .taken in
-    let q = c .before .before .before .before .before .before .before .before .pre in
-    (omega (arith, t), folded-yes (a .near .now) (a .steps .now) (a .k) (a .i) (a .j) (g .near) (g .steps) (g .a) (g .inv .1) (q .1 .0 .0) t (sym (c .before .is-nearer .ensures) ∙ not-false _ (c .if1 .left)) (omega (arith, t, q .1 .0 .1, q .0 .0, g .inv .1 .words .beside .long)) (omega (arith, t, q .1 .0 .1, q .0 .1, g .inv .1 .firsts .beside .long)))
+    let q = c .before .before .before .before .before .before .before .before .pre in (
+      omega (arith, t),
+      folded-yes (a .near .now) (a .steps .now) (a .k) (a .i) (a .j) (g .near) (g .steps) (g .a) (g .inv .1) (q .1 .0 .0) t
+          (sym (c .before .is-nearer .ensures) ∙ not-false _ (c .if1 .left)) (omega (arith, t, q .1 .0 .1, q .0 .0, g .inv .1 .words .beside .long))
+          (omega (arith, t, q .1 .0 .1, q .0 .1, g .inv .1 .firsts .beside .long)),
+    )
 
 same-length : tie.Need-same-length Inv-loop μ-loop
 same-length c = search needs

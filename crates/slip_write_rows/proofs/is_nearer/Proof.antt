@@ -21,7 +21,8 @@ sub-result c = search needs
 returns-3 : tie.Need-returns-3
 unfolding isNearer
 returns-3 c = let a = c .before .before .args in
-    rw (ne-eqb (a .found) 0 (c .before .if1 .left), ne-eqb (a .held) 0 (c .if2 .left)) (ltb-same (a .found) (a .held - 1) (a .found + 1) (a .held) (λ (h : a .found < a .held - 1). omega arith) (λ (h : a .found + 1 < a .held). omega arith))
+    rw (ne-eqb (a .found) 0 (c .before .if1 .left), ne-eqb (a .held) 0 (c .if2 .left))
+    (ltb-same (a .found) (a .held - 1) (a .found + 1) (a .held) (λ (h : a .found < a .held - 1). omega arith) (λ (h : a .found + 1 < a .held). omega arith))
 
 pub is-nearer-spec : {M : Type 1} → statement M
 is-nearer-spec = tie.close (tie.spec returns returns-2 sub-result returns-3)

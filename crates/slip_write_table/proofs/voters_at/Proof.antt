@@ -24,7 +24,11 @@ enum-told-2 : tie.Need-enum-told-2
 enum-told-2 c = search needs
 
 speakers-at-requires-2 : tie.Need-speakers-at-requires-2
-speakers-at-requires-2 c κs = (c .before .before .before .before .before .before .before .before .before .before .pre .0, c .before .before .before .before .before .speakers-at .ensures .1)
+speakers-at-requires-2 c κs = (
+  c .before .before .before .before .before .before .before .before .before .before .pre .0,
+  c .before .before .before .before
+      .before .speakers-at .ensures .1,
+)
 
 less-requires : tie.Need-less-requires
 less-requires c κs = search needs
@@ -35,7 +39,8 @@ same-length-2 c = search needs
 returns-2 : tie.Need-returns-2
 unfolding votersIn spokenAt asReading isRejecting
 returns-2 c = let w = c .before .before .before .speakers-at2 .ensures in
-    rw (c .before .before .before .before .before .enum-told2 .given .1) (c .less .ensures ∙ ap₂ without (c .before .before .before .before .before .before .before .before .before .speakers-at .ensures .0) (w .0), w .1)
+    rw (c .before .before .before .before .before .enum-told2 .given .1)
+    (c .less .ensures ∙ ap₂ without (c .before .before .before .before .before .before .before .before .before .speakers-at .ensures .0) (w .0), w .1)
 
 pub voters-at-spec : {M : Type 1} → statement M
 voters-at-spec =

@@ -29,7 +29,8 @@ returns : tie.Need-returns
 unfolding asSorted
 returns c =
     let a = c .before .before .before .before .before .before .before .before .before .before .before .before .args in
-    let e = sorted-refused (a .stakes .now) (a .store .now) (a .index .now) (a .locators .now) (a .replies .now) _ (c .before .before .before .before .question-refusal .ensures .0) (c .if1 .taken) in
+    let e = sorted-refused (a .stakes .now) (a .store .now) (a .index .now) (a .locators .now) (a .replies .now) _
+    (c .before .before .before .before .question-refusal .ensures .0) (c .if1 .taken) in
     (ap (λ (x : AskedSorted). x .answer) e, ap (λ (x : AskedSorted). x .out) e)
 
 is-sorted-list-requires : tie.Need-is-sorted-list-requires
@@ -43,7 +44,8 @@ unfolding asSorted
 returns-2 c =
     let a = c .before .before .before .before .before .before .before .before .before .before .before .before .before .before .before .args in
     let z = c .before .before .before .before .before .before .before .question-refusal .ensures .1 (c .before .before .before .if1 .left) .1 in
-    let e = sorted-unsorted (a .stakes .now) (a .store .now) (a .index .now) (a .locators .now) (a .replies .now) (z .sorted .sound) (z .sorted .inOrder) (z .agrees) (sym (c .before .is-sorted-list .ensures) ∙ not-true _ (c .if2 .taken)) in
+    let e = sorted-unsorted (a .stakes .now) (a .store .now) (a .index .now) (a .locators .now) (a .replies .now) (z .sorted .sound) (z .sorted .inOrder)
+    (z .agrees) (sym (c .before .is-sorted-list .ensures) ∙ not-true _ (c .if2 .taken)) in
     (ap (λ (x : AskedSorted). x .answer) e, ap (λ (x : AskedSorted). x .out) e)
 
 returns-3 : tie.Need-returns-3
@@ -52,7 +54,8 @@ returns-3 c =
     let a = c .before .before .before .before .before .before .before .before .before .before .before .before .before .before .before .before .args in
     let z = c .before .before .before .before .before .before .before .before .question-refusal .ensures .1 (c .before .before .before .before .if1 .left) .1 in
     let w = sym (c .before .before .is-sorted-list .ensures) ∙ not-false _ (c .before .if2 .left) in
-    let e = sorted-short (a .stakes .now) (a .store .now) (a .index .now) (a .locators .now) (a .replies .now) (z .sorted .sound) (z .sorted .inOrder) (z .agrees) w
+    let e = sorted-short (a .stakes .now) (a .store .now) (a .index .now) (a .locators .now) (a .replies .now) (z .sorted .sound) (z .sorted .inOrder)
+    (z .agrees) w
     (omega (arith, ltb-true (length (a .replies .now)) (3 * (length (a .locators .now) / 56)) (c .if3 .taken), listed (a .locators .now) w .whole)) in
     (ap (λ (x : AskedSorted). x .answer) e, ap (λ (x : AskedSorted). x .out) e)
 
@@ -68,7 +71,8 @@ slice-aggregate-replies-of c =
 replies-of-requires : tie.Need-replies-of-requires
 replies-of-requires c κs =
     let a = c .before .before .before .before .before .before .before .before .before .before .before .before .before .before .before .before .before .args in
-    let z = c .before .before .before .before .before .before .before .before .before .question-refusal .ensures .1 (c .before .before .before .before .before .if1 .left) .1 in
+    let z = c .before .before .before .before .before .before .before .before .before .question-refusal .ensures .1
+    (c .before .before .before .before .before .if1 .left) .1 in
     let w = sym (c .before .before .before .is-sorted-list .ensures) ∙ not-false _ (c .before .before .if2 .left) in
     let l = listed (a .locators .now) w .whole in
     let n : length (a .locators .now) / 56 ≡ length (asked (a .locators .now)) = omega arith in
@@ -82,16 +86,20 @@ same-length c = search needs
 returns-4 : tie.Need-returns-4
 unfolding asSorted
 returns-4 c =
-    let a = c .before .before .before .before .before .before .before .before .before .before .before .before .before .before .before .before .before .before .before .before .args in
-    let z = c .before .before .before .before .before .before .before .before .before .before .before .before .question-refusal .ensures .1 (c .before .before .before .before .before .before .before .before .if1 .left) .1 in
-    let w = sym (c .before .before .before .before .before .before .is-sorted-list .ensures) ∙ not-false _ (c .before .before .before .before .before .if2 .left) in
+    let a = c .before .before .before .before .before .before .before .before .before .before .before .before .before .before .before .before .before .before
+    .before .before .args in
+    let z = c .before .before .before .before .before .before .before .before .before .before .before .before .question-refusal .ensures .1
+    (c .before .before .before .before .before .before .before .before .if1 .left) .1 in
+    let w = sym (c .before .before .before .before .before .before .is-sorted-list .ensures) ∙ not-false _
+    (c .before .before .before .before .before .if2 .left) in
     let l = listed (a .locators .now) w .whole in
     let n : length (a .locators .now) / 56 ≡ length (asked (a .locators .now)) = omega arith in
     let e =
     sorted-asked (a .stakes .now) (a .store .now) (a .index .now) (a .locators .now) (a .replies .now) (z .sorted .sound) (z .sorted .inOrder) (z .agrees) w
     (omega (arith, ltb-false (length (a .replies .now)) (3 * (length (a .locators .now) / 56)) (c .before .before .before .before .if3 .left))) _ _ n
     (ap (λ (ws : List ℕ). ws ++ drop (3 * (length (a .locators .now) / 56)) (a .replies .now)) (c .before .before .replies-of .ensures)
-    ∙ ap (λ (k : ℕ). repliesWords (repliesAfter (a .stakes .now) (asked (a .locators .now)) (indexed (blocksOf (a .store .now)))) ++ drop (3 * k) (a .replies .now)) n)
+    ∙ ap (λ (k : ℕ). repliesWords (repliesAfter (a .stakes .now) (asked (a .locators .now)) (indexed (blocksOf (a .store .now)))) ++ drop (3 * k)
+    (a .replies .now)) n)
     in
     (ap (λ (x : AskedSorted). x .answer) e, ap (λ (x : AskedSorted). x .out) e)
 

@@ -35,7 +35,12 @@ returns : tie.Need-returns
 returns c =
     let a = c .before .before .before .before .before .before .args in
     let k = c .before .before .before .before .before .before .pre in
-    add-again (a .replies .now) (a .i) (a .stakes .now) (a .author .0) (k .1 .0 .1) (k .1 .1) (record { low = omega (arith, c .before .before .slice-known3 .given (3 * a .i + 1)); high = omega (arith, c .before .before .slice-known3 .given (3 * a .i + 2)) }) (k .1 .0 .0) (sym (c .before .contains .ensures) ∙ c .if1 .taken)
+    add-again (a .replies .now) (a .i) (a .stakes .now) (a .author .0) (k .1 .0 .1) (k .1 .1)
+    (record {
+      low = omega (arith, c .before .before .slice-known3 .given (3 * a .i + 1));
+      high = omega
+          (arith, c .before .before .slice-known3 .given (3 * a .i + 2));
+    }) (k .1 .0 .0) (sym (c .before .contains .ensures) ∙ c .if1 .taken)
 
 insert-requires : tie.Need-insert-requires
 insert-requires c κs = search needs
@@ -73,7 +78,8 @@ same-length c = search needs
 returns-2 : tie.Need-returns-2
 returns-2 c =
     let a = c .before .before .before .before .before .before .before .before .args in
-    add-new (a .replies .now) (a .i) (a .stakes .now) (a .author .0) (c .final-word .result) (c .before .insert .result) (c .before .insert .ensures) (c .final-word .ensures)
+    add-new (a .replies .now) (a .i) (a .stakes .now) (a .author .0) (c .final-word .result) (c .before .insert .result) (c .before .insert .ensures)
+    (c .final-word .ensures)
 
 pub add-author-spec : {M : Type 1} → statement M
 add-author-spec =

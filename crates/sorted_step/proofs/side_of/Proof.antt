@@ -25,13 +25,15 @@ returns : tie.Need-returns
 unfolding asRun run asLocator locator
 returns c =
     let a = c .before .before .before .before .before .before .args in
-    side-before (asRun (a .run)) (asLocator (a .locator)) (sym (c .before .before .before .before .before .compare .ensures) ∙ c .before .before .before .enum-told3 .given .1) (c .if1 .taken)
+    side-before (asRun (a .run)) (asLocator (a .locator)) (sym (c .before .before .before .before .before .compare .ensures) ∙ c .before .before .before
+    .enum-told3 .given .1) (c .if1 .taken)
 
 returns-2 : tie.Need-returns-2
 unfolding asRun run asLocator locator
 returns-2 c =
     let a = c .before .before .before .before .before .before .before .before .before .args in
-    side-inside (asRun (a .run)) (asLocator (a .locator)) (sym (c .before .before .before .before .before .before .before .before .compare .ensures) ∙ c .before .before .before .before .before .before .enum-told3 .given .1) (omega (arith, c .before .before .before .if1 .left)) (c .if2 .taken)
+    side-inside (asRun (a .run)) (asLocator (a .locator)) (sym (c .before .before .before .before .before .before .before .before .compare .ensures) ∙ c
+    .before .before .before .before .before .before .enum-told3 .given .1) (omega (arith, c .before .before .before .if1 .left)) (c .if2 .taken)
 
 returns-3 : tie.Need-returns-3
 unfolding asRun run asLocator locator
@@ -49,7 +51,8 @@ returns-5 : tie.Need-returns-5
 unfolding asRun run asLocator locator
 returns-5 c =
     let a = c .before .before .before .before .before .before .before .before .before .args in
-    side-past (asRun (a .run)) (asLocator (a .locator)) (sym (c .before .before .before .before .before .before .before .before .compare .ensures) ∙ c .before .before .before .before .before .before .enum-told3 .given .1) (omega (arith, c .if2 .left))
+    side-past (asRun (a .run)) (asLocator (a .locator)) (sym (c .before .before .before .before .before .before .before .before .compare .ensures) ∙ c .before
+    .before .before .before .before .before .enum-told3 .given .1) (omega (arith, c .if2 .left))
 
 pub side-of-spec : {M : Type 1} → statement M
 side-of-spec =

@@ -16,7 +16,8 @@ returns : tie.Need-returns
 returns c =
     let a = c .before .before .before .before .before .before .before .args in
     let k = c .before .before .before .before .before .before .before .pre in
-    marked-stays (a .stakes .now) (blockIn (a .rec .now)) (partAt (a .part .now) 0) (a .locators .now) (asked (a .locators .now)) (a .replies .now) (k .1 .1 .0) (k .1 .1 .1) (sym (c .before .epoch-changed .ensures) ∙ c .if1 .taken)
+    marked-stays (a .stakes .now) (blockIn (a .rec .now)) (partAt (a .part .now) 0) (a .locators .now) (asked (a .locators .now)) (a .replies .now)
+    (k .1 .1 .0) (k .1 .1 .1) (sym (c .before .epoch-changed .ensures) ∙ c .if1 .taken)
 
 reference-requires : tie.Need-reference-requires
 reference-requires c κs = search needs
@@ -32,7 +33,8 @@ same-length c = search needs
 returns-2 : tie.Need-returns-2
 returns-2 c =
     let a = c .before .before .before .before .before .before .before .before .before .before .before .before .args in
-    c .before .before .merge .ensures (blockIn (a .rec .now)) (sym (c .before .before .before .before .before .before .epoch-changed .ensures) ∙ c .before .before .before .before .before .if1 .left) (sym (as-author _ _ (c .before .before .before .before .reference .ensures)))
+    c .before .before .merge .ensures (blockIn (a .rec .now)) (sym (c .before .before .before .before .before .before .epoch-changed .ensures) ∙ c .before
+    .before .before .before .before .if1 .left) (sym (as-author _ _ (c .before .before .before .before .reference .ensures)))
 
 pub step-spec : {M : Type 1} → statement M
 step-spec =

@@ -41,7 +41,9 @@ returns-2 : tie.Need-returns-2 Inv-loop μ-loop
 returns-2 c =
     let a = c .before .before .before .before .before .before .before .before .args in
     let g = c .before .before .before .before .before .loop in
-    sym (sorted-no (a .locators .now) (omega (arith, c .before .before .before .before .before .before .if1 .left)) (g .i) (g .inv .0) (c .before .before .before .before .loop-test .taken) (compared (c .before .locator-before .ensures) (c .before .before .read-locator2 .ensures) (c .before .before .before .read-locator .ensures) (c .if2 .taken)))
+    sym (sorted-no (a .locators .now) (omega (arith, c .before .before .before .before .before .before .if1 .left)) (g .i) (g .inv .0)
+    (c .before .before .before .before .loop-test .taken) (compared (c .before .locator-before .ensures) (c .before .before .read-locator2 .ensures)
+    (c .before .before .before .read-locator .ensures) (c .if2 .taken)))
 
 add-i : tie.Need-add-i Inv-loop μ-loop
 add-i c = search needs
@@ -52,8 +54,12 @@ loop-less c = search needs
 loop-again : tie.Need-loop-again Inv-loop μ-loop
 loop-again c =
     let a = c .before .before .before .before .before .before .before .before .args in
-    let g = c .before .before .before .before .before .loop in
-    (omega arith, rising-next (a .locators .now) (g .i) (g .inv .0) (g .inv .1) (compared (c .before .locator-before .ensures) (c .before .before .read-locator2 .ensures) (c .before .before .before .read-locator .ensures) (c .if2 .left)))
+    let g = c .before .before .before .before .before .loop in (
+      omega arith,
+      rising-next (a .locators .now) (g .i) (g .inv .0) (g .inv .1)
+          (compared (c .before .locator-before .ensures) (c .before .before .read-locator2 .ensures) (c .before .before .before .read-locator .ensures)
+          (c .if2 .left)),
+    )
 
 returns-3 : tie.Need-returns-3 Inv-loop μ-loop
 returns-3 c =

@@ -27,7 +27,11 @@ step-all-requires : tie.Need-step-all-requires
 step-all-requires c κs =
     let a = c .before .before .before .before .before .before .before .before .before .before .before .args in
     let k = c .before .before .before .before .before .before .before .before .before .before .before .pre in
-    let bytes = bytes-of (a .store .now) (λ i h. omega (arith, c .before .before .before .before .before .before .before .before .before .shared-slice-known2 .given i)) in
+    let bytes = bytes-of (a .store .now) (λ i h. omega (
+      arith,
+      c .before .before .before .before .before .before .before .before .before .shared-slice-known2
+          .given i,
+    )) in
     let n = counted (a .stakes .now) (a .store .now) (a .index .now) (k .0 .0 .0) (k .0 .1 .0) bytes (k .0 .1 .1) in (
       k .0,
       (
@@ -43,10 +47,15 @@ returns : tie.Need-returns
 returns c =
     let a = c .before .before .before .before .before .before .before .before .before .before .before .before .before .before .args in
     let k = c .before .before .before .before .before .before .before .before .before .before .before .before .before .before .pre in
-    let bytes = bytes-of (a .store .now) (λ i h. omega (arith, c .before .before .before .before .before .before .before .before .before .before .before .before .shared-slice-known2 .given i)) in
+    let bytes = bytes-of (a .store .now) (λ i h. omega (
+      arith,
+      c .before .before .before .before .before .before .before .before .before .before .before
+          .before .shared-slice-known2 .given i,
+    )) in
     let n = counted (a .stakes .now) (a .store .now) (a .index .now) (k .0 .0 .0) (k .0 .1 .0) bytes (k .0 .1 .1) in
     c .before .before .step-all .ensures
-    ∙ answered-all (a .stakes .now) (a .store .now) (a .locators .now) (k .0 .0 .0) (k .0 .1 .0) _ (c .before .before .before .before .read-u16 .ensures ∙ sym n)
+    ∙ answered-all (a .stakes .now) (a .store .now) (a .locators .now) (k .0 .0 .0) (k .0 .1 .0) _
+    (c .before .before .before .before .read-u16 .ensures ∙ sym n)
 
 pub replies-of-spec : {M : Type 1} → statement M
 replies-of-spec = tie.close (tie.spec clear-requires read-u16-requires cast-count step-all-requires same-length returns)

@@ -31,8 +31,11 @@ add-from c =
     let a = c .before .before .before .before .before .before .before .args in
     let k = c .before .before .before .before .before .before .before .pre in
     let g = c .before .loop in
-    let n = counted (a .stakes .now) (a .store .now) (a .index .now) (k .0 .0 .0) (k .0 .1 .0) (bytes-of (a .store .now) (λ i h. omega (arith, c .before .before .before .before .before .shared-slice-known2 .given i))) (k .0 .1 .1) in
-    let z = arrived (a .stakes .now) (a .store .now) (a .index .now) (k .0 .0 .0) (k .0 .1 .0) (bytes-of (a .store .now) (λ i h. omega (arith, c .before .before .before .before .before .shared-slice-known2 .given i))) (k .0 .1 .1) (g .inv .0 .older) (g .k) (g .at) (g .p) (g .inv .0 .arriving) (omega (arith, c .loop-test .taken, k .1 .0 .1)) in
+    let n = counted (a .stakes .now) (a .store .now) (a .index .now) (k .0 .0 .0) (k .0 .1 .0)
+    (bytes-of (a .store .now) (λ i h. omega (arith, c .before .before .before .before .before .shared-slice-known2 .given i))) (k .0 .1 .1) in
+    let z = arrived (a .stakes .now) (a .store .now) (a .index .now) (k .0 .0 .0) (k .0 .1 .0)
+    (bytes-of (a .store .now) (λ i h. omega (arith, c .before .before .before .before .before .shared-slice-known2 .given i))) (k .0 .1 .1)
+    (g .inv .0 .older) (g .k) (g .at) (g .p) (g .inv .0 .arriving) (omega (arith, c .loop-test .taken, k .1 .0 .1)) in
     let r = entry-room (a .store .now) (g .at) (z .entry) in
     let i = z .inside in
     omega (arith, r .inside, i, c .before .before .before .before .before .before .before .good)
@@ -42,8 +45,11 @@ record-end-requires c κs =
     let a = c .before .before .before .before .before .before .before .args in
     let k = c .before .before .before .before .before .before .before .pre in
     let g = c .before .loop in
-    let n = counted (a .stakes .now) (a .store .now) (a .index .now) (k .0 .0 .0) (k .0 .1 .0) (bytes-of (a .store .now) (λ i h. omega (arith, c .before .before .before .before .before .shared-slice-known2 .given i))) (k .0 .1 .1) in
-    let z = arrived (a .stakes .now) (a .store .now) (a .index .now) (k .0 .0 .0) (k .0 .1 .0) (bytes-of (a .store .now) (λ i h. omega (arith, c .before .before .before .before .before .shared-slice-known2 .given i))) (k .0 .1 .1) (g .inv .0 .older) (g .k) (g .at) (g .p) (g .inv .0 .arriving) (omega (arith, c .loop-test .taken, k .1 .0 .1)) in
+    let n = counted (a .stakes .now) (a .store .now) (a .index .now) (k .0 .0 .0) (k .0 .1 .0)
+    (bytes-of (a .store .now) (λ i h. omega (arith, c .before .before .before .before .before .shared-slice-known2 .given i))) (k .0 .1 .1) in
+    let z = arrived (a .stakes .now) (a .store .now) (a .index .now) (k .0 .0 .0) (k .0 .1 .0)
+    (bytes-of (a .store .now) (λ i h. omega (arith, c .before .before .before .before .before .shared-slice-known2 .given i))) (k .0 .1 .1)
+    (g .inv .0 .older) (g .k) (g .at) (g .p) (g .inv .0 .arriving) (omega (arith, c .loop-test .taken, k .1 .0 .1)) in
     let r = entry-room (a .store .now) (g .at) (z .entry) in
     let i = z .inside in
     z .entry
@@ -53,8 +59,11 @@ add-next c =
     let a = c .before .before .before .before .before .before .before .before .args in
     let k = c .before .before .before .before .before .before .before .before .pre in
     let g = c .before .before .loop in
-    let n = counted (a .stakes .now) (a .store .now) (a .index .now) (k .0 .0 .0) (k .0 .1 .0) (bytes-of (a .store .now) (λ i h. omega (arith, c .before .before .before .before .before .before .shared-slice-known2 .given i))) (k .0 .1 .1) in
-    let z = arrived (a .stakes .now) (a .store .now) (a .index .now) (k .0 .0 .0) (k .0 .1 .0) (bytes-of (a .store .now) (λ i h. omega (arith, c .before .before .before .before .before .before .shared-slice-known2 .given i))) (k .0 .1 .1) (g .inv .0 .older) (g .k) (g .at) (g .p) (g .inv .0 .arriving) (omega (arith, c .before .loop-test .taken, k .1 .0 .1)) in
+    let n = counted (a .stakes .now) (a .store .now) (a .index .now) (k .0 .0 .0) (k .0 .1 .0)
+    (bytes-of (a .store .now) (λ i h. omega (arith, c .before .before .before .before .before .before .shared-slice-known2 .given i))) (k .0 .1 .1) in
+    let z = arrived (a .stakes .now) (a .store .now) (a .index .now) (k .0 .0 .0) (k .0 .1 .0)
+    (bytes-of (a .store .now) (λ i h. omega (arith, c .before .before .before .before .before .before .shared-slice-known2 .given i))) (k .0 .1 .1)
+    (g .inv .0 .older) (g .k) (g .at) (g .p) (g .inv .0 .arriving) (omega (arith, c .before .loop-test .taken, k .1 .0 .1)) in
     let r = entry-room (a .store .now) (g .at) (z .entry) in
     let i = z .inside in
     omega (arith, r .inside, i, c .before .before .before .before .before .before .before .before .good)
@@ -64,8 +73,11 @@ mul-next c =
     let a = c .before .before .before .before .before .before .before .before .args in
     let k = c .before .before .before .before .before .before .before .before .pre in
     let g = c .before .before .loop in
-    let n = counted (a .stakes .now) (a .store .now) (a .index .now) (k .0 .0 .0) (k .0 .1 .0) (bytes-of (a .store .now) (λ i h. omega (arith, c .before .before .before .before .before .before .shared-slice-known2 .given i))) (k .0 .1 .1) in
-    let z = arrived (a .stakes .now) (a .store .now) (a .index .now) (k .0 .0 .0) (k .0 .1 .0) (bytes-of (a .store .now) (λ i h. omega (arith, c .before .before .before .before .before .before .shared-slice-known2 .given i))) (k .0 .1 .1) (g .inv .0 .older) (g .k) (g .at) (g .p) (g .inv .0 .arriving) (omega (arith, c .before .loop-test .taken, k .1 .0 .1)) in
+    let n = counted (a .stakes .now) (a .store .now) (a .index .now) (k .0 .0 .0) (k .0 .1 .0)
+    (bytes-of (a .store .now) (λ i h. omega (arith, c .before .before .before .before .before .before .shared-slice-known2 .given i))) (k .0 .1 .1) in
+    let z = arrived (a .stakes .now) (a .store .now) (a .index .now) (k .0 .0 .0) (k .0 .1 .0)
+    (bytes-of (a .store .now) (λ i h. omega (arith, c .before .before .before .before .before .before .shared-slice-known2 .given i))) (k .0 .1 .1)
+    (g .inv .0 .older) (g .k) (g .at) (g .p) (g .inv .0 .arriving) (omega (arith, c .before .loop-test .taken, k .1 .0 .1)) in
     let r = entry-room (a .store .now) (g .at) (z .entry) in
     let i = z .inside in
     omega (arith, r .inside, i, c .before .before .before .before .before .before .before .before .good)
@@ -75,8 +87,12 @@ shared-slice-read-next c =
     let a = c .before .before .before .before .before .before .before .before .before .args in
     let k = c .before .before .before .before .before .before .before .before .before .pre in
     let g = c .before .before .before .loop in
-    let n = counted (a .stakes .now) (a .store .now) (a .index .now) (k .0 .0 .0) (k .0 .1 .0) (bytes-of (a .store .now) (λ i h. omega (arith, c .before .before .before .before .before .before .before .shared-slice-known2 .given i))) (k .0 .1 .1) in
-    let z = arrived (a .stakes .now) (a .store .now) (a .index .now) (k .0 .0 .0) (k .0 .1 .0) (bytes-of (a .store .now) (λ i h. omega (arith, c .before .before .before .before .before .before .before .shared-slice-known2 .given i))) (k .0 .1 .1) (g .inv .0 .older) (g .k) (g .at) (g .p) (g .inv .0 .arriving) (omega (arith, c .before .before .loop-test .taken, k .1 .0 .1)) in
+    let n = counted (a .stakes .now) (a .store .now) (a .index .now) (k .0 .0 .0) (k .0 .1 .0)
+    (bytes-of (a .store .now) (λ i h. omega (arith, c .before .before .before .before .before .before .before .shared-slice-known2 .given i)))
+    (k .0 .1 .1) in
+    let z = arrived (a .stakes .now) (a .store .now) (a .index .now) (k .0 .0 .0) (k .0 .1 .0)
+    (bytes-of (a .store .now) (λ i h. omega (arith, c .before .before .before .before .before .before .before .shared-slice-known2 .given i)))
+    (k .0 .1 .1) (g .inv .0 .older) (g .k) (g .at) (g .p) (g .inv .0 .arriving) (omega (arith, c .before .before .loop-test .taken, k .1 .0 .1)) in
     let r = entry-room (a .store .now) (g .at) (z .entry) in
     let i = z .inside in
     omega (arith, r .inside, i, c .before .before .before .before .before .before .before .before .before .good)
@@ -86,8 +102,12 @@ mul-next-2 c =
     let a = c .before .before .before .before .before .before .before .before .before .args in
     let k = c .before .before .before .before .before .before .before .before .before .pre in
     let g = c .before .before .before .loop in
-    let n = counted (a .stakes .now) (a .store .now) (a .index .now) (k .0 .0 .0) (k .0 .1 .0) (bytes-of (a .store .now) (λ i h. omega (arith, c .before .before .before .before .before .before .before .shared-slice-known2 .given i))) (k .0 .1 .1) in
-    let z = arrived (a .stakes .now) (a .store .now) (a .index .now) (k .0 .0 .0) (k .0 .1 .0) (bytes-of (a .store .now) (λ i h. omega (arith, c .before .before .before .before .before .before .before .shared-slice-known2 .given i))) (k .0 .1 .1) (g .inv .0 .older) (g .k) (g .at) (g .p) (g .inv .0 .arriving) (omega (arith, c .before .before .loop-test .taken, k .1 .0 .1)) in
+    let n = counted (a .stakes .now) (a .store .now) (a .index .now) (k .0 .0 .0) (k .0 .1 .0)
+    (bytes-of (a .store .now) (λ i h. omega (arith, c .before .before .before .before .before .before .before .shared-slice-known2 .given i)))
+    (k .0 .1 .1) in
+    let z = arrived (a .stakes .now) (a .store .now) (a .index .now) (k .0 .0 .0) (k .0 .1 .0)
+    (bytes-of (a .store .now) (λ i h. omega (arith, c .before .before .before .before .before .before .before .shared-slice-known2 .given i)))
+    (k .0 .1 .1) (g .inv .0 .older) (g .k) (g .at) (g .p) (g .inv .0 .arriving) (omega (arith, c .before .before .loop-test .taken, k .1 .0 .1)) in
     let r = entry-room (a .store .now) (g .at) (z .entry) in
     let i = z .inside in
     omega (arith, r .inside, i, c .before .before .before .before .before .before .before .before .before .good)
@@ -97,8 +117,12 @@ add-next-2 c =
     let a = c .before .before .before .before .before .before .before .before .before .args in
     let k = c .before .before .before .before .before .before .before .before .before .pre in
     let g = c .before .before .before .loop in
-    let n = counted (a .stakes .now) (a .store .now) (a .index .now) (k .0 .0 .0) (k .0 .1 .0) (bytes-of (a .store .now) (λ i h. omega (arith, c .before .before .before .before .before .before .before .shared-slice-known2 .given i))) (k .0 .1 .1) in
-    let z = arrived (a .stakes .now) (a .store .now) (a .index .now) (k .0 .0 .0) (k .0 .1 .0) (bytes-of (a .store .now) (λ i h. omega (arith, c .before .before .before .before .before .before .before .shared-slice-known2 .given i))) (k .0 .1 .1) (g .inv .0 .older) (g .k) (g .at) (g .p) (g .inv .0 .arriving) (omega (arith, c .before .before .loop-test .taken, k .1 .0 .1)) in
+    let n = counted (a .stakes .now) (a .store .now) (a .index .now) (k .0 .0 .0) (k .0 .1 .0)
+    (bytes-of (a .store .now) (λ i h. omega (arith, c .before .before .before .before .before .before .before .shared-slice-known2 .given i)))
+    (k .0 .1 .1) in
+    let z = arrived (a .stakes .now) (a .store .now) (a .index .now) (k .0 .0 .0) (k .0 .1 .0)
+    (bytes-of (a .store .now) (λ i h. omega (arith, c .before .before .before .before .before .before .before .shared-slice-known2 .given i)))
+    (k .0 .1 .1) (g .inv .0 .older) (g .k) (g .at) (g .p) (g .inv .0 .arriving) (omega (arith, c .before .before .loop-test .taken, k .1 .0 .1)) in
     let r = entry-room (a .store .now) (g .at) (z .entry) in
     let i = z .inside in
     omega (arith, r .inside, i, c .before .before .before .before .before .before .before .before .before .good)
@@ -108,8 +132,12 @@ sub-step c =
     let a = c .before .before .before .before .before .before .before .before .before .args in
     let k = c .before .before .before .before .before .before .before .before .before .pre in
     let g = c .before .before .before .loop in
-    let n = counted (a .stakes .now) (a .store .now) (a .index .now) (k .0 .0 .0) (k .0 .1 .0) (bytes-of (a .store .now) (λ i h. omega (arith, c .before .before .before .before .before .before .before .shared-slice-known2 .given i))) (k .0 .1 .1) in
-    let z = arrived (a .stakes .now) (a .store .now) (a .index .now) (k .0 .0 .0) (k .0 .1 .0) (bytes-of (a .store .now) (λ i h. omega (arith, c .before .before .before .before .before .before .before .shared-slice-known2 .given i))) (k .0 .1 .1) (g .inv .0 .older) (g .k) (g .at) (g .p) (g .inv .0 .arriving) (omega (arith, c .before .before .loop-test .taken, k .1 .0 .1)) in
+    let n = counted (a .stakes .now) (a .store .now) (a .index .now) (k .0 .0 .0) (k .0 .1 .0)
+    (bytes-of (a .store .now) (λ i h. omega (arith, c .before .before .before .before .before .before .before .shared-slice-known2 .given i)))
+    (k .0 .1 .1) in
+    let z = arrived (a .stakes .now) (a .store .now) (a .index .now) (k .0 .0 .0) (k .0 .1 .0)
+    (bytes-of (a .store .now) (λ i h. omega (arith, c .before .before .before .before .before .before .before .shared-slice-known2 .given i)))
+    (k .0 .1 .1) (g .inv .0 .older) (g .k) (g .at) (g .p) (g .inv .0 .arriving) (omega (arith, c .before .before .loop-test .taken, k .1 .0 .1)) in
     let r = entry-room (a .store .now) (g .at) (z .entry) in
     let i = z .inside in
     omega (arith, r .inside, c .before .record-end .ensures, c .before .before .before .before .before .before .before .before .before .good)
@@ -119,8 +147,12 @@ part-step-start c =
     let a = c .before .before .before .before .before .before .before .before .before .args in
     let k = c .before .before .before .before .before .before .before .before .before .pre in
     let g = c .before .before .before .loop in
-    let n = counted (a .stakes .now) (a .store .now) (a .index .now) (k .0 .0 .0) (k .0 .1 .0) (bytes-of (a .store .now) (λ i h. omega (arith, c .before .before .before .before .before .before .before .shared-slice-known2 .given i))) (k .0 .1 .1) in
-    let z = arrived (a .stakes .now) (a .store .now) (a .index .now) (k .0 .0 .0) (k .0 .1 .0) (bytes-of (a .store .now) (λ i h. omega (arith, c .before .before .before .before .before .before .before .shared-slice-known2 .given i))) (k .0 .1 .1) (g .inv .0 .older) (g .k) (g .at) (g .p) (g .inv .0 .arriving) (omega (arith, c .before .before .loop-test .taken, k .1 .0 .1)) in
+    let n = counted (a .stakes .now) (a .store .now) (a .index .now) (k .0 .0 .0) (k .0 .1 .0)
+    (bytes-of (a .store .now) (λ i h. omega (arith, c .before .before .before .before .before .before .before .shared-slice-known2 .given i)))
+    (k .0 .1 .1) in
+    let z = arrived (a .stakes .now) (a .store .now) (a .index .now) (k .0 .0 .0) (k .0 .1 .0)
+    (bytes-of (a .store .now) (λ i h. omega (arith, c .before .before .before .before .before .before .before .shared-slice-known2 .given i)))
+    (k .0 .1 .1) (g .inv .0 .older) (g .k) (g .at) (g .p) (g .inv .0 .arriving) (omega (arith, c .before .before .loop-test .taken, k .1 .0 .1)) in
     let r = entry-room (a .store .now) (g .at) (z .entry) in
     let i = z .inside in
     omega (arith, r .inside, c .before .record-end .ensures, c .before .before .before .before .before .before .before .before .before .good)
@@ -130,8 +162,12 @@ part-step-end c =
     let a = c .before .before .before .before .before .before .before .before .before .args in
     let k = c .before .before .before .before .before .before .before .before .before .pre in
     let g = c .before .before .before .loop in
-    let n = counted (a .stakes .now) (a .store .now) (a .index .now) (k .0 .0 .0) (k .0 .1 .0) (bytes-of (a .store .now) (λ i h. omega (arith, c .before .before .before .before .before .before .before .shared-slice-known2 .given i))) (k .0 .1 .1) in
-    let z = arrived (a .stakes .now) (a .store .now) (a .index .now) (k .0 .0 .0) (k .0 .1 .0) (bytes-of (a .store .now) (λ i h. omega (arith, c .before .before .before .before .before .before .before .shared-slice-known2 .given i))) (k .0 .1 .1) (g .inv .0 .older) (g .k) (g .at) (g .p) (g .inv .0 .arriving) (omega (arith, c .before .before .loop-test .taken, k .1 .0 .1)) in
+    let n = counted (a .stakes .now) (a .store .now) (a .index .now) (k .0 .0 .0) (k .0 .1 .0)
+    (bytes-of (a .store .now) (λ i h. omega (arith, c .before .before .before .before .before .before .before .shared-slice-known2 .given i)))
+    (k .0 .1 .1) in
+    let z = arrived (a .stakes .now) (a .store .now) (a .index .now) (k .0 .0 .0) (k .0 .1 .0)
+    (bytes-of (a .store .now) (λ i h. omega (arith, c .before .before .before .before .before .before .before .shared-slice-known2 .given i)))
+    (k .0 .1 .1) (g .inv .0 .older) (g .k) (g .at) (g .p) (g .inv .0 .arriving) (omega (arith, c .before .before .loop-test .taken, k .1 .0 .1)) in
     let r = entry-room (a .store .now) (g .at) (z .entry) in
     let i = z .inside in
     omega (arith, r .inside, c .before .record-end .ensures, c .before .before .before .before .before .before .before .before .before .good)
@@ -141,8 +177,12 @@ mul-step c =
     let a = c .before .before .before .before .before .before .before .before .before .before .args in
     let k = c .before .before .before .before .before .before .before .before .before .before .pre in
     let g = c .before .before .before .before .loop in
-    let n = counted (a .stakes .now) (a .store .now) (a .index .now) (k .0 .0 .0) (k .0 .1 .0) (bytes-of (a .store .now) (λ i h. omega (arith, c .before .before .before .before .before .before .before .before .shared-slice-known2 .given i))) (k .0 .1 .1) in
-    let z = arrived (a .stakes .now) (a .store .now) (a .index .now) (k .0 .0 .0) (k .0 .1 .0) (bytes-of (a .store .now) (λ i h. omega (arith, c .before .before .before .before .before .before .before .before .shared-slice-known2 .given i))) (k .0 .1 .1) (g .inv .0 .older) (g .k) (g .at) (g .p) (g .inv .0 .arriving) (omega (arith, c .before .before .before .loop-test .taken, k .1 .0 .1)) in
+    let n = counted (a .stakes .now) (a .store .now) (a .index .now) (k .0 .0 .0) (k .0 .1 .0)
+    (bytes-of (a .store .now) (λ i h. omega (arith, c .before .before .before .before .before .before .before .before .shared-slice-known2 .given i)))
+    (k .0 .1 .1) in
+    let z = arrived (a .stakes .now) (a .store .now) (a .index .now) (k .0 .0 .0) (k .0 .1 .0)
+    (bytes-of (a .store .now) (λ i h. omega (arith, c .before .before .before .before .before .before .before .before .shared-slice-known2 .given i)))
+    (k .0 .1 .1) (g .inv .0 .older) (g .k) (g .at) (g .p) (g .inv .0 .arriving) (omega (arith, c .before .before .before .loop-test .taken, k .1 .0 .1)) in
     let r = entry-room (a .store .now) (g .at) (z .entry) in
     let i = z .inside in
     omega (arith, r .inside, i, c .before .before .before .before .before .before .before .before .before .before .good)
@@ -152,8 +192,12 @@ sub-step-2 c =
     let a = c .before .before .before .before .before .before .before .before .before .before .args in
     let k = c .before .before .before .before .before .before .before .before .before .before .pre in
     let g = c .before .before .before .before .loop in
-    let n = counted (a .stakes .now) (a .store .now) (a .index .now) (k .0 .0 .0) (k .0 .1 .0) (bytes-of (a .store .now) (λ i h. omega (arith, c .before .before .before .before .before .before .before .before .shared-slice-known2 .given i))) (k .0 .1 .1) in
-    let z = arrived (a .stakes .now) (a .store .now) (a .index .now) (k .0 .0 .0) (k .0 .1 .0) (bytes-of (a .store .now) (λ i h. omega (arith, c .before .before .before .before .before .before .before .before .shared-slice-known2 .given i))) (k .0 .1 .1) (g .inv .0 .older) (g .k) (g .at) (g .p) (g .inv .0 .arriving) (omega (arith, c .before .before .before .loop-test .taken, k .1 .0 .1)) in
+    let n = counted (a .stakes .now) (a .store .now) (a .index .now) (k .0 .0 .0) (k .0 .1 .0)
+    (bytes-of (a .store .now) (λ i h. omega (arith, c .before .before .before .before .before .before .before .before .shared-slice-known2 .given i)))
+    (k .0 .1 .1) in
+    let z = arrived (a .stakes .now) (a .store .now) (a .index .now) (k .0 .0 .0) (k .0 .1 .0)
+    (bytes-of (a .store .now) (λ i h. omega (arith, c .before .before .before .before .before .before .before .before .shared-slice-known2 .given i)))
+    (k .0 .1 .1) (g .inv .0 .older) (g .k) (g .at) (g .p) (g .inv .0 .arriving) (omega (arith, c .before .before .before .loop-test .taken, k .1 .0 .1)) in
     let r = entry-room (a .store .now) (g .at) (z .entry) in
     let i = z .inside in
     omega (arith, r .inside, i, c .before .before .before .before .before .before .before .before .before .before .good)
@@ -163,8 +207,12 @@ part-step-start-2 c =
     let a = c .before .before .before .before .before .before .before .before .before .before .args in
     let k = c .before .before .before .before .before .before .before .before .before .before .pre in
     let g = c .before .before .before .before .loop in
-    let n = counted (a .stakes .now) (a .store .now) (a .index .now) (k .0 .0 .0) (k .0 .1 .0) (bytes-of (a .store .now) (λ i h. omega (arith, c .before .before .before .before .before .before .before .before .shared-slice-known2 .given i))) (k .0 .1 .1) in
-    let z = arrived (a .stakes .now) (a .store .now) (a .index .now) (k .0 .0 .0) (k .0 .1 .0) (bytes-of (a .store .now) (λ i h. omega (arith, c .before .before .before .before .before .before .before .before .shared-slice-known2 .given i))) (k .0 .1 .1) (g .inv .0 .older) (g .k) (g .at) (g .p) (g .inv .0 .arriving) (omega (arith, c .before .before .before .loop-test .taken, k .1 .0 .1)) in
+    let n = counted (a .stakes .now) (a .store .now) (a .index .now) (k .0 .0 .0) (k .0 .1 .0)
+    (bytes-of (a .store .now) (λ i h. omega (arith, c .before .before .before .before .before .before .before .before .shared-slice-known2 .given i)))
+    (k .0 .1 .1) in
+    let z = arrived (a .stakes .now) (a .store .now) (a .index .now) (k .0 .0 .0) (k .0 .1 .0)
+    (bytes-of (a .store .now) (λ i h. omega (arith, c .before .before .before .before .before .before .before .before .shared-slice-known2 .given i)))
+    (k .0 .1 .1) (g .inv .0 .older) (g .k) (g .at) (g .p) (g .inv .0 .arriving) (omega (arith, c .before .before .before .loop-test .taken, k .1 .0 .1)) in
     let r = entry-room (a .store .now) (g .at) (z .entry) in
     let i = z .inside in
     omega (arith, r .inside, i, c .before .before .before .before .before .before .before .before .before .before .good)
@@ -174,8 +222,12 @@ part-step-end-2 c =
     let a = c .before .before .before .before .before .before .before .before .before .before .args in
     let k = c .before .before .before .before .before .before .before .before .before .before .pre in
     let g = c .before .before .before .before .loop in
-    let n = counted (a .stakes .now) (a .store .now) (a .index .now) (k .0 .0 .0) (k .0 .1 .0) (bytes-of (a .store .now) (λ i h. omega (arith, c .before .before .before .before .before .before .before .before .shared-slice-known2 .given i))) (k .0 .1 .1) in
-    let z = arrived (a .stakes .now) (a .store .now) (a .index .now) (k .0 .0 .0) (k .0 .1 .0) (bytes-of (a .store .now) (λ i h. omega (arith, c .before .before .before .before .before .before .before .before .shared-slice-known2 .given i))) (k .0 .1 .1) (g .inv .0 .older) (g .k) (g .at) (g .p) (g .inv .0 .arriving) (omega (arith, c .before .before .before .loop-test .taken, k .1 .0 .1)) in
+    let n = counted (a .stakes .now) (a .store .now) (a .index .now) (k .0 .0 .0) (k .0 .1 .0)
+    (bytes-of (a .store .now) (λ i h. omega (arith, c .before .before .before .before .before .before .before .before .shared-slice-known2 .given i)))
+    (k .0 .1 .1) in
+    let z = arrived (a .stakes .now) (a .store .now) (a .index .now) (k .0 .0 .0) (k .0 .1 .0)
+    (bytes-of (a .store .now) (λ i h. omega (arith, c .before .before .before .before .before .before .before .before .shared-slice-known2 .given i)))
+    (k .0 .1 .1) (g .inv .0 .older) (g .k) (g .at) (g .p) (g .inv .0 .arriving) (omega (arith, c .before .before .before .loop-test .taken, k .1 .0 .1)) in
     let r = entry-room (a .store .now) (g .at) (z .entry) in
     let i = z .inside in
     omega (arith, r .inside, i, c .before .before .before .before .before .before .before .before .before .before .good)
@@ -185,11 +237,28 @@ step-requires c κs =
     let a = c .before .before .before .before .before .before .before .before .before .before .before .before .args in
     let k = c .before .before .before .before .before .before .before .before .before .before .before .before .pre in
     let g = c .before .before .before .before .before .before .loop in
-    let n = counted (a .stakes .now) (a .store .now) (a .index .now) (k .0 .0 .0) (k .0 .1 .0) (bytes-of (a .store .now) (λ i h. omega (arith, c .before .before .before .before .before .before .before .before .before .before .shared-slice-known2 .given i))) (k .0 .1 .1) in
-    let z = arrived (a .stakes .now) (a .store .now) (a .index .now) (k .0 .0 .0) (k .0 .1 .0) (bytes-of (a .store .now) (λ i h. omega (arith, c .before .before .before .before .before .before .before .before .before .before .shared-slice-known2 .given i))) (k .0 .1 .1) (g .inv .0 .older) (g .k) (g .at) (g .p) (g .inv .0 .arriving) (omega (arith, c .before .before .before .before .before .loop-test .taken, k .1 .0 .1)) in
+    let n = counted (a .stakes .now) (a .store .now) (a .index .now) (k .0 .0 .0) (k .0 .1 .0)
+    (bytes-of (a .store .now) (λ i h. omega (
+      arith,
+      c .before .before .before .before .before .before .before .before .before .before .shared-slice-known2
+          .given i,
+    ))) (k .0 .1 .1) in
+    let z = arrived (a .stakes .now) (a .store .now) (a .index .now) (k .0 .0 .0) (k .0 .1 .0)
+    (bytes-of (a .store .now) (λ i h. omega (
+      arith,
+      c .before .before .before .before .before .before .before .before .before .before .shared-slice-known2
+          .given i,
+    ))) (k .0 .1 .1) (g .inv .0 .older) (g .k) (g .at) (g .p) (g .inv .0 .arriving)
+    (omega (arith, c .before .before .before .before .before .loop-test .taken, k .1 .0 .1)) in
     let r = entry-room (a .store .now) (g .at) (z .entry) in
-    let i = z .inside in
-    (k .0 .0, (step-ready (a .stakes .now) (a .store .now) (a .locators .now) (g .replies) (g .k) (g .at) (g .p) (g .inv .0) (a .index .now) z _ _ (c .before .before .before .before .record-end .ensures) refl, (k .1 .0 .0, answering-settled (a .stakes .now) (a .store .now) (a .locators .now) (g .replies) (g .k) (g .at) (g .p) (g .inv .0))))
+    let i = z .inside in (
+      k .0 .0,
+      (
+        step-ready (a .stakes .now) (a .store .now) (a .locators .now) (g .replies) (g .k) (g .at) (g .p) (g .inv .0) (a .index .now) z _ _
+            (c .before .before .before .before .record-end .ensures) refl,
+        (k .1 .0 .0, answering-settled (a .stakes .now) (a .store .now) (a .locators .now) (g .replies) (g .k) (g .at) (g .p) (g .inv .0)),
+      ),
+    )
 
 add-k : tie.Need-add-k Inv-loop μ-loop
 add-k c = search needs
@@ -202,18 +271,34 @@ loop-again c =
     let a = c .before .before .before .before .before .before .before .before .before .before .before .before .before .before .before .args in
     let k = c .before .before .before .before .before .before .before .before .before .before .before .before .before .before .before .pre in
     let g = c .before .before .before .before .before .before .before .before .before .loop in
-    let n = counted (a .stakes .now) (a .store .now) (a .index .now) (k .0 .0 .0) (k .0 .1 .0) (bytes-of (a .store .now) (λ i h. omega (arith, c .before .before .before .before .before .before .before .before .before .before .before .before .before .shared-slice-known2 .given i))) (k .0 .1 .1) in
-    let z = arrived (a .stakes .now) (a .store .now) (a .index .now) (k .0 .0 .0) (k .0 .1 .0) (bytes-of (a .store .now) (λ i h. omega (arith, c .before .before .before .before .before .before .before .before .before .before .before .before .before .shared-slice-known2 .given i))) (k .0 .1 .1) (g .inv .0 .older) (g .k) (g .at) (g .p) (g .inv .0 .arriving) (omega (arith, c .before .before .before .before .before .before .before .before .loop-test .taken, k .1 .0 .1)) in
+    let n = counted (a .stakes .now) (a .store .now) (a .index .now) (k .0 .0 .0) (k .0 .1 .0)
+    (bytes-of (a .store .now) (λ i h. omega (
+      arith,
+      c .before .before .before .before .before .before .before .before .before .before .before .before
+          .before .shared-slice-known2 .given i,
+    ))) (k .0 .1 .1) in
+    let z = arrived (a .stakes .now) (a .store .now) (a .index .now) (k .0 .0 .0) (k .0 .1 .0)
+    (bytes-of (a .store .now) (λ i h. omega (
+      arith,
+      c .before .before .before .before .before .before .before .before .before .before .before .before
+          .before .shared-slice-known2 .given i,
+    ))) (k .0 .1 .1) (g .inv .0 .older) (g .k) (g .at) (g .p) (g .inv .0 .arriving)
+    (omega (arith, c .before .before .before .before .before .before .before .before .loop-test .taken, k .1 .0 .1)) in
     let r = entry-room (a .store .now) (g .at) (z .entry) in
-    let i = z .inside in
-    (answering-next (a .stakes .now) (a .store .now) (a .locators .now) (g .replies) (g .k) (g .at) (g .p) (g .inv .0) (a .index .now) z _ _ (c .before .before .before .before .before .before .before .record-end .ensures) refl _ (c .before .before .step .ensures), omega (arith, c .before .before .before .before .before .before .before .before .loop-test .taken))
+    let i = z .inside in (
+      answering-next (a .stakes .now) (a .store .now) (a .locators .now) (g .replies) (g .k) (g .at) (g .p) (g .inv .0) (a .index .now) z _ _
+          (c .before .before .before .before .before .before .before .record-end .ensures) refl _ (c .before .before .step .ensures),
+      omega
+          (arith, c .before .before .before .before .before .before .before .before .loop-test .taken),
+    )
 
 same-length : tie.Need-same-length Inv-loop μ-loop
 same-length c =
     let a = c .before .before .before .before .before .before .before .args in
     let k = c .before .before .before .before .before .before .before .pre in
     let g = c .before .loop in
-    answering-settled (a .stakes .now) (a .store .now) (a .locators .now) (g .replies) (g .k) (g .at) (g .p) (g .inv .0) .long ∙ sym (ap length (k .1 .1) ∙ length-replicate (3 * length (asked (a .locators .now))) 0)
+    answering-settled (a .stakes .now) (a .store .now) (a .locators .now) (g .replies) (g .k) (g .at) (g .p) (g .inv .0) .long ∙ sym
+    (ap length (k .1 .1) ∙ length-replicate (3 * length (asked (a .locators .now))) 0)
 
 returns : tie.Need-returns Inv-loop μ-loop
 returns c =

@@ -33,7 +33,10 @@ read-u16-requires c κs = omega (arith, long-enough _ (sym (c .before .well-size
 
 loop-holds : tie.Need-loop-holds Inv-loop μ-loop
 unfolding firstIndex
-loop-holds c = (walked-start _ _ _ (sym (c .before .before .well-sized .ensures) ∙ not-false _ (c .before .if1 .left)) refl _ (c .read-u16 .ensures), (omega arith, omega arith))
+loop-holds c = (
+  walked-start _ _ _ (sym (c .before .before .well-sized .ensures) ∙ not-false _ (c .before .if1 .left)) refl _ (c .read-u16 .ensures),
+  (omega arith, omega arith),
+)
 
 same-length : tie.Need-same-length Inv-loop μ-loop
 same-length c = search needs
@@ -65,7 +68,12 @@ place-requires : tie.Need-place-requires Inv-loop μ-loop
 place-requires c κs = search needs
 
 read-u16-requires-2 : tie.Need-read-u16-requires-2 Inv-loop μ-loop
-read-u16-requires-2 c κs = omega (arith, c .place .ensures, walked-inside _ _ _ _ _ (c .before .before .before .before .loop .inv .0) (λ z. omega arith) (omega arith))
+read-u16-requires-2 c κs = omega (
+  arith,
+  c .place .ensures,
+  walked-inside _ _ _ _ _ (c .before .before .before .before .loop .inv .0) (λ z. omega arith)
+      (omega arith),
+)
 
 loop-less : tie.Need-loop-less Inv-loop μ-loop
 loop-less c = search needs
@@ -73,8 +81,10 @@ loop-less c = search needs
 loop-again : tie.Need-loop-again Inv-loop μ-loop
 unfolding nextIndex
 loop-again c =
-    let w = c .before .before .before .before .before .loop .inv in
-    (walked-on _ _ _ _ _ (w .0) (λ z. omega arith) (λ z. omega arith) (omega arith) (w .1 .1) _ (c .read-u162 .ensures ∙ (rw (c .before .place .ensures))), (omega arith, simp length-set (w .1 .1)))
+    let w = c .before .before .before .before .before .loop .inv in (
+      walked-on _ _ _ _ _ (w .0) (λ z. omega arith) (λ z. omega arith) (omega arith) (w .1 .1) _ (c .read-u162 .ensures ∙ (rw (c .before .place .ensures))),
+      (omega arith, simp length-set (w .1 .1)),
+    )
 
 same-length-3 : tie.Need-same-length-3 Inv-loop μ-loop
 same-length-3 c = search needs

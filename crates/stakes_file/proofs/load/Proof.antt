@@ -45,7 +45,8 @@ unfolding asLoad loadedInto
 returns-2 c =
     let start = c .before .before .before .before .before .before .before .before .args in
     let walk = c .before .before .before .chain in
-    let e = load-broken (start .file .now) (some-bytes (start .file .now) (λ z. omega arith)) (chain-broken (start .file .now) _ _ (walk .ensures .1) (c .enum-told .given .1)) in
+    let e = load-broken (start .file .now) (some-bytes (start .file .now) (λ z. omega arith))
+    (chain-broken (start .file .now) _ _ (walk .ensures .1) (c .enum-told .given .1)) in
     (rw e, rw e)
 
 array-share-prefix-indexes : tie.Need-array-share-prefix-indexes
@@ -56,15 +57,18 @@ array-share-prefix-indexes c =
 slice-aggregate-load-along : tie.Need-slice-aggregate-load-along
 slice-aggregate-load-along c =
     let walk = c .before .before .before .before .before .chain in
-    sym (length-take-le (c .before .before .n .given .0 .0) (walk .last .1 .0) (omega (arith, chain-fits _ _ (c .before .before .n .given .1) (walk .ensures .0), walk .kept .1 .0)))
+    sym (length-take-le (c .before .before .n .given .0 .0) (walk .last .1 .0)
+    (omega (arith, chain-fits _ _ (c .before .before .n .given .1) (walk .ensures .0), walk .kept .1 .0)))
 
 load-along-requires : tie.Need-load-along-requires
 load-along-requires c κs =
     let start = c .before .before .before .before .before .before .before .before .before .before .before .args in
     let walk = c .before .before .before .before .before .before .chain in
     let n = c .before .before .before .n .given .0 .0 in
-    let fits = chain-fits _ _ (c .before .before .before .n .given .1) (walk .ensures .0) in
-    (chained-inside _ _ (chain-found (start .file .now) _ (chain-told (start .file .now) _ _ (walk .ensures .1) n (c .before .before .before .n .given .1))), omega (arith, length-take-le n (walk .last .1 .0) (omega (arith, walk .kept .1 .0))))
+    let fits = chain-fits _ _ (c .before .before .before .n .given .1) (walk .ensures .0) in (
+      chained-inside _ _ (chain-found (start .file .now) _ (chain-told (start .file .now) _ _ (walk .ensures .1) n (c .before .before .before .n .given .1))),
+      omega (arith, length-take-le n (walk .last .1 .0) (omega (arith, walk .kept .1 .0))),
+    )
 
 same-length-2 : tie.Need-same-length-2
 same-length-2 c = search needs
@@ -74,7 +78,8 @@ returns-3 c =
     let start = c .before .before .before .before .before .before .before .before .before .before .before .before .before .before .args in
     let walk = c .before .before .before .before .before .before .before .before .before .chain in
     let n = c .before .before .before .before .before .before .n .given .0 .0 in
-    let e = load-some (start .file .now) _ (some-bytes (start .file .now) (λ z. omega arith)) (chain-told (start .file .now) _ _ (walk .ensures .1) n (c .before .before .before .before .before .before .n .given .1)) in
+    let e = load-some (start .file .now) _ (some-bytes (start .file .now) (λ z. omega arith))
+    (chain-told (start .file .now) _ _ (walk .ensures .1) n (c .before .before .before .before .before .before .n .given .1)) in
     (c .before .before .load-along .ensures .0 ∙ (rw e), c .before .before .load-along .ensures .1 ∙ (rw e))
 
 pub load-spec : {M : Type 1} → statement M

@@ -45,7 +45,9 @@ returns-2 : tie.Need-returns-2
 returns-2 c =
     let start = c .before .before .before .before .before .before .before .before .before .before .before .before .before .args in
     let m = c .before .before .before .before .before .before .stakes-along .ensures in
-    let e = along-good (start .file .now) (start .indexes .now) (sym (c .before .before .before .before .before .before .before .before .before .good-names .ensures) ∙ not-false _ (c .before .before .before .before .before .before .before .before .if1 .left)) in
+    let e = along-good (start .file .now) (start .indexes .now) (sym
+    (c .before .before .before .before .before .before .before .before .before .good-names .ensures) ∙ not-false _
+    (c .before .before .before .before .before .before .before .before .if1 .left)) in
     (rw m at (c .before .before .put-committee .ensures .0) ∙ (rw e), rw m at (c .before .before .put-committee .ensures .1) ∙ (rw e))
 
 pub load-along-spec : {M : Type 1} → statement M

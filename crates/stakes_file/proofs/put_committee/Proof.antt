@@ -26,14 +26,16 @@ returns : tie.Need-returns
 returns c =
     let start = c .before .before .before .before .before .before .before .before .before .args in
     let set = c .before .before .before .before .before .before in
-    let e = committee-taken (start .members .now) (c .before .before .before .before .enum-told .given .0 .0) (ap asNewCommittee (sym (c .before .before .before .before .enum-told .given .1)) ∙ set .new-committee .ensures) in
+    let e = committee-taken (start .members .now) (c .before .before .before .before .enum-told .given .0 .0)
+    (ap asNewCommittee (sym (c .before .before .before .before .enum-told .given .1)) ∙ set .new-committee .ensures) in
     (c .before .before .put-in-front .ensures .0 ∙ (rw e), c .before .before .put-in-front .ensures .1 ∙ (rw e))
 
 returns-2 : tie.Need-returns-2
 unfolding asLoad loadedInto
 returns-2 c =
     let start = c .before .before .before .before .before .before .args in
-    let e = committee-broken (start .members .now) (c .before .number .given .0 .0) (ap asNewCommittee (sym (c .before .number .given .1)) ∙ c .before .before .before .new-committee .ensures) in
+    let e = committee-broken (start .members .now) (c .before .number .given .0 .0)
+    (ap asNewCommittee (sym (c .before .number .given .1)) ∙ c .before .before .before .new-committee .ensures) in
     (rw e, rw e)
 
 pub put-committee-spec : {M : Type 1} → statement M

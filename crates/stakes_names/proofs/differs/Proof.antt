@@ -39,7 +39,8 @@ same-requires c κs = search needs
 returns : tie.Need-returns Inv-loop μ-loop
 returns c =
     let b = c .before .before .before .before .before .loop in
-    sym (b .inv ∙ differs-stop _ _ _ (b .j) (omega arith) (rw (c .before .before .name-at .ensures) at (sym (same-names _ _ _ (c .before .same .ensures .0) (c .before .same .ensures .1)) ∙ c .if1 .taken)))
+    sym (b .inv ∙ differs-stop _ _ _ (b .j) (omega arith) (rw (c .before .before .name-at .ensures) at
+    (sym (same-names _ _ _ (c .before .same .ensures .0) (c .before .same .ensures .1)) ∙ c .if1 .taken)))
 
 add-j : tie.Need-add-j Inv-loop μ-loop
 add-j c = search needs
@@ -50,7 +51,8 @@ loop-less c = search needs
 loop-again : tie.Need-loop-again Inv-loop μ-loop
 loop-again c =
     let b = c .before .before .before .before .before .loop in
-    b .inv ∙ differs-on _ _ _ (b .j) (omega arith) (rw (c .before .before .name-at .ensures) at (sym (same-names _ _ _ (c .before .same .ensures .0) (c .before .same .ensures .1)) ∙ c .if1 .left))
+    b .inv ∙ differs-on _ _ _ (b .j) (omega arith) (rw (c .before .before .name-at .ensures) at
+    (sym (same-names _ _ _ (c .before .same .ensures .0) (c .before .same .ensures .1)) ∙ c .if1 .left))
 
 returns-2 : tie.Need-returns-2 Inv-loop μ-loop
 returns-2 c = sym (c .before .loop .inv ∙ differs-end _ _ _ (c .before .loop .j) (omega arith))

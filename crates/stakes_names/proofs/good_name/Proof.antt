@@ -38,7 +38,8 @@ shared-slice-read-if4 : tie.Need-shared-slice-read-if4 Inv-loop μ-loop
 shared-slice-read-if4 c = search needs
 
 returns-3 : tie.Need-returns-3 Inv-loop μ-loop
-returns-3 c = sym (c .before .before .before .before .before .loop .inv .1 .1 ∙ name-stop _ (c .before .before .before .before .before .loop .i) (omega arith) (omega arith) (omega arith) (eqb-false _ 0 (not-true _ (c .if4 .taken))))
+returns-3 c = sym (c .before .before .before .before .before .loop .inv .1 .1 ∙ name-stop _ (c .before .before .before .before .before .loop .i) (omega arith)
+    (omega arith) (omega arith) (eqb-false _ 0 (not-true _ (c .if4 .taken))))
 
 add-i : tie.Need-add-i Inv-loop μ-loop
 add-i c = search needs
@@ -49,8 +50,14 @@ loop-less c = search needs
 loop-again : tie.Need-loop-again Inv-loop μ-loop
 loop-again c =
     let b = c .before .before .before .loop in
-    let e : (b .i + 1) - 1 ≡ b .i = omega arith in
-    (omega arith, (omega arith, b .inv .1 .1 ∙ name-on _ (b .i) (omega arith) (omega arith) (⊎-elim (λ w z. eqb-true _ 0 (not-false _ (w .2 .left))) (λ w z. absurd (omega arith)) (c .if3 .came)) ∙ rw e))
+    let e : (b .i + 1) - 1 ≡ b .i = omega arith in (
+      omega arith,
+      (
+        omega arith,
+        b .inv .1 .1 ∙ name-on _ (b .i) (omega arith) (omega arith)
+            (⊎-elim (λ w z. eqb-true _ 0 (not-false _ (w .2 .left))) (λ w z. absurd (omega arith)) (c .if3 .came)) ∙ rw e,
+      ),
+    )
 
 returns-4 : tie.Need-returns-4 Inv-loop μ-loop
 returns-4 c = sym (c .before .loop .inv .1 .1 ∙ name-last _ (c .before .loop .i) (omega arith) (omega arith))

@@ -37,7 +37,8 @@ good-name-requires c κs = search needs
 returns : tie.Need-returns Inv-loop μ-loop
 returns c =
     let b = c .before .before .before .before .before .loop in
-    sym (b .inv ∙ names-bad _ _ (b .k) (omega arith) (rw (c .before .before .name-at .ensures) at (sym (c .before .good-name .ensures) ∙ not-true _ (c .if1 .taken))))
+    sym (b .inv ∙ names-bad _ _ (b .k) (omega arith) (rw (c .before .before .name-at .ensures) at
+    (sym (c .before .good-name .ensures) ∙ not-true _ (c .if1 .taken))))
 
 add-k : tie.Need-add-k Inv-loop μ-loop
 add-k c = search needs

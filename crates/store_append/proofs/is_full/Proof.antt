@@ -19,18 +19,36 @@ sub-room c = omega (arith, laid-out (c .before .before .before .args .store .now
 
 returns : tie.Need-returns
 unfolding usedLength
-returns c = sym (full-bytes (c .before .before .before .before .args .store .now) (c .before .before .before .before .pre) (c .before .before .before .before .args .rec .now) (omega (arith, laid-out (c .before .before .before .before .args .store .now) (c .before .before .before .before .pre) .reads .header .within)))
+returns c = sym (full-bytes (c .before .before .before .before .args .store .now) (c .before .before .before .before .pre)
+    (c .before .before .before .before .args .rec .now) (omega
+    (arith, laid-out (c .before .before .before .before .args .store .now) (c .before .before .before .before .pre) .reads .header .within)))
 
 returns-2 : tie.Need-returns-2
 unfolding usedLength
-returns-2 c = sym (full-bytes (c .before .before .before .before .before .args .store .now) (c .before .before .before .before .before .pre) (c .before .before .before .before .before .args .rec .now) (omega (arith, laid-out (c .before .before .before .before .before .args .store .now) (c .before .before .before .before .before .pre) .reads .header .within)))
+returns-2 c = sym (full-bytes (c .before .before .before .before .before .args .store .now) (c .before .before .before .before .before .pre)
+    (c .before .before .before .before .before .args .rec .now)
+    (omega (
+      arith,
+      laid-out (c .before .before .before .before .before .args .store .now) (c .before .before .before .before .before .pre) .reads .header
+          .within,
+    )))
 
 read-u16-requires : tie.Need-read-u16-requires
-read-u16-requires c κs = omega (arith, laid-out (c .before .before .before .before .before .args .store .now) (c .before .before .before .before .before .pre) .reads .header .long)
+read-u16-requires c κs = omega (
+  arith,
+  laid-out (c .before .before .before .before .before .args .store .now) (c .before .before .before .before .before .pre)
+      .reads .header .long,
+)
 
 returns-3 : tie.Need-returns-3
 unfolding usedLength
-returns-3 c = rw (c .read-u16 .ensures) (sym (full-blocks (c .before .before .before .before .before .before .args .store .now) (c .before .before .before .before .before .before .pre) (c .before .before .before .before .before .before .args .rec .now) (omega (arith, laid-out (c .before .before .before .before .before .before .args .store .now) (c .before .before .before .before .before .before .pre) .reads .header .within))))
+returns-3 c = rw (c .read-u16 .ensures) (sym (full-blocks (c .before .before .before .before .before .before .args .store .now)
+    (c .before .before .before .before .before .before .pre) (c .before .before .before .before .before .before .args .rec .now)
+    (omega (
+      arith,
+      laid-out (c .before .before .before .before .before .before .args .store .now) (c .before .before .before .before .before .before .pre)
+          .reads .header .within,
+    ))))
 
 pub is-full-spec : {M : Type 1} → statement M
 is-full-spec =

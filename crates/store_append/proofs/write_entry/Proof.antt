@@ -29,7 +29,12 @@ same-length c = search needs
 returns : tie.Need-returns
 returns c =
     let a = c .before .before .before .before .before .before .before .before .before .before .before .before .before .before .args in
-    c .before .before .copy-to .ensures ∙ rw (c .before .before .before .before .before .before .write-u322 .ensures, c .before .before .before .before .before .before .before .before .before .before .write-u32 .ensures) (entry-written (a .store .now) (a .rec .now) (a .at) (a .next) (length (a .rec .now)))
+    c .before .before .copy-to .ensures ∙ rw (
+      c .before .before .before .before .before .before .write-u322 .ensures,
+      c .before .before .before .before
+          .before .before .before .before .before .before .write-u32 .ensures,
+    )
+    (entry-written (a .store .now) (a .rec .now) (a .at) (a .next) (length (a .rec .now)))
 
 pub write-entry-spec : {M : Type 1} → statement M
 write-entry-spec =

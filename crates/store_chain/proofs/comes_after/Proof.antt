@@ -39,21 +39,28 @@ returns-2 c =
     let a = c .before .before .before .before .before .before .before .args in
     let x : BlockReference = asReference (c .before .before .before .before .reference-at .result) in
     let y : BlockReference = asReference (c .before .before .before .reference-at2 .result) in
-    follows-by (a .store .now) (a .last) (a .at) x y true (c .before .before .before .before .before .if1 .left) (c .before .before .before .before .reference-at .ensures) (c .before .before .before .reference-at2 .ensures) (compared-less x y (sym (c .before .before .compare .ensures) ∙ c .enum-told .given .1) .1)
+    follows-by (a .store .now) (a .last) (a .at) x y true (c .before .before .before .before .before .if1 .left)
+    (c .before .before .before .before .reference-at .ensures) (c .before .before .before .reference-at2 .ensures)
+    (compared-less x y (sym (c .before .before .compare .ensures) ∙ c .enum-told .given .1) .1)
 
 returns-3 : tie.Need-returns-3
 returns-3 c =
     let a = c .before .before .before .before .before .before .before .args in
     let x : BlockReference = asReference (c .before .before .before .before .reference-at .result) in
     let y : BlockReference = asReference (c .before .before .before .reference-at2 .result) in
-    follows-by (a .store .now) (a .last) (a .at) x y false (c .before .before .before .before .before .if1 .left) (c .before .before .before .before .reference-at .ensures) (c .before .before .before .reference-at2 .ensures) (fails (referenceBefore x y) (λ t. reference-irrefl y (rw (reference-same x y (compared-equal x y (sym (c .before .before .compare .ensures) ∙ c .enum-told2 .given .1))) at t)))
+    follows-by (a .store .now) (a .last) (a .at) x y false (c .before .before .before .before .before .if1 .left)
+    (c .before .before .before .before .reference-at .ensures) (c .before .before .before .reference-at2 .ensures)
+    (fails (referenceBefore x y) (λ t. reference-irrefl y (rw
+    (reference-same x y (compared-equal x y (sym (c .before .before .compare .ensures) ∙ c .enum-told2 .given .1))) at t)))
 
 returns-4 : tie.Need-returns-4
 returns-4 c =
     let a = c .before .before .before .before .before .before .before .args in
     let x : BlockReference = asReference (c .before .before .before .before .reference-at .result) in
     let y : BlockReference = asReference (c .before .before .before .reference-at2 .result) in
-    follows-by (a .store .now) (a .last) (a .at) x y false (c .before .before .before .before .before .if1 .left) (c .before .before .before .before .reference-at .ensures) (c .before .before .before .reference-at2 .ensures) (reference-asymmetric y x (compared-greater x y (sym (c .before .before .compare .ensures) ∙ c .enum-told3 .given .1) .1))
+    follows-by (a .store .now) (a .last) (a .at) x y false (c .before .before .before .before .before .if1 .left)
+    (c .before .before .before .before .reference-at .ensures) (c .before .before .before .reference-at2 .ensures)
+    (reference-asymmetric y x (compared-greater x y (sym (c .before .before .compare .ensures) ∙ c .enum-told3 .given .1) .1))
 
 pub comes-after-spec : {M : Type 1} → statement M
 comes-after-spec =

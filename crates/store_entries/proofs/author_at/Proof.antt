@@ -21,18 +21,25 @@ part-author-start : tie.Need-part-author-start
 part-author-start c = search needs
 
 part-author-end : tie.Need-part-author-end
-part-author-end c = omega (arith, entry-room (c .before .before .args .store .now) (c .before .before .args .at) (c .before .before .pre) .inside, c .record-end .ensures)
+part-author-end c = omega (
+  arith,
+  entry-room (c .before .before .args .store .now) (c .before .before .args .at) (c .before .before .pre) .inside,
+  c
+      .record-end .ensures,
+)
 
 author-requires : tie.Need-author-requires
 author-requires c κs =
     let a = c .before .before .before .args in
-    rw (record-part (a .store .now) (a .at) (c .before .record-end .result) (c .before .record-end .ensures)) (entry-room (a .store .now) (a .at) (c .before .before .before .pre) .formed)
+    rw (record-part (a .store .now) (a .at) (c .before .record-end .result) (c .before .record-end .ensures))
+    (entry-room (a .store .now) (a .at) (c .before .before .before .pre) .formed)
 
 returns : tie.Need-returns
 unfolding blockAt
 returns c =
     let a = c .before .before .before .before .args in
-    c .author .ensures ∙ ap (λ (x : Bytes). blockIn x .reference .authority) (record-part (a .store .now) (a .at) (c .before .before .record-end .result) (c .before .before .record-end .ensures))
+    c .author .ensures ∙ ap (λ (x : Bytes). blockIn x .reference .authority)
+    (record-part (a .store .now) (a .at) (c .before .before .record-end .result) (c .before .before .record-end .ensures))
 
 pub author-at-spec : {M : Type 1} → statement M
 author-at-spec =

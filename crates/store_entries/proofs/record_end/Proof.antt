@@ -17,7 +17,12 @@ cast-result : tie.Need-cast-result
 cast-result c = search needs
 
 add-result-2 : tie.Need-add-result-2
-add-result-2 c = omega (arith, entry-room (c .before .before .args .store .now) (c .before .before .args .at) (c .before .before .pre) .inside, c .read-u32 .ensures)
+add-result-2 c = omega (
+  arith,
+  entry-room (c .before .before .args .store .now) (c .before .before .args .at) (c .before .before .pre) .inside,
+  c .read-u32
+      .ensures,
+)
 
 returns : tie.Need-returns
 returns c = search needs

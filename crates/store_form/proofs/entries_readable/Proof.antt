@@ -32,8 +32,17 @@ cast-count c = search needs
 
 loop-holds : tie.Need-loop-holds Inv-loop μ-loop
 loop-holds c =
-    let a = c .before .before .before .before .args in
-    (walking-start (a .store .now) (a .starts .now), (refl, (omega arith, omega (arith, header-right (a .store .now) (c .before .before .before .before .pre .0) .long))))
+    let a = c .before .before .before .before .args in (
+      walking-start (a .store .now) (a .starts .now),
+      (
+        refl,
+        (
+          omega arith,
+          omega
+              (arith, header-right (a .store .now) (c .before .before .before .before .pre .0) .long),
+        ),
+      ),
+    )
 
 sub-if1 : tie.Need-sub-if1 Inv-loop μ-loop
 sub-if1 c = search needs
@@ -98,14 +107,24 @@ returns-3 c =
     let s = c .before .before .before .before .before .before .before .before .before .before .before .before .args .store .now in
     let n = c .before .before .before .before .read-u322 in
     refuses (walking-stop s (l .i) (l .at) (l .starts) (l .inv .0) (omega arith)
-    (λ r st. not-both (formed-at s (l .at) r st) (ap wellFormed (sym (record-part s (l .at) (l .at + 8 + n .result) (ap (λ (k : ℕ). l .at + 8 + k) (n .ensures)))) ∙ sym (c .before .well-formed .ensures) ∙ not-true (c .before .well-formed .result) (c .if3 .taken))))
+    (λ r st. not-both (formed-at s (l .at) r st) (ap wellFormed (sym
+    (record-part s (l .at) (l .at + 8 + n .result) (ap (λ (k : ℕ). l .at + 8 + k) (n .ensures)))) ∙ sym (c .before .well-formed .ensures) ∙ not-true
+    (c .before .well-formed .result) (c .if3 .taken))))
 
 mul-starts : tie.Need-mul-starts Inv-loop μ-loop
 mul-starts c = search needs
 
 slice-write-starts : tie.Need-slice-write-starts Inv-loop μ-loop
 unfolding blockCount
-slice-write-starts c = omega (arith, c .before .before .before .before .before .before .before .loop .inv .1 .0, c .before .before .before .before .before .before .before .before .before .before .before .before .pre .1, header-right (c .before .before .before .before .before .before .before .before .before .before .before .before .args .store .now) (c .before .before .before .before .before .before .before .before .before .before .before .before .pre .0) .few)
+slice-write-starts c = omega (
+  arith,
+  c .before .before .before .before .before .before .before .loop .inv .1 .0,
+  c .before .before .before .before .before
+      .before .before .before .before .before .before .before .pre .1,
+  header-right
+      (c .before .before .before .before .before .before .before .before .before .before .before .before .args .store .now)
+      (c .before .before .before .before .before .before .before .before .before .before .before .before .pre .0) .few,
+)
 
 add-i : tie.Need-add-i Inv-loop μ-loop
 add-i c = search needs
@@ -120,7 +139,14 @@ loop-again c =
     let s = c .before .before .before .before .before .before .before .before .before .before .before .before .args .store .now in
     let n = c .before .before .before .before .read-u322 in (
       walking-on s (l .i) (l .at) (l .at + 8 + n .result) (l .starts) (l .inv .0)
-          (omega (arith, l .inv .1 .0, c .before .before .before .before .before .before .before .before .before .before .before .before .pre .1, header-right s (c .before .before .before .before .before .before .before .before .before .before .before .before .pre .0) .few)) (ap (λ (k : ℕ). l .at + 8 + k) (n .ensures)) (omega arith)
+          (omega (
+            arith,
+            l .inv .1 .0,
+            c .before .before .before .before .before .before .before .before .before .before .before .before .pre .1,
+            header-right
+                s (c .before .before .before .before .before .before .before .before .before .before .before .before .pre .0) .few,
+          ))
+          (ap (λ (k : ℕ). l .at + 8 + k) (n .ensures)) (omega arith)
           (sym (c .before .well-formed .ensures) ∙ not-false (c .before .well-formed .result) (c .if3 .left)),
       (simp length-set (l .inv .1 .0), (omega arith, omega arith)),
     )

@@ -30,7 +30,8 @@ returns-2 : tie.Need-returns-2
 returns-2 c =
     let start = c .before .before .before .before .before .before .before .before in
     rw (c .before .position-before .ensures, c .position-at .ensures)
-    (goes-between _ (start .pre .0) _ (start .pre .1 .0) _ _ _ (c .before .before .before .k .given .1) (c .before .before .before .before .before .find-place .ensures))
+    (goes-between _ (start .pre .0) _ (start .pre .1 .0) _ _ _ (c .before .before .before .k .given .1)
+    (c .before .before .before .before .before .find-place .ensures))
 
 pub chain-place-spec : {M : Type 1} → statement M
 chain-place-spec =

@@ -22,7 +22,8 @@ abbrev μ-chain : tie.MeasureT-chain
 μ-chain store order rec count k₀ block left₀ k left = left
 
 abbrev Inv-includes : tie.InvT-includes
-Inv-includes store order rec count k₀ k = (k ≤ count) × (firstMissing (recordsOf store) (blockIn rec .includes) ≡ k + firstMissing (recordsOf store) (drop k (blockIn rec .includes)))
+Inv-includes store order rec count k₀ k = (k ≤ count) × (firstMissing (recordsOf store) (blockIn rec .includes) ≡ k + firstMissing (recordsOf store)
+    (drop k (blockIn rec .includes)))
 
 abbrev μ-includes : tie.MeasureT-includes
 μ-includes store order rec count k₀ k = count - k
@@ -37,13 +38,20 @@ include-requires : tie.Need-include-requires Inv-chain μ-chain Inv-includes μ-
 include-requires c κs = search needs
 
 chain-holds : tie.Need-chain-holds Inv-chain μ-chain Inv-includes μ-includes
-chain-holds c = let o = c .before .before .before .before .before .before .before in (refl, above-start (o .args .store .now) (o .pre .0) (o .args .order .now) (o .pre .1 .0) _)
+chain-holds c = let o = c .before .before .before .before .before .before .before in
+    (refl, above-start (o .args .store .now) (o .pre .0) (o .args .order .now) (o .pre .1 .0) _)
 
 sub-at : tie.Need-sub-at Inv-chain μ-chain Inv-includes μ-includes
 sub-at c = search needs
 
 mul-at : tie.Need-mul-at Inv-chain μ-chain Inv-includes μ-includes
-mul-at c = omega (arith, c .before .chain .inv .1 .within, c .chain-test .taken, c .before .before .before .before .before .before .before .before .before .good)
+mul-at c = omega (
+  arith,
+  c .before .chain .inv .1 .within,
+  c .chain-test .taken,
+  c .before .before .before .before .before .before .before .before .before
+      .good,
+)
 
 shared-slice-read-at : tie.Need-shared-slice-read-at Inv-chain μ-chain Inv-includes μ-includes
 shared-slice-read-at c = omega (arith, c .before .before .chain .inv .1 .within, c .before .chain-test .taken)
@@ -51,7 +59,8 @@ shared-slice-read-at c = omega (arith, c .before .before .chain .inv .1 .within,
 reference-at-requires : tie.Need-reference-at-requires Inv-chain μ-chain Inv-includes μ-includes
 reference-at-requires c κs =
     let o = c .before .before .before .before .before .before .before .before .before .before in
-    order-entry (o .args .store .now) (o .pre .0) (o .args .order .now) (o .pre .1 .0) _ (omega (arith, c .before .before .chain .inv .1 .within, c .before .chain-test .taken))
+    order-entry (o .args .store .now) (o .pre .0) (o .args .order .now) (o .pre .1 .0) _
+    (omega (arith, c .before .before .chain .inv .1 .within, c .before .chain-test .taken))
 
 compare-requires : tie.Need-compare-requires Inv-chain μ-chain Inv-includes μ-includes
 compare-requires c κs = search needs
@@ -72,9 +81,22 @@ includes-again c =
     let a = o .args in
     let g = c .before .before .before .before .before .before .chain in
     let ref = c .before .before .before .reference-at in
-    let found = below-hit (a .store .now) (o .pre .0) (a .order .now) (o .pre .1 .0) (asReference (c .before .before .before .before .before .before .before .include .result)) (g .left) (g .inv .1) (c .before .before .before .before .before .chain-test .taken) (asReference (ref .result)) (ref .ensures) (sym (c .before .before .compare .ensures) ∙ c .enum-told .given .1) in
-    rw (g .inv .0)
-    (omega arith, c .before .before .before .before .before .before .before .before .before .includes .inv .1 ∙ missing-on (recordsOf (a .store .now)) (blockIn (a .rec .now) .includes) (c .before .before .before .before .before .before .before .before .before .includes .k) (omega (arith, c .before .before .before .before .before .before .before .before .includes-test .taken, c .before .before .before .before .before .before .before .before .before .before .include-count .ensures)) (rw (c .before .before .before .before .before .before .before .include .ensures) at found))
+    let found = below-hit (a .store .now) (o .pre .0) (a .order .now) (o .pre .1 .0)
+    (asReference (c .before .before .before .before .before .before .before .include .result)) (g .left) (g .inv .1)
+    (c .before .before .before .before .before .chain-test .taken) (asReference (ref .result)) (ref .ensures)
+    (sym (c .before .before .compare .ensures) ∙ c .enum-told .given .1) in
+    rw (g .inv .0) (
+      omega arith,
+      c .before .before .before .before .before .before .before .before .before .includes .inv .1 ∙ missing-on (recordsOf (a .store .now))
+          (blockIn (a .rec .now) .includes) (c .before .before .before .before .before .before .before .before .before .includes .k)
+          (omega (
+            arith,
+            c .before .before .before .before .before .before .before .before .includes-test .taken,
+            c .before .before .before .before .before
+                .before .before .before .before .before .include-count .ensures,
+          ))
+          (rw (c .before .before .before .before .before .before .before .include .ensures) at found),
+    )
 
 enum-told-2 : tie.Need-enum-told-2 Inv-chain μ-chain Inv-includes μ-includes
 enum-told-2 c = search needs
@@ -94,11 +116,17 @@ chain-again c =
     let o = c .before .before .before .before .before .before .before .before .before .before .before .before .before .before in
     let a = o .args in
     let g = c .before .before .before .before .before .before .chain in
-    let ref = c .before .before .before .reference-at in
-    (g .inv .0, below-on (a .store .now) (o .pre .0) (a .order .now) (o .pre .1 .0) (asReference (c .before .before .before .before .before .before .before .include .result)) (g .left) (g .inv .1) (c .before .before .before .before .before .chain-test .taken) (asReference (ref .result)) (ref .ensures) (sym (c .before .before .compare .ensures) ∙ c .enum-told3 .given .1))
+    let ref = c .before .before .before .reference-at in (
+      g .inv .0,
+      below-on (a .store .now) (o .pre .0) (a .order .now) (o .pre .1 .0)
+          (asReference (c .before .before .before .before .before .before .before .include .result)) (g .left) (g .inv .1)
+          (c .before .before .before .before .before .chain-test .taken) (asReference (ref .result)) (ref .ensures)
+          (sym (c .before .before .compare .ensures) ∙ c .enum-told3 .given .1),
+    )
 
 returns : tie.Need-returns Inv-chain μ-chain Inv-includes μ-includes
-returns c = sym (c .before .includes .inv .1 ∙ missing-none (recordsOf (c .before .before .before .before .before .before .args .store .now)) (blockIn (c .before .before .before .before .before .before .args .rec .now) .includes) (c .before .includes .k) (omega arith))
+returns c = sym (c .before .includes .inv .1 ∙ missing-none (recordsOf (c .before .before .before .before .before .before .args .store .now))
+    (blockIn (c .before .before .before .before .before .before .args .rec .now) .includes) (c .before .includes .k) (omega arith))
 
 returns-2 : tie.Need-returns-2 Inv-chain μ-chain Inv-includes μ-includes
 unfolding referenceIn
@@ -107,18 +135,32 @@ returns-2 c =
     let a = o .args in
     let g = c .before .before .before .before .before .before .chain in
     let ref = c .before .before .before .reference-at in
-    let gone = below-past (a .store .now) (o .pre .0) (a .order .now) (o .pre .1 .0) (asReference (c .before .before .before .before .before .before .before .include .result)) (g .left) (g .inv .1) (c .before .before .before .before .before .chain-test .taken) (asReference (ref .result)) (ref .ensures) (sym (c .before .before .compare .ensures) ∙ c .enum-told2 .given .1) in
+    let gone = below-past (a .store .now) (o .pre .0) (a .order .now) (o .pre .1 .0)
+    (asReference (c .before .before .before .before .before .before .before .include .result)) (g .left) (g .inv .1)
+    (c .before .before .before .before .before .chain-test .taken) (asReference (ref .result)) (ref .ensures)
+    (sym (c .before .before .compare .ensures) ∙ c .enum-told2 .given .1) in
     g .inv .0
-    ∙ sym (c .before .before .before .before .before .before .before .before .before .includes .inv .1 ∙ missing-there (recordsOf (a .store .now)) (blockIn (a .rec .now) .includes) (c .before .before .before .before .before .before .before .before .before .includes .k) (omega (arith, c .before .before .before .before .before .before .before .before .includes-test .taken, c .before .before .before .before .before .before .before .before .before .before .include-count .ensures)) (none-is (lookup (entries (recordsOf (a .store .now))) _) (rw (c .before .before .before .before .before .before .before .include .ensures) at gone)))
+    ∙ sym (c .before .before .before .before .before .before .before .before .before .includes .inv .1 ∙ missing-there (recordsOf (a .store .now))
+    (blockIn (a .rec .now) .includes) (c .before .before .before .before .before .before .before .before .before .includes .k)
+    (omega (
+      arith,
+      c .before .before .before .before .before .before .before .before .includes-test .taken,
+      c .before .before .before .before .before
+          .before .before .before .before .before .include-count .ensures,
+    ))
+    (none-is (lookup (entries (recordsOf (a .store .now))) _) (rw (c .before .before .before .before .before .before .before .include .ensures) at gone)))
 
 returns-3 : tie.Need-returns-3 Inv-chain μ-chain Inv-includes μ-includes
 returns-3 c =
     let o = c .before .before .before .before .before .before .before .before .before in
     let a = o .args in
     let g = c .before .chain in
-    let gone = above-end (a .store .now) (o .pre .0) (a .order .now) (o .pre .1 .0) (asReference (c .before .before .include .result)) (g .left) (g .inv .1) (omega arith) in
+    let gone = above-end (a .store .now) (o .pre .0) (a .order .now) (o .pre .1 .0) (asReference (c .before .before .include .result)) (g .left) (g .inv .1)
+    (omega arith) in
     g .inv .0
-    ∙ sym (c .before .before .before .before .includes .inv .1 ∙ missing-there (recordsOf (a .store .now)) (blockIn (a .rec .now) .includes) (c .before .before .before .before .includes .k) (omega arith) (none-is (lookup (entries (recordsOf (a .store .now))) _) (rw (c .before .before .include .ensures) at gone)))
+    ∙ sym (c .before .before .before .before .includes .inv .1 ∙ missing-there (recordsOf (a .store .now)) (blockIn (a .rec .now) .includes)
+    (c .before .before .before .before .includes .k) (omega arith)
+    (none-is (lookup (entries (recordsOf (a .store .now))) _) (rw (c .before .before .include .ensures) at gone)))
 
 pub first-missing-spec : {M : Type 1} → statement M
 first-missing-spec =

@@ -30,10 +30,14 @@ cast-left c = search needs
 
 loop-holds : tie.Need-loop-holds Inv-loop μ-loop
 unfolding blockCount
-loop-holds c = along-start ((c .before .before .before .args) .store .now) (c .before .before .before .pre) (asReference ((c .before .before .before .args) .block)) ((c .before .read-u32) .result) ((c .read-u16) .result) ((c .before .read-u32) .ensures) ((c .read-u16) .ensures)
+loop-holds c = along-start ((c .before .before .before .args) .store .now) (c .before .before .before .pre)
+    (asReference ((c .before .before .before .args) .block)) ((c .before .read-u32) .result) ((c .read-u16) .result) ((c .before .read-u32) .ensures)
+    ((c .read-u16) .ensures)
 
 reference-at-requires : tie.Need-reference-at-requires Inv-loop μ-loop
-reference-at-requires c κs = along-entry ((c .before .before .before .before .before .args) .store .now) (c .before .before .before .before .before .pre) (asReference ((c .before .before .before .before .before .args) .block)) ((c .before .loop) .at) ((c .before .loop) .left) ((c .before .loop) .inv) ((c .loop-test) .taken)
+reference-at-requires c κs = along-entry ((c .before .before .before .before .before .args) .store .now) (c .before .before .before .before .before .pre)
+    (asReference ((c .before .before .before .before .before .args) .block)) ((c .before .loop) .at) ((c .before .loop) .left) ((c .before .loop) .inv)
+    ((c .loop-test) .taken)
 
 compare-requires : tie.Need-compare-requires Inv-loop μ-loop
 compare-requires c κs = search needs
@@ -42,7 +46,16 @@ enum-told : tie.Need-enum-told Inv-loop μ-loop
 enum-told c = search needs
 
 read-u32-requires-2 : tie.Need-read-u32-requires-2 Inv-loop μ-loop
-read-u32-requires-2 c κs = omega (arith, entry-room ((c .before .before .before .before .before .before .before .before .before .args) .store .now) ((c .before .before .before .before .before .loop) .at) (along-entry ((c .before .before .before .before .before .before .before .before .before .args) .store .now) (c .before .before .before .before .before .before .before .before .before .pre) (asReference ((c .before .before .before .before .before .before .before .before .before .args) .block)) ((c .before .before .before .before .before .loop) .at) ((c .before .before .before .before .before .loop) .left) ((c .before .before .before .before .before .loop) .inv) ((c .before .before .before .before .loop-test) .taken)) .inside)
+read-u32-requires-2 c κs = omega (
+  arith,
+  entry-room ((c .before .before .before .before .before .before .before .before .before .args) .store .now)
+      ((c .before .before .before .before .before .loop) .at) (along-entry
+      ((c .before .before .before .before .before .before .before .before .before .args) .store .now)
+      (c .before .before .before .before .before .before .before .before .before .pre)
+      (asReference ((c .before .before .before .before .before .before .before .before .before .args) .block))
+      ((c .before .before .before .before .before .loop) .at) ((c .before .before .before .before .before .loop) .left)
+      ((c .before .before .before .before .before .loop) .inv) ((c .before .before .before .before .loop-test) .taken)) .inside,
+)
 
 cast-at-2 : tie.Need-cast-at-2 Inv-loop μ-loop
 cast-at-2 c = search needs
@@ -54,24 +67,44 @@ loop-less : tie.Need-loop-less Inv-loop μ-loop
 loop-less c = search needs
 
 loop-again : tie.Need-loop-again Inv-loop μ-loop
-loop-again c = met-on ((c .before .before .before .before .before .before .before .before .before .before .args) .store .now) (c .before .before .before .before .before .before .before .before .before .before .pre) (asReference ((c .before .before .before .before .before .before .before .before .before .before .args) .block)) ((c .before .before .before .before .before .before .loop) .at) ((c .before .before .before .before .before .before .loop) .left) ((c .before .before .before .before .before .before .loop) .inv) ((c .before .before .before .before .before .loop-test) .taken) (asReference ((c .before .before .before .before .reference-at) .result)) ((c .before .before .before .before .reference-at) .ensures) ((c .read-u322) .result) (sym ((c .before .before .before .compare) .ensures) ∙ (c .before .enum-told) .given .1) ((c .read-u322) .ensures)
+loop-again c = met-on ((c .before .before .before .before .before .before .before .before .before .before .args) .store .now)
+    (c .before .before .before .before .before .before .before .before .before .before .pre)
+    (asReference ((c .before .before .before .before .before .before .before .before .before .before .args) .block))
+    ((c .before .before .before .before .before .before .loop) .at) ((c .before .before .before .before .before .before .loop) .left)
+    ((c .before .before .before .before .before .before .loop) .inv) ((c .before .before .before .before .before .loop-test) .taken)
+    (asReference ((c .before .before .before .before .reference-at) .result)) ((c .before .before .before .before .reference-at) .ensures)
+    ((c .read-u322) .result) (sym ((c .before .before .before .compare) .ensures) ∙ (c .before .enum-told) .given .1) ((c .read-u322) .ensures)
 
 enum-told-2 : tie.Need-enum-told-2 Inv-loop μ-loop
 enum-told-2 c = search needs
 
 returns : tie.Need-returns Inv-loop μ-loop
-returns c = met-hit ((c .before .before .before .before .before .before .before .before .before .args) .store .now) (c .before .before .before .before .before .before .before .before .before .pre) (asReference ((c .before .before .before .before .before .before .before .before .before .args) .block)) ((c .before .before .before .before .before .loop) .at) ((c .before .before .before .before .before .loop) .left) ((c .before .before .before .before .before .loop) .inv) ((c .before .before .before .before .loop-test) .taken) (asReference ((c .before .before .before .reference-at) .result)) ((c .before .before .before .reference-at) .ensures) (sym ((c .before .before .compare) .ensures) ∙ (c .enum-told2) .given .1)
+returns c = met-hit ((c .before .before .before .before .before .before .before .before .before .args) .store .now)
+    (c .before .before .before .before .before .before .before .before .before .pre)
+    (asReference ((c .before .before .before .before .before .before .before .before .before .args) .block))
+    ((c .before .before .before .before .before .loop) .at) ((c .before .before .before .before .before .loop) .left)
+    ((c .before .before .before .before .before .loop) .inv) ((c .before .before .before .before .loop-test) .taken)
+    (asReference ((c .before .before .before .reference-at) .result)) ((c .before .before .before .reference-at) .ensures)
+    (sym ((c .before .before .compare) .ensures) ∙ (c .enum-told2) .given .1)
 
 enum-told-3 : tie.Need-enum-told-3 Inv-loop μ-loop
 enum-told-3 c = search needs
 
 returns-2 : tie.Need-returns-2 Inv-loop μ-loop
 unfolding positionOf
-returns-2 c = rw (met-past ((c .before .before .before .before .before .before .before .before .before .args) .store .now) (c .before .before .before .before .before .before .before .before .before .pre) (asReference ((c .before .before .before .before .before .before .before .before .before .args) .block)) ((c .before .before .before .before .before .loop) .at) ((c .before .before .before .before .before .loop) .left) ((c .before .before .before .before .before .loop) .inv) ((c .before .before .before .before .loop-test) .taken) (asReference ((c .before .before .before .reference-at) .result)) ((c .before .before .before .reference-at) .ensures) (sym ((c .before .before .compare) .ensures) ∙ (c .enum-told3) .given .1))
+returns-2 c = rw (met-past ((c .before .before .before .before .before .before .before .before .before .args) .store .now)
+    (c .before .before .before .before .before .before .before .before .before .pre)
+    (asReference ((c .before .before .before .before .before .before .before .before .before .args) .block))
+    ((c .before .before .before .before .before .loop) .at) ((c .before .before .before .before .before .loop) .left)
+    ((c .before .before .before .before .before .loop) .inv) ((c .before .before .before .before .loop-test) .taken)
+    (asReference ((c .before .before .before .reference-at) .result)) ((c .before .before .before .reference-at) .ensures)
+    (sym ((c .before .before .compare) .ensures) ∙ (c .enum-told3) .given .1))
 
 returns-3 : tie.Need-returns-3 Inv-loop μ-loop
 unfolding positionOf
-returns-3 c = rw (along-end ((c .before .before .before .before .before .args) .store .now) (c .before .before .before .before .before .pre) (asReference ((c .before .before .before .before .before .args) .block)) ((c .before .loop) .at) ((c .before .loop) .left) ((c .before .loop) .inv) (omega arith))
+returns-3 c = rw (along-end ((c .before .before .before .before .before .args) .store .now) (c .before .before .before .before .before .pre)
+    (asReference ((c .before .before .before .before .before .args) .block)) ((c .before .loop) .at) ((c .before .loop) .left) ((c .before .loop) .inv)
+    (omega arith))
 
 pub lookup-spec : {M : Type 1} → statement M
 lookup-spec =

@@ -23,7 +23,11 @@ abbrev μ-loop : tie.MeasureT-loop
 μ-loop stakes total store starts order i₀ i = length starts - i
 
 loop-holds : tie.Need-loop-holds Inv-loop μ-loop
-loop-holds c = (omega arith, accepting-start (c .before .before .before .before .args .stakes .now) (recordsOf (c .before .before .before .before .args .store .now)))
+loop-holds c = (
+  omega arith,
+  accepting-start (c .before .before .before .before .args .stakes .now)
+      (recordsOf (c .before .before .before .before .args .store .now)),
+)
 
 mul-at : tie.Need-mul-at Inv-loop μ-loop
 mul-at c = search needs
@@ -55,7 +59,8 @@ returns c =
     let rs : List Record = recordsOf (a .store .now) in
     let q : a .starts .now ≡ positions rs = c .before .before .before .before .before .before .before .before .before .pre .1 .1 .1 in
     let inside : l .i < length rs = omega (arith, ap length q, length-positions rs) in
-    let decided : c .before .entry-accepted .result ≡ acceptedAt c₀ rs (getD (positions rs) (l .i) 0) = c .before .entry-accepted .ensures ∙ ap (λ (x : List ℕ). acceptedAt c₀ rs (getD x (l .i) 0)) q in
+    let decided : c .before .entry-accepted .result ≡ acceptedAt c₀ rs (getD (positions rs) (l .i) 0) = c .before .entry-accepted .ensures ∙ ap
+    (λ (x : List ℕ). acceptedAt c₀ rs (getD x (l .i) 0)) q in
     sym (accepting-stop c₀ rs (l .i) (l .inv .1) inside (sym decided ∙ not-true (c .before .entry-accepted .result) (c .if1 .taken)))
 
 add-i : tie.Need-add-i Inv-loop μ-loop
@@ -72,7 +77,8 @@ loop-again c =
     let rs : List Record = recordsOf (a .store .now) in
     let q : a .starts .now ≡ positions rs = c .before .before .before .before .before .before .before .before .before .pre .1 .1 .1 in
     let inside : l .i < length rs = omega (arith, ap length q, length-positions rs) in
-    let decided : c .before .entry-accepted .result ≡ acceptedAt c₀ rs (getD (positions rs) (l .i) 0) = c .before .entry-accepted .ensures ∙ ap (λ (x : List ℕ). acceptedAt c₀ rs (getD x (l .i) 0)) q in
+    let decided : c .before .entry-accepted .result ≡ acceptedAt c₀ rs (getD (positions rs) (l .i) 0) = c .before .entry-accepted .ensures ∙ ap
+    (λ (x : List ℕ). acceptedAt c₀ rs (getD x (l .i) 0)) q in
     (omega arith, accepting-on c₀ rs (l .i) (l .inv .1) inside (sym decided ∙ not-false (c .before .entry-accepted .result) (c .if1 .left)))
 
 returns-2 : tie.Need-returns-2 Inv-loop μ-loop
@@ -80,7 +86,8 @@ returns-2 c =
     let a = c .before .before .before .before .before .before .args in
     let l = c .before .loop in
     let rs : List Record = recordsOf (a .store .now) in
-    sym (accepting-end (a .stakes .now) rs (l .i) (l .inv .1) (omega (arith, ap length (c .before .before .before .before .before .before .pre .1 .1 .1), length-positions rs)))
+    sym (accepting-end (a .stakes .now) rs (l .i) (l .inv .1) (omega
+    (arith, ap length (c .before .before .before .before .before .before .pre .1 .1 .1), length-positions rs)))
 
 pub accepted-in-turn-spec : {M : Type 1} → statement M
 accepted-in-turn-spec =

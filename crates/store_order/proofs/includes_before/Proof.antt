@@ -16,7 +16,8 @@ use Rattle.store_order.proofs.includes_before.Statement.{statement}
 use Rattle.store_order.proofs.includes_before.Tie as tie
 
 abbrev Inv-loop : tie.InvT-loop
-Inv-loop store order rec at count k₀ k = (k ≤ count) × (allOf (storedBefore (entries (recordsOf store)) at) (blockIn rec .includes) ≡ allOf (storedBefore (entries (recordsOf store)) at) (drop k (blockIn rec .includes)))
+Inv-loop store order rec at count k₀ k = (k ≤ count) × (allOf (storedBefore (entries (recordsOf store)) at) (blockIn rec .includes) ≡ allOf
+    (storedBefore (entries (recordsOf store)) at) (drop k (blockIn rec .includes)))
 
 abbrev μ-loop : tie.MeasureT-loop
 μ-loop store order rec at count k₀ k = count - k
@@ -41,7 +42,8 @@ returns c =
     let is : List BlockReference = blockIn (a .rec .now) .includes in
     let i : BlockReference = getD is (l .k) noReference in
     let stored : BlockReference → Bool = storedBefore (entries rs) (a .at) in
-    let p : c .before .find-ordered .result ≡ positionOf (lookup (entries rs) i) = c .before .find-ordered .ensures ∙ ap (λ (x : BlockReference). positionOf (lookup (entries rs) x)) (c .before .before .include .ensures) in
+    let p : c .before .find-ordered .result ≡ positionOf (lookup (entries rs) i) = c .before .find-ordered .ensures ∙ ap
+    (λ (x : BlockReference). positionOf (lookup (entries rs) x)) (c .before .before .include .ensures) in
     sym (l .inv .1 ∙ all-stop noReference stored is (l .k) (omega arith) (before-none rs (a .at) i (sym p ∙ c .if1 .taken)))
 
 returns-2 : tie.Need-returns-2 Inv-loop μ-loop
@@ -52,7 +54,8 @@ returns-2 c =
     let is : List BlockReference = blockIn (a .rec .now) .includes in
     let i : BlockReference = getD is (l .k) noReference in
     let stored : BlockReference → Bool = storedBefore (entries rs) (a .at) in
-    let p : c .before .before .find-ordered .result ≡ positionOf (lookup (entries rs) i) = c .before .before .find-ordered .ensures ∙ ap (λ (x : BlockReference). positionOf (lookup (entries rs) x)) (c .before .before .before .include .ensures) in
+    let p : c .before .before .find-ordered .result ≡ positionOf (lookup (entries rs) i) = c .before .before .find-ordered .ensures ∙ ap
+    (λ (x : BlockReference). positionOf (lookup (entries rs) x)) (c .before .before .before .include .ensures) in
     sym (l .inv .1 ∙ all-stop noReference stored is (l .k) (omega arith) (before-late rs (a .at) i (omega arith)))
 
 add-k : tie.Need-add-k Inv-loop μ-loop
@@ -69,7 +72,8 @@ loop-again c =
     let is : List BlockReference = blockIn (a .rec .now) .includes in
     let i : BlockReference = getD is (l .k) noReference in
     let stored : BlockReference → Bool = storedBefore (entries rs) (a .at) in
-    let p : c .before .before .find-ordered .result ≡ positionOf (lookup (entries rs) i) = c .before .before .find-ordered .ensures ∙ ap (λ (x : BlockReference). positionOf (lookup (entries rs) x)) (c .before .before .before .include .ensures) in
+    let p : c .before .before .find-ordered .result ≡ positionOf (lookup (entries rs) i) = c .before .before .find-ordered .ensures ∙ ap
+    (λ (x : BlockReference). positionOf (lookup (entries rs) x)) (c .before .before .before .include .ensures) in
     (omega arith, l .inv .1 ∙ all-on noReference stored is (l .k) (omega arith) (before-early rs (a .at) i (λ z. c .before .if1 .left (p ∙ z)) (omega arith)))
 
 returns-3 : tie.Need-returns-3 Inv-loop μ-loop

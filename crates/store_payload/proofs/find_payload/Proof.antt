@@ -23,13 +23,17 @@ returns : tie.Need-returns
 unfolding asPlace placeWithin
 returns c =
     let a = c .before .before .before .before .before .args in
-    let told = c .enum-told2 .given in
-    (place-broken (a .stakes .now) (a .store .now) (asLocator (a .locator)) (broken-sound (a .stakes .now) (told .0 .0) (ap asNewCommittee (sym (told .1)) ∙ c .before .before .new-committee .ensures)), refl)
+    let told = c .enum-told2 .given in (
+      place-broken (a .stakes .now) (a .store .now) (asLocator (a .locator))
+          (broken-sound (a .stakes .now) (told .0 .0) (ap asNewCommittee (sym (told .1)) ∙ c .before .before .new-committee .ensures)),
+      refl,
+    )
 
 in-order-requires : tie.Need-in-order-requires
 in-order-requires c κs =
     let told = c .enum-told .given in
-    taken-sound (c .before .before .before .before .before .args .stakes .now) (told .0 .0) (ap asNewCommittee (sym (told .1)) ∙ c .before .before .new-committee .ensures) .0
+    taken-sound (c .before .before .before .before .before .args .stakes .now) (told .0 .0)
+    (ap asNewCommittee (sym (told .1)) ∙ c .before .before .new-committee .ensures) .0
 
 returns-2 : tie.Need-returns-2
 unfolding asPlace placeWithin
@@ -55,20 +59,28 @@ unfolding asPlace placeWithin asShare
 returns-3 c =
     let a = c .before .before .before .before .before .before .before .before .before .before .args in
     let told = c .before .before .before .before .before .enum-told .given in
-    let sound = taken-sound (a .stakes .now) (told .0 .0) (ap asNewCommittee (sym (told .1)) ∙ c .before .before .before .before .before .before .before .new-committee .ensures) .0 in
-    let order = sym (c .before .before .before .before .in-order .ensures) ∙ not-false _ (c .before .before .before .if1 .left) in
-    (place-none (a .stakes .now) (a .store .now) (asLocator (a .locator)) sound order (sym (c .before .before .stored-payload .ensures .0) ∙ ap asShare (c .enum-told3 .given .1)), refl)
+    let sound = taken-sound (a .stakes .now) (told .0 .0) (ap asNewCommittee (sym (told .1)) ∙ c .before .before .before .before .before .before .before
+    .new-committee .ensures) .0 in
+    let order = sym (c .before .before .before .before .in-order .ensures) ∙ not-false _ (c .before .before .before .if1 .left) in (
+      place-none (a .stakes .now) (a .store .now) (asLocator (a .locator)) sound order
+          (sym (c .before .before .stored-payload .ensures .0) ∙ ap asShare (c .enum-told3 .given .1)),
+      refl,
+    )
 
 returns-4 : tie.Need-returns-4
 unfolding asPlace placeWithin asShare shareWithin
 returns-4 c =
     let a = c .before .before .before .before .before .before .before .before .before .before .before .args in
     let told = c .before .before .before .before .before .before .enum-told .given in
-    let sound = taken-sound (a .stakes .now) (told .0 .0) (ap asNewCommittee (sym (told .1)) ∙ c .before .before .before .before .before .before .before .before .new-committee .ensures) .0 in
+    let sound = taken-sound (a .stakes .now) (told .0 .0) (ap asNewCommittee (sym (told .1)) ∙ c .before .before .before .before .before .before .before
+    .before .new-committee .ensures) .0 in
     let order = sym (c .before .before .before .before .before .in-order .ensures) ∙ not-false _ (c .before .before .before .before .if1 .left) in
     let found = c .before .start .given in
-    let inside = rw (found .1) at (c .before .before .before .stored-payload .ensures .1) in
-    (place-some (a .stakes .now) (a .store .now) (asLocator (a .locator)) sound order (record { start = found .0 .0; count = found .0 .1 .0 }) (sym (c .before .before .before .stored-payload .ensures .0) ∙ ap asShare (found .1)), inside)
+    let inside = rw (found .1) at (c .before .before .before .stored-payload .ensures .1) in (
+      place-some (a .stakes .now) (a .store .now) (asLocator (a .locator)) sound order (record { start = found .0 .0; count = found .0 .1 .0 })
+          (sym (c .before .before .before .stored-payload .ensures .0) ∙ ap asShare (found .1)),
+      inside,
+    )
 
 pub find-payload-spec : {M : Type 1} → statement M
 find-payload-spec =

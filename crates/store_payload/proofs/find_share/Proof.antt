@@ -33,8 +33,13 @@ next-statement-requires : tie.Need-next-statement-requires Inv-loop μ-loop
 unfolding cursorAt
 next-statement-requires c κs =
     let q = c .before .loop .inv .0 in
-    let i : c .before .loop .cursor .index ≡ c .before .loop .i = ap (λ (x : StatementCursor). x .index) q in
-    (c .before .before .before .before .before .before .pre, (q ∙ ap (cursorAt (c .before .before .before .before .before .before .args .rec .now)) (sym i), omega arith))
+    let i : c .before .loop .cursor .index ≡ c .before .loop .i = ap (λ (x : StatementCursor). x .index) q in (
+      c .before .before .before .before .before .before .pre,
+      (
+        q ∙ ap (cursorAt (c .before .before .before .before .before .before .args .rec .now)) (sym i),
+        omega arith,
+      ),
+    )
 
 add-i : tie.Need-add-i Inv-loop μ-loop
 add-i c = search needs
@@ -45,15 +50,24 @@ loop-less c = search needs
 loop-again : tie.Need-loop-again Inv-loop μ-loop
 unfolding cursorAt
 loop-again c =
-    let i : c .before .before .before .loop .cursor .index ≡ c .before .before .before .loop .i = ap (λ (x : StatementCursor). x .index) (c .before .before .before .loop .inv .0) in
-    (c .before .next-statement .ensures .1 .0 ∙ ap (λ (k : ℕ). cursorAt (c .before .before .before .before .before .before .before .before .args .rec .now) (k + 1)) i, omega arith)
+    let i : c .before .before .before .loop .cursor .index ≡ c .before .before .before .loop .i = ap (λ (x : StatementCursor). x .index)
+    (c .before .before .before .loop .inv .0) in (
+      c .before .next-statement .ensures .1 .0 ∙ ap (λ (k : ℕ). cursorAt (c .before .before .before .before .before .before .before .before .args .rec .now)
+          (k + 1)) i,
+      omega arith,
+    )
 
 next-statement-requires-2 : tie.Need-next-statement-requires-2 Inv-loop μ-loop
 unfolding cursorAt
 next-statement-requires-2 c κs =
     let q = c .before .loop .inv .0 in
-    let i : c .before .loop .cursor .index ≡ c .before .loop .i = ap (λ (x : StatementCursor). x .index) q in
-    (c .before .before .before .before .before .before .pre, (q ∙ ap (cursorAt (c .before .before .before .before .before .before .args .rec .now)) (sym i), omega arith))
+    let i : c .before .loop .cursor .index ≡ c .before .loop .i = ap (λ (x : StatementCursor). x .index) q in (
+      c .before .before .before .before .before .before .pre,
+      (
+        q ∙ ap (cursorAt (c .before .before .before .before .before .before .args .rec .now)) (sym i),
+        omega arith,
+      ),
+    )
 
 share-place-requires : tie.Need-share-place-requires Inv-loop μ-loop
 share-place-requires c κs = search needs
@@ -63,7 +77,10 @@ returns-2 c =
     let a = c .before .before .before .before .before .before .before .before .args in
     let l = c .before .before .before .loop in
     let last : l .i ≡ a .offset = omega arith in
-    rw (c .share-place .ensures) (share-found (a .rec .now) (bytes-of (a .rec .now) (λ j h. omega (arith, c .before .before .before .before .before .before .before .shared-slice-known .given j))) (c .before .before .before .before .before .before .before .before .pre) (a .offset) (l .cursor) (c .before .next-statement2 .result) (l .inv .0 ∙ ap (cursorAt (a .rec .now)) last) (omega arith) (c .before .next-statement2 .ensures))
+    rw (c .share-place .ensures) (share-found (a .rec .now) (bytes-of (a .rec .now)
+    (λ j h. omega (arith, c .before .before .before .before .before .before .before .shared-slice-known .given j)))
+    (c .before .before .before .before .before .before .before .before .pre) (a .offset) (l .cursor) (c .before .next-statement2 .result)
+    (l .inv .0 ∙ ap (cursorAt (a .rec .now)) last) (omega arith) (c .before .next-statement2 .ensures))
 
 pub find-share-spec : {M : Type 1} → statement M
 find-share-spec =

@@ -31,11 +31,18 @@ part-result-end c = search needs
 
 returns : tie.Need-returns
 unfolding asPlace
-returns c = place-refused (c .before .before .before .before .before .before .args .stakes .now) (c .before .before .before .before .before .before .args .store .now) (asLocator (c .before .before .before .before .before .before .args .locator)) (c .before .enum-told .given .0 .0) (sym (ap asPlace (c .before .enum-told .given .1)) ∙ c .before .before .before .find-payload .ensures .0) .0
+returns c = place-refused (c .before .before .before .before .before .before .args .stakes .now)
+    (c .before .before .before .before .before .before .args .store .now) (asLocator (c .before .before .before .before .before .before .args .locator))
+    (c .before .enum-told .given .0 .0) (sym (ap asPlace (c .before .enum-told .given .1)) ∙ c .before .before .before .find-payload .ensures .0) .0
 
 add-end : tie.Need-add-end
 unfolding placeWithin
-add-end c = omega (arith, leb-true (c .before .start .given .0 .0 + c .before .start .given .0 .1 .0) (length (c .before .before .before .before .before .before .args .store .now)) (rw (c .before .start .given .1) at (c .before .before .before .find-payload .ensures .1)))
+add-end c = omega (
+  arith,
+  leb-true (c .before .start .given .0 .0 + c .before .start .given .0 .1 .0)
+      (length (c .before .before .before .before .before .before .args .store .now))
+      (rw (c .before .start .given .1) at (c .before .before .before .find-payload .ensures .1)),
+)
 
 sub-result-2 : tie.Need-sub-result-2
 sub-result-2 c = search needs
@@ -45,7 +52,12 @@ part-result-start-2 c = search needs
 
 part-result-end-2 : tie.Need-part-result-end-2
 unfolding placeWithin
-part-result-end-2 c = omega (arith, leb-true (c .before .start .given .0 .0 + c .before .start .given .0 .1 .0) (length (c .before .before .before .before .before .before .args .store .now)) (rw (c .before .start .given .1) at (c .before .before .before .find-payload .ensures .1)))
+part-result-end-2 c = omega (
+  arith,
+  leb-true (c .before .start .given .0 .0 + c .before .start .given .0 .1 .0)
+      (length (c .before .before .before .before .before .before .args .store .now))
+      (rw (c .before .start .given .1) at (c .before .before .before .find-payload .ensures .1)),
+)
 
 returns-2 : tie.Need-returns-2
 unfolding asPlace placeWithin
@@ -53,7 +65,13 @@ returns-2 c =
     let start = c .before .before .start .given .0 .0 in
     let count = c .before .before .start .given .0 .1 .0 in
     rw (add-sub-cancel-left start count)
-    (place-stands (c .before .before .before .before .before .before .before .args .stakes .now) (c .before .before .before .before .before .before .before .args .store .now) (asLocator (c .before .before .before .before .before .before .before .args .locator)) start count (sym (ap asPlace (c .before .before .start .given .1)) ∙ c .before .before .before .before .find-payload .ensures .0) (leb-true (c .before .before .start .given .0 .0 + c .before .before .start .given .0 .1 .0) (length (c .before .before .before .before .before .before .before .args .store .now)) (rw (c .before .before .start .given .1) at (c .before .before .before .before .find-payload .ensures .1))) .0)
+    (place-stands (c .before .before .before .before .before .before .before .args .stakes .now)
+    (c .before .before .before .before .before .before .before .args .store .now)
+    (asLocator (c .before .before .before .before .before .before .before .args .locator)) start count
+    (sym (ap asPlace (c .before .before .start .given .1)) ∙ c .before .before .before .before .find-payload .ensures .0)
+    (leb-true (c .before .before .start .given .0 .0 + c .before .before .start .given .0 .1 .0)
+    (length (c .before .before .before .before .before .before .before .args .store .now))
+    (rw (c .before .before .start .given .1) at (c .before .before .before .before .find-payload .ensures .1))) .0)
 
 pub payload-spec : {M : Type 1} → statement M
 payload-spec =

@@ -21,12 +21,18 @@ enum-known-found-2 c = search needs
 returns : tie.Need-returns
 unfolding asPlace placeWithin asPayloadLength
 returns c =
-    place-stands (c .before .before .before .before .before .before .args .stakes .now) (c .before .before .before .before .before .before .args .store .now) (asLocator (c .before .before .before .before .before .before .args .locator)) (c .before .found .given .0 .0) (c .before .found .given .0 .1 .0) (sym (ap asPlace (c .before .found .given .1)) ∙ c .before .before .before .find-payload .ensures .0)
-    (leb-true (c .before .found .given .0 .0 + c .before .found .given .0 .1 .0) (length (c .before .before .before .before .before .before .args .store .now)) (rw (c .before .found .given .1) at (c .before .before .before .find-payload .ensures .1))) .1
+    place-stands (c .before .before .before .before .before .before .args .stakes .now) (c .before .before .before .before .before .before .args .store .now)
+    (asLocator (c .before .before .before .before .before .before .args .locator)) (c .before .found .given .0 .0) (c .before .found .given .0 .1 .0)
+    (sym (ap asPlace (c .before .found .given .1)) ∙ c .before .before .before .find-payload .ensures .0)
+    (leb-true (c .before .found .given .0 .0 + c .before .found .given .0 .1 .0)
+    (length (c .before .before .before .before .before .before .args .store .now))
+    (rw (c .before .found .given .1) at (c .before .before .before .find-payload .ensures .1))) .1
 
 returns-2 : tie.Need-returns-2
 unfolding asPlace asPayloadLength
-returns-2 c = place-refused (c .before .before .before .before .before .before .args .stakes .now) (c .before .before .before .before .before .before .args .store .now) (asLocator (c .before .before .before .before .before .before .args .locator)) (c .before .found2 .given .0 .0) (sym (ap asPlace (c .before .found2 .given .1)) ∙ c .before .before .before .find-payload .ensures .0) .1
+returns-2 c = place-refused (c .before .before .before .before .before .before .args .stakes .now)
+    (c .before .before .before .before .before .before .args .store .now) (asLocator (c .before .before .before .before .before .before .args .locator))
+    (c .before .found2 .given .0 .0) (sym (ap asPlace (c .before .found2 .given .1)) ∙ c .before .before .before .find-payload .ensures .0) .1
 
 pub payload-length-spec : {M : Type 1} → statement M
 payload-length-spec =

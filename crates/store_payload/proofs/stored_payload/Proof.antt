@@ -23,20 +23,29 @@ lookup-requires c κs = search needs
 returns : tie.Need-returns
 unfolding asShare shareWithin asLocator locator
 returns c =
-    let a = c .before .before .before .args in
-    (sym (payload-unknown (a .store .now) (c .before .before .before .pre) (asLocator (a .locator)) (c .before .lookup .result) (c .before .lookup .ensures) (c .if1 .taken)), refl)
+    let a = c .before .before .before .args in (
+      sym (payload-unknown (a .store .now) (c .before .before .before .pre) (asLocator (a .locator)) (c .before .lookup .result) (c .before .lookup .ensures)
+          (c .if1 .taken)),
+      refl,
+    )
 
 add-from : tie.Need-add-from
 unfolding asLocator locator
 add-from c =
     let a = c .before .before .before .args in
-    omega (arith, entry-room (a .store .now) (c .before .lookup .result) (payload-entry (a .store .now) (c .before .before .before .pre) (asLocator (a .locator)) (c .before .lookup .result) (c .before .lookup .ensures) (c .if1 .left)) .inside)
+    omega (
+      arith,
+      entry-room (a .store .now) (c .before .lookup .result)
+          (payload-entry (a .store .now) (c .before .before .before .pre) (asLocator (a .locator)) (c .before .lookup .result) (c .before .lookup .ensures)
+          (c .if1 .left)) .inside,
+    )
 
 record-end-requires : tie.Need-record-end-requires
 unfolding asLocator locator
 record-end-requires c κs =
     let a = c .before .before .before .args in
-    payload-entry (a .store .now) (c .before .before .before .pre) (asLocator (a .locator)) (c .before .lookup .result) (c .before .lookup .ensures) (c .if1 .left)
+    payload-entry (a .store .now) (c .before .before .before .pre) (asLocator (a .locator)) (c .before .lookup .result) (c .before .lookup .ensures)
+    (c .if1 .left)
 
 sub-find-share : tie.Need-sub-find-share
 sub-find-share c = search needs
@@ -48,14 +57,22 @@ part-find-share-end : tie.Need-part-find-share-end
 unfolding asLocator locator
 part-find-share-end c =
     let a = c .before .before .before .before .args in
-    omega (arith, entry-room (a .store .now) (c .before .before .lookup .result) (payload-entry (a .store .now) (c .before .before .before .before .pre) (asLocator (a .locator)) (c .before .before .lookup .result) (c .before .before .lookup .ensures) (c .before .if1 .left)) .inside, c .record-end .ensures)
+    omega (
+      arith,
+      entry-room (a .store .now) (c .before .before .lookup .result)
+          (payload-entry (a .store .now) (c .before .before .before .before .pre) (asLocator (a .locator)) (c .before .before .lookup .result)
+          (c .before .before .lookup .ensures) (c .before .if1 .left)) .inside,
+      c .record-end .ensures,
+    )
 
 find-share-requires : tie.Need-find-share-requires
 unfolding asLocator locator
 find-share-requires c κs =
     let a = c .before .before .before .before .before .args in
     let at = c .before .before .before .lookup .result in
-    rw (record-part (a .store .now) at (c .before .record-end .result) (c .before .record-end .ensures)) (entry-room (a .store .now) at (payload-entry (a .store .now) (c .before .before .before .before .before .pre) (asLocator (a .locator)) at (c .before .before .before .lookup .ensures) (c .before .before .if1 .left)) .formed)
+    rw (record-part (a .store .now) at (c .before .record-end .result) (c .before .record-end .ensures))
+    (entry-room (a .store .now) at (payload-entry (a .store .now) (c .before .before .before .before .before .pre) (asLocator (a .locator)) at
+    (c .before .before .before .lookup .ensures) (c .before .before .if1 .left)) .formed)
 
 enum-known-start : tie.Need-enum-known-start
 enum-known-start c = search needs
@@ -68,8 +85,14 @@ unfolding asShare shareWithin asLocator locator blockAt
 returns-2 c =
     let a = c .before .before .before .before .before .before .before .before .args in
     let at = c .before .before .before .before .before .before .lookup .result in
-    let told = c .before .before .find-share .ensures .0 ∙ ap (λ (x : Bytes). shareStretch (statementStart x (a .locator .offset)) (getElem? (blockIn x .statements) (a .locator .offset))) (record-part (a .store .now) at (c .before .before .before .before .record-end .result) (c .before .before .before .before .record-end .ensures)) in
-    (sym (payload-found (a .store .now) (c .before .before .before .before .before .before .before .before .pre) (asLocator (a .locator)) at (c .before .before .before .before .before .before .lookup .ensures) (c .before .before .before .before .before .if1 .left) none (sym (ap asShare (c .enum-told .given .1)) ∙ told)), refl)
+    let told = c .before .before .find-share .ensures .0 ∙ ap (λ (x : Bytes). shareStretch (statementStart x (a .locator .offset))
+    (getElem? (blockIn x .statements) (a .locator .offset)))
+    (record-part (a .store .now) at (c .before .before .before .before .record-end .result) (c .before .before .before .before .record-end .ensures)) in (
+      sym (payload-found (a .store .now) (c .before .before .before .before .before .before .before .before .pre) (asLocator (a .locator)) at
+          (c .before .before .before .before .before .before .lookup .ensures) (c .before .before .before .before .before .if1 .left) none
+          (sym (ap asShare (c .enum-told .given .1)) ∙ told)),
+      refl,
+    )
 
 add-t11 : tie.Need-add-t11
 unfolding asLocator locator shareWithin
@@ -77,7 +100,17 @@ add-t11 c =
     let a = c .before .before .before .before .before .before .before .before .before .args in
     let at = c .before .before .before .before .before .before .before .lookup .result in
     let inside = rw (c .before .start .given .1) at (c .before .before .before .find-share .ensures .1) in
-    omega (arith, entry-room (a .store .now) at (payload-entry (a .store .now) (c .before .before .before .before .before .before .before .before .before .pre) (asLocator (a .locator)) at (c .before .before .before .before .before .before .before .lookup .ensures) (c .before .before .before .before .before .before .if1 .left)) .inside, leb-true (c .before .start .given .0 .0 + c .before .start .given .0 .1 .0) _ inside, length-take (c .before .before .before .before .before .record-end .result - (at + 8)) (drop (at + 8) (a .store .now)), c .before .before .before .before .before .record-end .ensures)
+    omega (
+      arith,
+      entry-room (a .store .now) at (payload-entry (a .store .now)
+          (c .before .before .before .before .before .before .before .before .before .pre) (asLocator (a .locator)) at
+          (c .before .before .before .before .before .before .before .lookup .ensures) (c .before .before .before .before .before .before .if1 .left)) .inside,
+      leb-true (c .before .start .given .0 .0 + c .before .start .given .0 .1 .0) _ inside,
+      length-take
+          (c .before .before .before .before .before .record-end .result - (at + 8)) (drop (at + 8) (a .store .now)),
+      c .before .before .before .before .before
+          .record-end .ensures,
+    )
 
 returns-3 : tie.Need-returns-3
 unfolding asShare shareWithin asLocator locator blockAt
@@ -86,11 +119,26 @@ returns-3 c =
     let at = c .before .before .before .before .before .before .before .lookup .result in
     let start = c .before .start .given .0 .0 in
     let count = c .before .start .given .0 .1 .0 in
-    let told = c .before .before .before .find-share .ensures .0 ∙ ap (λ (x : Bytes). shareStretch (statementStart x (a .locator .offset)) (getElem? (blockIn x .statements) (a .locator .offset))) (record-part (a .store .now) at (c .before .before .before .before .before .record-end .result) (c .before .before .before .before .before .record-end .ensures)) in
+    let told = c .before .before .before .find-share .ensures .0 ∙ ap
+    (λ (x : Bytes). shareStretch (statementStart x (a .locator .offset)) (getElem? (blockIn x .statements) (a .locator .offset)))
+    (record-part (a .store .now) at (c .before .before .before .before .before .record-end .result)
+    (c .before .before .before .before .before .record-end .ensures)) in
     let inside = rw (c .before .start .given .1) at (c .before .before .before .find-share .ensures .1) in
-    let room = entry-room (a .store .now) at (payload-entry (a .store .now) (c .before .before .before .before .before .before .before .before .before .pre) (asLocator (a .locator)) at (c .before .before .before .before .before .before .before .lookup .ensures) (c .before .before .before .before .before .before .if1 .left)) .inside in (
-      sym (payload-found (a .store .now) (c .before .before .before .before .before .before .before .before .before .pre) (asLocator (a .locator)) at (c .before .before .before .before .before .before .before .lookup .ensures) (c .before .before .before .before .before .before .if1 .left) (some (record { start = start; count = count })) (sym (ap asShare (c .before .start .given .1)) ∙ told)),
-      le-leb (at + 8 + start + count) (length (a .store .now)) (omega (arith, room, leb-true (start + count) _ inside, length-take (c .before .before .before .before .before .record-end .result - (at + 8)) (drop (at + 8) (a .store .now)), length-drop (at + 8) (a .store .now), c .before .before .before .before .before .record-end .ensures)),
+    let room = entry-room (a .store .now) at (payload-entry (a .store .now) (c .before .before .before .before .before .before .before .before .before .pre)
+    (asLocator (a .locator)) at (c .before .before .before .before .before .before .before .lookup .ensures)
+    (c .before .before .before .before .before .before .if1 .left)) .inside in (
+      sym (payload-found (a .store .now) (c .before .before .before .before .before .before .before .before .before .pre) (asLocator (a .locator)) at
+          (c .before .before .before .before .before .before .before .lookup .ensures) (c .before .before .before .before .before .before .if1 .left)
+          (some (record { start = start; count = count })) (sym (ap asShare (c .before .start .given .1)) ∙ told)),
+      le-leb (at + 8 + start + count) (length (a .store .now)) (omega (
+        arith,
+        room,
+        leb-true (start + count) _ inside,
+        length-take (c .before .before .before .before .before .record-end .result - (at + 8))
+            (drop (at + 8) (a .store .now)),
+        length-drop (at + 8) (a .store .now),
+        c .before .before .before .before .before .record-end .ensures,
+      )),
     )
 
 pub stored-payload-spec : {M : Type 1} → statement M

@@ -31,16 +31,22 @@ returns : tie.Need-returns
 unfolding asTimeAnswer
 returns c =
     let a = c .before .before .before .before .before .args in
-    time-broken (a .stakes .now) (a .store .now) (asReference (a .reference)) (broken-sound (a .stakes .now) (c .enum-told2 .given .0 .0) (ap asNewCommittee (sym (c .enum-told2 .given .1)) ∙ c .before .before .new-committee .ensures))
+    time-broken (a .stakes .now) (a .store .now) (asReference (a .reference))
+    (broken-sound (a .stakes .now) (c .enum-told2 .given .0 .0)
+    (ap asNewCommittee (sym (c .enum-told2 .given .1)) ∙ c .before .before .new-committee .ensures))
 
 in-order-requires : tie.Need-in-order-requires
-in-order-requires c κs = let a = c .before .before .before .before .before .args in taken-sound (a .stakes .now) (c .enum-told .given .0 .0) (ap asNewCommittee (sym (c .enum-told .given .1)) ∙ c .before .before .new-committee .ensures) .0
+in-order-requires c κs = let a = c .before .before .before .before .before .args in taken-sound (a .stakes .now) (c .enum-told .given .0 .0)
+    (ap asNewCommittee (sym (c .enum-told .given .1)) ∙ c .before .before .new-committee .ensures) .0
 
 returns-2 : tie.Need-returns-2
 unfolding asTimeAnswer
 returns-2 c =
     let a = c .before .before .before .before .before .before .before .args in
-    time-disordered (a .stakes .now) (a .store .now) (asReference (a .reference)) (taken-sound (a .stakes .now) (c .before .before .enum-told .given .0 .0) (ap asNewCommittee (sym (c .before .before .enum-told .given .1)) ∙ c .before .before .before .before .new-committee .ensures) .0) (sym (c .before .in-order .ensures) ∙ not-true (c .before .in-order .result) (c .if1 .taken))
+    time-disordered (a .stakes .now) (a .store .now) (asReference (a .reference))
+    (taken-sound (a .stakes .now) (c .before .before .enum-told .given .0 .0)
+    (ap asNewCommittee (sym (c .before .before .enum-told .given .1)) ∙ c .before .before .before .before .new-committee .ensures) .0)
+    (sym (c .before .in-order .ensures) ∙ not-true (c .before .in-order .result) (c .if1 .taken))
 
 lookup-requires : tie.Need-lookup-requires
 lookup-requires c κs =
@@ -51,21 +57,32 @@ returns-3 : tie.Need-returns-3
 unfolding asTimeAnswer
 returns-3 c =
     let a = c .before .before .before .before .before .before .before .before .before .args in
-    let order : storeInOrder (a .stakes .now) (a .store .now) ≡ true = sym (c .before .before .before .in-order .ensures) ∙ not-false (c .before .before .before .in-order .result) (c .before .before .if1 .left) in
+    let order : storeInOrder (a .stakes .now) (a .store .now) ≡ true = sym (c .before .before .before .in-order .ensures) ∙ not-false
+    (c .before .before .before .in-order .result) (c .before .before .if1 .left) in
     let laid = order-laid (a .stakes .now) (a .store .now) order in
-    time-answered (a .stakes .now) (a .store .now) (asReference (a .reference)) (taken-sound (a .stakes .now) (c .before .before .before .before .enum-told .given .0 .0) (ap asNewCommittee (sym (c .before .before .before .before .enum-told .given .1)) ∙ c .before .before .before .before .before .before .new-committee .ensures) .0) order none (time-unknown (a .store .now) laid (asReference (a .reference)) (c .before .lookup .result) (c .before .lookup .ensures) (c .if2 .taken))
+    time-answered (a .stakes .now) (a .store .now) (asReference (a .reference))
+    (taken-sound (a .stakes .now) (c .before .before .before .before .enum-told .given .0 .0)
+    (ap asNewCommittee (sym (c .before .before .before .before .enum-told .given .1)) ∙ c .before .before .before .before .before .before .new-committee
+    .ensures) .0) order none (time-unknown (a .store .now) laid (asReference (a .reference)) (c .before .lookup .result) (c .before .lookup .ensures)
+    (c .if2 .taken))
 
 add-from : tie.Need-add-from
 add-from c =
     let a = c .before .before .before .before .before .before .before .before .before .args in
-    let order : storeInOrder (a .stakes .now) (a .store .now) ≡ true = sym (c .before .before .before .in-order .ensures) ∙ not-false (c .before .before .before .in-order .result) (c .before .before .if1 .left) in
+    let order : storeInOrder (a .stakes .now) (a .store .now) ≡ true = sym (c .before .before .before .in-order .ensures) ∙ not-false
+    (c .before .before .before .in-order .result) (c .before .before .if1 .left) in
     let laid = order-laid (a .stakes .now) (a .store .now) order in
-    omega (arith, entry-room (a .store .now) (c .before .lookup .result) (found-stands (a .store .now) laid (asReference (a .reference)) (c .before .lookup .result) (c .before .lookup .ensures) (c .if2 .left)) .inside)
+    omega (
+      arith,
+      entry-room (a .store .now) (c .before .lookup .result)
+          (found-stands (a .store .now) laid (asReference (a .reference)) (c .before .lookup .result) (c .before .lookup .ensures) (c .if2 .left)) .inside,
+    )
 
 record-end-requires : tie.Need-record-end-requires
 record-end-requires c κs =
     let a = c .before .before .before .before .before .before .before .before .before .args in
-    let order : storeInOrder (a .stakes .now) (a .store .now) ≡ true = sym (c .before .before .before .in-order .ensures) ∙ not-false (c .before .before .before .in-order .result) (c .before .before .if1 .left) in
+    let order : storeInOrder (a .stakes .now) (a .store .now) ≡ true = sym (c .before .before .before .in-order .ensures) ∙ not-false
+    (c .before .before .before .in-order .result) (c .before .before .if1 .left) in
     let laid = order-laid (a .stakes .now) (a .store .now) order in
     found-stands (a .store .now) laid (asReference (a .reference)) (c .before .lookup .result) (c .before .lookup .ensures) (c .if2 .left)
 
@@ -78,16 +95,27 @@ part-creation-time-start c = search needs
 part-creation-time-end : tie.Need-part-creation-time-end
 part-creation-time-end c =
     let a = c .before .before .before .before .before .before .before .before .before .before .args in
-    let order : storeInOrder (a .stakes .now) (a .store .now) ≡ true = sym (c .before .before .before .before .in-order .ensures) ∙ not-false (c .before .before .before .before .in-order .result) (c .before .before .before .if1 .left) in
+    let order : storeInOrder (a .stakes .now) (a .store .now) ≡ true = sym (c .before .before .before .before .in-order .ensures) ∙ not-false
+    (c .before .before .before .before .in-order .result) (c .before .before .before .if1 .left) in
     let laid = order-laid (a .stakes .now) (a .store .now) order in
-    omega (arith, entry-room (a .store .now) (c .before .before .lookup .result) (found-stands (a .store .now) laid (asReference (a .reference)) (c .before .before .lookup .result) (c .before .before .lookup .ensures) (c .before .if2 .left)) .inside, c .record-end .ensures)
+    omega (
+      arith,
+      entry-room (a .store .now) (c .before .before .lookup .result)
+          (found-stands (a .store .now) laid (asReference (a .reference)) (c .before .before .lookup .result) (c .before .before .lookup .ensures)
+          (c .before .if2 .left)) .inside,
+      c .record-end .ensures,
+    )
 
 creation-time-requires : tie.Need-creation-time-requires
 creation-time-requires c κs =
     let a = c .before .before .before .before .before .before .before .before .before .before .before .args in
-    let order : storeInOrder (a .stakes .now) (a .store .now) ≡ true = sym (c .before .before .before .before .before .in-order .ensures) ∙ not-false (c .before .before .before .before .before .in-order .result) (c .before .before .before .before .if1 .left) in
+    let order : storeInOrder (a .stakes .now) (a .store .now) ≡ true = sym (c .before .before .before .before .before .in-order .ensures) ∙ not-false
+    (c .before .before .before .before .before .in-order .result) (c .before .before .before .before .if1 .left) in
     let laid = order-laid (a .stakes .now) (a .store .now) order in
-    rw (record-part (a .store .now) (c .before .before .before .lookup .result) (c .before .record-end .result) (c .before .record-end .ensures)) (entry-room (a .store .now) (c .before .before .before .lookup .result) (found-stands (a .store .now) laid (asReference (a .reference)) (c .before .before .before .lookup .result) (c .before .before .before .lookup .ensures) (c .before .before .if2 .left)) .formed)
+    rw (record-part (a .store .now) (c .before .before .before .lookup .result) (c .before .record-end .result) (c .before .record-end .ensures))
+    (entry-room (a .store .now) (c .before .before .before .lookup .result)
+    (found-stands (a .store .now) laid (asReference (a .reference)) (c .before .before .before .lookup .result)
+    (c .before .before .before .lookup .ensures) (c .before .before .if2 .left)) .formed)
 
 enum-known-time : tie.Need-enum-known-time
 enum-known-time c = search needs
@@ -99,23 +127,42 @@ returns-4 : tie.Need-returns-4
 unfolding asTimeAnswer asTime
 returns-4 c =
     let a = c .before .before .before .before .before .before .before .before .before .before .before .before .before .before .before .args in
-    let order : storeInOrder (a .stakes .now) (a .store .now) ≡ true = sym (c .before .before .before .before .before .before .before .before .before .in-order .ensures) ∙ not-false (c .before .before .before .before .before .before .before .before .before .in-order .result) (c .before .before .before .before .before .before .before .before .if1 .left) in
+    let order : storeInOrder (a .stakes .now) (a .store .now) ≡ true = sym
+    (c .before .before .before .before .before .before .before .before .before .in-order .ensures) ∙ not-false
+    (c .before .before .before .before .before .before .before .before .before .in-order .result)
+    (c .before .before .before .before .before .before .before .before .if1 .left) in
     let laid = order-laid (a .stakes .now) (a .store .now) order in
     let at = c .before .before .before .before .before .before .before .lookup .result in
-    let part = record-part (a .store .now) at (c .before .before .before .before .before .record-end .result) (c .before .before .before .before .before .record-end .ensures) in
-    let told : timeIn _ ≡ some (c .before .time .given .0 .0) = ap timeIn (sym part) ∙ sym (c .before .before .before .creation-time .ensures) ∙ ap asTime (c .before .time .given .1) in
-    time-answered (a .stakes .now) (a .store .now) (asReference (a .reference)) (taken-sound (a .stakes .now) (c .before .before .before .before .before .before .before .before .before .before .enum-told .given .0 .0) (ap asNewCommittee (sym (c .before .before .before .before .before .before .before .before .before .before .enum-told .given .1)) ∙ c .before .before .before .before .before .before .before .before .before .before .before .before .new-committee .ensures) .0) order (some (c .before .time .given .0 .0)) (time-found (a .store .now) laid (asReference (a .reference)) at (c .before .before .before .before .before .before .before .lookup .ensures) (c .before .before .before .before .before .before .if2 .left) ∙ told)
+    let part = record-part (a .store .now) at (c .before .before .before .before .before .record-end .result)
+    (c .before .before .before .before .before .record-end .ensures) in
+    let told : timeIn _ ≡ some (c .before .time .given .0 .0) = ap timeIn (sym part) ∙ sym (c .before .before .before .creation-time .ensures) ∙ ap asTime
+    (c .before .time .given .1) in
+    time-answered (a .stakes .now) (a .store .now) (asReference (a .reference))
+    (taken-sound (a .stakes .now) (c .before .before .before .before .before .before .before .before .before .before .enum-told .given .0 .0)
+    (ap asNewCommittee (sym (c .before .before .before .before .before .before .before .before .before .before .enum-told .given .1)) ∙ c .before .before
+    .before .before .before .before .before .before .before .before .before .before .new-committee .ensures) .0) order
+    (some (c .before .time .given .0 .0)) (time-found (a .store .now) laid (asReference (a .reference)) at
+    (c .before .before .before .before .before .before .before .lookup .ensures) (c .before .before .before .before .before .before .if2 .left) ∙ told)
 
 returns-5 : tie.Need-returns-5
 unfolding asTimeAnswer asTime
 returns-5 c =
     let a = c .before .before .before .before .before .before .before .before .before .before .before .before .before .before .args in
-    let order : storeInOrder (a .stakes .now) (a .store .now) ≡ true = sym (c .before .before .before .before .before .before .before .before .in-order .ensures) ∙ not-false (c .before .before .before .before .before .before .before .before .in-order .result) (c .before .before .before .before .before .before .before .if1 .left) in
+    let order : storeInOrder (a .stakes .now) (a .store .now) ≡ true = sym
+    (c .before .before .before .before .before .before .before .before .in-order .ensures) ∙ not-false
+    (c .before .before .before .before .before .before .before .before .in-order .result)
+    (c .before .before .before .before .before .before .before .if1 .left) in
     let laid = order-laid (a .stakes .now) (a .store .now) order in
     let at = c .before .before .before .before .before .before .lookup .result in
-    let part = record-part (a .store .now) at (c .before .before .before .before .record-end .result) (c .before .before .before .before .record-end .ensures) in
+    let part = record-part (a .store .now) at (c .before .before .before .before .record-end .result) (c .before .before .before .before .record-end .ensures)
+    in
     let told : timeIn _ ≡ none = ap timeIn (sym part) ∙ sym (c .before .before .creation-time .ensures) ∙ ap asTime (c .enum-told3 .given .1) in
-    time-answered (a .stakes .now) (a .store .now) (asReference (a .reference)) (taken-sound (a .stakes .now) (c .before .before .before .before .before .before .before .before .before .enum-told .given .0 .0) (ap asNewCommittee (sym (c .before .before .before .before .before .before .before .before .before .enum-told .given .1)) ∙ c .before .before .before .before .before .before .before .before .before .before .before .new-committee .ensures) .0) order (none) (time-found (a .store .now) laid (asReference (a .reference)) at (c .before .before .before .before .before .before .lookup .ensures) (c .before .before .before .before .before .if2 .left) ∙ told)
+    time-answered (a .stakes .now) (a .store .now) (asReference (a .reference))
+    (taken-sound (a .stakes .now) (c .before .before .before .before .before .before .before .before .before .enum-told .given .0 .0)
+    (ap asNewCommittee (sym (c .before .before .before .before .before .before .before .before .before .enum-told .given .1)) ∙ c .before .before .before
+    .before .before .before .before .before .before .before .before .new-committee .ensures) .0) order (none)
+    (time-found (a .store .now) laid (asReference (a .reference)) at (c .before .before .before .before .before .before .lookup .ensures)
+    (c .before .before .before .before .before .if2 .left) ∙ told)
 
 pub creation-time-spec : {M : Type 1} → statement M
 creation-time-spec =

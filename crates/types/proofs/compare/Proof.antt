@@ -22,7 +22,11 @@ returns-2 c =
     let e = c .before .before .before .before in
     let a = e .before .before .before .args .a in
     let b = e .before .before .before .args .b in
-    c .compare-words2 .ensures ∙ sym (reference-order a b ∙ rw (eq-eqb (a .round .0) (b .round .0) (e .if1 .left), ne-eqb (a .authority .0) (b .authority .0) (c .before .if2 .taken)))
+    c .compare-words2 .ensures ∙ sym (reference-order a b ∙ rw (
+      eq-eqb (a .round .0) (b .round .0) (e .if1 .left),
+      ne-eqb (a .authority .0) (b .authority .0)
+          (c .before .if2 .taken),
+    ))
 
 compare-digests-requires : tie.Need-compare-digests-requires
 compare-digests-requires c κs = search needs
@@ -32,7 +36,11 @@ returns-3 c =
     let e = c .before .before .before .before in
     let a = e .before .before .before .args .a in
     let b = e .before .before .before .args .b in
-    c .compare-digests .ensures ∙ sym (reference-order a b ∙ rw (eq-eqb (a .round .0) (b .round .0) (e .if1 .left), eq-eqb (a .authority .0) (b .authority .0) (c .before .if2 .left)))
+    c .compare-digests .ensures ∙ sym (reference-order a b ∙ rw (
+      eq-eqb (a .round .0) (b .round .0) (e .if1 .left),
+      eq-eqb (a .authority .0) (b .authority .0)
+          (c .before .if2 .left),
+    ))
 
 pub compare-spec : {M : Type 1} → statement M
 compare-spec =

@@ -12,7 +12,8 @@ returns : tie.Need-returns
 returns c =
     let a = c .before .before .before .before .args .a in
     let b = c .before .before .before .before .args .b in
-    c .compare-words .ensures ∙ sym (digest-order a b (c .before .before .before .struct-known .given) (c .before .before .struct-known2 .given) ∙ rw (ne-eqb (a .0) (b .0) (c .before .if1 .taken)))
+    c .compare-words .ensures ∙ sym (digest-order a b (c .before .before .before .struct-known .given) (c .before .before .struct-known2 .given) ∙ rw
+    (ne-eqb (a .0) (b .0) (c .before .if1 .taken)))
 
 compare-words-requires-2 : tie.Need-compare-words-requires-2
 compare-words-requires-2 c κs = search needs
@@ -22,7 +23,8 @@ returns-2 c =
     let e = c .before .before .before .before in
     let a = e .before .before .before .args .a in
     let b = e .before .before .before .args .b in
-    c .compare-words2 .ensures ∙ sym (digest-order a b (c .before .before .before .struct-known3 .given) (c .before .before .struct-known4 .given) ∙ rw (eq-eqb (a .0) (b .0) (e .if1 .left), ne-eqb (a .1) (b .1) (c .before .if2 .taken)))
+    c .compare-words2 .ensures ∙ sym (digest-order a b (c .before .before .before .struct-known3 .given) (c .before .before .struct-known4 .given) ∙ rw
+    (eq-eqb (a .0) (b .0) (e .if1 .left), ne-eqb (a .1) (b .1) (c .before .if2 .taken)))
 
 compare-words-requires-3 : tie.Need-compare-words-requires-3
 compare-words-requires-3 c κs = search needs
@@ -33,7 +35,8 @@ returns-3 c =
     let e = f .before .before .before in
     let a = e .before .before .before .args .a in
     let b = e .before .before .before .args .b in
-    c .compare-words3 .ensures ∙ sym (digest-order a b (c .before .before .before .struct-known5 .given) (c .before .before .struct-known6 .given) ∙ rw (eq-eqb (a .0) (b .0) (e .if1 .left), eq-eqb (a .1) (b .1) (f .if2 .left), ne-eqb (a .2) (b .2) (c .before .if3 .taken)))
+    c .compare-words3 .ensures ∙ sym (digest-order a b (c .before .before .before .struct-known5 .given) (c .before .before .struct-known6 .given) ∙ rw
+    (eq-eqb (a .0) (b .0) (e .if1 .left), eq-eqb (a .1) (b .1) (f .if2 .left), ne-eqb (a .2) (b .2) (c .before .if3 .taken)))
 
 compare-words-requires-4 : tie.Need-compare-words-requires-4
 compare-words-requires-4 c κs = search needs
@@ -44,7 +47,8 @@ returns-4 c =
     let e = f .before .before .before in
     let a = e .before .before .before .args .a in
     let b = e .before .before .before .args .b in
-    c .compare-words4 .ensures ∙ sym (digest-order a b (c .before .before .before .struct-known5 .given) (c .before .before .struct-known6 .given) ∙ rw (eq-eqb (a .0) (b .0) (e .if1 .left), eq-eqb (a .1) (b .1) (f .if2 .left), eq-eqb (a .2) (b .2) (c .before .if3 .left)))
+    c .compare-words4 .ensures ∙ sym (digest-order a b (c .before .before .before .struct-known5 .given) (c .before .before .struct-known6 .given) ∙ rw
+    (eq-eqb (a .0) (b .0) (e .if1 .left), eq-eqb (a .1) (b .1) (f .if2 .left), eq-eqb (a .2) (b .2) (c .before .if3 .left)))
 
 pub compare-digests-spec : {M : Type 1} → statement M
 compare-digests-spec =

@@ -23,20 +23,23 @@ enum-told-3 c = search needs
 returns : tie.Need-returns
 unfolding locatorOrder
 returns c = let a = c .before .before .before .args in
-    sym (order-less (sameLocator (asLocator (a .a)) (asLocator (a .b))) (locatorBefore (asLocator (a .a)) (asLocator (a .b))) (sym (c .before .before .compare-locators .ensures) ∙ c .enum-told .given .1) .1)
+    sym (order-less (sameLocator (asLocator (a .a)) (asLocator (a .b))) (locatorBefore (asLocator (a .a)) (asLocator (a .b)))
+    (sym (c .before .before .compare-locators .ensures) ∙ c .enum-told .given .1) .1)
 
 returns-2 : tie.Need-returns-2
 unfolding locatorOrder
 returns-2 c = let a = c .before .before .before .args in
     let l = asLocator (a .a) in
     let m = asLocator (a .b) in
-    let e = locator-same l m (order-equal (sameLocator l m) (locatorBefore l m) (sym (c .before .before .compare-locators .ensures) ∙ c .enum-told2 .given .1)) in
+    let e = locator-same l m (order-equal (sameLocator l m) (locatorBefore l m)
+    (sym (c .before .before .compare-locators .ensures) ∙ c .enum-told2 .given .1)) in
     sym (fails (locatorBefore l m) (λ h. locator-irrefl m (rw e at h)))
 
 returns-3 : tie.Need-returns-3
 unfolding locatorOrder
 returns-3 c = let a = c .before .before .before .args in
-    sym (order-greater (sameLocator (asLocator (a .a)) (asLocator (a .b))) (locatorBefore (asLocator (a .a)) (asLocator (a .b))) (sym (c .before .before .compare-locators .ensures) ∙ c .enum-told3 .given .1) .1)
+    sym (order-greater (sameLocator (asLocator (a .a)) (asLocator (a .b))) (locatorBefore (asLocator (a .a)) (asLocator (a .b)))
+    (sym (c .before .before .compare-locators .ensures) ∙ c .enum-told3 .given .1) .1)
 
 pub locator-before-spec : {M : Type 1} → statement M
 locator-before-spec =

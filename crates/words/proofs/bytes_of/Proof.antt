@@ -46,8 +46,11 @@ loop-again : tie.Need-loop-again Inv-loop μ-loop
 loop-again c =
     let l = c .before .before .before .before .before .before .before .before .before .args .bytes .now in
     let ws = c .before .before .before .before .before .before .before .before .before .args .words .now in
-    let b = c .before .before .before .before .before .before .loop in
-    (search needs, c .before .before .write-u64 .ensures ∙ rw (b .inv .1) (bytes-filled l ws (b .i) (c .before .before .before .before .before .loop-test .taken)))
+    let b = c .before .before .before .before .before .before .loop in (
+      search needs,
+      c .before .before .write-u64 .ensures ∙ rw (b .inv .1)
+          (bytes-filled l ws (b .i) (c .before .before .before .before .before .loop-test .taken)),
+    )
 
 same-length : tie.Need-same-length Inv-loop μ-loop
 same-length c = ap length (c .before .loop .inv .1) ∙ simp length-sets

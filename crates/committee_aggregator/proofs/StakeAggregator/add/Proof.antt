@@ -27,7 +27,8 @@ returns c =
     let start = c .before .before .before .before .before .args in
     let answer = c .before .before .before .new-committee .ensures in
     let told = c .before .enum-told .given in
-    refused-sound _ _ _ (c .refused .ensures) ∙ sym (add-broken _ _ _ (broken-sound (start .stakes .now) (told .0 .0) (ap asNewCommittee (sym (told .1)) ∙ answer)))
+    refused-sound _ _ _ (c .refused .ensures) ∙ sym (add-broken _ _ _
+    (broken-sound (start .stakes .now) (told .0 .0) (ap asNewCommittee (sym (told .1)) ∙ answer)))
 
 in-order-requires : tie.Need-in-order-requires
 in-order-requires c κs =
@@ -42,8 +43,10 @@ returns-2 : tie.Need-returns-2
 returns-2 c =
     let start = c .before .before .before .before .before .before .before .before .args in
     let told = c .before .before .before .before .total .given in
-    let taken = taken-sound (start .stakes .now) (told .0 .0) (ap asNewCommittee (sym (told .1)) ∙ c .before .before .before .before .before .before .new-committee .ensures) in
-    refused-sound _ _ _ (c .refused2 .ensures) ∙ sym (add-disordered _ _ _ (taken .0) (sym (c .before .before .in-order .ensures) ∙ not-true _ (c .before .if1 .taken)))
+    let taken = taken-sound (start .stakes .now) (told .0 .0) (ap asNewCommittee (sym (told .1)) ∙ c .before .before .before .before .before .before
+    .new-committee .ensures) in
+    refused-sound _ _ _ (c .refused2 .ensures) ∙ sym (add-disordered _ _ _ (taken .0)
+    (sym (c .before .before .in-order .ensures) ∙ not-true _ (c .before .if1 .taken)))
 
 get-stake-requires : tie.Need-get-stake-requires
 get-stake-requires c κs = search needs
@@ -61,7 +64,8 @@ returns-3 : tie.Need-returns-3
 returns-3 c =
     let start = c .before .before .before .before .before .before .before .before .before .before .before .args in
     let told = c .before .before .before .before .before .before .before .total .given in
-    let taken = taken-sound (start .stakes .now) (told .0 .0) (ap asNewCommittee (sym (told .1)) ∙ c .before .before .before .before .before .before .before .before .before .new-committee .ensures) in
+    let taken = taken-sound (start .stakes .now) (told .0 .0) (ap asNewCommittee (sym (told .1)) ∙ c .before .before .before .before .before .before .before
+    .before .before .new-committee .ensures) in
     let ordered = sym (c .before .before .before .before .before .in-order .ensures) ∙ not-false _ (c .before .before .before .before .if1 .left) in
     let unknown = unknown-sound (start .stakes .now) (start .vote .0) (sym (c .before .before .before .get-stake .ensures) ∙ c .before .enum-told2 .given .1) in
     refused-sound _ _ _ (c .refused3 .ensures) ∙ sym (add-unknown _ _ _ (taken .0) ordered unknown)
@@ -76,10 +80,13 @@ with-vote-requires : tie.Need-with-vote-requires
 with-vote-requires c κs =
     let start = c .before .before .before .before .before .before .before .before .before .before .before .before .before .before .args in
     let told = c .before .before .before .before .before .before .before .before .before .before .total .given in
-    let taken = taken-sound (start .stakes .now) (told .0 .0) (ap asNewCommittee (sym (told .1)) ∙ c .before .before .before .before .before .before .before .before .before .before .before .before .new-committee .ensures) in
-    let ordered = sym (c .before .before .before .before .before .before .before .before .in-order .ensures) ∙ not-false _ (c .before .before .before .before .before .before .before .if1 .left) in
+    let taken = taken-sound (start .stakes .now) (told .0 .0) (ap asNewCommittee (sym (told .1)) ∙ c .before .before .before .before .before .before .before
+    .before .before .before .before .before .new-committee .ensures) in
+    let ordered = sym (c .before .before .before .before .before .before .before .before .in-order .ensures) ∙ not-false _
+    (c .before .before .before .before .before .before .before .if1 .left) in
     let found = c .before .before .before .before .stake .given in
-    let knows = known-sound (start .stakes .now) (start .vote .0) (found .0 .0) (sym (c .before .before .before .before .before .before .get-stake .ensures) ∙ found .1) in
+    let knows = known-sound (start .stakes .now) (start .vote .0) (found .0 .0)
+    (sym (c .before .before .before .before .before .before .get-stake .ensures) ∙ found .1) in
     let fits = vote-fits (start .stakes .now) (asAggregator (start .self)) (start .vote .0) (taken .0) ordered (knows .0) in
     (fits .0, rw (knows .1) (fits .1))
 
@@ -92,16 +99,26 @@ told-requires c κs = search needs
 returns-4 : tie.Need-returns-4
 unfolding counted isQuorum
 returns-4 c =
-    let start = c .before .before .before .before .before .before .before .before .before .before .before .before .before .before .before .before .before .args in
+    let start = c .before .before .before .before .before .before .before .before .before .before .before .before .before .before .before .before .before
+    .args in
     let told = c .before .before .before .before .before .before .before .before .before .before .before .before .before .total .given in
-    let taken = taken-sound (start .stakes .now) (told .0 .0) (ap asNewCommittee (sym (told .1)) ∙ c .before .before .before .before .before .before .before .before .before .before .before .before .before .before .before .new-committee .ensures) in
-    let ordered = sym (c .before .before .before .before .before .before .before .before .before .before .before .in-order .ensures) ∙ not-false _ (c .before .before .before .before .before .before .before .before .before .before .if1 .left) in
+    let taken = taken-sound (start .stakes .now) (told .0 .0) (ap asNewCommittee (sym (told .1)) ∙ c .before .before .before .before .before .before .before
+    .before .before .before .before .before .before .before .before .new-committee .ensures) in
+    let ordered = sym (c .before .before .before .before .before .before .before .before .before .before .before .in-order .ensures) ∙ not-false _
+    (c .before .before .before .before .before .before .before .before .before .before .if1 .left) in
     let found = c .before .before .before .before .before .before .before .stake .given in
-    let knows = known-sound (start .stakes .now) (start .vote .0) (found .0 .0) (sym (c .before .before .before .before .before .before .before .before .before .get-stake .ensures) ∙ found .1) in
+    let knows = known-sound (start .stakes .now) (start .vote .0) (found .0 .0)
+    (sym (c .before .before .before .before .before .before .before .before .before .get-stake .ensures) ∙ found .1) in
     let next = c .before .before .with-vote .result in
     added-sound (start .stakes .now) (asAggregator (start .self)) (start .vote .0) next (c .told .result) (taken .0) ordered (knows .0)
     (c .before .before .with-vote .ensures ∙ rw (knows .1))
-    (c .told .ensures ∙ rw (c .before .before .before .before .contains .ensures, c .before .before .before .is-quorum .ensures, c .before .is-quorum2 .ensures, taken .1))
+    (c .told .ensures ∙ rw (
+      c .before .before .before .before .contains .ensures,
+      c .before .before .before .is-quorum .ensures,
+      c .before .is-quorum2
+          .ensures,
+      taken .1,
+    ))
 
 pub add-spec : {M : Type 1} → statement M
 add-spec =

@@ -17,7 +17,11 @@ stake-of-requires c κs = search needs
 
 returns-2 : tie.Need-returns-2
 unfolding aggregatorInOrder
-returns-2 c = rw (sym (c .before .before .before .before .all-known .ensures) ∙ not-false _ (c .before .before .before .if1 .left), c .before .before .stake-of .ensures)
+returns-2 c = rw (
+  sym (c .before .before .before .before .all-known .ensures) ∙ not-false _ (c .before .before .before .if1 .left),
+  c .before .before
+      .stake-of .ensures,
+)
 
 pub in-order-spec : {M : Type 1} → statement M
 in-order-spec = tie.close (tie.spec all-known-requires returns stake-of-requires returns-2)
