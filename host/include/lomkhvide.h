@@ -56,8 +56,8 @@ extern "C" {
     X(wide_stretches, 496) \
     X(final_stretches_withdrawing, 496) \
     X(wide_stretches_withdrawing, 496) \
-    X(final_stretches_indexed, 504) \
-    X(wide_stretches_indexed, 504) \
+    X(final_stretches_indexed, 496) \
+    X(wide_stretches_indexed, 496) \
     X(answer_sorted, 160) \
     X(payload_length, 32) \
     X(payload_start, 32) \

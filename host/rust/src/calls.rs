@@ -67,10 +67,10 @@ macro_rules! each_call {
             ) stack 496;
             final_stretches_indexed = lomkhvide_final_stretches_indexed(
                 stakes: &[u8], store: &[u8], index: &[u64], after: &[u8], stretches: &mut [u8]
-            ) stack 504;
+            ) stack 496;
             wide_stretches_indexed = lomkhvide_wide_stretches_indexed(
                 stakes: &[u8], store: &[u8], index: &[u64], after: &[u8], stretches: &mut [u8]
-            ) stack 504;
+            ) stack 496;
             answer_sorted = lomkhvide_answer_sorted(
                 stakes: &[u8], store: &[u8], index: &[u64], locators: &[u8], replies: &mut [u64]
             ) stack 160;
