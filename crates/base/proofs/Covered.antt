@@ -16,6 +16,7 @@ module _ {A : Type 0} where
     pub are : ys ≡ before ++ x ∷ after
 
   pub around : {x : A} {ys : List A} → x ∈ ys → Around x ys
+  around {ys = []} x3 = elim x3 [ ]
   around {ys = y ∷ ys} here = record { before = []; after = ys; are = refl }
   around {ys = y ∷ ys} (there m) =
       let r = around m in

@@ -207,6 +207,7 @@ module _ {A : Type 0} where
       go false k ih = there (ih k)
 
   pub every_in : {P : A → Type 0} (xs : List A) (a : A) → Every P xs → a ∈ xs → P a
+  every_in {P = P} [] a _ x3 = elim x3 [ ]
   every_in (x ∷ xs) a (and h hs) here = h
   every_in (x ∷ xs) a (and h hs) (there m) = every_in xs a hs m
 

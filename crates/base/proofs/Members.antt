@@ -43,6 +43,7 @@ module _ {A : Type 0} where
   -- what stands in some of the lists stands in them together
   pub in_flatten : {a : A} {xs : List A} {xss : List (List A)} → a ∈ xs → xs ∈ xss → a ∈ flatten xss
   unfolding flatten
+  in_flatten {a = a} {xs = xs} {xss = []} m x5 = elim x5 [ ]
   in_flatten {xss = xs ∷ xss} m here = in_left (flatten xss) m
   in_flatten {xss = ys ∷ xss} m (there k) = in_right ys (in_flatten m k)
 
@@ -67,12 +68,14 @@ module _ {A : Type 0} where
 
   pub in_any : (p : A → Bool) {x : A} {xs : List A} → x ∈ xs → p x ≡ true → any_of p xs ≡ true
   unfolding any_of
+  in_any p {x = x} {xs = []} x6 h = elim x6 [ ]
   in_any p {x} {xs = y ∷ xs} here h = or_left (p x) (any_of p xs) h
   in_any p {x} {xs = y ∷ ys} (there m) h = or_right (p y) (any_of p ys) (in_any p m h)
 
   -- where a test holds of an element one is found, that or another before it
   pub find_some : (p : A → Bool) {x : A} (xs : List A) → x ∈ xs → p x ≡ true → (y : A) × (find p xs ≡ some y)
   unfolding find
+  find_some p {x = x} [] x3 h = elim x3 [ ]
   find_some p {x} (y ∷ xs) here h = (x, rw h)
   find_some p (y ∷ xs) (there m) h = go (p y) (find_some p xs m h)
     where
@@ -83,6 +86,7 @@ module _ {A : Type 0} where
   -- a test holds of all elements
   pub all_in : (p : A → Bool) {x : A} (xs : List A) → all_of p xs ≡ true → x ∈ xs → p x ≡ true
   unfolding all_of
+  all_in p [] h x3 = elim x3 [ ]
   all_in p (y ∷ xs) h here = and_left (p y) (all_of p xs) h
   all_in p (y ∷ xs) h (there m) = all_in p xs (and_right (p y) (all_of p xs) h) m
 
@@ -94,6 +98,7 @@ module _ {A : Type 0} where
   -- the elements of which a test holds
   pub in_keep : (p : A → Bool) {x : A} (xs : List A) → x ∈ xs → p x ≡ true → x ∈ keep p xs
   unfolding keep
+  in_keep p {x = x} [] x3 h = elim x3 [ ]
   in_keep p (x ∷ xs) here h = rw h here
   in_keep p {x} (y ∷ xs) (there m) h = kept (p y) (in_keep p xs m h)
     where

@@ -14,6 +14,7 @@ module _ {A : Type 0} (d : A) where
   in_place (x ∷ xs) (suc j) h = there (in_place xs j (omega arith))
 
   pub member_place : (xs : List A) {x : A} → x ∈ xs → (j : ℕ) × ((j < length xs) × (get_or xs j d ≡ x))
+  member_place [] x3 = elim x3 [ ]
   member_place (y ∷ xs) here = (0, (omega arith, refl))
   member_place (y ∷ xs) (there m) = let r = member_place xs m in (suc r.0, (omega (arith, r.1.0), r.1.1))
 

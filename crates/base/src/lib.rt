@@ -1,4 +1,6 @@
 // Little-endian numbers in byte slices (bincode writes them so in the Rust), and bytes copied.
+#![tactic(auto)]
+
 ghost use Rattle.std.specs.Prelude.{◌≡◌, ◌+◌, ◌≤◌, length};
 ghost use Rattle.std.proofs.lemmas.List.Edits.{sets};
 ghost use Rattle.base.specs.Le.{le_at, le_bytes};
