@@ -1,4 +1,6 @@
 // What a vote is told: whether it is new, and whether quorum holds with it. Follows `StakeAggregator::add` of committee.rs.
+#![tactic(auto)]
+
 ghost use Rattle.std.specs.Prelude.{◌≡◌};
 ghost use Rattle.base.specs.Checks.{answered};
 ghost use Rattle.committee_vote_answer.specs.VoteAnswer.{told_of};

@@ -1,4 +1,6 @@
 // Records one after the other, each after its length in four bytes, as a call with many records is lent them.
+#![tactic(auto)]
+
 ghost use Rattle.std.specs.Prelude.{◌≡◌, ◌<◌, length};
 ghost use Rattle.feed_frames.specs.Frames.{records_in};
 ghost use Rattle.feed_frames.specs.Next.{NextRecord};

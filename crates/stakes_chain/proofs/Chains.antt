@@ -37,6 +37,7 @@ module _ (f : Bytes) where
   in_file_lem i h = (ltb-true 0 i (and_left (ltb 0 i) _ h), leb-true i (record_count f) (and_right (ltb 0 i) _ h))
 
   pub chain_inside : {i : ℕ} {is : List ℕ} → Chain f i is → (j : ℕ) → j ∈ is → in_file f j ≡ true
+  chain_inside ends j x4 = elim x4 [ ]
   chain_inside (links h k) j here = h
   chain_inside (links h k) j (there m) = chain_inside k j m
 
@@ -49,6 +50,7 @@ module _ (f : Bytes) where
 
   -- from an index of the chain on there is a chain that is no longer
   chain_on : {i : ℕ} {is : List ℕ} → Chain f i is → (j : ℕ) → j ∈ is → (js : List ℕ) × Chain f j js × (length js ≤ length is)
+  chain_on ends j x4 = elim x4 [ ]
   chain_on (links {i} {later} h k) j here = (i ∷ later, links h k, omega arith)
   chain_on (links {i} {later} h k) j (there m) = let r = chain_on k j m in let l = r.2 in (r.0, r.1, omega arith)
 

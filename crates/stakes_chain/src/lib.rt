@@ -1,4 +1,6 @@
 // The chain of records in the file `stakes` (document 02, "Five").
+#![tactic(auto)]
+
 ghost use Rattle.std.specs.Prelude.{◌≡◌, ◌<◌, length};
 ghost use Rattle.stakes_chain.specs.Layout.{well_sized, place};
 ghost use Rattle.stakes_chain.specs.Chain.{chain_of};

@@ -1,4 +1,6 @@
 // Words and the bytes in which they cross to a host or come from a file: eight each, little-endian.
+#![tactic(auto)]
+
 ghost use Rattle.std.specs.Prelude.{◌≡◌, ◌+◌, ◌*◌, ◌≤◌, ◌<◌, length};
 ghost use Rattle.base.specs.Le.{le_at};
 ghost use Rattle.words.specs.Words.{words_in, bytes_of};
