@@ -14,7 +14,7 @@ pub const MAX_WORDS: usize = 128;
 const LAST_SECOND: u64 = 18446744073709551615;
 
 // Whether loading is open.
-#[derive(Drop)]
+#[derive(Clone, Copy)]
 pub enum OpenAnswer {
     Open,
     Closed,
@@ -22,7 +22,7 @@ pub enum OpenAnswer {
 }
 
 // The first open second at or after a time.
-#[derive(Drop)]
+#[derive(Clone, Copy)]
 pub enum NextOpenAnswer {
     Found(u64),
     NoneLeft,

@@ -13,14 +13,14 @@ use committee_set::AuthoritySet;
 use committee_vote_answer::AddAnswer;
 
 // The authorities that voted, with the stake that they hold together.
-#[derive(Drop)]
+#[derive(Clone, Copy)]
 pub struct StakeAggregator {
     pub votes: AuthoritySet,
     pub stake: Stake,
 }
 
 // What adding a vote answers, and the aggregator afterwards.
-#[derive(Drop)]
+#[derive(Clone, Copy)]
 pub struct Added {
     pub answer: AddAnswer,
     pub aggregator: StakeAggregator,

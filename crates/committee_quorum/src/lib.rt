@@ -7,7 +7,7 @@ use committee::Stake;
 use committee_set::AuthoritySet;
 
 // A set of voters, and whether it holds quorum.
-#[derive(Drop)]
+#[derive(Clone, Copy)]
 pub struct Checked {
     pub voters: AuthoritySet,
     pub quorum: bool,

@@ -1,4 +1,5 @@
 // The vote set and the stake of its members. Follows `AuthoritySet` of types.rs.
+#![tactic(auto)]
 ghost use Rattle.std.specs.Prelude.{◌≡◌, false, ◌^◌, ◌<◌};
 ghost use Rattle.committee.specs.Committee.{broken};
 ghost use Rattle.committee_set.specs.AuthoritySet.{nobody, member, inserted, united, without, number_of_voters, stake_of};
@@ -7,7 +8,7 @@ ghost use Rattle.committee_set.specs.Claims.{Claims};
 use committee::{AuthorityIndex, Stake};
 
 // A vote set: 128 bits in two words.
-#[derive(Drop)]
+#[derive(Clone, Copy)]
 pub struct AuthoritySet {
     pub low: u64,
     pub high: u64,

@@ -8,7 +8,7 @@ ghost use Rattle.committee_vote_answer.specs.Answers.{as_add_answer};
 
 // Whether the voter had voted or is new, and whether quorum holds now; of a new vote with quorum, whether it crossed it. Or
 // the refusal number.
-#[derive(Drop)]
+#[derive(Clone, Copy)]
 pub enum AddAnswer {
     RepeatedBelow,
     RepeatedWith,

@@ -7,14 +7,14 @@ use record_statement::{BaseStatement, Taken};
 use types::TransactionLocator;
 
 // The accept at a position of the given statements with the position after it, or something else is there.
-#[derive(Drop)]
+#[derive(Clone, Copy)]
 enum NextAccept {
     At(TransactionLocator, usize),
     Other,
 }
 
 // A run of accepts: its last offset, and the position after it.
-#[derive(Drop)]
+#[derive(Clone, Copy)]
 struct Run {
     last: u64,
     at: usize,

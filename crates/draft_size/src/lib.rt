@@ -9,7 +9,7 @@ use draft_statements::Size;
 use record_statement::Taken;
 
 // How many statements are written and in how many bytes; or what is given has another form.
-#[derive(Drop)]
+#[derive(Clone, Copy)]
 pub enum Measured {
     Fits(usize, usize),
     Malformed,

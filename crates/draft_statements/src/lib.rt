@@ -13,7 +13,7 @@ use record_statement::BaseStatement;
 use types::{TransactionLocator, TransactionLocatorRange};
 
 // The bytes of a statement; or its payload is longer than 65,535.
-#[derive(Drop)]
+#[derive(Clone, Copy)]
 pub enum Size {
     Bytes(usize),
     Long,

@@ -12,7 +12,7 @@ use draft_size::Measured;
 use record_reader::CreationTime;
 
 // The length of the record that was written, or the refusal.
-#[derive(Drop)]
+#[derive(Clone, Copy)]
 pub enum WriteAnswer {
     Written(usize),
     Refused(u64),

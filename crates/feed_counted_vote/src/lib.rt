@@ -23,7 +23,7 @@ use record_statement_votes::VotedRange;
 use types::{BlockReference, TransactionLocatorRange};
 
 // Whether the items fit the table (14), and the number of events that are written then.
-#[derive(Drop)]
+#[derive(Clone, Copy)]
 pub struct Processed {
     pub fits: bool,
     pub events: usize,

@@ -6,7 +6,7 @@ ghost use Rattle.feed_frames.specs.Frames.{records_in};
 ghost use Rattle.feed_frames.specs.Next.{NextRecord};
 
 // Where a record starts and ends.
-#[derive(Drop)]
+#[derive(Clone, Copy)]
 pub struct Frame {
     pub start: usize,
     pub end: usize,

@@ -9,7 +9,7 @@ ghost use Rattle.feed_many.specs.Step.{Ready, FedNext, FedEach};
 use feed_single::FeedAnswer;
 
 // How many records were answered, or a refusal of the whole call.
-#[derive(Drop)]
+#[derive(Clone, Copy)]
 pub enum RecordsAnswer {
     Records(u64),
     Refused(u64),
@@ -19,7 +19,7 @@ pub enum RecordsAnswer {
 pub const REFUSED: u64 = 0x8000_0000_0000_0000;
 
 // What is told of a record: its outcome, and how many words its events take.
-#[derive(Drop)]
+#[derive(Clone, Copy)]
 pub struct Told {
     pub outcome: u64,
     pub words: usize,

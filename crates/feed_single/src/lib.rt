@@ -10,7 +10,7 @@ ghost use Rattle.feed_refusals.specs.Step.{Accepting};
 ghost use Rattle.feed_single.specs.Accepted.{AcceptedAs};
 
 // The number of events, or a refusal.
-#[derive(Drop)]
+#[derive(Clone, Copy)]
 pub enum FeedAnswer {
     Events(u64),
     Refused(u64),

@@ -17,7 +17,7 @@ use final_readings_spec::Reading;
 use types::TransactionLocator;
 
 // The blocks that certify a locator: how many, and their authors.
-#[derive(Drop)]
+#[derive(Clone, Copy)]
 pub struct Certifiers {
     pub blocks: usize,
     pub authors: AuthoritySet,

@@ -13,7 +13,7 @@ use final_readings_spec::Reading;
 use types::TransactionLocator;
 
 // Final or not, with the number of certifying blocks; or the refusal number.
-#[derive(Drop)]
+#[derive(Clone, Copy)]
 pub enum FinalityAnswer {
     Final(u64),
     NotFinal(u64),

@@ -3,14 +3,14 @@ ghost use Rattle.final_readings_spec.specs.Claims.{Claims};
 ghost use Rattle.final_readings_spec.specs.Examples.{Examples};
 
 // Which reading of a reject a call asks for.
-#[derive(Drop)]
+#[derive(Clone, Copy)]
 pub enum Reading {
     Old,
     Withdrawing,
 }
 
 // What of a block is asked for: its votes or its rejects.
-#[derive(Drop)]
+#[derive(Clone, Copy)]
 pub enum Speech {
     Votes,
     Rejects,

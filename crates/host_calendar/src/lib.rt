@@ -6,7 +6,7 @@ ghost use Rattle.host_calendar.specs.Calendar.{holds_words, is_open_call, next_o
 use calendar_question::{NextOpenAnswer, OpenAnswer};
 
 // How many words a good calendar has; or bytes that are none.
-#[derive(Drop)]
+#[derive(Clone, Copy)]
 enum Held {
     Words(usize),
     Malformed,

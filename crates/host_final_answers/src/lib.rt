@@ -10,7 +10,7 @@ use list_next::NextFinalAnswer;
 use list_stretch_bytes::StretchesAnswer;
 
 // Where a question goes on: after a locator, or from the start; or bytes that are neither.
-#[derive(Drop)]
+#[derive(Clone, Copy)]
 pub enum After {
     Place(MaybeLocator),
     Malformed,

@@ -57,7 +57,7 @@ pub fn move_on(cursors: &mut [u64], n: usize, k: usize)
 }
 
 // Where a part's words are held against its sources: from which place on its runs are asked for, where the next one stands, how many are left.
-#[derive(Drop)]
+#[derive(Clone, Copy)]
 pub struct Spot {
     pub place: Place,
     pub pos: usize,

@@ -6,7 +6,7 @@ ghost use Rattle.index_feed_refusals.specs.Refusals.{early_indexed_checks};
 ghost use Rattle.index_feed_refusals.specs.Step.{Agreed};
 
 // The first refusal, and how many blocks are stored.
-#[derive(Drop)]
+#[derive(Clone, Copy)]
 pub struct Lent {
     pub refusal: u64,
     pub count: usize,

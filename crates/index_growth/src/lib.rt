@@ -4,7 +4,7 @@ ghost use Rattle.index_growth.specs.Growing.{Growing, Grew};
 use index_parts::RunCount;
 
 // Whether an index grew by a record's part, or has no room for it (55).
-#[derive(Drop)]
+#[derive(Clone, Copy)]
 pub enum Growth {
     Grown,
     Full,

@@ -11,7 +11,7 @@ ghost use Rattle.index_lent.specs.Lent.{used_in, Asked};
 use committee::{NewCommittee, Stake};
 
 // What a question with the index begins with: the first refusal, the total stake and how many blocks are stored.
-#[derive(Drop)]
+#[derive(Clone, Copy)]
 pub struct Question {
     pub refusal: u64,
     pub total: Stake,

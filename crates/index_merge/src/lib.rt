@@ -12,7 +12,7 @@ use index_runs::{MaybeRun, Place, Run};
 // ---- sources: parts of the index, each with a cursor of two words, where its next run stands and how many are left
 
 // A piece, and the cursor before its run.
-#[derive(Drop)]
+#[derive(Clone, Copy)]
 struct Found {
     at: usize,
     left: usize,
@@ -84,7 +84,7 @@ fn sources_piece(
 // ---- the sources of a part: one in some words, the block's own votes, and those in the index
 
 // A run of a part, and the piece with which the run after it begins.
-#[derive(Drop)]
+#[derive(Clone, Copy)]
 pub struct Grown {
     pub run: Run,
     pub next: MaybeRun,

@@ -10,14 +10,14 @@ use index_cursors::Spot;
 use index_runs::{MaybeRun, Place};
 
 // Where a part ends; or the words are not those of the part.
-#[derive(Drop)]
+#[derive(Clone, Copy)]
 pub enum PartEnd {
     Ends(usize),
     Differs,
 }
 
 // How many runs a part has; or more than it may.
-#[derive(Drop)]
+#[derive(Clone, Copy)]
 pub enum RunCount {
     Runs(usize),
     TooMany,
@@ -70,7 +70,7 @@ fn next_stands(
 }
 
 // Past the runs that stand at a spot; or the next run does not stand there.
-#[derive(Drop)]
+#[derive(Clone, Copy)]
 enum Stands {
     On(Spot),
     Elsewhere,

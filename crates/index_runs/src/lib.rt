@@ -14,7 +14,7 @@ use types::{BlockDigest, BlockReference};
 pub const RUN_WORDS: usize = 10;
 
 // Offsets of one block with the same voters.
-#[derive(Drop)]
+#[derive(Clone, Copy)]
 pub struct Run {
     pub block: BlockReference,
     pub start: u64,
@@ -22,14 +22,14 @@ pub struct Run {
     pub votes: AuthoritySet,
 }
 
-#[derive(Drop)]
+#[derive(Clone, Copy)]
 pub enum MaybeRun {
     Here(Run),
     Nothing,
 }
 
 // From where on runs are asked for: from the start, or from an offset of a block.
-#[derive(Drop)]
+#[derive(Clone, Copy)]
 pub enum Place {
     Anywhere,
     Beyond(BlockReference, u64),

@@ -11,7 +11,7 @@ use index_runs::Place;
 const WINDOW: usize = 128;
 
 // Runs that were passed: where they stand, how many there are, and the place after them.
-#[derive(Drop)]
+#[derive(Clone, Copy)]
 pub struct Common {
     pub pos: usize,
     pub runs: usize,

@@ -8,7 +8,7 @@ ghost use Rattle.index_source_meeting.specs.Met.{MetAll};
 use committee_set::AuthoritySet;
 
 // A source's cursor past a run, whom it names at the offsets of the run, and whom at its end.
-#[derive(Drop)]
+#[derive(Clone, Copy)]
 pub struct Onward {
     pub at: usize,
     pub left: usize,
@@ -17,7 +17,7 @@ pub struct Onward {
 }
 
 // The source has a run of the same offsets next, or begins past the run; or it does neither.
-#[derive(Drop)]
+#[derive(Clone, Copy)]
 pub enum Meeting {
     Met(Onward),
     Across,
@@ -67,7 +67,7 @@ fn source_meets(index: &[u64], pos: usize, words: &[u64], at: usize, left: usize
 }
 
 // Whom the sources name together at the offsets of a run, and whom at its end; or one of them does neither.
-#[derive(Drop)]
+#[derive(Clone, Copy)]
 pub enum Voters {
     Named(AuthoritySet, AuthoritySet),
     Unknown,

@@ -11,7 +11,7 @@ ghost use Rattle.index_strides.specs.Strides.{Strode, stride_runs};
 use index_runs::{MaybeRun, Place};
 
 // Runs in a row: one, those after it that stand at a position, and the piece with which the next one begins.
-#[derive(Drop)]
+#[derive(Clone, Copy)]
 pub struct Stride {
     pub run: index_runs::Run,
     pub pos: usize,

@@ -7,7 +7,7 @@ ghost use Rattle.list_after.specs.Answers.{as_maybe};
 use types::TransactionLocator;
 
 // A locator, or none: before the start, or nowhere.
-#[derive(Drop)]
+#[derive(Clone, Copy)]
 pub enum MaybeLocator {
     Locator(TransactionLocator),
     Nothing,

@@ -9,7 +9,7 @@ use list_after::MaybeLocator;
 use types::TransactionLocator;
 
 // The first rows of a table: how many, and up to which locator where there were more than fit.
-#[derive(Drop)]
+#[derive(Clone, Copy)]
 pub struct Window {
     pub n: usize,
     pub bound: MaybeLocator,

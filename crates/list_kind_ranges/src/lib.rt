@@ -12,7 +12,7 @@ use record_statement_votes::VotedRange;
 use types::{BlockReference, TransactionLocatorRange};
 
 // Which ranges of a block: those for which it votes, those that it rejects, or its shares.
-#[derive(Drop)]
+#[derive(Clone, Copy)]
 pub enum RangeKind {
     Votes,
     Rejects,
@@ -40,7 +40,7 @@ fn is_shares(kind: RangeKind) -> bool
 }
 
 // The range that the statements at a place give, or none; where its reference stands in the record; and the place after them.
-#[derive(Drop)]
+#[derive(Clone, Copy)]
 pub struct NextRange {
     pub vote: VotedRange,
     pub at: usize,

@@ -8,7 +8,7 @@ use list_kind_ranges::RangeKind;
 use list_readings_spec::FinalList;
 
 // The list that is asked for. Votes are always wanted; where owners may withdraw rejects are too, and shares for the ordinary list.
-#[derive(Drop)]
+#[derive(Clone, Copy)]
 pub struct Wanted {
     pub reading: Reading,
     pub list: FinalList,

@@ -10,7 +10,7 @@ use final_certifying::Certifiers;
 use list_lanes::Wanted;
 
 // What the marks say of the list: it shows the locator, with these certifying blocks, or does not.
-#[derive(Drop)]
+#[derive(Clone, Copy)]
 pub enum MarkedFinal {
     Shown(Certifiers),
     Hidden,

@@ -19,7 +19,7 @@ use list_readings_spec::FinalList;
 use types::TransactionLocator;
 
 // The least locator of the list after the given one, or none; or the refusal number.
-#[derive(Drop)]
+#[derive(Clone, Copy)]
 pub enum NextFinalAnswer {
     Found(TransactionLocator),
     NoneLeft,

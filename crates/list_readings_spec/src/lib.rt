@@ -3,7 +3,7 @@ ghost use Rattle.list_readings_spec.specs.Claims.{Claims};
 ghost use Rattle.list_readings_spec.specs.Examples.{Examples};
 
 // Which list of final locators a call asks for: those that name a stored share, or all.
-#[derive(Drop)]
+#[derive(Clone, Copy)]
 pub enum FinalList {
     Ordinary,
     Wide,

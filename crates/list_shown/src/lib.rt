@@ -18,7 +18,7 @@ use list_marked::MarkedFinal;
 use list_sweep::{Onward, Sweep};
 
 // The list that is asked for, under a total stake, and where the sweep stands.
-#[derive(Drop)]
+#[derive(Clone, Copy)]
 pub struct Course {
     pub total: Stake,
     pub wanted: Wanted,
@@ -26,13 +26,13 @@ pub struct Course {
 }
 
 // A place where the list shows a locator, and its certifying blocks.
-#[derive(Drop)]
+#[derive(Clone, Copy)]
 pub struct FoundStretch {
     pub sweep: Sweep,
     pub found: Certifiers,
 }
 
-#[derive(Drop)]
+#[derive(Clone, Copy)]
 pub enum NextShown {
     At(FoundStretch),
     Nothing,

@@ -37,7 +37,7 @@ pub fn write_stretch(
 // ---- the question in bulk
 
 // How many stretches were written, and whether more locators of the list follow; or the refusal number.
-#[derive(Drop)]
+#[derive(Clone, Copy)]
 pub enum StretchesAnswer {
     // no locator follows them
     Last(u64),

@@ -16,7 +16,7 @@ use list_lanes::Wanted;
 use types::TransactionLocator;
 
 // Where the sweep stands: the first rows of the table and up to which locator they are whole, how many of them are passed, and the locator.
-#[derive(Drop)]
+#[derive(Clone, Copy)]
 pub struct Sweep {
     pub n: usize,
     pub bound: MaybeLocator,
@@ -25,7 +25,7 @@ pub struct Sweep {
 }
 
 // The next place where an edge is, or none.
-#[derive(Drop)]
+#[derive(Clone, Copy)]
 pub enum Onward {
     At(Sweep),
     End,

@@ -5,7 +5,7 @@ ghost use Rattle.listing_text.specs.Text.{Wrote};
 ghost use Rattle.listing_events.specs.Events.{event_lines, processed_in};
 
 // How many bytes were put, and how many of the events are processed ones.
-#[derive(Drop)]
+#[derive(Clone, Copy)]
 pub struct Printed {
     pub put: usize,
     pub processed: u64,

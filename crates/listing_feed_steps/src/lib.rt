@@ -17,7 +17,7 @@ const WORK_WORDS: usize = 6145;
 const EVENT_WORDS: usize = 8192;
 
 // The number of the next record, what was counted, how many bytes were put, and whether the reading has ended.
-#[derive(Drop)]
+#[derive(Clone, Copy)]
 pub struct Fed {
     pub number: u64,
     pub accepted: u64,

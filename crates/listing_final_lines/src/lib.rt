@@ -4,7 +4,7 @@ ghost use Rattle.listing_final_lines.specs.Lines.{PutLines};
 
 // A stretch of final locators: their block's round, author and the first four bytes of its digest as a number, the first one highest; the first
 // offset, how many there are, the number of certifying blocks and their authors' stake.
-#[derive(Drop)]
+#[derive(Clone, Copy)]
 pub struct Stretch {
     pub round: u64,
     pub author: u64,
@@ -16,7 +16,7 @@ pub struct Stretch {
 }
 
 // How many bytes were put, and how many lines of the stretch there are with these and those before them.
-#[derive(Drop)]
+#[derive(Clone, Copy)]
 pub struct Part {
     pub put: usize,
     pub done: u64,

@@ -13,7 +13,7 @@ use list_readings_spec::FinalList;
 use list_stretch_bytes::StretchesAnswer;
 
 // How many stretches stand in front, and whether more locators follow these.
-#[derive(Drop)]
+#[derive(Clone, Copy)]
 pub struct Asked {
     pub count: usize,
     pub more: bool,

@@ -11,7 +11,7 @@ use committee::NewCommittee;
 use stakes_file::LoadAnswer;
 
 // What the next bytes say of the record that follows: there is none, the framing is broken, or how long it is.
-#[derive(Drop)]
+#[derive(Clone, Copy)]
 pub enum Size {
     End,
     Broken,
@@ -68,7 +68,7 @@ pub fn stake_bytes(count: u8) -> usize
 }
 
 // What reading the file of stakes gave: there is none, so many bytes, or it could not be read.
-#[derive(Drop)]
+#[derive(Clone, Copy)]
 pub enum FileRead {
     Absent,
     Of(usize),

@@ -5,7 +5,7 @@ ghost use Rattle.listing_io.specs.Sizes.{size_at_most, filled_at_most};
 use listing_input::Size;
 
 // How reading went: so many bytes stand in front, fewer than were asked for where the input ended; or a read failed.
-#[derive(Drop)]
+#[derive(Clone, Copy)]
 pub enum Filled {
     Of(usize),
     Failed,
@@ -49,7 +49,7 @@ pub fn fill_front(fd: i32, bytes: &mut [u8], size: usize) -> Filled
 }
 
 // The size of the next record, or that reading failed.
-#[derive(Drop)]
+#[derive(Clone, Copy)]
 pub struct NextSize {
     pub size: Size,
     pub failed: bool,

@@ -32,7 +32,7 @@ fn write_failed(out: &[u8], n: usize) -> bool
 }
 
 // The records so far, and whether reading or writing failed.
-#[derive(Drop)]
+#[derive(Clone, Copy)]
 struct Records {
     fed: Fed,
     failed: bool,
@@ -107,7 +107,7 @@ fn print_stretch(out: &mut [u8], stretch: Stretch) -> bool
 }
 
 // How many locators were listed, and whether writing failed.
-#[derive(Drop)]
+#[derive(Clone, Copy)]
 struct Listed {
     finals: u64,
     failed: bool,

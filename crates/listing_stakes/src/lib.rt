@@ -45,7 +45,7 @@ fn read_table(count: u8, name: &[u8], bytes: &mut [u8]) -> FileRead
 }
 
 // The members that were read, or a refusal; or reading failed.
-#[derive(Drop)]
+#[derive(Clone, Copy)]
 pub struct CommitteeRead {
     pub answer: LoadAnswer,
     pub failed: bool,

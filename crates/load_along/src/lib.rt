@@ -16,7 +16,7 @@ use types::{TransactionLocator, TransactionLocatorRange};
 
 // Which list is gone along and how far: the committee's total stake, the ranges that the list wants, where the sweep stands, and the last locator that
 // was passed.
-#[derive(Drop)]
+#[derive(Clone, Copy)]
 pub struct Along {
     pub total: Stake,
     pub wanted: Wanted,
@@ -25,13 +25,13 @@ pub struct Along {
 }
 
 // The next stretch, or none is left.
-#[derive(Drop)]
+#[derive(Clone, Copy)]
 pub enum Ahead {
     Stretch(TransactionLocatorRange),
     Ended,
 }
 
-#[derive(Drop)]
+#[derive(Clone, Copy)]
 pub struct Step {
     pub ahead: Ahead,
     pub along: Along,

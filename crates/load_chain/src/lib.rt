@@ -10,7 +10,7 @@ use store_payload::SharePlace;
 use types::TransactionLocator;
 
 // What one look at a share says: it is not loadable, or the place of its block, and the change of a lower round that it needs, if any.
-#[derive(Drop)]
+#[derive(Clone, Copy)]
 pub enum Sight {
     No,
     Alone(usize),

@@ -9,7 +9,7 @@ use committee::NewCommittee;
 use final_readings_spec::Reading;
 
 // The number of places that were written, or the refusal number.
-#[derive(Drop)]
+#[derive(Clone, Copy)]
 pub enum LoadableList {
     Places(u64),
     Refused(u64),

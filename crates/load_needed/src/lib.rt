@@ -6,7 +6,7 @@ ghost use Rattle.load_needed.specs.Answers.{as_needed};
 use types::TransactionLocator;
 
 // What a payload needs.
-#[derive(Drop)]
+#[derive(Clone, Copy)]
 pub enum Needed {
     Nothing,
     Change(TransactionLocator),

@@ -20,14 +20,14 @@ use store_payload::SharePlace;
 use types::{TransactionLocator, TransactionLocatorRange};
 
 // Up to which statement the block of the entry at a position was read.
-#[derive(Drop)]
+#[derive(Clone, Copy)]
 pub struct ReadUp {
     pub at: usize,
     pub cursor: StatementCursor,
 }
 
 // How many places are listed, and up to which statement was read.
-#[derive(Drop)]
+#[derive(Clone, Copy)]
 pub struct Reached {
     pub found: usize,
     pub read: ReadUp,

@@ -16,7 +16,7 @@ use load_chain::Sight;
 use types::TransactionLocator;
 
 // Whether a stored share is loadable, or the refusal number.
-#[derive(Drop)]
+#[derive(Clone, Copy)]
 pub enum LoadableAnswer {
     Loadable,
     NotLoadable,

@@ -25,21 +25,21 @@ use types::TransactionLocator;
 // ---- the store's part of a table in order (11)
 
 // Whether a share stands at an offset, and a place that is not past it.
-#[derive(Drop)]
+#[derive(Clone, Copy)]
 pub struct ShareAt {
     pub share: bool,
     pub cursor: StatementCursor,
 }
 
 // Whether all of a range are shares, and a place that is not past its end.
-#[derive(Drop)]
+#[derive(Clone, Copy)]
 struct Shares {
     all: bool,
     cursor: StatementCursor,
 }
 
 // How far the entries and the statements have been walked: an entry, and the one whose statements the place is among (zero: none yet).
-#[derive(Drop)]
+#[derive(Clone, Copy)]
 struct Walk {
     at: usize,
     last: usize,
@@ -47,7 +47,7 @@ struct Walk {
 }
 
 // Whether an item is of a stored block, and the walk after it.
-#[derive(Drop)]
+#[derive(Clone, Copy)]
 struct Stored {
     stored: bool,
     walk: Walk,
@@ -228,7 +228,7 @@ pub fn lent_refusal(stakes: &[u64], store: &[u8], table: &[u64]) -> u64
 // ---- the pending question
 
 // The stake and the number of voters of a pending locator, or a refusal.
-#[derive(Drop)]
+#[derive(Clone, Copy)]
 pub enum PendingAnswer {
     Standing(Stake, u64),
     Refused(u64),

@@ -9,14 +9,14 @@ ghost use Rattle.pending_search.specs.Step.{ends_before, Parted};
 use pending_words::Item;
 
 // An item, by its index, if there is one.
-#[derive(Drop)]
+#[derive(Clone, Copy)]
 pub enum Found {
     At(usize),
     Nothing,
 }
 
 // What stands at an offset, and the end (excluded) of the offsets at which it stands.
-#[derive(Drop)]
+#[derive(Clone, Copy)]
 pub struct ItemStretch {
     pub found: Found,
     pub end: u64,

@@ -14,7 +14,7 @@ use committee_set::AuthoritySet;
 pub const ITEM_WORDS: usize = 6;
 
 // A range of offsets of the entry at a position, with its votes.
-#[derive(Drop)]
+#[derive(Clone, Copy)]
 pub struct Item {
     pub position: u64,
     pub start: u64,

@@ -8,14 +8,14 @@ ghost use Rattle.record_statement.specs.Values.{as_statement};
 use record_statement::{BaseStatement, Taken};
 
 // A place among the statements of a record: where the statement of that index stands.
-#[derive(Drop)]
+#[derive(Clone, Copy)]
 pub struct StatementCursor {
     pub at: usize,
     pub index: usize,
 }
 
 // A statement, and the place of the next.
-#[derive(Drop)]
+#[derive(Clone, Copy)]
 pub struct NextStatement {
     pub statement: BaseStatement,
     pub next: StatementCursor,

@@ -13,7 +13,7 @@ pub const MAX_INCLUDES: usize = 256;
 pub const MAX_STATEMENTS: usize = 1024;
 
 // The time of a block's creation, in nanoseconds, where its record has one.
-#[derive(Drop)]
+#[derive(Clone, Copy)]
 pub enum CreationTime {
     Given(u64),
     NotGiven,

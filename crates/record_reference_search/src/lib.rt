@@ -6,7 +6,7 @@ ghost use Rattle.record_reference_search.specs.Places.{reference_from, Ascending
 use types::{BlockReference, Ordering};
 
 // At a place, or before the one at a place.
-#[derive(Drop)]
+#[derive(Clone, Copy)]
 pub enum FoundPlace {
     At(usize),
     Before(usize),

@@ -16,7 +16,7 @@ use record_statement::BaseStatement;
 use record_statement_votes::Vote;
 
 // A run of neighbouring shares, its start and its end, and the place after it; or there is none any more.
-#[derive(Drop)]
+#[derive(Clone, Copy)]
 pub enum SharedRange {
     Run(u64, u64, StatementCursor),
     End,

@@ -5,7 +5,7 @@ ghost use Rattle.record_statement.specs.Step.{Took, statements_only};
 use types::{TransactionLocator, TransactionLocatorRange};
 
 // A statement of a record. Of a share: where its payload starts in the record, and its length.
-#[derive(Drop)]
+#[derive(Clone, Copy)]
 pub enum BaseStatement {
     Share(usize, usize),
     Accept(TransactionLocator),
@@ -15,7 +15,7 @@ pub enum BaseStatement {
 }
 
 // A statement that was read, with the position after it.
-#[derive(Drop)]
+#[derive(Clone, Copy)]
 pub enum Taken {
     Statement(BaseStatement, usize),
     Malformed,

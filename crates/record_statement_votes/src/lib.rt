@@ -9,7 +9,7 @@ use record_statement::BaseStatement;
 use types::{TransactionLocator, TransactionLocatorRange};
 
 // The locator of an accept, or a range, or nothing.
-#[derive(Drop)]
+#[derive(Clone, Copy)]
 pub enum Vote {
     Locator(TransactionLocator),
     Range(TransactionLocatorRange),
@@ -17,7 +17,7 @@ pub enum Vote {
 }
 
 // The same as a range, or nothing.
-#[derive(Drop)]
+#[derive(Clone, Copy)]
 pub enum VotedRange {
     Range(TransactionLocatorRange),
     Nothing,

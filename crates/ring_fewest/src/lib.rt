@@ -9,7 +9,7 @@ use committee::{AuthorityIndex, NewCommittee, Stake};
 use committee_set::AuthoritySet;
 
 // The owners to ring and their stake, or a refusal.
-#[derive(Drop)]
+#[derive(Clone, Copy)]
 pub enum RingAnswer {
     Owners(AuthoritySet, Stake),
     Refused(u64),

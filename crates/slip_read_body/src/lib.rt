@@ -11,14 +11,14 @@ use slip_read_certifier::{SlipPlace, TakenCertifier};
 use types::Ordering;
 
 // All of them: where they end, their authors, and what they show.
-#[derive(Drop)]
+#[derive(Clone, Copy)]
 pub enum TakenCertifiers {
     Certifiers(usize, AuthoritySet, u64),
     Malformed,
 }
 
 // What a slip shows.
-#[derive(Drop)]
+#[derive(Clone, Copy)]
 pub enum TakenSlip {
     Shows(u64),
     Malformed,

@@ -17,7 +17,7 @@ use slip_read_body::TakenSlip;
 use slip_read_records::SortedRecords;
 
 // What reading answers: the number of certifying blocks, or a refusal number.
-#[derive(Drop)]
+#[derive(Clone, Copy)]
 pub enum SlipAnswer {
     Accepted(u64),
     Refused(u64),

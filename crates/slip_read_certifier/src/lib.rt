@@ -18,14 +18,14 @@ use slip_read_paths::Led;
 use slip_read_voters::TakenVoters;
 
 // Where reading stands in a slip, and the total stake under which it is read.
-#[derive(Drop)]
+#[derive(Clone, Copy)]
 pub struct SlipPlace {
     pub at: usize,
     pub total: Stake,
 }
 
 // A certifying block that was read: where it ends, and what it shows (0 that it holds, 1 that it does not, 2 that a record is missing).
-#[derive(Drop)]
+#[derive(Clone, Copy)]
 pub enum TakenCertifier {
     Certifier(usize, u64),
     Malformed,

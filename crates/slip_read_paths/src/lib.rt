@@ -11,7 +11,7 @@ use record_reference_search::FoundPlace;
 use types::{BlockReference, TransactionLocator};
 
 // Where a path leads: to the block at a place, past the end of a block's includes, or to a block that is not among the records.
-#[derive(Drop)]
+#[derive(Clone, Copy)]
 pub enum Led {
     To(usize),
     Nowhere,

@@ -12,14 +12,14 @@ use committee_set::AuthoritySet;
 use slip_read_paths::Led;
 
 // A voter that was read: its author, and where it ends. Its path begins 10 bytes after it.
-#[derive(Drop)]
+#[derive(Clone, Copy)]
 pub enum TakenVoter {
     Voter(u64, usize),
     Malformed,
 }
 
 // Voters that were read: where they end, their authors, and what they show (0 that they hold, 1 that they do not, 2 that a record is missing).
-#[derive(Drop)]
+#[derive(Clone, Copy)]
 pub enum TakenVoters {
     Voters(usize, AuthoritySet, u64),
     Malformed,

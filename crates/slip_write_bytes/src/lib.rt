@@ -13,7 +13,7 @@ use slip_write_parts::SlipHead;
 use types::TransactionLocator;
 
 // The length of the slip that was written, or the refusal.
-#[derive(Drop)]
+#[derive(Clone, Copy)]
 pub enum SlipAnswer {
     Written(usize),
     Refused(u64),

@@ -10,7 +10,7 @@ ghost use Rattle.slip_write_parts.specs.Listed.{Voted, head_bytes, listed_bytes}
 use types::TransactionLocator;
 
 // What a slip begins with: the byte of its reading, and its locator.
-#[derive(Drop)]
+#[derive(Clone, Copy)]
 pub struct SlipHead {
     pub first: u8,
     pub locator: TransactionLocator,

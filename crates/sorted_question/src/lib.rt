@@ -4,7 +4,7 @@ ghost use Rattle.sorted_spec.specs.Sorted.{answer_sorted};
 ghost use Rattle.sorted_question.specs.Answers.{as_sorted};
 
 // The number of locators, or the refusal number.
-#[derive(Drop)]
+#[derive(Clone, Copy)]
 pub enum SortedAnswer {
     Replies(u64),
     Refused(u64),

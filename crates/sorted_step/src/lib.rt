@@ -18,7 +18,7 @@ use index_runs::Run;
 use types::{Ordering, TransactionLocator};
 
 // How a locator stands to a run.
-#[derive(Drop)]
+#[derive(Clone, Copy)]
 enum Side {
     Before,
     Inside,

@@ -8,7 +8,7 @@ ghost use Rattle.stakes_chain.specs.Answers.{as_chain, count_fits};
 ghost use Rattle.stakes_chain.specs.Claims.{Claims};
 
 // The number of members on the chain, or that it is broken.
-#[derive(Drop)]
+#[derive(Clone, Copy)]
 pub enum ChainAnswer {
     Members(usize),
     Broken,

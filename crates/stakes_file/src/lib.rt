@@ -13,7 +13,7 @@ use committee::NewCommittee;
 use stakes_chain::ChainAnswer;
 
 // The number of members, or the refusal number.
-#[derive(Drop)]
+#[derive(Clone, Copy)]
 pub enum LoadAnswer {
     Members(usize),
     Refused(u64),

@@ -37,7 +37,7 @@ pub fn lookup(store: &[u8], block: BlockReference) -> usize
 }
 
 // Where a new block goes in the chain: the positions of the last lower block and of the first higher one, zero where there is none.
-#[derive(Drop)]
+#[derive(Clone, Copy)]
 pub struct Place {
     pub below: usize,
     pub above: usize,

@@ -12,21 +12,21 @@ use record_statement::BaseStatement;
 use types::TransactionLocator;
 
 // Where a record or the store has a share's payload, its start and its length; or there is no such share.
-#[derive(Drop)]
+#[derive(Clone, Copy)]
 pub enum SharePlace {
     Payload(usize, usize),
     NoShare,
 }
 
 // Where the store has a share's payload, or the refusal.
-#[derive(Drop)]
+#[derive(Clone, Copy)]
 pub enum PayloadPlace {
     Stands(usize, usize),
     Refused(u64),
 }
 
 // The length of a share's payload, or the refusal.
-#[derive(Drop)]
+#[derive(Clone, Copy)]
 pub enum PayloadLength {
     Bytes(u64),
     Refused(u64),

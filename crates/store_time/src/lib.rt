@@ -10,7 +10,7 @@ use record_reader::CreationTime;
 use types::BlockReference;
 
 // The time of a stored block in nanoseconds; none where its record has none, or no such block is stored; or the refusal.
-#[derive(Drop)]
+#[derive(Clone, Copy)]
 pub enum TimeAnswer {
     Found(u64),
     NoTime,

@@ -17,30 +17,30 @@ pub const LAST_OFFSET: u64 = 18446744073709551615;
 pub const MAX_BLOCKS: usize = 1024;
 
 // The 32 bytes of a digest as four words, the highest byte first, so that comparing words is comparing bytes.
-#[derive(Drop)]
+#[derive(Clone, Copy)]
 pub struct BlockDigest(pub u64, pub u64, pub u64, pub u64);
 
-#[derive(Drop)]
+#[derive(Clone, Copy)]
 pub struct BlockReference {
     pub authority: AuthorityIndex,
     pub round: RoundNumber,
     pub digest: BlockDigest,
 }
 
-#[derive(Drop)]
+#[derive(Clone, Copy)]
 pub struct TransactionLocator {
     pub block: BlockReference,
     pub offset: u64,
 }
 
-#[derive(Drop)]
+#[derive(Clone, Copy)]
 pub struct TransactionLocatorRange {
     pub block: BlockReference,
     pub offset_start_inclusive: u64,
     pub offset_end_exclusive: u64,
 }
 
-#[derive(Drop)]
+#[derive(Clone, Copy)]
 pub enum Ordering {
     Less,
     Equal,
