@@ -1,4 +1,6 @@
 // Rows of distances: an include taken into the row of a block, of equally near ones the first.
+#![tactic(auto)]
+
 ghost use Rattle.std.specs.Prelude.{◌≡◌, ℕ, ◌+◌, ◌*◌, ◌<◌, length, get_or};
 ghost use Rattle.slip_write_rows.specs.Rows.{is_nearer, Folded};
 
