@@ -1,4 +1,6 @@
 // The names in the file `stakes` (document 02, "Five").
+#![tactic(auto)]
+
 ghost use Rattle.std.specs.Prelude.{◌≡◌, not, map, ◌+◌, ◌<◌, ◌≤◌, length};
 ghost use Rattle.base.specs.Lists.{all_of, same};
 ghost use Rattle.stakes_chain.specs.Layout.{place};
