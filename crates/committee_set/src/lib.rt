@@ -1,5 +1,6 @@
 // The vote set and the stake of its members. Follows `AuthoritySet` of types.rs.
 #![tactic(auto)]
+
 ghost use Rattle.std.specs.Prelude.{◌≡◌, false, ◌^◌, ◌<◌};
 ghost use Rattle.committee.specs.Committee.{broken};
 ghost use Rattle.committee_set.specs.AuthoritySet.{nobody, member, inserted, united, without, number_of_voters, stake_of};

@@ -1,4 +1,3 @@
-use mathlib.Core.Logic.{⊎_elim}
 use Rattle.committee.proofs.Bounds.{total_most}
 use Rattle.committee_set.proofs.Sums.{stake_on, stake_end, stake_most}
 use Rattle.committee_set.specs.AuthoritySet.{stake_of}
@@ -6,6 +5,7 @@ use native.Mathlib.Omega.{arith}
 use Prim.Native.Nat.{◌-◌}
 use mathlib.Core.Path.{sym, ◌∙◌}
 use Rattle.committee_set.proofs.stake_of.Goals as goal
+use Rattle.committee_set.proofs.stake_of.Goals.{then-contains, else-contains}
 
 pub loop-i-init : goal.loop-i-init
 unfolding stake_of
@@ -28,10 +28,10 @@ loop-i-preserved c =
     let at = c.loop-i in
     let test = c.loop-i-test.true in
     let step = stake_on l v at.i test in
-    ⊎_elim
-    (λ w. let more = rw (sym c.contains.ensures ∙ w.0.taken) at step in (omega arith, omega arith))
-    (λ w. let same = rw (sym c.contains.ensures ∙ w.0.left) at step in (omega arith, omega arith))
-    c.if-contains.branch
+    elim c.if-contains.branch [
+      | then-contains w ↦ let more = rw (sym c.contains.ensures ∙ w.if-contains.true) at step in (omega arith, omega arith)
+      | else-contains w ↦ let same = rw (sym c.contains.ensures ∙ w.if-contains.false) at step in (omega arith, omega arith)
+    ]
 
 pub returns : goal.returns
 returns c =

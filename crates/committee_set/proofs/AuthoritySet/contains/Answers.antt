@@ -20,4 +20,4 @@ returns c =
     let start = c in
     let high = start.args.self.high in
     let a = start.args.v.0 in
-    rw (le-ltb a 64 c.if-k-lt64.false) (sym (bit_past 64 high (a - 64) start.well-formed.0.1.1.1.0.1 (omega arith)))
+    rw (le-ltb a 64 c.if-k-lt64.false) (sym (bit_past 64 high (a - 64) (omega arith) (omega arith)))
