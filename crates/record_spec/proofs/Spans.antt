@@ -31,6 +31,7 @@ share_span r o (suc k) (s ∷ ss) h =
 pub vote_span : (r : BlockReference) (o : ℕ) (q : TransactionLocatorRange) (s : Statement) → voted_range s ≡ some q → is_share s ≡ false → (ss : List Statement)
     → s ∈ ss → q ∈ spans_from r o ss
 unfolding spans_from Option-to_list
+vote_span r o q s e f [] x3 = elim x3 [ ]
 vote_span r o q s e f (x ∷ ss) here = rw (f, e) here
 vote_span r o q s e f (x ∷ ss) (there m) = in_right (pick (is_share x) (one_range (locator r o) ∷ []) (Option-to_list (voted_range x)))
     (vote_span r (o + 1) q s e f ss m)
