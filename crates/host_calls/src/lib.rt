@@ -1,4 +1,6 @@
 // How a call of the host crosses: its stakes as bytes, its answer as one word.
+#![tactic(auto)]
+
 ghost use Rattle.std.specs.Prelude.{◌≡◌, ◌≤◌, eqb, length, take};
 ghost use Rattle.base.specs.Lists.{any_of};
 ghost use Rattle.words.specs.Words.{words_of};
