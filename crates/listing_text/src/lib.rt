@@ -1,5 +1,7 @@
 // Text written into a slice: decimal and hex numbers, and a name with numbers after it. Each function writes from `at` on and answers where it
 // ended.
+#![tactic(auto)]
+
 ghost use Rattle.std.specs.Prelude.{◌≡◌, ◌+◌, ◌*◌, ◌≤◌, ◌<◌, length};
 ghost use Rattle.listing_text.specs.Text.{decimal, hex_digit, hex, Wrote, numbers, number_line};
 
