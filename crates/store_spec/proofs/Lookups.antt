@@ -34,6 +34,7 @@ use Rattle.store_spec.proofs.Loops.{length_positions}
 
 pub lookup_hit : (es : List Entry) → Distinct es → (e : Entry) → e ∈ es → (i : BlockReference) → reference_of e ≡ i → lookup es i ≡ some e
 unfolding lookup find
+lookup_hit [] _ d x4 i q = elim x4 [ ]
 lookup_hit (e ∷ es) (with_later h hs) d here i q = rw (same_reference_lem q)
 lookup_hit (e ∷ es) (with_later h hs) d (there m) i q =
     rw (
@@ -85,6 +86,7 @@ entry_stored (r ∷ rs) i h = go (same_reference r.block.reference i) refl h (en
 
 pub stored_entry : (rs : List Record) (i : BlockReference) (e : Entry) → e ∈ entries rs → reference_of e ≡ i → is_stored rs i ≡ true
 unfolding is_stored any_of entries
+stored_entry [] i e x'' q = elim x'' [ ]
 stored_entry (r ∷ rs) i e here q = rw (same_reference_lem q)
 stored_entry (r ∷ rs) i e (there m) q = or_right (same_reference r.block.reference i) _ (stored_entry rs i e m q)
 
@@ -172,6 +174,7 @@ pub record Split (rs : List Record) (e : Entry) : Type 0 where
 
 pub split_at_entry : (rs : List Record) (e : Entry) → e ∈ entries rs → Split rs e
 unfolding entries
+split_at_entry [] e x' = elim x' [ ]
 split_at_entry (r ∷ rs) e here = record { newer = []; older = rs; own = r; are = refl; is = refl }
 split_at_entry (r ∷ rs) e (there m) =
     let x : Split rs e = split_at_entry rs e m in
@@ -251,10 +254,12 @@ missing_test rs (i ∷ is) = go (is_stored rs i) (missing_test rs is)
 
 pub entry_block : (rs : List Record) (e : Entry) → e ∈ entries rs → e.block ∈ map (λ r. r.block) rs
 unfolding entries
+entry_block [] e x' = elim x' [ ]
 entry_block (r ∷ rs) e here = here
 entry_block (r ∷ rs) e (there m) = there (entry_block rs e m)
 
 pub block_entry : (rs : List Record) (b : Block) → b ∈ map (λ r. r.block) rs → (e : Entry) × (e ∈ entries rs) × (e.block ≡ b)
 unfolding entries
+block_entry [] b x' = elim x' [ ]
 block_entry (r ∷ rs) b here = (record { position = used_by rs; bytes = r.bytes; block = r.block }, here, refl)
 block_entry (r ∷ rs) b (there m) = let x = block_entry rs b m in (x.0, there x.1, x.2)

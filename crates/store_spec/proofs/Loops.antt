@@ -64,6 +64,7 @@ position_of_lem (r ∷ rs) p m = go (in_append (positions rs) m) (position_of_le
 
 position_in : (rs : List Record) (e : Entry) → e ∈ entries rs → e.position ∈ positions rs
 unfolding positions entries
+position_in [] e x' = elim x' [ ]
 position_in (r ∷ rs) e here = in_right (positions rs) here
 position_in (r ∷ rs) e (there m) = in_left (used_by rs ∷ []) (position_in rs e m)
 

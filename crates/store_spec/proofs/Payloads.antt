@@ -87,6 +87,7 @@ entry_part es e =
 pub body_part : (es : List Entry) (rs : List Record) (e : Entry) → e ∈ entries rs → (n : ℕ) × PartOf (body_bytes es (entries rs)) (entry_bytes es e) n ×
     (16 + n ≡ e.position)
 unfolding body_bytes entries
+body_part es [] e x' = elim x' [ ]
 body_part es (r ∷ rs) e here =
     let body : List ℕ = body_bytes es (entries rs) in
     (length body + 0, part_right body (entry_bytes es e) (entry_bytes es e) 0 (part_complete (entry_bytes es e)), omega (arith, length_body es rs))

@@ -42,6 +42,7 @@ pub record Changed (es ds : List Entry) (p v : ℕ) (e : Entry) : Type 0 where
 pub body_patched : (es ds : List Entry) (p v : ℕ) (rs : List Record) (d : Entry) → d ∈ entries rs → d.position ≡ p → Every (Changed es ds p v) (entries rs)
     → body_bytes ds (entries rs) ≡ sets (body_bytes es (entries rs)) (p - 16) (le_bytes 4 v)
 unfolding entries body_bytes entry_bytes
+body_patched es ds p v [] d x3 q _ = elim x3 [ ]
 body_patched es ds p v (r ∷ rs) d here q (and h hs) =
     let b : List ℕ = body_bytes es (entries rs) in
     let t : List ℕ = le_bytes 4 (length r.bytes) ++ r.bytes in

@@ -61,6 +61,7 @@ back_right (x ∷ xs) ys m = back_right xs (x ∷ ys) (there m)
 
 pub back_left : {A : Type 0} {a : A} (xs ys : List A) → a ∈ xs → a ∈ back xs ys
 unfolding back
+back_left {A = A} {a = a} [] ys x' = elim x' [ ]
 back_left (x ∷ xs) ys here = back_right xs (x ∷ ys) here
 back_left (x ∷ xs) ys (there m) = back_left xs (x ∷ ys) m
 
@@ -144,6 +145,7 @@ length_entries (r ∷ rs) = ap suc (length_entries rs)
 
 -- an entry is known by its position
 apart_same : (es : List Entry) → Pairs Apart es → (e d : Entry) → e ∈ es → d ∈ es → e.position ≡ d.position → e ≡ d
+apart_same [] _ e d x5 _ q = elim x5 [ ]
 apart_same (x ∷ es) (with_later h hs) e d here here q = refl
 apart_same (x ∷ es) (with_later h hs) e d here (there m) q = absurd (every_in es d h m q)
 apart_same (x ∷ es) (with_later h hs) e d (there m) here q = absurd (every_in es e h m (sym q))
@@ -207,6 +209,7 @@ module _ (s : Bytes) (rs : List Record) where
   passed_distinct xs d f = go all (λ e m. f e m) (entries_apart rs)
     where
       pair : (ys : List Entry) → Descending ys → (e x : Entry) → e ∈ ys → x ∈ ys → Apart e x → same_reference (reference_of e) (reference_of x) ≡ false
+      pair [] _ e x x7 _ a = elim x7 [ ]
       pair (y ∷ ys) (with_later h hs) e x here here a = absurd (a refl)
       pair (y ∷ ys) (with_later h hs) e x here (there m) a = fails _
           (λ t. reference_irrefl (reference_of x) (rw (reference_same (reference_of y) (reference_of x) t) at (every_in ys x h m)))

@@ -1,8 +1,7 @@
 use Rattle.store_spec.proofs.Claimed.{chain_meant, in_order_accepted, fresh_in_order, accepting_keeps_order, stored_share_meant, payload_meant}
-use Rattle.store_spec.proofs.claims.Statement.{statement}
-use Rattle.store_spec.proofs.claims.Tie as tie
+use Rattle.store_spec.proofs.claims.Goals as goal
 
-returns : tie.Need-returns
+pub returns : goal.returns
 returns c = record {
   chain = chain_meant;
   accepted = in_order_accepted;
@@ -12,6 +11,3 @@ returns c = record {
       stored_share_meant;
   payload = payload_meant;
 }
-
-pub claims-spec : {M : Type 1} → statement M
-claims-spec = tie.close (tie.spec returns)
