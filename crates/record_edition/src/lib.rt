@@ -1,4 +1,6 @@
 // The edition of a record, and where its includes begin.
+#![tactic(auto)]
+
 ghost use Rattle.std.specs.Prelude.{◌≡◌, ◌≤◌, length};
 ghost use Rattle.record_spec.specs.Record.{body_start};
 ghost use Rattle.record_edition.specs.Step.{edition_right};
