@@ -1,4 +1,6 @@
 // References, locators and ranges of locators, and their order. Follows types.rs.
+#![tactic(auto)]
+
 ghost use Rattle.std.specs.Prelude.{◌≡◌, ◌<◌};
 ghost use Rattle.record_spec.specs.Reference.{new_range, one_range, locator_before};
 ghost use Rattle.types.specs.Values.{digest_bytes, as_reference, as_locator, as_range, word_order, key_order, reference_order, locator_order};
