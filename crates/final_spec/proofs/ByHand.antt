@@ -12,6 +12,7 @@ use Rattle.final_spec.specs.ByHand.{the, shared, voted, top, stored, two, ByHand
 use Rattle.final_spec.proofs.Computing.{computing}
 
 second : (a : ℕ) → top a ∈ stored → (o : AuthorityIndex) → o ∈ (1 ∷ []) → Voter stored (top a) the o
+second a h o (there x4) = elim x4 [ ]
 second a h o here =
     record { voting = voted; ancestor = included h here (itself (there (there here))); votes = by_vote (by_accept here); authored = refl }
 
@@ -48,6 +49,7 @@ certificates o here = certificate 0 (there here)
 certificates o (there m) = last o m
   where
     last : (o : AuthorityIndex) → o ∈ (1 ∷ []) → Certificate two stored the o
+    last o (there x6) = elim x6 [ ]
     last o here = certificate 1 here
 
 final : Final two stored the

@@ -1,4 +1,6 @@
 // Finality over a list of blocks: voters, certificates, what is final, and the claims of what these mean. Follows finalization_interpreter.rs.
+#![tactic(auto)]
+
 ghost use Rattle.final_spec.specs.Claims.{Claims};
 ghost use Rattle.final_spec.specs.Examples.{Examples};
 
