@@ -1,4 +1,6 @@
 // The aggregator of stake. Follows `StakeAggregator` of committee.rs.
+#![tactic(auto)]
+
 ghost use Rattle.std.specs.Prelude.{◌≡◌, false, ◌+◌, ◌<◌};
 ghost use Rattle.base.specs.Lists.{all_of};
 ghost use Rattle.committee.specs.Committee.{broken, known};
