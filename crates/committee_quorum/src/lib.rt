@@ -1,4 +1,6 @@
 // Whether a set of voters holds quorum, from one question to the next: those asked for last are not counted again.
+#![tactic(auto)]
+
 ghost use Rattle.std.specs.Prelude.{◌≡◌, false};
 ghost use Rattle.committee.specs.Committee.{Committee, broken, total_stake};
 ghost use Rattle.committee_quorum.specs.Sure.{Sure};
