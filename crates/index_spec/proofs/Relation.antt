@@ -24,16 +24,19 @@ use Rattle.index_spec.proofs.Unique.{at_end, chains_equal}
 
 module _ {D : Run → List Run → Type 0} where
   pub good_in : {p : Place} (x : Run) (xs : List Run) → Chain D p xs → x ∈ xs → Good x
+  good_in x _ (end {p = p}) x7 = elim x7 [ ]
   good_in x xs (link a g d h) here = g
   good_in x xs (link {xs = ys} a g d h) (there m) = good_in x ys h m
 
   -- every run lies past the place
   pub past_in : {q : BlockReference} {e : ℕ} (x : Run) (xs : List Run) → Chain D (beyond q e) xs → x ∈ xs → Past q e x.reference x.start
+  past_in {q = q} {e = e} x [] _ x4 = elim x4 [ ]
   past_in x (y ∷ xs) (link a g d h) here = a
   past_in x (y ∷ xs) (link a g d h) (there m) = past_in x xs (chain_past y xs a (omega (arith, g.full)) h) m
 
   -- where a run covers a locator, its voters are named
   pub in_chain : {p : Place} (x : Run) (xs : List Run) → Chain D p xs → x ∈ xs → (l : TransactionLocator) → Covered x l → voters_in xs l ≡ x.votes
+  in_chain {p = p} x [] _ x5 l c = elim x5 [ ]
   in_chain x (y ∷ xs) (link a g d h) here l c = at_head y xs h l c
   in_chain x (y ∷ xs) (link a g d h) (there m) l c =
       let e = in_chain x xs h m l c in
@@ -41,6 +44,7 @@ module _ {D : Run → List Run → Type 0} where
 
   -- one run covers a locator
   pub one_run : {p : Place} (x y : Run) (xs : List Run) → Chain D p xs → x ∈ xs → y ∈ xs → (l : TransactionLocator) → Covered x l → Covered y l → x ≡ y
+  one_run {p = p} x y [] _ x7 _ l c k = elim x7 [ ]
   one_run x y (z ∷ xs) (link a g d h) here here l c k = refl
   one_run x y (z ∷ xs) (link a g d h) here (there n) l c k = absurd ((good_in y xs h n).voted (sym (in_chain y xs h n l k) ∙ rest_nobody x xs h l c))
   one_run x y (z ∷ xs) (link a g d h) (there m) here l c k = absurd ((good_in x xs h m).voted (sym (in_chain x xs h m l c) ∙ rest_nobody y xs h l k))
@@ -109,10 +113,12 @@ one_list_lem f xs ys r q = chains_equal xs ys (runs_chain xs r) (runs_chain ys q
 -- ---- to the relation
 
 neighbours_past : {p : Place} (x y : Run) (xs : List Run) → Chain Differs p xs → Neighbours x y xs → Past x.reference x.end y.reference y.start
+neighbours_past x y _ (end {p = p}) x7 = elim x7 [ ]
 neighbours_past x y xs (link a g d (link b k e h)) next = b
 neighbours_past x y xs (link {xs = ys} a g d h) (later n) = neighbours_past x y ys h n
 
 neighbours_differ : {p : Place} (x y : Run) (xs : List Run) → Chain Differs p xs → Neighbours x y xs → touches x y ≡ true → x.votes ≡ y.votes → ⊥
+neighbours_differ x y _ (end {p = p}) x7 = elim x7 [ ]
 neighbours_differ x y xs (link a g (other d) h) next = d
 neighbours_differ x y xs (link {xs = ys} a g d h) (later n) = neighbours_differ x y ys h n
 
@@ -143,6 +149,7 @@ chain_runs f xs h e =
 
 onward_in : {p : Place} (x : Run) (xs : List Run) → Chain Differs p xs → x ∈ xs → voters_in xs (locator x.reference x.end) ≡ x.votes → ⊥
 unfolding locator
+onward_in {p = p} x [] _ x5 e = elim x5 [ ]
 onward_in x (y ∷ xs) (link a g d h) here e = at_end x xs g d h (sym (past_head x xs (locator x.reference x.end) (λ c. omega (arith, c.below))) ∙ e)
 onward_in x (y ∷ xs) (link a g d h) (there m) e =
     onward_in x xs h m (sym (past_head y xs (locator x.reference x.end) (λ c. out (past_in x xs h m) c.of c.below (good_in x xs h m).full)) ∙ e)

@@ -107,5 +107,6 @@ module _ {D : Run → List Run → Type 0} where
 -- where some run with a voter covers the locator, somebody is named
 pub somebody : (xs : List Run) (x : Run) → x ∈ xs → (l : TransactionLocator) → Covered x l → (x.votes ≡ nobody → ⊥) → voters_in xs l ≡ nobody → ⊥
 unfolding voters_in
+somebody [] x x6 l c v e = elim x6 [ ]
 somebody (y ∷ xs) x here l c v e = v (sym (votes_in x l c) ∙ united_nobody_left (votes_at x l) (voters_in xs l) e)
 somebody (y ∷ xs) x (there m) l c v e = somebody xs x m l c v (united_nobody_left (voters_in xs l) (votes_at y l) (united_comm (voters_in xs l) (votes_at y l) ∙ e))
