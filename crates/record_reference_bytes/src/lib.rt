@@ -1,4 +1,6 @@
 // References and locators read from bytes and written, at a position. Follows types.rs.
+#![tactic(auto)]
+
 ghost use Rattle.std.specs.Prelude.{◌≡◌, ◌+◌, ◌≤◌, length, take, drop};
 ghost use Rattle.std.proofs.lemmas.List.Edits.{sets};
 ghost use Rattle.record_reference_bytes.specs.Step.{reference_at, locator_at};

@@ -1,0 +1,9 @@
+use Rattle.record_reference_bytes.proofs.Written.{high_double}
+use mathlib.Core.Path.{◌∙◌}
+use Rattle.record_reference_bytes.proofs.write_high_u32.Goals as goal
+
+pub returns : goal.returns
+returns c = c.write_high_u16-2.ensures ∙ rw c.write_high_u16.ensures
+    (high_double 2 c.args.v
+    c.args.s.now
+    c.args.at)
