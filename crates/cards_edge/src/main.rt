@@ -1,133 +1,142 @@
 // The edge cards of document 01 that are run, a line each: what the engine answers.
+#![tactic(auto)]
+
 use committee::{AuthorityIndex, NewCommittee, Stake};
 use committee_aggregator::StakeAggregator;
 use committee_set::AuthoritySet;
 use committee_vote_answer::AddAnswer;
-use libc::STDOUT_FILENO;
 
-fn print(text: &[u8]) {
-    io::write_all(STDOUT_FILENO, text);
+fn print(rt: &impl Print, text: &[u8]) {
+    let _ = rt.write_all(text);
 }
 
-fn print_number(n: u64) {
-    io::print_decimal(STDOUT_FILENO, n);
+fn print_number(rt: &impl Print, n: u64) {
+    let _ = rt.print(n);
 }
 
 // A line of a card on setting a committee.
-fn set(card: &[u8], stakes: &[u64]) {
-    print(card);
+fn set(rt: &impl Print, card: &[u8], stakes: &[u64]) {
+    print(rt, card);
     match committee::new_committee(stakes) {
         NewCommittee::Taken(total) => {
-            print(b": taken, total ");
-            print_number(total.0);
+            print(rt, b": taken, total ");
+            print_number(rt, total.0);
         }
         NewCommittee::Broken(number) => {
-            print(b": refused ");
-            print_number(number);
+            print(rt, b": refused ");
+            print_number(rt, number);
         }
     }
-    print(b"\n");
+    print(rt, b"\n");
 }
 
 // A line of a card on adding a vote, with the stake and the number of voters afterwards.
-fn add(card: &[u8], stakes: &[u64], aggregator: StakeAggregator, vote: u64) {
-    print(card);
+fn add(rt: &impl Print, card: &[u8], stakes: &[u64], aggregator: StakeAggregator, vote: u64) {
+    print(rt, card);
     let added = aggregator.add(stakes, AuthorityIndex(vote));
     let answer = added.answer;
     match answer {
-        AddAnswer::RepeatedBelow => print(b": repeated below quorum"),
-        AddAnswer::RepeatedWith => print(b": repeated with quorum"),
-        AddAnswer::NewBelow => print(b": new below quorum"),
+        AddAnswer::RepeatedBelow => print(rt, b": repeated below quorum"),
+        AddAnswer::RepeatedWith => print(rt, b": repeated with quorum"),
+        AddAnswer::NewBelow => print(rt, b": new below quorum"),
         AddAnswer::NewWith(crossed) => {
-            print(b": new with quorum");
+            print(rt, b": new with quorum");
             if crossed {
-                print(b", crossed by it");
+                print(rt, b", crossed by it");
             }
         }
         AddAnswer::Refused(number) => {
-            print(b": refused ");
-            print_number(number);
+            print(rt, b": refused ");
+            print_number(rt, number);
         }
     }
-    print(b", stake ");
-    print_number(added.aggregator.stake.0);
-    print(b", voters ");
-    print_number(added.aggregator.votes.count());
-    print(b"\n");
+    print(rt, b", stake ");
+    print_number(rt, added.aggregator.stake.0);
+    print(rt, b", voters ");
+    print_number(rt, added.aggregator.votes.count());
+    print(rt, b"\n");
 }
 
 // A line of a card on quorum and valid stake.
-fn judge(card: &[u8], total: u64, amount: u64) {
-    print(card);
+fn judge(rt: &impl Print, card: &[u8], total: u64, amount: u64) {
+    print(rt, card);
     if committee::is_quorum(Stake(total), Stake(amount)) {
-        print(b": quorum");
+        print(rt, b": quorum");
     } else {
-        print(b": no quorum");
+        print(rt, b": no quorum");
     }
     if committee::is_valid(Stake(total), Stake(amount)) {
-        print(b", valid\n");
+        print(rt, b", valid\n");
     } else {
-        print(b", not valid\n");
+        print(rt, b", not valid\n");
     }
 }
 
-fn committees() {
+fn committees(rt: &impl Print) {
     let none = [0u64; 0];
-    set(b"no members", &none);
+    set(rt, b"no members", &none);
     let ones128 = [1u64; 128];
-    set(b"128 members", &ones128);
+    set(rt, b"128 members", &ones128);
     let ones129 = [1u64; 129];
-    set(b"129 members", &ones129);
+    set(rt, b"129 members", &ones129);
     let mut zero129 = [1u64; 129];
     zero129[128] = 0;
-    set(b"129 members, one of them with no stake", &zero129);
+    set(rt, b"129 members, one of them with no stake", &zero129);
     let wrapping = [9223372036854775808, 9223372036854775808, 1];
-    set(b"stakes that sum to 1 past 2^64", &wrapping);
+    set(rt, b"stakes that sum to 1 past 2^64", &wrapping);
     let course = committee::course_committee();
-    set(b"the course committee", &course);
+    set(rt, b"the course committee", &course);
 }
 
-fn amounts() {
-    judge(b"11 of 17", 17, 11);
-    judge(b"12 of 17", 17, 12);
-    judge(b"all of 2^63 - 1", 9223372036854775807, 9223372036854775807);
+fn amounts(rt: &impl Print) {
+    judge(rt, b"11 of 17", 17, 11);
+    judge(rt, b"12 of 17", 17, 12);
     judge(
+        rt,
+        b"all of 2^63 - 1",
+        9223372036854775807,
+        9223372036854775807,
+    );
+    judge(
+        rt,
         b"two thirds of 2^63 - 1, rounded down",
         9223372036854775807,
         6148914691236517204,
     );
     judge(
+        rt,
         b"one more than that",
         9223372036854775807,
         6148914691236517205,
     );
     judge(
+        rt,
         b"more than there is",
         9223372036854775807,
         18446744073709551615,
     );
 }
 
-fn votes() {
+fn votes(rt: &impl Print) {
     let course = committee::course_committee();
     let none = StakeAggregator::new();
-    add(b"a first vote", &course, none, 0);
+    add(rt, b"a first vote", &course, none, 0);
     let two = StakeAggregator {
         votes: AuthoritySet { low: 3, high: 0 },
         stake: Stake(8),
     };
-    add(b"a new vote", &course, two, 2);
-    add(b"a repeated vote", &course, two, 1);
+    add(rt, b"a new vote", &course, two, 2);
+    add(rt, b"a repeated vote", &course, two, 1);
 }
 
-fn votes_with_quorum() {
+fn votes_with_quorum(rt: &impl Print) {
     let course = committee::course_committee();
     let four = StakeAggregator {
         votes: AuthoritySet { low: 39, high: 0 },
         stake: Stake(12),
     };
-    add(b"a new vote once quorum holds", &course, four, 6);
-    add(b"a repeated vote once quorum holds", &course, four, 5);
+    add(rt, b"a new vote once quorum holds", &course, four, 6);
+    add(rt, b"a repeated vote once quorum holds", &course, four, 5);
     let ones128 = [1u64; 128];
     let eighty_five = StakeAggregator {
         votes: AuthoritySet {
@@ -136,34 +145,40 @@ fn votes_with_quorum() {
         },
         stake: Stake(85),
     };
-    add(b"the 86th vote of 128", &ones128, eighty_five, 127);
+    add(rt, b"the 86th vote of 128", &ones128, eighty_five, 127);
 }
 
-fn refused_votes() {
+fn refused_votes(rt: &impl Print) {
     let course = committee::course_committee();
     let two = StakeAggregator {
         votes: AuthoritySet { low: 3, high: 0 },
         stake: Stake(8),
     };
-    add(b"an unknown voter", &course, two, 7);
+    add(rt, b"an unknown voter", &course, two, 7);
     let wrong = StakeAggregator {
         votes: AuthoritySet { low: 3, high: 0 },
         stake: Stake(7),
     };
-    add(b"a stake that is not the voters' sum", &course, wrong, 7);
+    add(
+        rt,
+        b"a stake that is not the voters' sum",
+        &course,
+        wrong,
+        7,
+    );
     let stranger = StakeAggregator {
         votes: AuthoritySet { low: 0, high: 1 },
         stake: Stake(0),
     };
-    add(b"a voter that is not known", &course, stranger, 0);
+    add(rt, b"a voter that is not known", &course, stranger, 0);
     let broken = [5u64, 0];
-    add(b"a committee that is broken", &broken, wrong, 7);
+    add(rt, b"a committee that is broken", &broken, wrong, 7);
 }
 
-fn main() {
-    committees();
-    amounts();
-    votes();
-    votes_with_quorum();
-    refused_votes();
+fn main(rt: HostRuntime) {
+    committees(&rt);
+    amounts(&rt);
+    votes(&rt);
+    votes_with_quorum(&rt);
+    refused_votes(&rt);
 }

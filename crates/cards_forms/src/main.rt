@@ -1,59 +1,63 @@
 // The forms over a reference beside the calls by value, a line for each card: the two answers are the same.
+#![tactic(auto)]
+
 use committee::{AuthorityIndex, RoundNumber, Stake};
 use committee_aggregator::{Added, StakeAggregator};
 use committee_set::AuthoritySet;
 use committee_vote_answer::AddAnswer;
 use feed_single::FeedAnswer;
 use final_question::FinalityAnswer;
-use libc::STDOUT_FILENO;
 use list_after::MaybeLocator;
 use list_next::NextFinalAnswer;
 use types::{BlockDigest, BlockReference, TransactionLocator};
 
-fn print(text: &[u8]) {
-    io::write_all(STDOUT_FILENO, text);
+fn print(rt: &impl Print, text: &[u8]) {
+    let _ = rt.write_all(text);
 }
 
-fn print_number(n: u64) {
-    io::print_decimal(STDOUT_FILENO, n);
+fn print_number(rt: &impl Print, n: u64) {
+    let _ = rt.print(n);
 }
 
-fn print_refused(number: u64) {
-    print(b"refused ");
-    print_number(number);
+fn print_refused(rt: &impl Print, number: u64) {
+    print(rt, b"refused ");
+    print_number(rt, number);
 }
 
 // ---- adding a vote
 
-fn print_added(added: Added) {
+fn print_added(rt: &impl Print, added: Added) {
     let answer = added.answer;
     match answer {
-        AddAnswer::RepeatedBelow => print(b"repeated below quorum"),
-        AddAnswer::RepeatedWith => print(b"repeated with quorum"),
-        AddAnswer::NewBelow => print(b"new below quorum"),
+        AddAnswer::RepeatedBelow => print(rt, b"repeated below quorum"),
+        AddAnswer::RepeatedWith => print(rt, b"repeated with quorum"),
+        AddAnswer::NewBelow => print(rt, b"new below quorum"),
         AddAnswer::NewWith(crossed) => {
-            print(b"new with quorum");
+            print(rt, b"new with quorum");
             if crossed {
-                print(b", crossed by it,");
+                print(rt, b", crossed by it,");
             }
         }
-        AddAnswer::Refused(number) => print_refused(number),
+        AddAnswer::Refused(number) => print_refused(rt, number),
     }
-    print(b" with ");
-    print_number(added.aggregator.votes.low);
-    print(b" ");
-    print_number(added.aggregator.votes.high);
-    print(b" ");
-    print_number(added.aggregator.stake.0);
+    print(rt, b" with ");
+    print_number(rt, added.aggregator.votes.low);
+    print(rt, b" ");
+    print_number(rt, added.aggregator.votes.high);
+    print(rt, b" ");
+    print_number(rt, added.aggregator.stake.0);
 }
 
-fn vote(card: &[u8], stakes: &[u64], aggregator: StakeAggregator, voter: u64) {
-    print(card);
-    print(b": by value ");
-    print_added(aggregator.add(stakes, AuthorityIndex(voter)));
-    print(b"; lent ");
-    print_added(committee_lent_add::add_lent(stakes, aggregator, AuthorityIndex(voter)));
-    print(b"\n");
+fn vote(rt: &impl Print, card: &[u8], stakes: &[u64], aggregator: StakeAggregator, voter: u64) {
+    print(rt, card);
+    print(rt, b": by value ");
+    print_added(rt, aggregator.add(stakes, AuthorityIndex(voter)));
+    print(rt, b"; lent ");
+    print_added(
+        rt,
+        committee_lent_add::add_lent(stakes, aggregator, AuthorityIndex(voter)),
+    );
+    print(rt, b"\n");
 }
 
 fn aggregator(low: u64, stake: u64) -> StakeAggregator {
@@ -64,53 +68,65 @@ fn aggregator(low: u64, stake: u64) -> StakeAggregator {
     }
 }
 
-fn votes() {
+fn votes(rt: &impl Print) {
     let course = committee::course_committee();
-    vote(b"a first vote", &course, aggregator(0, 0), 0);
-    vote(b"a vote that makes quorum", &course, aggregator(7, 11), 6);
-    vote(b"a repeated vote", &course, aggregator(7, 11), 1);
+    vote(rt, b"a first vote", &course, aggregator(0, 0), 0);
+    vote(
+        rt,
+        b"a vote that makes quorum",
+        &course,
+        aggregator(7, 11),
+        6,
+    );
+    vote(rt, b"a repeated vote", &course, aggregator(7, 11), 1);
 }
 
-fn votes_with_quorum() {
+fn votes_with_quorum(rt: &impl Print) {
     let course = committee::course_committee();
-    vote(b"a vote once quorum holds", &course, aggregator(39, 12), 6);
-    vote(b"a repeated vote then", &course, aggregator(39, 12), 5);
+    vote(
+        rt,
+        b"a vote once quorum holds",
+        &course,
+        aggregator(39, 12),
+        6,
+    );
+    vote(rt, b"a repeated vote then", &course, aggregator(39, 12), 5);
 }
 
-fn refused_votes() {
+fn refused_votes(rt: &impl Print) {
     let course = committee::course_committee();
     let none = [0u64; 0];
-    vote(b"no committee", &none, aggregator(7, 11), 1);
-    vote(b"a stake that is no sum", &course, aggregator(7, 12), 1);
-    vote(b"an unknown voter", &course, aggregator(7, 11), 7);
+    vote(rt, b"no committee", &none, aggregator(7, 11), 1);
+    vote(rt, b"a stake that is no sum", &course, aggregator(7, 12), 1);
+    vote(rt, b"an unknown voter", &course, aggregator(7, 11), 7);
 }
 
 // ---- questions
 
-fn print_finality(answer: FinalityAnswer, positions: &[u64; 4]) {
+fn print_finality(rt: &impl Print, answer: FinalityAnswer, positions: &[u64; 4]) {
     match answer {
         FinalityAnswer::Final(count) => {
-            print(b"final, blocks ");
-            print_number(count);
+            print(rt, b"final, blocks ");
+            print_number(rt, count);
         }
         FinalityAnswer::NotFinal(count) => {
-            print(b"not final, blocks ");
-            print_number(count);
+            print(rt, b"not final, blocks ");
+            print_number(rt, count);
         }
-        FinalityAnswer::Refused(number) => print_refused(number),
+        FinalityAnswer::Refused(number) => print_refused(rt, number),
     }
-    print(b", first position ");
-    print_number(positions[0]);
+    print(rt, b", first position ");
+    print_number(rt, positions[0]);
 }
 
-fn print_next(answer: NextFinalAnswer) {
+fn print_next(rt: &impl Print, answer: NextFinalAnswer) {
     match answer {
         NextFinalAnswer::Found(locator) => {
-            print(b"offset ");
-            print_number(locator.offset);
+            print(rt, b"offset ");
+            print_number(rt, locator.offset);
         }
-        NextFinalAnswer::NoneLeft => print(b"none"),
-        NextFinalAnswer::Refused(number) => print_refused(number),
+        NextFinalAnswer::NoneLeft => print(rt, b"none"),
+        NextFinalAnswer::Refused(number) => print_refused(rt, number),
     }
 }
 
@@ -124,62 +140,64 @@ fn share(offset: u64) -> TransactionLocator {
     TransactionLocator { block, offset }
 }
 
-fn finality(card: &[u8], stakes: &[u64], store: &[u8], offset: u64) {
+fn finality(rt: &impl Print, card: &[u8], stakes: &[u64], store: &[u8], offset: u64) {
     let locator = share(offset);
     let mut positions = [9u64; 4];
     let mut held = [9u64; 4];
-    print(card);
-    print(b": by value ");
+    print(rt, card);
+    print(rt, b": by value ");
     let answer = final_question::finality(stakes, store, &mut positions, locator);
-    print_finality(answer, &positions);
-    print(b"; held ");
+    print_finality(rt, answer, &positions);
+    print(rt, b"; held ");
     let again = final_interpreter::finality_held(stakes, store, &mut held, locator);
-    print_finality(again, &held);
-    print(b"\n");
+    print_finality(rt, again, &held);
+    print(rt, b"\n");
 }
 
-fn next_final(card: &[u8], stakes: &[u64], store: &[u8], after: MaybeLocator) {
-    print(card);
-    print(b": by value ");
-    print_next(list_next::next_final(stakes, store, after));
-    print(b"; held ");
-    print_next(final_interpreter::next_final_held(stakes, store, after));
-    print(b"\n");
+fn next_final(rt: &impl Print, card: &[u8], stakes: &[u64], store: &[u8], after: MaybeLocator) {
+    print(rt, card);
+    print(rt, b": by value ");
+    print_next(rt, list_next::next_final(stakes, store, after));
+    print(rt, b"; held ");
+    print_next(rt, final_interpreter::next_final_held(stakes, store, after));
+    print(rt, b"\n");
 }
 
-fn print_fed(answer: FeedAnswer) {
+fn print_fed(rt: &impl Print, answer: FeedAnswer) {
     match answer {
         FeedAnswer::Events(count) => {
-            print(b"fed, events ");
-            print_number(count);
+            print(rt, b"fed, events ");
+            print_number(rt, count);
         }
-        FeedAnswer::Refused(number) => print_refused(number),
+        FeedAnswer::Refused(number) => print_refused(rt, number),
     }
-    print(b"\n");
+    print(rt, b"\n");
 }
 
-fn ask(stakes: &[u64], store: &[u8], broken: &[u8]) {
-    finality(b"the first share", stakes, store, 0);
-    finality(b"no share", stakes, store, 2);
-    finality(b"no store", stakes, broken, 0);
-    next_final(b"from the start", stakes, store, MaybeLocator::Nothing);
+fn ask(rt: &impl Print, stakes: &[u64], store: &[u8], broken: &[u8]) {
+    finality(rt, b"the first share", stakes, store, 0);
+    finality(rt, b"no share", stakes, store, 2);
+    finality(rt, b"no store", stakes, broken, 0);
+    next_final(rt, b"from the start", stakes, store, MaybeLocator::Nothing);
     next_final(
+        rt,
         b"after the first share",
         stakes,
         store,
         MaybeLocator::Locator(share(0)),
     );
     next_final(
+        rt,
         b"after the last",
         stakes,
         store,
         MaybeLocator::Locator(share(1)),
     );
-    next_final(b"no store", stakes, broken, MaybeLocator::Nothing);
+    next_final(rt, b"no store", stakes, broken, MaybeLocator::Nothing);
 }
 
 // A sole owner's block of round 0, and one of round 1 that includes it and has two shares.
-fn questions() {
+fn questions(rt: &impl Print) {
     let one = [1u64; 1];
     let mut store = [0u8; 512];
     store[4] = 16;
@@ -194,21 +212,27 @@ fn questions() {
     second[49] = 1;
     second[51] = 2;
     second[75] = 1;
-    print_fed(feed_single::feed(&one, &mut store, &mut table, &mut work, &mut events, &first));
-    print_fed(feed_single::feed(
-        &one,
-        &mut store,
-        &mut table,
-        &mut work,
-        &mut events,
-        &second,
-    ));
-    ask(&one, &store, &first);
+    print_fed(
+        rt,
+        feed_single::feed(&one, &mut store, &mut table, &mut work, &mut events, &first),
+    );
+    print_fed(
+        rt,
+        feed_single::feed(
+            &one,
+            &mut store,
+            &mut table,
+            &mut work,
+            &mut events,
+            &second,
+        ),
+    );
+    ask(rt, &one, &store, &first);
 }
 
-fn main() {
-    votes();
-    votes_with_quorum();
-    refused_votes();
-    questions();
+fn main(rt: HostRuntime) {
+    votes(&rt);
+    votes_with_quorum(&rt);
+    refused_votes(&rt);
+    questions(&rt);
 }

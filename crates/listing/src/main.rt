@@ -1,8 +1,9 @@
 // Prints the listing of standard input (document 01, "Reference runs"). The member count 255 asks for the file `stakes` in the folder that it
 // is run in (document 02, "Five").
-use libc::STDIN_FILENO;
+#![tactic(auto)]
+
 use list_readings_spec::FinalList;
 
-fn main() {
-    listing_run::listing(STDIN_FILENO, b"stakes", FinalList::Ordinary);
+fn main(rt: HostRuntime) {
+    listing_run::listing(&rt, &mut rt.stdin(), b"stakes", FinalList::Ordinary);
 }

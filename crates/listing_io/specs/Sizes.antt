@@ -13,4 +13,4 @@ size_at_most n (Of k) = k ≤ n
 -- at most n bytes, or a read failed
 abbrev pub filled_at_most : ℕ → filled.Filled → Type 0
 filled_at_most n (filled.TheVariants.Of k) = k ≤ n
-filled_at_most n filled.TheVariants.Failed = 0 ≤ n
+filled_at_most n (filled.TheVariants.Failed _) = 0 ≤ n

@@ -1,34 +1,38 @@
 // Input and output of `listing`: what is asked of the system, and what it answers.
+#![tactic(auto)]
+
 ghost use Rattle.std.specs.Prelude.{◌≤◌, ◌≡◌, length};
 ghost use Rattle.listing_io.specs.Sizes.{size_at_most, filled_at_most};
 
 use listing_input::Size;
+use std::io::Read;
+use std::rt::Files;
+use std::{fs, io, str};
 
 // How reading went: so many bytes stand in front, fewer than were asked for where the input ended; or a read failed.
 #[derive(Clone, Copy)]
 pub enum Filled {
     Of(usize),
-    Failed,
+    Failed(io::Error),
 }
 
 // One read: some bytes, none where the input ended.
-fn read_some(fd: i32, bytes: &mut [u8]) -> Filled
+fn read_some<R: Read>(input: &mut R, bytes: &mut [u8]) -> Filled
     ensures { filled_at_most (length bytes.old) result }
 {
-    let got = libc::read(fd, bytes);
-    if got < 0 {
-        return Filled::Failed;
+    match input.read(bytes) {
+        Ok(n) => Filled::Of(n),
+        Err(e) => Filled::Failed(e),
     }
-    Filled::Of(io::count(got, bytes))
 }
 
 // Reads until all bytes are filled or the input ends.
-pub fn fill(fd: i32, bytes: &mut [u8]) -> Filled
+pub fn fill<R: Read>(input: &mut R, bytes: &mut [u8]) -> Filled
     ensures { filled_at_most (length bytes.old) result }
 {
     let mut done = 0;
     while done < bytes.len() {
-        let some = read_some(fd, &mut bytes[done..]);
+        let some = read_some(input, &mut bytes[done..]);
         let Filled::Of(n) = some else {
             return some;
         };
@@ -41,65 +45,84 @@ pub fn fill(fd: i32, bytes: &mut [u8]) -> Filled
 }
 
 // The same for the first `size` bytes.
-pub fn fill_front(fd: i32, bytes: &mut [u8], size: usize) -> Filled
+pub fn fill_front<R: Read>(input: &mut R, bytes: &mut [u8], size: usize) -> Filled
     requires { size ≤ length bytes.old }
     ensures { filled_at_most size result }
 {
-    fill(fd, &mut bytes[..size])
+    fill(input, &mut bytes[..size])
 }
 
-// The size of the next record, or that reading failed.
+// The size of the next record, or why reading failed.
 #[derive(Clone, Copy)]
 pub struct NextSize {
     pub size: Size,
-    pub failed: bool,
+    pub failed: Option<io::Error>,
 }
 
 // What the next four bytes say.
-fn read_size(fd: i32) -> NextSize
+fn read_size<R: Read>(input: &mut R) -> NextSize
     ensures { size_at_most 8192 result.size }
 {
     let mut head = [0u8; 4];
-    let filled = fill(fd, &mut head);
+    let filled = fill(input, &mut head);
     match filled {
         Filled::Of(got) => NextSize {
             size: listing_input::size_of(&head[..got]),
-            failed: false,
+            failed: None,
         },
-        Filled::Failed => NextSize {
+        Filled::Failed(error) => NextSize {
             size: Size::End,
-            failed: true,
+            failed: Some(error),
         },
     }
 }
 
 // Reads the bytes of a record of that size to the front of `rec`: one past the end is broken.
-fn read_body(fd: i32, rec: &mut [u8], n: usize) -> NextSize
+fn read_body<R: Read>(input: &mut R, rec: &mut [u8], n: usize) -> NextSize
     requires { (length rec.old ≡ 8192) × (n ≤ 8192) }
     ensures { size_at_most 8192 result.size }
 {
-    let filled = fill_front(fd, rec, n);
+    let filled = fill_front(input, rec, n);
     match filled {
         Filled::Of(got) => NextSize {
             size: listing_input::whole_size(n, got),
-            failed: false,
+            failed: None,
         },
-        Filled::Failed => NextSize {
+        Filled::Failed(error) => NextSize {
             size: Size::End,
-            failed: true,
+            failed: Some(error),
         },
     }
 }
 
 // Reads the next record to the front of `rec`.
-pub fn read_record(fd: i32, rec: &mut [u8]) -> NextSize
+pub fn read_record<R: Read>(input: &mut R, rec: &mut [u8]) -> NextSize
     requires { length rec.old ≡ 8192 }
     ensures { size_at_most 8192 result.size }
 {
-    let head = read_size(fd);
+    let head = read_size(input);
     let size = head.size;
     let Size::Of(n) = size else {
         return head;
     };
-    read_body(fd, rec, n)
+    read_body(input, rec, n)
+}
+
+// Opens the file of that name for reading. A path of the system's library is text, so a name that is none fails.
+pub fn open<R: Files>(rt: &R, name: &[u8]) -> io::Result<R::File> {
+    match str::from_utf8(name) {
+        Ok(path) => fs::open(rt, path),
+        Err(_) => Err(io::Error::from(io::ErrorKind::InvalidFilename)),
+    }
+}
+
+// Writes a line to standard error: what failed, a colon and why.
+pub fn fail(rt: &impl Eprint, what: &[u8], error: io::Error) {
+    for chunk in what.utf8_chunks() {
+        let _ = rt.eprint(chunk.valid());
+        if !chunk.invalid().is_empty() {
+            let _ = rt.eprint('\u{fffd}');
+        }
+    }
+    let _ = rt.eprintln(format_args!(": {error}"));
 }

@@ -1,17 +1,20 @@
 // The run of `listing` over an input that can be read: it reads, calls and writes. Where a read or a write fails it says so on standard error
 // and stops, without the line `end`.
+#![tactic(auto)]
+
 ghost use Rattle.std.specs.Prelude.{◌≡◌, ◌+◌, ◌*◌, ◌<◌, ◌≤◌, true, false, length};
 ghost use Rattle.listing_feed_steps.specs.Steps.{Counted, CountedAfter};
 ghost use Rattle.listing_feed_steps.specs.Feeds.{engine, FedFrom};
 ghost use Rattle.list_readings_spec.specs.Answers.{is_ordinary};
 ghost use Rattle.listing_theorems.specs.Whole.{CountedStretches, CountedList};
 
-use libc::STDOUT_FILENO;
 use list_after::MaybeLocator;
 use list_readings_spec::FinalList;
 use listing_feed_steps::Fed;
 use listing_final_lines::Stretch;
 use stakes_file::LoadAnswer;
+use std::io::Read;
+use std::rt::Files;
 
 // What the program lends: a store, a table, and room for the longest record.
 const STORE_BYTES: usize = 65536;
@@ -21,14 +24,16 @@ const TABLE_WORDS: usize = 6145;
 const RECORD_BYTES: usize = 8192;
 
 // Writes the first n bytes; whether that failed.
-fn write_failed(out: &[u8], n: usize) -> bool
+fn write_failed<R: Print + Eprint>(rt: &R, out: &[u8], n: usize) -> bool
     requires { n ≤ length out.now }
 {
-    if io::write_all(STDOUT_FILENO, &out[..n]) {
-        return false;
+    match rt.write_all(&out[..n]) {
+        Ok(()) => false,
+        Err(error) => {
+            listing_io::fail(rt, b"standard output", error);
+            true
+        }
     }
-    os::fail(b"standard output");
-    true
 }
 
 // The records so far, and whether reading or writing failed.
@@ -39,8 +44,9 @@ struct Records {
 }
 
 // Reads what stands next, feeds it, and writes its lines.
-fn next_record(
-    fd: i32,
+fn next_record<R: Print + Eprint, I: Read>(
+    rt: &R,
+    input: &mut I,
     stakes: &[u64],
     store: &mut [u8],
     table: &mut [u64],
@@ -52,19 +58,26 @@ fn next_record(
     ensures fed_from { FedFrom stakes.now (engine store.old table.old) store.new table.new }
 {
     let mut rec = [0u8; RECORD_BYTES];
-    let next = listing_io::read_record(fd, &mut rec);
-    if next.failed {
-        os::fail(b"standard input");
+    let next = listing_io::read_record(input, &mut rec);
+    if let Some(error) = next.failed {
+        listing_io::fail(rt, b"standard input", error);
         return Records { fed, failed: true };
     }
     let size = next.size;
     let after = listing_feed_steps::step(stakes, store, table, size, &rec, out, fed);
-    let failed = write_failed(out, after.put);
+    let failed = write_failed(rt, out, after.put);
     Records { fed: after, failed }
 }
 
 // Reads and feeds every record. The count of turns only makes the loop end: no input has so many records.
-fn feed_all(fd: i32, stakes: &[u64], store: &mut [u8], table: &mut [u64], out: &mut [u8]) -> Records
+fn feed_all<R: Print + Eprint, I: Read>(
+    rt: &R,
+    input: &mut I,
+    stakes: &[u64],
+    store: &mut [u8],
+    table: &mut [u64],
+    out: &mut [u8],
+) -> Records
     requires { 349440 ≤ length out.old }
     ensures { FedFrom stakes.now (engine store.old table.old) store.new table.new }
 {
@@ -78,7 +91,7 @@ fn feed_all(fd: i32, stakes: &[u64], store: &mut [u8], table: &mut [u64], out: &
     };
     let mut turn: u64 = 0;
     while turn < 4503599627370494 {
-        let next = next_record(fd, stakes, store, table, out, fed);
+        let next = next_record(rt, input, stakes, store, table, out, fed);
         if next.failed {
             return next;
         }
@@ -92,13 +105,13 @@ fn feed_all(fd: i32, stakes: &[u64], store: &mut [u8], table: &mut [u64], out: &
 }
 
 // Writes the lines of a stretch; whether that failed.
-fn print_stretch(out: &mut [u8], stretch: Stretch) -> bool
+fn print_stretch<R: Print + Eprint>(rt: &R, out: &mut [u8], stretch: Stretch) -> bool
     requires { (stretch.first + stretch.lines < 18446744073709551616) × (128 ≤ length out.old) }
 {
     let mut done: u64 = 0;
     while done < stretch.lines {
         let part = listing_final_lines::put_lines(out, stretch, done);
-        if write_failed(out, part.put) {
+        if write_failed(rt, out, part.put) {
             return true;
         }
         done = part.done;
@@ -114,7 +127,7 @@ struct Listed {
 }
 
 // Writes the lines of n stretches.
-fn print_stretches(out: &mut [u8], stretches: &[u8], n: usize) -> Listed
+fn print_stretches<R: Print + Eprint>(rt: &R, out: &mut [u8], stretches: &[u8], n: usize) -> Listed
     requires { (80 * n ≤ length stretches.now) × (128 ≤ length out.old) }
     ensures { result.failed ≡ false → CountedStretches stretches.now n result.finals }
 {
@@ -122,7 +135,7 @@ fn print_stretches(out: &mut [u8], stretches: &[u8], n: usize) -> Listed
     let mut i = 0;
     while i < n {
         let stretch = listing_stretches::read_stretch(stretches, i);
-        if print_stretch(out, stretch) {
+        if print_stretch(rt, out, stretch) {
             return Listed {
                 finals,
                 failed: true,
@@ -139,7 +152,13 @@ fn print_stretches(out: &mut [u8], stretches: &[u8], n: usize) -> Listed
 
 // Asks for the list until no locator follows, and writes its lines. The count of turns only makes the loop end: a store of 65,536 bytes has
 // fewer statements.
-fn print_list(stakes: &[u64], store: &[u8], out: &mut [u8], list: FinalList) -> Listed
+fn print_list<R: Print + Eprint>(
+    rt: &R,
+    stakes: &[u64],
+    store: &[u8],
+    out: &mut [u8],
+    list: FinalList,
+) -> Listed
     requires { 128 ≤ length out.old }
     ensures { result.failed ≡ false → is_ordinary list ≡ true → CountedList stakes.now store.now result.finals }
 {
@@ -149,7 +168,7 @@ fn print_list(stakes: &[u64], store: &[u8], out: &mut [u8], list: FinalList) -> 
     let mut turn: u64 = 0;
     while turn < 65536 {
         let asked = listing_final_steps::ask(stakes, store, &mut stretches, after, list);
-        let listed = print_stretches(out, &stretches, asked.count);
+        let listed = print_stretches(rt, out, &stretches, asked.count);
         finals = std::num::wrapping_add_u64(finals, listed.finals);
         if listed.failed || !asked.more {
             return Listed {
@@ -167,16 +186,16 @@ fn print_list(stakes: &[u64], store: &[u8], out: &mut [u8], list: FinalList) -> 
 }
 
 // Feeds all records from a fresh store and a table of zeros, then writes the list and the counts.
-fn run(fd: i32, stakes: &[u64], list: FinalList) {
+fn run<R: Print + Eprint, I: Read>(rt: &R, input: &mut I, stakes: &[u64], list: FinalList) {
     let mut store = [0u8; STORE_BYTES];
     let mut table = [0u64; TABLE_WORDS];
     let mut out = [0u8; listing_feed_steps::LINES_BYTES];
     listing_lent::fresh_store(&mut store);
-    let records = feed_all(fd, stakes, &mut store, &mut table, &mut out);
+    let records = feed_all(rt, input, stakes, &mut store, &mut table, &mut out);
     if records.failed {
         return;
     }
-    let listed = print_list(stakes, &store, &mut out, list);
+    let listed = print_list(rt, stakes, &store, &mut out, list);
     if listed.failed {
         return;
     }
@@ -189,27 +208,32 @@ fn run(fd: i32, stakes: &[u64], list: FinalList) {
         fed.processed,
         listed.finals,
     );
-    write_failed(&out, n);
+    write_failed(rt, &out, n);
 }
 
 // A refused committee has its line and an end of zeros.
-fn refuse(number: u64) {
+fn refuse<R: Print + Eprint>(rt: &R, number: u64) {
     let mut out = [0u8; 256];
     let n = listing_counts::put_refusal(&mut out, number);
-    write_failed(&out, n);
+    write_failed(rt, &out, n);
 }
 
 // Reads an input and writes its lines; `file` names the file of stakes, which the member count 255 asks for.
-pub fn listing(fd: i32, file: &[u8], list: FinalList) {
+pub fn listing<R: Files + Print + Eprint, I: Read>(
+    rt: &R,
+    input: &mut I,
+    file: &[u8],
+    list: FinalList,
+) {
     let mut stakes = [0u64; 254];
-    let read = listing_stakes::read_committee(fd, file, &mut stakes);
-    if read.failed {
-        os::fail(b"standard input");
+    let read = listing_stakes::read_committee(rt, input, file, &mut stakes);
+    if let Some(error) = read.failed {
+        listing_io::fail(rt, b"standard input", error);
         return;
     }
     let answer = read.answer;
     match answer {
-        LoadAnswer::Members(count) => run(fd, &stakes[..count], list),
-        LoadAnswer::Refused(number) => refuse(number),
+        LoadAnswer::Members(count) => run(rt, input, &stakes[..count], list),
+        LoadAnswer::Refused(number) => refuse(rt, number),
     }
 }

@@ -1,6 +1,7 @@
 // Prints the listing of one input whose member count is 255: with the file `stakes`, then with each file that its arguments name.
+#![tactic(auto)]
 
-fn main() {
-    listing_files::run_file(b"input.bin");
-    listing_files::run_tables(b"input.bin");
+fn main(rt: HostRuntime) {
+    listing_files::run_file(&rt, b"input.bin");
+    listing_files::run_tables(&rt, b"input.bin");
 }
