@@ -121,6 +121,7 @@ by_spans =
 
 in_sum : (e : ℕ) (es : List ℕ) → e ∈ es → e ≤ sum_of es
 unfolding sum_of
+in_sum e mathlib.Core.List.[] x' = elim x' [ ]
 in_sum e (x ∷ es) here = omega arith
 in_sum e (x ∷ es) (there m) = omega (arith, in_sum e es m)
 
