@@ -1,4 +1,6 @@
 // The two readings of a reject, the old one and the one in which an owner may withdraw: definitions over a list of blocks, and the claims of what these mean.
+#![tactic(auto)]
+
 ghost use Rattle.final_readings_spec.specs.Claims.{Claims};
 ghost use Rattle.final_readings_spec.specs.Examples.{Examples};
 

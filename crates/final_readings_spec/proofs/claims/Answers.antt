@@ -1,10 +1,9 @@
 use Rattle.final_readings_spec.proofs.Claimed.{old_reading, rejecters_meant, voters_in_meant, final_in_meant, least_final_in_meant, least_stands_there}
 use Rattle.final_readings_spec.proofs.Claimed.{final_list_in_meant, are_less, final_in_both, same_without_rejects, same_answered, voters_in_of_ancestry}
 use Rattle.final_readings_spec.proofs.Claimed.{in_any_order, voters_of_records, cut_at_rejects}
-use Rattle.final_readings_spec.proofs.claims.Statement.{statement}
-use Rattle.final_readings_spec.proofs.claims.Tie as tie
+use Rattle.final_readings_spec.proofs.claims.Goals as goal
 
-returns : tie.Need-returns
+pub returns : goal.returns
 returns c =
     record {
       old = old_reading;
@@ -23,6 +22,3 @@ returns c =
       records = voters_of_records;
       cuts = cut_at_rejects;
     }
-
-pub claims-spec : {M : Type 1} → statement M
-claims-spec = tie.close (tie.spec returns)
