@@ -1,4 +1,6 @@
 // Where a reference stands among ascending ones, each at the same distance from a position in bytes: by halving.
+#![tactic(auto)]
+
 ghost use Rattle.std.specs.Prelude.{length};
 ghost use Rattle.types.specs.Values.{as_reference};
 ghost use Rattle.record_reference_search.specs.Places.{reference_from, Ascending, FoundAmong};
