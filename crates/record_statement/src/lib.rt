@@ -1,4 +1,6 @@
 // A statement read at a position of a record, and statements one after the other. Follows types.rs.
+#![tactic(auto)]
+
 ghost use Rattle.std.specs.Prelude.{◌≡◌, ◌≤◌, ◌<◌, length, get_or, drop};
 ghost use Rattle.record_statement.specs.Step.{Took, statements_only};
 
