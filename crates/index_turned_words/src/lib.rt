@@ -1,4 +1,6 @@
 // Words with their bytes the other way round: of a digest's words the index has the first byte lowest, `BlockDigest` highest.
+#![tactic(auto)]
+
 ghost use Rattle.std.specs.Prelude.{◌≡◌};
 ghost use Rattle.base.specs.Le.{le_bytes};
 ghost use Rattle.types.specs.Values.{be_bytes};
