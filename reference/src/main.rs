@@ -372,7 +372,7 @@ fn boundary(exact: bool) {
 /// The program `listing` on generated inputs.
 fn listing(these: Range<u64>, seed: u64) {
     if !program::is_there() {
-        println!("the program is not built (rt check listing)");
+        println!("the program is not built (rt run in crates/listing)");
         end(1, 1);
     }
     println!("seed {seed}, inputs {these:?}");

@@ -13,7 +13,7 @@ use crate::list::hex;
 use crate::model::listing::listing;
 use crate::rng::Rng;
 
-const PROGRAM: &str = concat!(env!("CARGO_MANIFEST_DIR"), "/../target/bin/listing");
+const PROGRAM: &str = concat!(env!("CARGO_MANIFEST_DIR"), "/../crates/listing/out/listing");
 
 /// Whether the program has been built.
 pub fn is_there() -> bool {

@@ -370,9 +370,9 @@ fn check_index(name: &str, (memory, index): (Memory, Vec<u64>)) {
 
 /// The longest `listing`, where the program has been built.
 fn longest_listing() {
-    let program = concat!(env!("CARGO_MANIFEST_DIR"), "/../target/bin/listing");
+    let program = concat!(env!("CARGO_MANIFEST_DIR"), "/../crates/listing/out/listing");
     if !fs::exists(program).unwrap_or(false) {
-        println!("longest listing: the program is not built (rt check listing)");
+        println!("longest listing: the program is not built (rt run in crates/listing)");
         return;
     }
     let input = concat!(env!("CARGO_MANIFEST_DIR"), "/target/longest.bin");
