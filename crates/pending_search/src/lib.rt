@@ -1,4 +1,6 @@
 // Finding an item of a pending table by an offset, by halving.
+#![tactic(auto)]
+
 ghost use Rattle.std.specs.Prelude.{◌≡◌, ℕ, ◌≤◌, ◌<◌};
 ghost use Rattle.pending_spec.specs.Items.{item_holds, falls_inside};
 ghost use Rattle.pending_spec.specs.Table.{items_of, HoldsItems};
