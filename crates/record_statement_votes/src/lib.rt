@@ -1,4 +1,6 @@
 // What a statement votes for, beside its own share. Follows types.rs.
+#![tactic(auto)]
+
 ghost use Rattle.std.specs.Prelude.{◌≡◌, []};
 ghost use Rattle.base.specs.Le.{Bytes};
 ghost use Rattle.record_spec.specs.Block.{voted_range};
