@@ -1,4 +1,6 @@
 // The record of a block: well formed or not, and its parts. Follows types.rs.
+#![tactic(auto)]
+
 ghost use Rattle.std.specs.Prelude.{◌≡◌, ◌<◌, length, get_or, true};
 ghost use Rattle.record_spec.specs.Record.{well_formed, block_in, time_in, no_reference};
 ghost use Rattle.types.specs.Values.{as_reference};
