@@ -1,5 +1,7 @@
 // What is checked of a record's includes: 24 and 25; and the authors of those at the round before, for the clock. Follows threshold_clock.rs,
 // and `verify` of types.rs.
+#![tactic(auto)]
+
 ghost use Rattle.std.specs.Prelude.{◌≡◌, true, false, ◌+◌, ◌<◌, eqb};
 ghost use mathlib.Core.List.{map, flatten};
 ghost use Rattle.base.specs.Lists.{pick};
