@@ -1,4 +1,6 @@
 // Cuts in the pending table: an item that an offset falls inside of becomes two. Follows range_map.rs.
+#![tactic(auto)]
+
 ghost use Rattle.std.specs.Prelude.{◌≡◌, ◌+◌, ◌*◌, ◌≤◌, ◌<◌, length};
 ghost use Rattle.pending_spec.specs.Items.{front_of, back_of, cut_at, both_cuts};
 ghost use Rattle.pending_spec.specs.Table.{table_of, items_of, HoldsItems};

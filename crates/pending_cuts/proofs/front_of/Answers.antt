@@ -1,0 +1,7 @@
+use mathlib.Core.Path.{refl}
+use Rattle.pending_words.specs.Answers.{as_item}
+use Rattle.pending_cuts.proofs.front_of.Goals as goal
+
+pub returns : goal.returns
+unfolding as_item
+returns c = refl
