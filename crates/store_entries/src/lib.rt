@@ -1,4 +1,6 @@
 // The entries of a store, by position and by reference.
+#![tactic(auto)]
+
 ghost use Rattle.std.specs.Prelude.{◌+◌, ◌≡◌, true};
 ghost use Rattle.base.specs.Le.{le_at};
 ghost use Rattle.types.specs.Values.{as_reference};
