@@ -1,4 +1,6 @@
 // The statements of a well-formed record, one after the other. Follows types.rs.
+#![tactic(auto)]
+
 ghost use Rattle.std.specs.Prelude.{◌≡◌, ◌+◌, ◌<◌, length, get_or, true};
 ghost use Rattle.record_spec.specs.Record.{well_formed, block_in, no_statement};
 ghost use Rattle.record_cursor.specs.Cursor.{cursor_at};
