@@ -1,5 +1,7 @@
 // Rows as ranges of locators in a table, joined in one pass where they overlap or touch. A row is the position of a reference in the store, the
 // start and the end, which is excluded.
+#![tactic(auto)]
+
 ghost use Rattle.std.specs.Prelude.{◌≡◌, ◌+◌, ◌-◌, ◌*◌, ◌≤◌, ◌<◌, length};
 ghost use Rattle.std.proofs.lemmas.List.Edits.{sets};
 ghost use Rattle.list_row_sort.specs.Rows.{row_at, row_words};
