@@ -1,4 +1,6 @@
 // The form of a store (10): its length and header, and its entries one after the other.
+#![tactic(auto)]
+
 ghost use Rattle.std.specs.Prelude.{◌≤◌, ◌≡◌, true, length, take};
 ghost use Rattle.store_spec.specs.Store.{block_count, records_of};
 ghost use Rattle.store_spec.specs.Entry.{positions, header_right, readable};
