@@ -1,4 +1,6 @@
 // Runs of neighbouring shares of a record, and the room that its events need. Follows types.rs.
+#![tactic(auto)]
+
 ghost use Rattle.std.specs.Prelude.{◌≡◌, ◌+◌, ◌≤◌, length, drop, true};
 ghost use mathlib.Core.List.{[], map, flatten};
 ghost use Rattle.base.specs.Le.{Bytes};
