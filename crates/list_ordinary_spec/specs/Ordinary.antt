@@ -1,5 +1,5 @@
 -- The ordinary list in stretches, and the wide one by name. Assumes nothing: these are definitions.
-use Rattle.std.specs.Prelude.{ℕ, List}
+use Rattle.std.specs.Prelude.{List}
 use Rattle.std.proofs.Math.Option.{Option}
 use Rattle.base.specs.Le.{Bytes}
 use Rattle.committee.specs.Committee.{Committee}
