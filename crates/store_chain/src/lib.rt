@@ -1,4 +1,6 @@
 // The chain of a store (10): all its entries, in ascending reference order.
+#![tactic(auto)]
+
 ghost use Rattle.std.specs.Prelude.{◌≤◌, ◌≡◌, true, ltb, length, take};
 ghost use Rattle.base.specs.Lists.{pairwise};
 ghost use Rattle.store_spec.specs.Store.{records_of};
