@@ -1,4 +1,6 @@
 // What is checked of a record's statements: 26 to 28. Follows `verify` of types.rs.
+#![tactic(auto)]
+
 ghost use Rattle.std.specs.Prelude.{◌≡◌, true, eqb, ltb, leb};
 ghost use mathlib.Core.List.{map, flatten};
 ghost use Rattle.record_spec.specs.Reference.{max_len};
