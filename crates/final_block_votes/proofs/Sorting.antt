@@ -70,6 +70,7 @@ before_round r q h = go (or_cases (ltb r.round q.round) _ h)
 
 pub entry_block : (rs : List Record) (e : Entry) → e ∈ entries rs → e.block ∈ blocks rs
 unfolding entries
+entry_block [] e x' = elim x' [ ]
 entry_block (r ∷ rs) e here = here
 entry_block (r ∷ rs) e (there m) = there (entry_block rs e m)
 

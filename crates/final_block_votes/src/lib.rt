@@ -1,4 +1,6 @@
 // The vote of one stored block, and the stored blocks in ascending reference order. Follows finalization_interpreter.rs.
+#![tactic(auto)]
+
 ghost use Rattle.std.specs.Prelude.{◌≡◌, true, ◌≤◌, ◌<◌, length, get_or, take};
 ghost use Rattle.base.specs.Le.{Bytes};
 ghost use Rattle.record_spec.specs.Reference.{locator as newLocator, one_range, covers, same_reference};
