@@ -3,7 +3,7 @@ use mathlib.Core.Path.{◌≡◌, refl, sym, ap, subst, ◌∙◌}
 use mathlib.Core.Logic.{◌⊎◌, inl, inr}
 use mathlib.Core.List.{List, [], ◌∷◌, ◌++◌, append_assoc}
 use mathlib.Core.Option.{none}
-use mathlib.Core.Bool.{true, false}
+use mathlib.Core.Bool.{true}
 use Prim.Native.Nat.{ℕ, ◌-◌, ◌<◌, ◌≤◌}
 use native.Mathlib.Omega.{arith}
 use lib.ListN.{length}
@@ -20,7 +20,7 @@ use Rattle.store_spec.specs.Layout.{Entry, reference_of, entries, position_of, f
 use Rattle.store_spec.specs.Store.{block_count, records_of}
 use Rattle.store_spec.specs.Entry.{block_at, laid_out, is_entry}
 use Rattle.store_spec.specs.Step.{first}
-use Rattle.store_spec.proofs.Chain.{lower, Ascending, least_first, ascending_ascends, next_after}
+use Rattle.store_spec.proofs.Chain.{Ascending, least_first, ascending_ascends, next_after}
 use Rattle.store_spec.proofs.Visit.{ascending_in, in_ascending, length_ascending, length_entries}
 use Rattle.types.proofs.Words.{compared_less, compared_equal, compared_greater}
 use Rattle.store_spec.proofs.Loops.{is_entry_lem, block_of_entry}

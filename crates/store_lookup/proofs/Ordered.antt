@@ -1,6 +1,6 @@
 -- Where a new block goes among the positions in ascending reference order. Assumes nothing.
 use mathlib.Core.Path.{◌≡◌, refl, sym, ap, subst, ◌∙◌}
-use mathlib.Core.List.{List, [], ◌∷◌, ◌++◌}
+use mathlib.Core.List.{List, [], ◌∷◌}
 use mathlib.Core.Option.{none}
 use mathlib.Core.Bool.{true, false}
 use Prim.Native.Nat.{ℕ, zero, suc, ◌+◌, ◌-◌, ◌<◌, ◌≤◌}
@@ -12,7 +12,7 @@ use lib.Seq.{take-suc, drop-cons, get_or-take, get_or-drop, length-take-le}
 use Rattle.base.specs.Lists.{◌∈◌, is_none}
 use Rattle.base.specs.Le.{Bytes}
 use Rattle.base.proofs.Tests.{not_both}
-use Rattle.base.proofs.Lists.{Every, every_in}
+use Rattle.base.proofs.Lists.{every_in}
 use Rattle.base.proofs.Places.{in_place, places_every}
 use Rattle.record_spec.specs.Reference.{BlockReference, reference_before}
 use Rattle.record_spec.specs.Block.{Block}

@@ -1,4 +1,6 @@
 // The store in a lent slice: lookup along the chain, and by halving where the positions in ascending reference order are lent. Follows block_store.rs.
+#![tactic(auto)]
+
 ghost use Rattle.std.specs.Prelude.{◌≡◌, true, false, ◌∷◌, ◌≤◌, length, get_or};
 ghost use Rattle.record_spec.specs.Record.{well_formed, block_in};
 ghost use Rattle.types.specs.Values.{as_reference};
