@@ -1,4 +1,6 @@
 // A vote over a range of the pending table: both cuts, then each item in the range gets the vote. Follows range_map.rs.
+#![tactic(auto)]
+
 ghost use Rattle.std.specs.Prelude.{◌≡◌, true, false, map, ◌+◌, ◌≤◌, ◌<◌, length};
 ghost use Rattle.committee.specs.Committee.{broken, known};
 ghost use Rattle.pending_spec.specs.Items.{both_cuts, item_within, vote_over};
