@@ -1,4 +1,6 @@
 // What is checked of a record by itself: 21, 22, 24 to 28, and the clock, 29. Follows threshold_clock.rs, and `verify` of types.rs.
+#![tactic(auto)]
+
 ghost use Rattle.std.specs.Prelude.{◌≡◌, true, false};
 ghost use mathlib.Core.List.{map, flatten};
 ghost use Rattle.base.specs.Checks.{refusal, passes};
