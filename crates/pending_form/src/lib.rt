@@ -1,4 +1,6 @@
 // The form of a pending table (11), as far as it needs no store.
+#![tactic(auto)]
+
 ghost use Rattle.std.specs.Prelude.{◌≡◌, false, not, ◌&&◌, ◌<◌, ltb, length, drop};
 ghost use Rattle.base.specs.Lists.{any_of, all_of, pairwise, same};
 ghost use Rattle.committee.specs.Committee.{broken};
