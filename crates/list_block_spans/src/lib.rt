@@ -1,4 +1,6 @@
 // The ranges for which the block of a record votes, shares in a row in one, or those that it rejects: definitions and laws, and what one statement rejects.
+#![tactic(auto)]
+
 ghost use Rattle.std.specs.Prelude.{◌≡◌};
 ghost use Rattle.base.specs.Le.{Bytes};
 ghost use Rattle.types.specs.Values.{as_locator};
