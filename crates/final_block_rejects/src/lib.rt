@@ -1,4 +1,6 @@
 // The rejects of one stored block, and whom it speaks for by its votes or by its rejects. The Rust knows no withdrawing; the loops follow block_votes.
+#![tactic(auto)]
+
 ghost use Rattle.std.specs.Prelude.{◌≡◌, true, ◌<◌};
 ghost use Rattle.base.specs.Le.{Bytes};
 ghost use Rattle.record_spec.specs.Reference.{same_locator};
