@@ -23,6 +23,7 @@ module _ {A : Type 0} (p q : A → Bool) (f : (x : A) → q x ≡ true → p x �
 
   pub fewer_kept : (a : A) → p a ≡ true → q a ≡ false → (xs : List A) → a ∈ xs → length (keep q xs) < length (keep p xs)
   unfolding keep
+  fewer_kept a h k [] x' = elim x' [ ]
   fewer_kept a h k (x ∷ xs) here = rw (h, k) (omega (arith, no_more xs))
   fewer_kept a h k (x ∷ xs) (there m) = go (p x) (q x) refl refl (fewer_kept a h k xs m)
     where

@@ -1,4 +1,6 @@
 // A locator or none: where a list goes on, or what it has next.
+#![tactic(auto)]
+
 ghost use Rattle.std.specs.Prelude.{◌≡◌};
 ghost use Rattle.types.specs.Values.{as_locator};
 ghost use Rattle.final_spec.specs.NextFinal.{is_after};
