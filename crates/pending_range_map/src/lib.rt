@@ -1,4 +1,6 @@
 // Items leave the pending table, and are registered in it. Follows range_map.rs.
+#![tactic(auto)]
+
 ghost use Rattle.std.specs.Prelude.{◌≡◌, true, false, [], ◌∷◌, ◌++◌, ◌≤◌, ◌<◌, length};
 ghost use Rattle.base.specs.Lists.{pick, keep};
 ghost use Rattle.committee.specs.Committee.{broken, known};
