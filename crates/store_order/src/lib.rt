@@ -1,4 +1,6 @@
 // Whether a lent store is in order (10): form, chain, and each record accepted after those before it.
+#![tactic(auto)]
+
 ghost use Rattle.std.specs.Prelude.{◌≡◌, true, false};
 ghost use Rattle.base.specs.Lists.{all_of};
 ghost use Rattle.committee.specs.Committee.{broken, total_stake};
