@@ -53,11 +53,13 @@ module _ (k : ℕ) where
 
   pub start_in : {p : Row} (rs : List Row) → p ∈ rs → start_edge k p ∈ edges_of k rs
   unfolding edges_of
+  start_in {p = p} [] x' = elim x' [ ]
   start_in (r ∷ rs) here = here
   start_in (r ∷ rs) (there m) = there (there (start_in rs m))
 
   pub end_in : {p : Row} (rs : List Row) → p ∈ rs → end_edge k p ∈ edges_of k rs
   unfolding edges_of
+  end_in {p = p} [] x' = elim x' [ ]
   end_in (r ∷ rs) here = there here
   end_in (r ∷ rs) (there m) = there (there (end_in rs m))
 

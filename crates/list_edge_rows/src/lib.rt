@@ -1,5 +1,7 @@
 // The edges of rows as ranges, in another table: a row for where a range begins and one for where it ends, each with the place of the block whose ranges
 // they are in its mark, doubled, and one more at a beginning. Sorted, they say of each locator which blocks have a range there.
+#![tactic(auto)]
+
 ghost use Rattle.std.specs.Prelude.{◌≡◌, ◌+◌, ◌*◌, ◌≤◌, ◌<◌, length};
 ghost use Rattle.list_row_sort.specs.Rows.{row_at};
 ghost use Rattle.list_edge_rows.specs.Edges.{EdgesFit, Edged};
