@@ -1,4 +1,6 @@
 // The first stretch from a place on in one run or in two: what a merge of parts is made of.
+#![tactic(auto)]
+
 ghost use Rattle.std.specs.Prelude.{◌≡◌, ◌&&◌};
 ghost use Rattle.index_spec.specs.Runs.{touches, same_voters};
 ghost use Rattle.index_runs.specs.Values.{as_run, as_maybe, as_place};
