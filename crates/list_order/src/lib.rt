@@ -1,5 +1,7 @@
 // Whether a locator, whose reference stands at a position of the store, comes after another. References are compared where they stand, rounds first, since
 // these differ most often.
+#![tactic(auto)]
+
 ghost use Rattle.std.specs.Prelude.{◌≡◌, ◌+◌, ◌≤◌, length};
 ghost use Rattle.record_spec.specs.Reference.{locator, locator_before};
 ghost use Rattle.types.specs.Values.{as_locator};

@@ -1,0 +1,12 @@
+use Rattle.final_spec.specs.NextFinal.{is_after}
+use Rattle.list_after.specs.Answers.{as_maybe}
+use borrow.Author.Rules.{rules}
+use Rattle.list_order.proofs.follows.Goals as goal
+
+pub returns-in_default : goal.returns-in_default
+unfolding is_after as_maybe
+returns-in_default c = rw c.in_default.is
+
+pub returns : goal.returns
+unfolding is_after as_maybe
+returns c = rw c.in-Locator.is c.comes_after.ensures
