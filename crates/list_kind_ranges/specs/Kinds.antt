@@ -2,7 +2,6 @@
 use Rattle.std.specs.Prelude.{ℕ, Bool, true, false, List, map}
 use Rattle.std.proofs.Math.Option.{none}
 use Rattle.record_spec.specs.Reference.{TransactionLocatorRange, locator, TransactionLocator, covers}
-use Rattle.record_spec.specs.Record.{no_reference}
 use Rattle.record_spec.specs.Block.{Statement, share, accept, reject, vote_range, Block}
 use Rattle.list_block_spans.specs.Ranges.{ranges_at}
 use Rattle.list_kind_ranges.specs.declared.RangeKind.{RangeKind}

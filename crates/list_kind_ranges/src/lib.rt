@@ -1,4 +1,6 @@
 // The ranges of a block by their kind: what it votes for, what it rejects, and its shares, each as the statements of its record give it.
+#![tactic(auto)]
+
 ghost use Rattle.std.specs.Prelude.{◌≡◌, true, ◌+◌, ◌<◌, length};
 ghost use Rattle.record_spec.specs.Record.{well_formed, block_in};
 ghost use Rattle.types.specs.Values.{as_reference};
