@@ -1,4 +1,6 @@
 // The two lists of final locators, the wide and the ordinary one, in both readings of a reject: definitions, and the claims of what they mean.
+#![tactic(auto)]
+
 ghost use Rattle.list_readings_spec.specs.Claims.{Claims};
 ghost use Rattle.list_readings_spec.specs.Examples.{Examples};
 
