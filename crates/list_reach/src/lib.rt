@@ -1,4 +1,6 @@
 // Whether a range matters for the locators from a last one on up to a bound.
+#![tactic(auto)]
+
 ghost use Rattle.std.specs.Prelude.{◌≡◌};
 ghost use Rattle.types.specs.Values.{as_range};
 ghost use Rattle.list_after.specs.Answers.{as_maybe};
