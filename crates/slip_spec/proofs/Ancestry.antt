@@ -149,6 +149,7 @@ module _ (bs : List Block) (f : Falling bs) (b : Block) (m : b ∈ bs) where
 distinct_named : (bs : List Block) → pairwise (λ b d. not (same_reference b.reference d.reference)) bs ≡ true → (b : Block) → b ∈ bs → named bs
     b.reference ≡ some b
 unfolding named find pairwise
+distinct_named mathlib.Core.List.[] h b x'' = elim x'' [ ]
 distinct_named (d ∷ ds) h b here = rw (reference_refl b.reference)
 distinct_named (d ∷ ds) h b (there m) =
     rw (not-true (same_reference d.reference b.reference) (all_in (λ x. not (same_reference d.reference x.reference)) ds (and_left _ _ h) m))

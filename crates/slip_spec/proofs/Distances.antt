@@ -78,6 +78,7 @@ least_below (o ∷ os) m k = split (in_cases k) (λ j. least_below os m j)
 module _ {A : Type 0} (p : A → Bool) where
   first_place_at : (xs : List A) (x : A) → x ∈ xs → p x ≡ true → (y : A) × (get_elem? xs (first_place p xs) ≡ some y) × (p y ≡ true)
   unfolding first_place
+  first_place_at [] x m h = elim m [ ]
   first_place_at (y ∷ xs) x m h = go (p y) refl (in_cases m) (λ k. first_place_at xs x k h)
     where
       go : (t : Bool) → p y ≡ t → (x ≡ y) ⊎ (x ∈ xs) → (x ∈ xs → (z : A) × (get_elem? xs (first_place p xs) ≡ some z) × (p z ≡ true))

@@ -89,6 +89,7 @@ placed_in b x (d ∷ ds) m = go (lower b d) m (λ k. placed_in b x ds k)
 
 pub in_ascending : (bs : List Block) (x : Block) → x ∈ bs → x ∈ ascending_blocks bs
 unfolding ascending_blocks
+in_ascending [] x m = elim m [ ]
 in_ascending (b ∷ bs) x m = in_placed b x (ascending_blocks bs) (go (in_cases m) (λ k. in_ascending bs x k))
   where
     go : (x ≡ b) ⊎ (x ∈ bs) → (x ∈ bs → x ∈ ascending_blocks bs) → (x ≡ b) ⊎ (x ∈ ascending_blocks bs)

@@ -90,6 +90,9 @@ path_ancestor bs cs (p ∷ ps) b d h f =
     (path_ancestor bs cs ps s.next d s.onward (λ x y. f x (later s.at s.given y)))
 
 -- what stands on a path is one of the blocks given
+on_path_of : (bs : List Block) (d : Block) (ps : List ℕ) (b : Block) → b ∈ bs → OnPath bs d ps b → d ∈ bs
+on_path_of bs d ps b m start = m
+on_path_of bs d ps b m (later {ps = qs} {i = i} {r = r} e g y) = on_path_of bs d qs i (named_in bs r i g) y
+
 pub on_path_in : (bs : List Block) (ps : List ℕ) (b d : Block) → b ∈ bs → OnPath bs d ps b → d ∈ bs
-on_path_in bs ps b d m start = m
-on_path_in bs ps b d m (later {ps = qs} {i = i} {r = r} e g y) = on_path_in bs qs i d (named_in bs r i g) y
+on_path_in bs ps b d m y = on_path_of bs d ps b m y

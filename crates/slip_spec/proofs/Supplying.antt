@@ -63,6 +63,7 @@ short_records n (r ∷ rs) h = and {x = r} (omega arith) (short_records n rs (om
 accepted_alone : (c : Committee) (rs : List Record) → all_accepted c rs ≡ true → (b : Block) → b ∈ blocks rs
     → passes (head_checks c b) && passes (body_checks c b) ≡ true
 unfolding all_accepted
+accepted_alone c [] h b x'' = elim x'' [ ]
 accepted_alone c (r ∷ rs) h b here = unfold block_checks in
     (let p : passes (block_checks c rs b) ≡ true = and_left _ _ h in
     let q = passes_others _ _ (passes_right (head_checks c b) _ p) in
@@ -71,6 +72,7 @@ accepted_alone c (r ∷ rs) h b (there m) = accepted_alone c rs (and_right (pass
 
 one_record : (rs : List Record) → WellStored (blocks rs) → {r x : Record} → r ∈ rs → x ∈ rs → r.block.reference ≡ x.block.reference
     → r ≡ x
+one_record [] _ {r = r} {x = x} x7 _ e = elim x7 [ ]
 one_record (y ∷ rs) (stored new found w) here here e = refl
 one_record (y ∷ rs) (stored new found w) {x = x} here (there k) e = absurd (new x.block (in_map (λ z. z.block) k) (sym e))
 one_record (y ∷ rs) (stored new found w) {r = r} (there m) here e = absurd (new r.block (in_map (λ z. z.block) m) e)
