@@ -1,4 +1,6 @@
 // How a run stands to another run, to the one before it and to a place.
+#![tactic(auto)]
+
 ghost use Rattle.std.specs.Prelude.{◌≡◌, true, false, ◌+◌, ◌*◌, ◌≤◌, length};
 ghost use Rattle.index_spec.specs.Walk.{Past, At};
 ghost use Rattle.index_runs.specs.Values.{as_run, as_place};
