@@ -1,4 +1,6 @@
 // A table of edges that is cut where it is full: the rows up to a locator stay, so that there is room for more.
+#![tactic(auto)]
+
 ghost use Rattle.std.specs.Prelude.{◌≡◌, ◌+◌, ◌*◌, ◌≤◌, length};
 ghost use Rattle.types.specs.Values.{as_locator};
 ghost use Rattle.list_row_sort.specs.Rows.{row_at, key_of};
