@@ -1,5 +1,7 @@
 // Who votes for a locator in a stored block's ancestry, or who rejects it: reading a block first reads its includes, and remembers what was read.
 // Follows finalization_interpreter.rs; the Rust asks for votes alone.
+#![tactic(auto)]
+
 ghost use Rattle.std.specs.Prelude.{◌≡◌, map, ◌+◌, ◌*◌, ◌≤◌, ◌<◌, eqb, length, get_or};
 ghost use Rattle.types.specs.Values.{as_locator};
 ghost use Rattle.final_spec.specs.Voters.{unions, spoken};
