@@ -1,4 +1,6 @@
 // The cursors of a part and of its sources: which source has runs left, and where they stand after some runs.
+#![tactic(auto)]
+
 ghost use Rattle.std.specs.Prelude.{◌≡◌, ◌+◌, ◌-◌, ◌*◌, ◌≤◌, ◌<◌, length};
 ghost use Rattle.index_cursors.specs.Cursors.{Leads, moved_at, Movable, MovedBy};
 ghost use Rattle.index_cursors.specs.Spots.{SpotAfter};
