@@ -1,4 +1,6 @@
 // Runs that each source of a part with runs left has next, word for word.
+#![tactic(auto)]
+
 ghost use Rattle.std.specs.Prelude.{◌≡◌, true, ◌+◌, ◌*◌, ◌≤◌, length, drop};
 ghost use Rattle.index_spec.specs.Walk.{run_from};
 ghost use Rattle.index_pieces.specs.Sources.{Ready};
