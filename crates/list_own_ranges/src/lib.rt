@@ -1,5 +1,7 @@
 // What the block of a stored record votes for, what it rejects, or its shares, as rows in a lent table: the position of a reference in the store, the start and
 // the end, which is excluded. The rows ascend, and none overlaps or touches another of the same reference.
+#![tactic(auto)]
+
 ghost use Rattle.std.specs.Prelude.{◌+◌, ◌*◌, ◌≤◌, ◌<◌, length};
 ghost use Rattle.record_spec.specs.Record.{block_in};
 ghost use Rattle.list_block_spans.specs.Answers.{voted_by};
