@@ -1,4 +1,6 @@
 // The next run of a source in other words against the runs at a position: which of them it begins past.
+#![tactic(auto)]
+
 ghost use Rattle.std.specs.Prelude.{◌≡◌, true, ◌+◌, ◌*◌, ◌≤◌, length, drop};
 ghost use Rattle.index_spec.specs.Walk.{run_from};
 ghost use Rattle.index_pieces.specs.Sources.{Ready};
