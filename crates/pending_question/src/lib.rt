@@ -1,4 +1,6 @@
 // A pending table beside its store (11), and the pending question.
+#![tactic(auto)]
+
 ghost use Rattle.std.specs.Prelude.{◌≡◌, true, false, ◌≤◌};
 ghost use Rattle.base.specs.Lists.{pick};
 ghost use Rattle.committee.specs.Committee.{broken};
