@@ -1,4 +1,6 @@
 // The lanes: which ranges of which block each of them has, and which of them a list wants.
+#![tactic(auto)]
+
 ghost use Rattle.std.specs.Prelude.{◌≡◌};
 ghost use Rattle.list_readings_spec.specs.Answers.{is_ordinary};
 ghost use Rattle.list_lanes.specs.Lanes.{lane_kind, wants_rejects, wants_lane};
