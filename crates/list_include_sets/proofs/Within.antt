@@ -46,6 +46,7 @@ within_same v w h k = sym k ∙ united_comm v w ∙ h
 -- the union of a list has each of them within it, and is within each set that has
 pub in_unions : {v : AuthoritySet} (vs : List AuthoritySet) → v ∈ vs → Within v (unions vs)
 unfolding unions
+in_unions {v = v} [] x' = elim x' [ ]
 in_unions {v} (x ∷ vs) here = within_left v (unions vs)
 in_unions {v} (x ∷ vs) (there m) = within_trans v (unions vs) (united x (unions vs)) (in_unions vs m) (within_right x (unions vs))
 

@@ -1,5 +1,7 @@
 // The includes of the stored blocks as sets of places, and who speaks in the ancestry of a block's includes. A block has 17 words: 16 of
 // 64 bits for the places of its includes, and 1 in the last where they are the places of the includes of the block before.
+#![tactic(auto)]
+
 ghost use Rattle.std.specs.Prelude.{◌≡◌, ℕ, ◌+◌, ◌*◌, ◌^◌, ◌≤◌, ◌<◌, eqb, length, get_or};
 ghost use Rattle.base.specs.Lists.{pick};
 ghost use Rattle.committee_set.specs.AuthoritySet.{nobody, united};
