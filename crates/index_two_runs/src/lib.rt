@@ -1,4 +1,6 @@
 // Two runs in words: whether they are of the same offsets, and whom the second names at the end of the first.
+#![tactic(auto)]
+
 ghost use Rattle.std.specs.Prelude.{◌≡◌, true, ◌+◌, ◌*◌, ◌≤◌, length, drop};
 ghost use Rattle.index_spec.specs.Walk.{run_from, runs_from};
 ghost use Rattle.index_two_runs.specs.Two.{SameOffsets, after_votes};
