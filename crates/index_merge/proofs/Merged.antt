@@ -12,7 +12,7 @@ use Rattle.committee_set.specs.AuthoritySet.{AuthoritySet, nobody, united}
 use Rattle.committee_set.proofs.Words.{nobody_united}
 use Rattle.record_spec.specs.Reference.{BlockReference, TransactionLocator, locator}
 use Rattle.index_spec.specs.Runs.{Run, run, touches, same_voters}
-use Rattle.index_spec.specs.Walk.{Past, Place, beyond, At, NextRun}
+use Rattle.index_spec.specs.Walk.{Past, Place, beyond, NextRun}
 use Rattle.index_spec.proofs.Sets.{same_voters_lem, voters_same}
 use Rattle.index_spec.proofs.Chain.{past_itself, past_trans, touching, touched}
 use Rattle.index_spec.proofs.Unique.{PlaceOrder, earlier, later, alike, place_order}

@@ -1,4 +1,6 @@
 // The parts of a block's includes and its own votes merged, one run after the other: a part of the index.
+#![tactic(auto)]
+
 ghost use Rattle.std.specs.Prelude.{◌≡◌, ◌+◌, ◌*◌, ◌≤◌, length, drop};
 ghost use Rattle.committee_set.specs.AuthoritySet.{AuthoritySet as Voters, united};
 ghost use Rattle.record_spec.specs.Reference.{TransactionLocator as Locator};
