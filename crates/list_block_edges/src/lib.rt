@@ -1,4 +1,6 @@
 // The edges of the ranges of one block, put after those of others in a table as far as they are in a window of locators.
+#![tactic(auto)]
+
 ghost use Rattle.std.specs.Prelude.{◌+◌, ◌*◌, ◌≤◌, ◌<◌, length};
 ghost use Rattle.record_spec.specs.Record.{block_in};
 ghost use Rattle.list_after.specs.Answers.{as_maybe};
