@@ -1,10 +1,9 @@
 -- Runs that each source with runs left has next, word for word, are the next runs of all together. Assumes nothing.
 use mathlib.Core.Path.{◌≡◌, refl, sym, ap, subst, ◌∙◌}
-use mathlib.Core.Logic.{◌⊎◌, inl, inr}
+use mathlib.Core.Logic.{inl, inr}
 use mathlib.Core.List.{List, [], ◌∷◌, ◌++◌, append_assoc}
 use Prim.Native.Nat.{ℕ, zero, suc, ◌+◌, ◌-◌, ◌*◌, ◌≤◌, ◌<◌}
 use native.Mathlib.Omega.{arith}
-use native.Mathlib.Decide.{dec_lt}
 use lib.ListN.{length, drop}
 use lib.Seq.{drop-drop}
 use Rattle.committee_set.specs.AuthoritySet.{AuthoritySet, nobody, united}
@@ -41,13 +40,13 @@ chain_there p (suc m) ws a (link b g d h) = link a g d h
 chain_apart : {p : Place} (m : ℕ) (ix : List ℕ) (pos : ℕ) → Apart ix pos m → Chain Anything p (runs_from m (drop pos ix)) → Chain Differs p
     (runs_from m (drop pos ix))
 unfolding runs_from Apart
-chain_apart zero ix pos q h = end
-chain_apart (suc zero) ix pos q (link a g d h) = link a g no_next end
-chain_apart (suc (suc m)) ix pos q (link a g d h) =
+chain_apart {p = p} zero ix pos q h = end
+chain_apart {p = p} (suc zero) ix pos q (link a g d h) = link a g no_next end
+chain_apart {p = p} (suc (suc m)) ix pos q (link a g d h) =
     link a g differs
     (subst (λ (ws : List ℕ). Chain Differs (beyond (run_from (drop pos ix)).reference (run_from (drop pos ix)).end) (runs_from (suc m) ws))
     (sym (drop-drop 10 pos ix))
-    (chain_apart (suc m) ix (pos + 10) onward
+    (chain_apart {p = beyond (run_from (drop pos ix)).reference (run_from (drop pos ix)).end} (suc m) ix (pos + 10) onward
     (subst (λ (ws : List ℕ). Chain Anything (beyond (run_from (drop pos ix)).reference (run_from (drop pos ix)).end) (runs_from (suc m) ws))
     (drop-drop 10 pos ix) h)))
   where

@@ -1,4 +1,6 @@
 // The runs of a part that each source with runs left has next, word for word: they are passed without a merge.
+#![tactic(auto)]
+
 ghost use Rattle.std.specs.Prelude.{◌+◌, ◌*◌, ◌≤◌, length};
 ghost use Rattle.index_runs.specs.Values.{as_place};
 ghost use Rattle.index_pieces.specs.Sources.{Ready};
