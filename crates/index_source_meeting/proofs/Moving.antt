@@ -1,17 +1,17 @@
 -- Cursors past a run, one source after the other. Assumes nothing.
-use mathlib.Core.Path.{◌≡◌, refl, sym, ap, subst, ◌∙◌}
+use mathlib.Core.Path.{◌≡◌, refl}
 use mathlib.Core.List.{List}
 use Prim.Native.Nat.{ℕ, zero, suc, ◌+◌, ◌*◌, ◌≤◌, ◌<◌}
 use native.Mathlib.Omega.{arith}
 use native.Mathlib.Decide.{dec_lt}
 use native.Mathlib.Numerals.{add-one}
-use lib.ListN.{length, drop, set, length-set}
+use lib.ListN.{length, drop, set}
 use Rattle.committee_set.specs.AuthoritySet.{AuthoritySet, nobody, united}
 use Rattle.record_spec.specs.Reference.{TransactionLocator}
 use Rattle.index_spec.specs.Runs.{Run, voters_in}
-use Rattle.index_spec.specs.Walk.{Past, Place, anywhere, beyond, At, runs_from}
+use Rattle.index_spec.specs.Walk.{Past, anywhere, beyond, runs_from}
 use Rattle.index_spec.proofs.Chain.{Anything, Chain}
-use Rattle.index_pieces.specs.Sources.{cursor_at, cursor_left, source, named_by, Ready, Moved}
+use Rattle.index_pieces.specs.Sources.{cursor_at, cursor_left, source, named_by, Moved}
 use Rattle.index_pieces.proofs.Cursors.{at_same, left_same, at_other, left_other, source_same, source_other}
 use Rattle.index_source_meeting.specs.Source.{Meets, MetBy}
 use Rattle.index_source_meeting.proofs.Together.{meets_none, meets_both}

@@ -1,8 +1,8 @@
 -- A run against one source that has its offsets or begins past it. Assumes nothing.
-use mathlib.Core.Path.{◌≡◌, refl, sym, ap, subst, ◌∙◌}
+use mathlib.Core.Path.{◌≡◌, refl, sym, subst, ◌∙◌}
 use mathlib.Core.Bool.{Bool, true, false}
 use mathlib.Core.List.{List, [], ◌∷◌}
-use Prim.Native.Nat.{ℕ, ◌+◌, ◌-◌, ◌*◌, ◌≤◌, ◌<◌}
+use Prim.Native.Nat.{ℕ, ◌+◌, ◌-◌, ◌<◌}
 use native.Mathlib.Omega.{arith}
 use native.Mathlib.Decide.{ℕ_discrete}
 use lib.ListN.{get_or, drop}
@@ -13,11 +13,11 @@ use Rattle.committee_set.specs.AuthoritySet.{nobody}
 use Rattle.record_spec.specs.Reference.{BlockReference, TransactionLocator, locator}
 use Rattle.index_spec.specs.Runs.{Run, voters_in, touches}
 use Rattle.index_spec.specs.Walk.{Past, by_block, by_offset, anywhere, beyond, run_from, runs_from}
-use Rattle.index_spec.proofs.Chain.{past_trans, touching, touched, Covered, Anything, Chain, end, link, past_head, chain_from_lem, nobody_before, at_head}
+use Rattle.index_spec.proofs.Chain.{past_trans, touching, touched, Anything, Chain, end, link, past_head, chain_from_lem, nobody_before, at_head}
 use Rattle.index_spec.proofs.Chain.{passed_out}
 use Rattle.index_pieces.proofs.Cursors.{next}
 use Rattle.index_two_runs.specs.Two.{SameOffsets, after_votes}
-use Rattle.index_source_meeting.specs.Source.{Meets, MetBy}
+use Rattle.index_source_meeting.specs.Source.{MetBy}
 
 -- the voters of a run, from its words
 pub votes_read : (ws : List ℕ) (at : ℕ) → record { low = get_or ws (at + 8) 0; high = get_or ws (at + 9) 0 } ≡ (run_from (drop at ws)).votes

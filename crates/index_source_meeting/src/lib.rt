@@ -1,4 +1,6 @@
 // A run of a part against its sources, each of which has a run of the same offsets next, or begins past it.
+#![tactic(auto)]
+
 ghost use Rattle.std.specs.Prelude.{◌≡◌, ◌+◌, ◌*◌, ◌≤◌, length, drop};
 ghost use Rattle.index_spec.specs.Walk.{run_from};
 ghost use Rattle.index_pieces.specs.Sources.{Ready};
