@@ -1,4 +1,6 @@
 // The events of a vote, written one after the other. Follows committee.rs.
+#![tactic(auto)]
+
 ghost use Rattle.std.specs.Prelude.{◌≡◌, true, false, ◌+◌, ◌-◌, ◌*◌, ◌≤◌, length};
 ghost use Rattle.record_spec.specs.Record.{well_formed, block_in};
 ghost use Rattle.types.specs.Values.{as_reference};
