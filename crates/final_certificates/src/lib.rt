@@ -1,5 +1,7 @@
 // Whether a stored block certifies a locator: its voters, less those who reject it where the reading takes these away, hold quorum. Follows
 // finalization_interpreter.rs; the Rust has the old reading alone, in which nobody withdraws.
+#![tactic(auto)]
+
 ghost use Rattle.std.specs.Prelude.{◌≡◌, true, false, not, ◌&&◌, ◌<◌, length, get_or};
 ghost use Rattle.committee.specs.Committee.{broken, total_stake, is_quorum};
 ghost use Rattle.committee_set.specs.AuthoritySet.{stake_of};
