@@ -1,4 +1,6 @@
 // The edges of the stored blocks' votes, rejects and shares, window by window: the least ones after a locator, as many as a table of fixed size holds.
+#![tactic(auto)]
+
 ghost use Rattle.std.specs.Prelude.{◌≡◌, ◌+◌, ◌*◌, ◌%◌, ◌<◌, length, get_or};
 ghost use Rattle.store_spec.specs.Entry.{block_at};
 ghost use Rattle.final_block_votes.specs.Walk.{SortedStore};
