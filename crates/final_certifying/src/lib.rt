@@ -1,4 +1,6 @@
 // The blocks that certify a locator, in ascending reference order, and their authors. Follows finalization_interpreter.rs.
+#![tactic(auto)]
+
 ghost use Rattle.std.specs.Prelude.{◌≡◌, ◌++◌, map, ◌≤◌, length, drop};
 ghost use Rattle.committee.specs.Committee.{total_stake};
 ghost use Rattle.committee_set.specs.AuthoritySet.{set_of};
