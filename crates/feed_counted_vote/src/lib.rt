@@ -1,4 +1,6 @@
 // One vote counted on a lent table: the cuts, the vote, its events, and items with quorum leave. Follows committee.rs (`TransactionAggregator`).
+#![tactic(auto)]
+
 ghost use Rattle.std.specs.Prelude.{◌≡◌, true, false, [], length, ◌+◌, ◌-◌, ◌*◌, ◌≤◌};
 ghost use Rattle.std.proofs.Math.Option.{some};
 ghost use Rattle.base.specs.Checks.{passes};
