@@ -1,4 +1,6 @@
 // Who votes for a locator, or rejects it, in the ancestry of each stored block, by a walk over the blocks in ascending reference order.
+#![tactic(auto)]
+
 ghost use Rattle.std.specs.Prelude.{◌≡◌, true, ◌+◌, ◌*◌, ◌≤◌, ◌<◌, eqb, length};
 ghost use Rattle.base.specs.Lists.{pick};
 ghost use Rattle.committee_set.specs.AuthoritySet.{nobody, inserted, united};
