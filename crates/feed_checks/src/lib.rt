@@ -1,4 +1,6 @@
 // What is checked of a record before it is stored and counted.
+#![tactic(auto)]
+
 ghost use Rattle.std.specs.Prelude.{◌≡◌, true, false};
 ghost use Rattle.base.specs.Checks.{refusal};
 ghost use Rattle.committee.specs.Committee.{broken};

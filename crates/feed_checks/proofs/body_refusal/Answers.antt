@@ -1,0 +1,21 @@
+use Rattle.base.proofs.Tests.{not_both}
+use Rattle.committee.proofs.Answers.{taken_sound, broken_sound}
+use borrow.Author.Rules.{rules}
+use Rattle.feed_checks.proofs.body_refusal.Goals as goal
+
+pub returns-in_default : goal.returns-in_default
+returns-in_default c =
+    let m = c in
+    let o = m in
+    let k = o.args.stakes.now in
+    absurd (not_both (broken_sound k _ (rw c.in_default.is at m.new_committee.ensures)) o.requires.1)
+
+pub body_refusal-requires : goal.body_refusal-requires
+body_refusal-requires c =
+    let m = c in
+    let o = m in
+    let k = o.args.stakes.now in
+    ((o.requires.0, o.requires.1), (taken_sound k c.in-Taken.total (rw c.in-Taken.is at m.new_committee.ensures)).1)
+
+pub returns : goal.returns
+returns c = c.body_refusal.ensures
