@@ -1,4 +1,6 @@
 // What the block of a record votes for, as runs of its author in words: a part like those of its includes. They ascend, and none touches another.
+#![tactic(auto)]
+
 ghost use Rattle.std.specs.Prelude.{◌≡◌, map, ◌*◌, ◌≤◌, length};
 ghost use Rattle.base.proofs.Lists.{Every};
 ghost use Rattle.record_spec.specs.Record.{block_in};
