@@ -1,4 +1,6 @@
 // A run of a part where each source has a run of the same offsets next, or begins past it: it is held against them without a merge.
+#![tactic(auto)]
+
 ghost use Rattle.std.specs.Prelude.{◌≡◌, true, false, ◌+◌, ◌≤◌, length, drop};
 ghost use Rattle.index_spec.specs.Runs.{same_voters};
 ghost use Rattle.index_spec.specs.Walk.{run_from};
