@@ -1,5 +1,7 @@
 // Marks of the stored blocks, one for each lane of ranges, carried from edge to edge in ascending order and from window to window: at each locator they
 // say which blocks vote for it, which reject it, and whose share it is.
+#![tactic(auto)]
+
 ghost use Rattle.std.specs.Prelude.{◌≡◌, ℕ, ◌+◌, ◌*◌, ◌/◌, ◌%◌, ◌≤◌, ◌<◌, length, get_or, set};
 ghost use Rattle.std.proofs.Math.Option.{some};
 ghost use Rattle.types.specs.Values.{as_locator};
