@@ -1,4 +1,6 @@
 // The blocks that certify a locator in either reading of a reject, by walks over the stored blocks in ascending reference order.
+#![tactic(auto)]
+
 ghost use Rattle.std.specs.Prelude.{◌≡◌, true, false, not, ◌&&◌, ◌+◌, ◌*◌, ◌≤◌, ◌<◌, length};
 ghost use Rattle.base.specs.Lists.{pick};
 ghost use Rattle.committee.specs.Committee.{total_stake};
