@@ -1,4 +1,6 @@
 // Blocks of our own: what is given, how its accepts are joined, and what writing it means, with the claims about these. Follows types.rs.
+#![tactic(auto)]
+
 ghost use Rattle.draft_spec.specs.Claims.{Claims};
 ghost use Rattle.draft_spec.specs.Examples.{Examples};
 
