@@ -14,7 +14,7 @@ use Rattle.index_spec.specs.Walk.{Place, At, NextRun}
 use Rattle.index_runs.specs.Values.{starts_with}
 use Rattle.index_pieces.specs.Pieces.{NobodyFrom, Piece, PieceOr}
 use Rattle.index_pieces.proofs.Pieces.{at_beyond}
-use Rattle.index_pieces.specs.Sources.{named_by, Moved, together, Merging, GrownFrom}
+use Rattle.index_pieces.specs.Sources.{named_by, Moved, together, GrownFrom}
 use Rattle.index_meeting.specs.Step.{Passed}
 use Rattle.index_parts.specs.Parts.{RunPassed}
 use Rattle.index_strides.proofs.Unfolded.{one_next}

@@ -1,4 +1,6 @@
 // The part that a block's own votes, in words of their own, and the parts of its includes make: held against words, and counted.
+#![tactic(auto)]
+
 ghost use Rattle.std.specs.Prelude.{◌≡◌, ◌+◌, ◌*◌, ◌≤◌, ◌<◌, List, length};
 ghost use Rattle.index_spec.specs.Runs.{Run};
 ghost use Rattle.index_spec.specs.Part.{RunsOf};
