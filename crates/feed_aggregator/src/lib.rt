@@ -1,4 +1,6 @@
 // A record's shares registered and its votes counted on a lent table. Follows committee.rs (`TransactionAggregator`).
+#![tactic(auto)]
+
 ghost use Rattle.std.specs.Prelude.{◌≡◌, true, false, length, ◌≤◌};
 ghost use mathlib.Core.List.{map, flatten};
 ghost use Rattle.base.specs.Checks.{passes};
