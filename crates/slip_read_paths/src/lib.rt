@@ -1,4 +1,6 @@
 // Paths of include places over the records that come with a slip.
+#![tactic(auto)]
+
 ghost use Rattle.std.specs.Prelude.{◌≤◌, ◌<◌, ◌≡◌, length};
 ghost use Rattle.std.proofs.Math.ListN.{get_elem?};
 ghost use Rattle.types.specs.Values.{as_reference, as_locator};
