@@ -1,9 +1,8 @@
 -- Which rows cover a locator, and the marks of the lanes one after the other. Assumes nothing.
-use mathlib.Core.Path.{◌≡◌, refl, sym, ap, ◌∙◌}
-use mathlib.Core.Logic.{◌⊎◌, inl, inr}
-use mathlib.Core.Bool.{Bool, true, false, ◌||◌, or-false}
+use mathlib.Core.Path.{◌≡◌, refl, ap, ◌∙◌}
+use mathlib.Core.Bool.{Bool, true, false}
 use mathlib.Core.List.{List, [], ◌∷◌}
-use Prim.Native.Nat.{ℕ, ◌+◌, ◌*◌, ◌%◌, ◌≤◌, ◌<◌}
+use Prim.Native.Nat.{ℕ, ◌+◌, ◌<◌}
 use native.Mathlib.Omega.{arith}
 use native.Mathlib.Decide.{ℕ_discrete}
 use lib.Dec.{eqb}
@@ -13,11 +12,10 @@ use Rattle.base.specs.Lists.{pick, any_of, count_from}
 use Rattle.base.specs.Le.{Bytes}
 use Rattle.base.proofs.Tests.{not_both, fails}
 use Rattle.base.proofs.Members.{in_any}
-use Rattle.base.proofs.Lists.{Every}
 use Rattle.record_spec.specs.Reference.{TransactionLocator, locator_before}
 use Rattle.list_row_sort.specs.Rows.{Row, row_at, rows_from, rows_of, key_of}
-use Rattle.list_row_sort.proofs.Tables.{rows_more, every_row, row_in}
-use Rattle.list_range_rows.specs.Ranges.{row_covers, any_covers, Proper}
+use Rattle.list_row_sort.proofs.Tables.{rows_more, row_in}
+use Rattle.list_range_rows.specs.Ranges.{row_covers, any_covers}
 use Rattle.list_range_rows.proofs.Ranges.{covers_append}
 use Rattle.list_edge_rows.specs.Edges.{start_edge, end_edge}
 use Rattle.list_edge_rows.proofs.Order.{covers_start, covers_end, covers_between}

@@ -1,4 +1,6 @@
 // Where a sweep over the edges begins: just after a given locator, with marks read from the store once, or at the first edge.
+#![tactic(auto)]
+
 ghost use Rattle.std.specs.Prelude.{◌≡◌, ℕ, ◌≤◌, length, get_or};
 ghost use Rattle.base.specs.Lists.{pick};
 ghost use Rattle.types.specs.Values.{as_locator};
