@@ -1,5 +1,5 @@
 -- What the marks of each kind of lane say of the stored blocks. Assumes nothing.
-use mathlib.Core.Path.{◌≡◌, refl, sym, ap, subst, ◌∙◌}
+use mathlib.Core.Path.{◌≡◌, sym, ap, subst, ◌∙◌}
 use mathlib.Core.Bool.{Bool, true, false}
 use mathlib.Core.List.{List}
 use Prim.Native.Nat.{ℕ, ◌+◌, ◌%◌, ◌≤◌, ◌<◌}
@@ -29,8 +29,7 @@ use Rattle.list_block_spans.specs.Ranges.{ranges_at, ranges_of}
 use Rattle.list_block_spans.proofs.Joining.{joined_votes}
 use Rattle.list_block_spans.proofs.Rejecting.{rejected_covers}
 use Rattle.list_ancestry.specs.Heard.{Owned, AnyMarked}
-use Rattle.list_kind_ranges.specs.Kinds.{kind_ranges_at, kind_ranges, any_span}
-use Rattle.list_kind_ranges.specs.declared.RangeKind.{RangeKind}
+use Rattle.list_kind_ranges.specs.Kinds.{kind_ranges_at, kind_ranges}
 use Rattle.list_kind_ranges.specs.declared.RangeKind.TheVariants.{Votes, Rejects, Shares}
 use Rattle.list_kind_ranges.proofs.Sharing.{shares_cover}
 use Rattle.list_lanes.specs.Lanes.{wants_rejects, lane_kind, wants_lane, lane_ranges}

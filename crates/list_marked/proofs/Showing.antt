@@ -26,7 +26,7 @@ use Rattle.final_spec.specs.Voters.{votes_for, own_vote, voters, certifies, cert
 use Rattle.final_spec.specs.Finality.{blocks_of}
 use Rattle.final_spec.proofs.Voters.{own_votes}
 use Rattle.final_spec.proofs.Spoken.{SpokenAmong, spoken_among}
-use Rattle.final_readings_spec.specs.Readings.{Reading, old, withdrawing, voters_in, is_final_in}
+use Rattle.final_readings_spec.specs.Readings.{old, withdrawing, voters_in, is_final_in}
 use Rattle.final_readings_spec.specs.Answers.{as_reading}
 use Rattle.final_readings_spec.specs.declared.Reading.{Reading as AskedReading}
 use Rattle.final_readings_spec.specs.declared.Reading.TheVariants.{Old, Withdrawing}

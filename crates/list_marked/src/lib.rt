@@ -1,5 +1,7 @@
 // Whether a list of final locators shows a locator of which it is marked who votes for it, who rejects it and whose share it is, and which blocks
 // certify it then.
+#![tactic(auto)]
+
 ghost use Rattle.std.specs.Prelude.{◌≡◌, ◌≤◌, length};
 ghost use Rattle.final_block_votes.specs.Walk.{SortedStore};
 ghost use Rattle.list_marked.specs.Marked.{Walkable, MarkedIn, CertifiedAll, MayShow, ShownAll};
