@@ -16,6 +16,7 @@ use Rattle.load_spec.specs.Needs.{stored_block}
 
 pub block_found : {bs : List Block} → WellStored bs → {b : Block} → b ∈ bs → (r : BlockReference) → b.reference ≡ r → stored_block bs r ≡ some b
 unfolding stored_block find
+block_found Rattle.store_spec.proofs.Stored.fresh {b = b} x5 r e = elim x5 [ ]
 block_found (stored new found w) here r e = rw (same_reference_lem e)
 block_found (stored {b = x} new found w) {b} (there m) r e = rw (other_reference x.reference r (λ k. new b m (e ∙ sym k)), block_found w m r e)
 

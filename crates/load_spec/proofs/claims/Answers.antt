@@ -1,0 +1,5 @@
+use Rattle.load_spec.proofs.Claimed.{claimed}
+use Rattle.load_spec.proofs.claims.Goals as goal
+
+pub returns : goal.returns
+returns c = claimed
