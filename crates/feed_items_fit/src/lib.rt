@@ -1,4 +1,6 @@
 // Whether a record's items fit a table (14): they are tried on a copy of it.
+#![tactic(auto)]
+
 ghost use Rattle.std.specs.Prelude.{◌≡◌, leb, length, ◌≤◌};
 ghost use Rattle.record_spec.specs.Record.{block_in};
 ghost use Rattle.store_spec.specs.Store.{records_of};
