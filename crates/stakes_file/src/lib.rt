@@ -1,4 +1,6 @@
 // A network's own stakes, loaded from the file `stakes` (document 02, "Five").
+#![tactic(auto)]
+
 ghost use Rattle.std.specs.Prelude.{◌≡◌, ◌≤◌, length, take};
 ghost use Rattle.std.proofs.Math.Option.{some};
 ghost use Rattle.base.specs.Checks.{answered, checked};
