@@ -1,4 +1,6 @@
 // How many includes each stored block is away from the nearest vote of each author, and by which include the nearest is reached first.
+#![tactic(auto)]
+
 ghost use Rattle.std.specs.Prelude.{◌≡◌, ◌+◌, ◌*◌, ◌≤◌, ◌<◌, length, set};
 ghost use Rattle.base.specs.Lists.{pick};
 ghost use Rattle.record_spec.specs.Block.{author};
