@@ -1,5 +1,7 @@
 // The refusals of a feed: those before memory is asked for, and of a committee, a store and a table in order those of the record. Follows committee.rs
 // (`TransactionAggregator`) and block_store.rs.
+#![tactic(auto)]
+
 ghost use Rattle.std.specs.Prelude.{◌≡◌, true};
 ghost use Rattle.base.specs.Checks.{refusal};
 ghost use Rattle.store_spec.specs.Layout.{read_record};
