@@ -1,5 +1,7 @@
 // Whether the ancestry of each record that comes with a slip is whole, for slips of the new reading. One pass upwards: an include has a lower
 // round, so it stands at a lower place.
+#![tactic(auto)]
+
 ghost use Rattle.std.specs.Prelude.{ℕ, ◌≤◌, ◌<◌, ◌≡◌, length, get_or};
 ghost use Rattle.final_readings_spec.specs.Answers.{as_reading};
 ghost use Rattle.slip_spec.specs.Supplied.{supplied_blocks};
