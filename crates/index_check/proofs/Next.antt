@@ -10,7 +10,6 @@ use Rattle.base.proofs.Le.{AllBytes}
 use Rattle.committee.specs.Committee.{Committee}
 use Rattle.record_spec.specs.Block.{Block}
 use Rattle.record_spec.specs.Record.{block_in}
-use Rattle.store_spec.specs.Layout.{Record}
 use Rattle.store_spec.specs.Store.{records_of}
 use Rattle.store_spec.specs.Accept.{is_stored}
 use Rattle.store_spec.specs.Entry.{record_at, block_at, is_entry}

@@ -1,4 +1,6 @@
 // Whether the index is the one worked out from the store (54): part by part in order of arrival, each held against the merge of its includes' parts.
+#![tactic(auto)]
+
 ghost use Rattle.std.specs.Prelude.{◌≡◌, true, List, map, ◌≤◌, length};
 ghost use Rattle.record_spec.specs.Block.{Block};
 ghost use Rattle.record_spec.specs.Record.{well_formed, block_in};
