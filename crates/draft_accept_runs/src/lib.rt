@@ -1,4 +1,6 @@
 // Runs of accepts: whether an accept goes on with one, and a run as it is written. Follows types.rs, `VoteRangeBuilder`.
+#![tactic(auto)]
+
 ghost use Rattle.std.specs.Prelude.{◌≡◌, true, ◌+◌};
 ghost use Rattle.base.specs.Le.{Bytes};
 ghost use Rattle.record_spec.specs.Reference.{locator, new_range, one_range};
