@@ -1,4 +1,6 @@
 // What the host's questions share: a locator that crosses as bytes, and the refusals that come before one about sizes.
+#![tactic(auto)]
+
 ghost use Rattle.std.specs.Prelude.{◌≡◌};
 ghost use Rattle.host_locators.specs.Locators.{refusal_before};
 
