@@ -1,4 +1,6 @@
 // Feeding a record: one call over the committee and all lent memory. Follows committee.rs (`TransactionAggregator`) and block_store.rs.
+#![tactic(auto)]
+
 ghost use Rattle.std.specs.Prelude.{◌≡◌, true, []};
 ghost use Rattle.base.specs.Checks.{refusal};
 ghost use Rattle.store_spec.specs.Store.{records_of, record_in};
