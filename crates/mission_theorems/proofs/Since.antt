@@ -38,6 +38,7 @@ voters vs = map (λ v. v.voter) vs
 voted_from : (k : ℕ) (a : AuthorityIndex) (i : ℕ) (ss : List Statement) (l : TransactionLocator) (s : Statement) → s ∈ ss → is_vote_for l s ≡ true → a ∈ voters
     (votes_from k a i ss l)
 unfolding votes_from
+voted_from k a i [] l s' x'' h = elim x'' [ ]
 voted_from k a i (s ∷ ss) l s' here h = rw h here
 voted_from k a i (x ∷ ss) l s (there m) h = go (is_vote_for l x) (voted_from k a (i + 1) ss l s m h)
   where
