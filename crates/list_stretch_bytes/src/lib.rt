@@ -1,4 +1,6 @@
 // The 80 bytes of a stretch of final locators, and the answer of the lists in bulk.
+#![tactic(auto)]
+
 ghost use Rattle.std.specs.Prelude.{◌≡◌, ◌+◌, ◌*◌, ◌≤◌, length};
 ghost use Rattle.std.proofs.lemmas.List.Edits.{sets};
 ghost use Rattle.types.specs.Values.{as_locator};
