@@ -1,4 +1,6 @@
 // The next locator that a list of final locators shows, by a sweep over the edges.
+#![tactic(auto)]
+
 ghost use Rattle.std.specs.Prelude.{◌≡◌, length};
 ghost use Rattle.final_spec.specs.Finality.{blocks_of};
 ghost use Rattle.types.specs.Values.{as_locator};
