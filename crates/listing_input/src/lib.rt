@@ -1,4 +1,6 @@
 // What `listing` reads, on slices: the committee, and the lengths of records.
+#![tactic(auto)]
+
 ghost use Rattle.std.specs.Prelude.{◌≡◌, ◌≤◌, length, get_or, take};
 ghost use Rattle.base.specs.Checks.{checked};
 ghost use Rattle.committee.specs.Committee.{committee_checks};
