@@ -1,4 +1,6 @@
 // A stored share's payload, as the part of the store that holds it. Follows block_store.rs.
+#![tactic(auto)]
+
 ghost use Rattle.std.specs.Prelude.{◌≡◌, true, length};
 ghost use Rattle.std.proofs.Math.ListN.{get_elem?};
 ghost use Rattle.record_spec.specs.Record.{well_formed, block_in, statement_start};
