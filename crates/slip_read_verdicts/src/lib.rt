@@ -1,4 +1,6 @@
 // What a voter's path shows: 0 that it holds, 1 that it does not, 2 that a record is missing.
+#![tactic(auto)]
+
 ghost use Rattle.std.specs.Prelude.{◌≤◌, ◌<◌, ◌≡◌, length};
 ghost use Rattle.std.proofs.Math.Option.{Option, some};
 ghost use Rattle.record_spec.specs.Reference.{TransactionLocator as Locator};
