@@ -1,4 +1,6 @@
 // The part that a block's own votes, in words of their own, and the parts of its includes make, appended to the index.
+#![tactic(auto)]
+
 ghost use Rattle.std.specs.Prelude.{◌≡◌, ◌+◌, ◌*◌, ◌≤◌, ◌<◌, List, length, take, set};
 ghost use Rattle.std.proofs.lemmas.List.Edits.{sets};
 ghost use Rattle.index_spec.specs.Runs.{Run};
