@@ -1,4 +1,6 @@
 // Feeding a record, with table and events as bytes.
+#![tactic(auto)]
+
 ghost use Rattle.std.specs.Prelude.{◌≡◌, true, [], ◌∷◌, ◌++◌, length};
 ghost use Rattle.base.specs.Checks.{◌⇒◌, refusal};
 ghost use Rattle.words.specs.Words.{words_of, bytes_of};
