@@ -1,4 +1,6 @@
 // Who rejects the locator in the ancestry of each record that comes with a slip, for slips of the new reading. One pass upwards, as in slip_ancestry.
+#![tactic(auto)]
+
 ghost use Rattle.std.specs.Prelude.{ℕ, ◌+◌, ◌*◌, ◌≤◌, ◌<◌, ◌≡◌, ◌&&◌, length, get_or};
 ghost use Rattle.committee_set.specs.AuthoritySet.{member};
 ghost use Rattle.record_spec.specs.Block.{author};
