@@ -1,4 +1,6 @@
 // The voters of a certifying block as a slip lists them, each with the path to its nearest vote, read off the tables of distances.
+#![tactic(auto)]
+
 ghost use Rattle.std.specs.Prelude.{◌≡◌, ◌+◌, ◌*◌, ◌≤◌, ◌<◌, length, get_or};
 ghost use Rattle.std.proofs.lemmas.List.Edits.{sets};
 ghost use Rattle.record_spec.specs.Reference.{TransactionLocator};
