@@ -1,4 +1,6 @@
 // What a payload needs: the change that its first bytes name.
+#![tactic(auto)]
+
 ghost use Rattle.std.specs.Prelude.{◌≡◌};
 ghost use Rattle.load_spec.specs.Needs.{needed_by};
 ghost use Rattle.load_needed.specs.Answers.{as_needed};
