@@ -18,9 +18,7 @@ use Rattle.record_spec.specs.Block.{Statement, share, accept, reject, vote_range
 use Rattle.record_statement.specs.Values.{as_statement}
 use Rattle.record_statement.specs.declared.BaseStatement.{BaseStatement}
 use Rattle.record_statement.specs.declared.BaseStatement.TheVariants.{Share, Accept, Reject, RejectFor, VoteRange}
-use Rattle.record_statement.specs.contracts.BaseStatement.{the_type}
-use denote.Enum.Declared.{tag_of}
-use types.Run.{OneOf}
+use Rattle.types.specs.declared.TransactionLocator as code-locator
 use Rattle.record_statement.specs.declared.Taken as taken
 use Rattle.draft_spec.specs.Draft.{read_given, statements_in}
 use Rattle.draft_spec.specs.Joining.{Piece, apart, run, touches, fronted, attached, pieces, run_statement, piece_statement, joined, is_accept, right_piece}
@@ -172,14 +170,11 @@ pub other_there : (s : List ℕ) (p : ℕ) (st : BaseStatement) (next : ℕ) →
 unfolding TookGiven TookAccept
 other_there s p st next b t h = ends_other s p b next (as_statement s st) h t.0
 
--- the tag of a statement is none of an accept
-pub no_accept : (s : List ℕ) (st : BaseStatement) → OneOf (0 ∷ 2 ∷ 3 ∷ 4 ∷ []) (tag_of the_type st) → is_accept (as_statement s st) ≡ false
+-- a statement that is no accept in the code is none in the record
+pub no_accept : (s : List ℕ) (st : BaseStatement) → ((l : code-locator.TransactionLocator) → st ≡ Accept l → ⊥) → is_accept (as_statement s st) ≡ false
 unfolding as_statement is_accept
 no_accept s (Share start len) k = refl
-no_accept s (Accept l) (inl e) = absurd (omega arith)
-no_accept s (Accept l) (inr (inl e)) = absurd (omega arith)
-no_accept s (Accept l) (inr (inr (inl e))) = absurd (omega arith)
-no_accept s (Accept l) (inr (inr (inr e))) = absurd (omega arith)
+no_accept s (Accept l) k = absurd (k l refl)
 no_accept s (Reject l) k = refl
 no_accept s (RejectFor l m) k = refl
 no_accept s (VoteRange r) k = refl

@@ -1,4 +1,6 @@
 // The given statements of a block of our own, one after the other, with neighbouring accepts joined. Follows types.rs, `VoteRangeBuilder`.
+#![tactic(auto)]
+
 ghost use Rattle.std.specs.Prelude.{◌≡◌, ◌≤◌, ◌<◌, length, get_or};
 ghost use Rattle.types.specs.Values.{as_locator};
 ghost use Rattle.draft_joined.specs.Step.{TookGiven, TookAccept, RunFrom, TookJoined};
