@@ -1,4 +1,6 @@
 // An index as it is lent: whether it agrees with the store (54), and the refusals with which every question with it begins (5, 10, 54).
+#![tactic(auto)]
+
 ghost use Rattle.std.specs.Prelude.{◌≡◌, true, ◌≤◌, length, take};
 ghost use Rattle.base.specs.Checks.{refusal};
 ghost use Rattle.final_spec.specs.Finality.{blocks_of};
