@@ -46,6 +46,7 @@ module _ {A : Type 0} where
   -- of a list that rises, an element is lower than a later one
   rises_to : (lower : A → A → Bool) (y x : A) (zs ys : List A) → y ∈ zs → pairwise lower (zs ++ x ∷ ys) ≡ true → lower y x ≡ true
   unfolding pairwise
+  rises_to lower y x [] ys x3 h = elim x3 [ ]
   rises_to lower y x (z ∷ zs) ys here h = all_in (lower y) (zs ++ x ∷ ys) (and_left (all_of (lower y) (zs ++ x ∷ ys)) _ h) (in_right zs here)
   rises_to lower y x (z ∷ zs) ys (there k) h = rises_to lower y x zs ys k (and_right (all_of (lower z) (zs ++ x ∷ ys)) _ h)
 

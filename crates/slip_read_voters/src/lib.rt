@@ -1,4 +1,6 @@
 // The voters of a certifying block of a slip, read one after the other: their form, their authors, and what their paths show.
+#![tactic(auto)]
+
 ghost use Rattle.std.specs.Prelude.{◌≤◌, length, eqb, ltb, ◌≡◌, ◌||◌};
 ghost use Rattle.base.specs.Lists.{pick};
 ghost use Rattle.committee_set.specs.AuthoritySet.{inserted};
