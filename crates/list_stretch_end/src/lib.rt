@@ -1,4 +1,6 @@
 // Where the stretch of a locator ends, by a sweep over the edges.
+#![tactic(auto)]
+
 ghost use Rattle.types.specs.Values.{as_locator};
 ghost use Rattle.list_lanes.specs.Lanes.{lane_ranges};
 ghost use Rattle.list_sweep.specs.Sweep.{Stands};

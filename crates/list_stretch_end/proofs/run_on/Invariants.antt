@@ -1,0 +1,20 @@
+use mathlib.Core.Path.{◌≡◌}
+use mathlib.Core.Option.{some}
+use lib.ListN.{length}
+use Rattle.base.specs.Lists.{keep}
+use Rattle.types.specs.Values.{as_locator}
+use Rattle.final_spec.specs.NextFinal.{is_after}
+use Rattle.list_lanes.specs.Lanes.{lane_ranges}
+use Rattle.list_sweep.specs.Sweep.{Stands, edge_locators}
+use Rattle.list_stretch_end.proofs.Running.{Alike, Onto}
+use Rattle.list_stretch_end.proofs.run_on.Given as goal
+
+abbrev pub invariant-loop-stop : goal.invariant-loop-stop
+invariant-loop-stop l = (length l.edges ≡ length l.initial.edges) ×
+    (((length l.marks ≡ length l.initial.marks) × (length l.other ≡ 1024)) ×
+    (Stands (lane_ranges l.wanted l.store l.order) l.store l.edges l.marks l.at ×
+    (Alike l.wanted l.stakes l.store l.order (as_locator l.initial.at.here) l.marks × Onto l.wanted l.stakes l.store l.order (as_locator l.initial.at.here) (as_locator l.at.here))))
+
+abbrev pub decreases-loop-stop : goal.decreases-loop-stop
+decreases-loop-stop l = length
+    (keep (is_after (some (as_locator l.at.here))) (edge_locators (lane_ranges l.wanted l.store l.order)))
