@@ -1,4 +1,6 @@
 // The certifying blocks of a slip, each with its voters, listed in a table of three words each.
+#![tactic(auto)]
+
 ghost use Rattle.std.specs.Prelude.{◌≡◌, ℕ, ◌+◌, ◌*◌, ◌≤◌, ◌<◌, length, get_or};
 ghost use Rattle.base.specs.Lists.{◌∈◌};
 ghost use Rattle.types.specs.Values.{as_locator};
