@@ -1,4 +1,6 @@
 // Whom to ring, the owners of largest stake first: definitions, what the answer means, and the owner to ring next.
+#![tactic(auto)]
+
 ghost use Rattle.std.specs.Prelude.{◌≡◌, false, [], ◌<◌, length};
 ghost use Rattle.base.specs.Lists.{pick};
 ghost use Rattle.committee.specs.Committee.{broken, get_stake};
