@@ -1,4 +1,6 @@
 // The statements of a record written, and their sizes: beside the readers of statement_reader. Follows types.rs.
+#![tactic(auto)]
+
 ghost use Rattle.std.specs.Prelude.{◌≡◌, true, false, ◌∷◌, ◌+◌, ◌≤◌, ◌<◌, length, take, drop};
 ghost use Rattle.std.proofs.lemmas.List.Edits.{sets};
 ghost use Rattle.record_spec.specs.Block.{share, vote_range};
