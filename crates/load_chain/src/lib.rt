@@ -1,5 +1,7 @@
 // The chain of changes that a share needs, one needing the next, as marks: a word for each stored block, in which the offset of the chain's
 // member of that block stands, and one more; zero where it has none.
+#![tactic(auto)]
+
 ghost use Rattle.std.specs.Prelude.{◌≡◌, ℕ, ◌≤◌, length, get_or};
 ghost use Rattle.types.specs.Values.{as_locator};
 ghost use Rattle.final_block_votes.specs.Walk.{SortedStore};
