@@ -1,4 +1,6 @@
 // An index that grows with its store: the part of a record that is fed, counted against the room that is left (55) and appended.
+#![tactic(auto)]
+
 ghost use Rattle.index_growth.specs.Growing.{Growing, Grew};
 
 use index_parts::RunCount;
