@@ -1,4 +1,6 @@
 // The refusals of a feed with the index that come before the record is tried.
+#![tactic(auto)]
+
 ghost use Rattle.std.specs.Prelude.{◌≡◌, ◌≤◌, length, take};
 ghost use Rattle.base.specs.Checks.{refusal};
 ghost use Rattle.index_feed_spec.specs.IndexedFeed.{indexed_lent_checks};
