@@ -1,4 +1,6 @@
 // The lines of `listing`, each of at most 128 bytes.
+#![tactic(auto)]
+
 ghost use Rattle.std.specs.Prelude.{◌+◌, ◌≤◌, length};
 ghost use Rattle.listing_lines.specs.Lines.{refused_line, event_line, final_line, end_line};
 ghost use Rattle.listing_text.specs.Text.{Wrote};

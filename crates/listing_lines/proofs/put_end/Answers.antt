@@ -1,0 +1,7 @@
+use Rattle.listing_lines.specs.Lines.{end_line}
+use Rattle.listing_text.specs.Text.{line, numbers, number_line}
+use Rattle.listing_lines.proofs.put_end.Goals as goal
+
+pub returns : goal.returns
+unfolding end_line line number_line numbers
+returns c = c.put_line.ensures
