@@ -1,4 +1,6 @@
 // Where the stored blocks stand in ascending reference order, and beside them where their parts begin, kept up as a block is stored.
+#![tactic(auto)]
+
 ghost use Rattle.std.specs.Prelude.{◌≡◌, true, ◌≤◌, ◌<◌, length, get_or};
 ghost use Rattle.store_spec.specs.Store.{records_of};
 ghost use Rattle.store_spec.specs.Entry.{laid_out, is_in, sorted_positions};
