@@ -1,4 +1,6 @@
 // How many shares are stored.
+#![tactic(auto)]
+
 ghost use Rattle.std.specs.Prelude.{◌≡◌, true, ◌≤◌, length};
 ghost use Rattle.record_spec.specs.Record.{well_formed, block_in};
 ghost use Rattle.final_spec.specs.Finality.{blocks_of};
