@@ -1,4 +1,6 @@
 // The lines of a record's events.
+#![tactic(auto)]
+
 ghost use Rattle.std.specs.Prelude.{◌≡◌, ◌*◌, ◌≤◌, eqb, length};
 ghost use Rattle.base.specs.Lists.{pick};
 ghost use Rattle.listing_text.specs.Text.{Wrote};
