@@ -1,5 +1,7 @@
 // Finality over the stored blocks: whether a locator is final. Follows finalization_interpreter.rs; the Rust has the old reading alone, in which nobody
 // withdraws.
+#![tactic(auto)]
+
 ghost use Rattle.std.specs.Prelude.{◌≡◌};
 ghost use Rattle.types.specs.Values.{as_locator};
 ghost use Rattle.final_spec.specs.Finality.{finality};
