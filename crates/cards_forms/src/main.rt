@@ -9,55 +9,62 @@ use feed_single::FeedAnswer;
 use final_question::FinalityAnswer;
 use list_after::MaybeLocator;
 use list_next::NextFinalAnswer;
+use std::io;
 use types::{BlockDigest, BlockReference, TransactionLocator};
 
-fn print(rt: &impl Print, text: &[u8]) {
-    let _ = rt.write_all(text);
+fn print(rt: &impl Print, text: &[u8]) -> io::Result<()> {
+    rt.write_all(text)
 }
 
-fn print_number(rt: &impl Print, n: u64) {
-    let _ = rt.print(n);
+fn print_number(rt: &impl Print, n: u64) -> io::Result<()> {
+    rt.print(n)
 }
 
-fn print_refused(rt: &impl Print, number: u64) {
-    print(rt, b"refused ");
-    print_number(rt, number);
+fn print_refused(rt: &impl Print, number: u64) -> io::Result<()> {
+    print(rt, b"refused ")?;
+    print_number(rt, number)
 }
 
 // ---- adding a vote
 
-fn print_added(rt: &impl Print, added: Added) {
+fn print_added(rt: &impl Print, added: Added) -> io::Result<()> {
     let answer = added.answer;
     match answer {
-        AddAnswer::RepeatedBelow => print(rt, b"repeated below quorum"),
-        AddAnswer::RepeatedWith => print(rt, b"repeated with quorum"),
-        AddAnswer::NewBelow => print(rt, b"new below quorum"),
+        AddAnswer::RepeatedBelow => print(rt, b"repeated below quorum")?,
+        AddAnswer::RepeatedWith => print(rt, b"repeated with quorum")?,
+        AddAnswer::NewBelow => print(rt, b"new below quorum")?,
         AddAnswer::NewWith(crossed) => {
-            print(rt, b"new with quorum");
+            print(rt, b"new with quorum")?;
             if crossed {
-                print(rt, b", crossed by it,");
+                print(rt, b", crossed by it,")?;
             }
         }
-        AddAnswer::Refused(number) => print_refused(rt, number),
+        AddAnswer::Refused(number) => print_refused(rt, number)?,
     }
-    print(rt, b" with ");
-    print_number(rt, added.aggregator.votes.low);
-    print(rt, b" ");
-    print_number(rt, added.aggregator.votes.high);
-    print(rt, b" ");
-    print_number(rt, added.aggregator.stake.0);
+    print(rt, b" with ")?;
+    print_number(rt, added.aggregator.votes.low)?;
+    print(rt, b" ")?;
+    print_number(rt, added.aggregator.votes.high)?;
+    print(rt, b" ")?;
+    print_number(rt, added.aggregator.stake.0)
 }
 
-fn vote(rt: &impl Print, card: &[u8], stakes: &[u64], aggregator: StakeAggregator, voter: u64) {
-    print(rt, card);
-    print(rt, b": by value ");
-    print_added(rt, aggregator.add(stakes, AuthorityIndex(voter)));
-    print(rt, b"; lent ");
+fn vote(
+    rt: &impl Print,
+    card: &[u8],
+    stakes: &[u64],
+    aggregator: StakeAggregator,
+    voter: u64,
+) -> io::Result<()> {
+    print(rt, card)?;
+    print(rt, b": by value ")?;
+    print_added(rt, aggregator.add(stakes, AuthorityIndex(voter)))?;
+    print(rt, b"; lent ")?;
     print_added(
         rt,
         committee_lent_add::add_lent(stakes, aggregator, AuthorityIndex(voter)),
-    );
-    print(rt, b"\n");
+    )?;
+    print(rt, b"\n")
 }
 
 fn aggregator(low: u64, stake: u64) -> StakeAggregator {
@@ -68,20 +75,20 @@ fn aggregator(low: u64, stake: u64) -> StakeAggregator {
     }
 }
 
-fn votes(rt: &impl Print) {
+fn votes(rt: &impl Print) -> io::Result<()> {
     let course = committee::course_committee();
-    vote(rt, b"a first vote", &course, aggregator(0, 0), 0);
+    vote(rt, b"a first vote", &course, aggregator(0, 0), 0)?;
     vote(
         rt,
         b"a vote that makes quorum",
         &course,
         aggregator(7, 11),
         6,
-    );
-    vote(rt, b"a repeated vote", &course, aggregator(7, 11), 1);
+    )?;
+    vote(rt, b"a repeated vote", &course, aggregator(7, 11), 1)
 }
 
-fn votes_with_quorum(rt: &impl Print) {
+fn votes_with_quorum(rt: &impl Print) -> io::Result<()> {
     let course = committee::course_committee();
     vote(
         rt,
@@ -89,45 +96,46 @@ fn votes_with_quorum(rt: &impl Print) {
         &course,
         aggregator(39, 12),
         6,
-    );
-    vote(rt, b"a repeated vote then", &course, aggregator(39, 12), 5);
+    )?;
+    vote(rt, b"a repeated vote then", &course, aggregator(39, 12), 5)
 }
 
-fn refused_votes(rt: &impl Print) {
+fn refused_votes(rt: &impl Print) -> io::Result<()> {
     let course = committee::course_committee();
     let none = [0u64; 0];
-    vote(rt, b"no committee", &none, aggregator(7, 11), 1);
-    vote(rt, b"a stake that is no sum", &course, aggregator(7, 12), 1);
-    vote(rt, b"an unknown voter", &course, aggregator(7, 11), 7);
+    vote(rt, b"no committee", &none, aggregator(7, 11), 1)?;
+    vote(rt, b"a stake that is no sum", &course, aggregator(7, 12), 1)?;
+    vote(rt, b"an unknown voter", &course, aggregator(7, 11), 7)
 }
 
 // ---- questions
 
-fn print_finality(rt: &impl Print, answer: FinalityAnswer, positions: &[u64; 4]) {
+fn print_finality(rt: &impl Print, answer: FinalityAnswer, positions: &[u64; 4]) -> io::Result<()> {
     match answer {
         FinalityAnswer::Final(count) => {
-            print(rt, b"final, blocks ");
-            print_number(rt, count);
+            print(rt, b"final, blocks ")?;
+            print_number(rt, count)?;
         }
         FinalityAnswer::NotFinal(count) => {
-            print(rt, b"not final, blocks ");
-            print_number(rt, count);
+            print(rt, b"not final, blocks ")?;
+            print_number(rt, count)?;
         }
-        FinalityAnswer::Refused(number) => print_refused(rt, number),
+        FinalityAnswer::Refused(number) => print_refused(rt, number)?,
     }
-    print(rt, b", first position ");
-    print_number(rt, positions[0]);
+    print(rt, b", first position ")?;
+    print_number(rt, positions[0])
 }
 
-fn print_next(rt: &impl Print, answer: NextFinalAnswer) {
+fn print_next(rt: &impl Print, answer: NextFinalAnswer) -> io::Result<()> {
     match answer {
         NextFinalAnswer::Found(locator) => {
-            print(rt, b"offset ");
-            print_number(rt, locator.offset);
+            print(rt, b"offset ")?;
+            print_number(rt, locator.offset)?;
         }
-        NextFinalAnswer::NoneLeft => print(rt, b"none"),
-        NextFinalAnswer::Refused(number) => print_refused(rt, number),
+        NextFinalAnswer::NoneLeft => print(rt, b"none")?,
+        NextFinalAnswer::Refused(number) => print_refused(rt, number)?,
     }
+    Ok(())
 }
 
 // An offset of the block of round 1.
@@ -140,64 +148,76 @@ fn share(offset: u64) -> TransactionLocator {
     TransactionLocator { block, offset }
 }
 
-fn finality(rt: &impl Print, card: &[u8], stakes: &[u64], store: &[u8], offset: u64) {
+fn finality(
+    rt: &impl Print,
+    card: &[u8],
+    stakes: &[u64],
+    store: &[u8],
+    offset: u64,
+) -> io::Result<()> {
     let locator = share(offset);
     let mut positions = [9u64; 4];
     let mut held = [9u64; 4];
-    print(rt, card);
-    print(rt, b": by value ");
+    print(rt, card)?;
+    print(rt, b": by value ")?;
     let answer = final_question::finality(stakes, store, &mut positions, locator);
-    print_finality(rt, answer, &positions);
-    print(rt, b"; held ");
+    print_finality(rt, answer, &positions)?;
+    print(rt, b"; held ")?;
     let again = final_interpreter::finality_held(stakes, store, &mut held, locator);
-    print_finality(rt, again, &held);
-    print(rt, b"\n");
+    print_finality(rt, again, &held)?;
+    print(rt, b"\n")
 }
 
-fn next_final(rt: &impl Print, card: &[u8], stakes: &[u64], store: &[u8], after: MaybeLocator) {
-    print(rt, card);
-    print(rt, b": by value ");
-    print_next(rt, list_next::next_final(stakes, store, after));
-    print(rt, b"; held ");
-    print_next(rt, final_interpreter::next_final_held(stakes, store, after));
-    print(rt, b"\n");
+fn next_final(
+    rt: &impl Print,
+    card: &[u8],
+    stakes: &[u64],
+    store: &[u8],
+    after: MaybeLocator,
+) -> io::Result<()> {
+    print(rt, card)?;
+    print(rt, b": by value ")?;
+    print_next(rt, list_next::next_final(stakes, store, after))?;
+    print(rt, b"; held ")?;
+    print_next(rt, final_interpreter::next_final_held(stakes, store, after))?;
+    print(rt, b"\n")
 }
 
-fn print_fed(rt: &impl Print, answer: FeedAnswer) {
+fn print_fed(rt: &impl Print, answer: FeedAnswer) -> io::Result<()> {
     match answer {
         FeedAnswer::Events(count) => {
-            print(rt, b"fed, events ");
-            print_number(rt, count);
+            print(rt, b"fed, events ")?;
+            print_number(rt, count)?;
         }
-        FeedAnswer::Refused(number) => print_refused(rt, number),
+        FeedAnswer::Refused(number) => print_refused(rt, number)?,
     }
-    print(rt, b"\n");
+    print(rt, b"\n")
 }
 
-fn ask(rt: &impl Print, stakes: &[u64], store: &[u8], broken: &[u8]) {
-    finality(rt, b"the first share", stakes, store, 0);
-    finality(rt, b"no share", stakes, store, 2);
-    finality(rt, b"no store", stakes, broken, 0);
-    next_final(rt, b"from the start", stakes, store, MaybeLocator::Nothing);
+fn ask(rt: &impl Print, stakes: &[u64], store: &[u8], broken: &[u8]) -> io::Result<()> {
+    finality(rt, b"the first share", stakes, store, 0)?;
+    finality(rt, b"no share", stakes, store, 2)?;
+    finality(rt, b"no store", stakes, broken, 0)?;
+    next_final(rt, b"from the start", stakes, store, MaybeLocator::Nothing)?;
     next_final(
         rt,
         b"after the first share",
         stakes,
         store,
         MaybeLocator::Locator(share(0)),
-    );
+    )?;
     next_final(
         rt,
         b"after the last",
         stakes,
         store,
         MaybeLocator::Locator(share(1)),
-    );
-    next_final(rt, b"no store", stakes, broken, MaybeLocator::Nothing);
+    )?;
+    next_final(rt, b"no store", stakes, broken, MaybeLocator::Nothing)
 }
 
 // A sole owner's block of round 0, and one of round 1 that includes it and has two shares.
-fn questions(rt: &impl Print) {
+fn questions(rt: &impl Print) -> io::Result<()> {
     let one = [1u64; 1];
     let mut store = [0u8; 512];
     store[4] = 16;
@@ -215,7 +235,7 @@ fn questions(rt: &impl Print) {
     print_fed(
         rt,
         feed_single::feed(&one, &mut store, &mut table, &mut work, &mut events, &first),
-    );
+    )?;
     print_fed(
         rt,
         feed_single::feed(
@@ -226,13 +246,13 @@ fn questions(rt: &impl Print) {
             &mut events,
             &second,
         ),
-    );
-    ask(rt, &one, &store, &first);
+    )?;
+    ask(rt, &one, &store, &first)
 }
 
-fn main(rt: HostRuntime) {
-    votes(&rt);
-    votes_with_quorum(&rt);
-    refused_votes(&rt);
-    questions(&rt);
+fn main(rt: HostRuntime) -> io::Result<()> {
+    votes(&rt)?;
+    votes_with_quorum(&rt)?;
+    refused_votes(&rt)?;
+    questions(&rt)
 }

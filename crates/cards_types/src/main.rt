@@ -7,13 +7,14 @@ ghost use Rattle.record_spec.specs.Record.{well_formed};
 
 use committee::NewCommittee;
 use record_shared_ranges::SharedRange;
+use std::io;
 
-fn print(rt: &impl Print, text: &[u8]) {
-    let _ = rt.write_all(text);
+fn print(rt: &impl Print, text: &[u8]) -> io::Result<()> {
+    rt.write_all(text)
 }
 
-fn print_number(rt: &impl Print, n: u64) {
-    let _ = rt.print(n);
+fn print_number(rt: &impl Print, n: u64) -> io::Result<()> {
+    rt.print(n)
 }
 
 // The first refusal of a record by itself, or 0.
@@ -32,17 +33,18 @@ fn verify(stakes: &[u64], rec: &[u8]) -> u64 {
 }
 
 // A line of a card on a record.
-fn judge(rt: &impl Print, card: &[u8], rec: &[u8]) {
+fn judge(rt: &impl Print, card: &[u8], rec: &[u8]) -> io::Result<()> {
     let sole = [1u64];
-    print(rt, card);
+    print(rt, card)?;
     let refused = verify(&sole, rec);
     if refused == 0 {
-        print(rt, b": taken\n");
+        print(rt, b": taken\n")?;
     } else {
-        print(rt, b": refused ");
-        print_number(rt, refused);
-        print(rt, b"\n");
+        print(rt, b": refused ")?;
+        print_number(rt, refused)?;
+        print(rt, b"\n")?;
     }
+    Ok(())
 }
 
 // At how many lengths a record that is cut is well formed.
@@ -58,15 +60,15 @@ fn formed_lengths(rec: &[u8]) -> u64 {
     formed
 }
 
-fn print_run(rt: &impl Print, start: u64, end: u64) {
-    print(rt, b" ");
-    print_number(rt, start);
-    print(rt, b"..");
-    print_number(rt, end);
+fn print_run(rt: &impl Print, start: u64, end: u64) -> io::Result<()> {
+    print(rt, b" ")?;
+    print_number(rt, start)?;
+    print(rt, b"..")?;
+    print_number(rt, end)
 }
 
 // Its runs of shares.
-fn print_runs(rt: &impl Print, rec: &[u8])
+fn print_runs(rt: &impl Print, rec: &[u8]) -> io::Result<()>
     requires { well_formed rec.now ≡ true }
 {
     let mut cursor = record_cursor::first_statement(rec);
@@ -74,16 +76,16 @@ fn print_runs(rt: &impl Print, rec: &[u8])
         let SharedRange::Run(start, end, next) = record_shared_ranges::next_shared_range(
             rec, cursor,
         ) else {
-            return;
+            return Ok(());
         };
-        print_run(rt, start, end);
+        print_run(rt, start, end)?;
         cursor = next;
     }
 }
 
-fn malformed(rt: &impl Print) {
+fn malformed(rt: &impl Print) -> io::Result<()> {
     let none = [0u8; 0];
-    judge(rt, b"no bytes", &none);
+    judge(rt, b"no bytes", &none)?;
     let mut mark = [0u8; 56];
     mark[0] = 1;
     mark[48] = 2;
@@ -91,59 +93,59 @@ fn malformed(rt: &impl Print) {
         rt,
         b"an epoch mark of 2, and an author that is not known",
         &mark,
-    );
+    )?;
     let mut zero = [0u8; 56];
     zero[55] = 1;
-    judge(rt, b"a byte that is not zero", &zero);
+    judge(rt, b"a byte that is not zero", &zero)?;
     let mut includes = [0u8; 12392];
     includes[49] = 1;
     includes[50] = 1;
-    judge(rt, b"257 includes", &includes);
+    judge(rt, b"257 includes", &includes)?;
     let mut statements = [0u8; 3131];
     statements[51] = 1;
     statements[52] = 4;
-    judge(rt, b"1025 shares", &statements);
+    judge(rt, b"1025 shares", &statements)?;
     let mut kind = [0u8; 59];
     kind[51] = 1;
     kind[56] = 4;
-    judge(rt, b"a statement of kind 4", &kind);
+    judge(rt, b"a statement of kind 4", &kind)?;
     let mut reject = [0u8; 114];
     reject[51] = 1;
     reject[56] = 2;
     reject[113] = 2;
-    judge(rt, b"a reject with a byte of 2", &reject);
+    judge(rt, b"a reject with a byte of 2", &reject)?;
     let after = [0u8; 57];
-    judge(rt, b"a byte after the record", &after);
+    judge(rt, b"a byte after the record", &after)
 }
 
-fn heads(rt: &impl Print) {
+fn heads(rt: &impl Print) -> io::Result<()> {
     let mut rec = [0u8; 56];
-    judge(rt, b"round 0", &rec);
+    judge(rt, b"round 0", &rec)?;
     rec[0] = 1;
-    judge(rt, b"an author that is not known", &rec);
+    judge(rt, b"an author that is not known", &rec)?;
     let mut includes = [0u8; 12344];
     includes[50] = 1;
-    judge(rt, b"round 0 with 256 includes", &includes);
+    judge(rt, b"round 0 with 256 includes", &includes)?;
     let mut statements = [0u8; 3128];
     statements[52] = 4;
-    judge(rt, b"round 0 with 1024 shares", &statements);
+    judge(rt, b"round 0 with 1024 shares", &statements)
 }
 
-fn includes(rt: &impl Print) {
+fn includes(rt: &impl Print) -> io::Result<()> {
     let mut alone = [0u8; 56];
     alone[8] = 1;
-    judge(rt, b"round 1 with no include", &alone);
+    judge(rt, b"round 1 with no include", &alone)?;
     let mut rec = [0u8; 104];
     rec[8] = 1;
     rec[49] = 1;
-    judge(rt, b"round 1 over round 0", &rec);
+    judge(rt, b"round 1 over round 0", &rec)?;
     rec[64] = 1;
-    judge(rt, b"round 1 over round 1", &rec);
+    judge(rt, b"round 1 over round 1", &rec)?;
     rec[56] = 1;
-    judge(rt, b"the same, by an author that is not known", &rec);
+    judge(rt, b"the same, by an author that is not known", &rec)
 }
 
-fn ranges(rt: &impl Print) {
+fn ranges(rt: &impl Print) -> io::Result<()> {
     let mut rec = [0u8; 169];
     rec[8] = 1;
     rec[49] = 1;
@@ -152,22 +154,22 @@ fn ranges(rt: &impl Print) {
     rec[161] = 255;
     rec[162] = 255;
     rec[163] = 15;
-    judge(rt, b"0..1048575", &rec);
+    judge(rt, b"0..1048575", &rec)?;
     rec[161] = 0;
     rec[162] = 0;
     rec[163] = 16;
-    judge(rt, b"0..1048576", &rec);
+    judge(rt, b"0..1048576", &rec)?;
     rec[153] = 1;
     rec[155] = 16;
-    judge(rt, b"1048577..1048576", &rec);
+    judge(rt, b"1048577..1048576", &rec)?;
     rec[163] = 0;
     rec[161] = 4;
     rec[155] = 0;
     rec[153] = 5;
-    judge(rt, b"5..4", &rec);
+    judge(rt, b"5..4", &rec)
 }
 
-fn accepts(rt: &impl Print) {
+fn accepts(rt: &impl Print) -> io::Result<()> {
     let mut rec = [0u8; 161];
     rec[8] = 1;
     rec[49] = 1;
@@ -181,30 +183,30 @@ fn accepts(rt: &impl Print) {
     rec[158] = 255;
     rec[159] = 255;
     rec[160] = 255;
-    judge(rt, b"an accept at 2^64 - 2", &rec);
+    judge(rt, b"an accept at 2^64 - 2", &rec)?;
     rec[153] = 255;
-    judge(rt, b"an accept at 2^64 - 1", &rec);
-    print(rt, b"the same, cut at each length: well formed at ");
-    print_number(rt, formed_lengths(&rec));
-    print(rt, b"\n");
+    judge(rt, b"an accept at 2^64 - 1", &rec)?;
+    print(rt, b"the same, cut at each length: well formed at ")?;
+    print_number(rt, formed_lengths(&rec))?;
+    print(rt, b"\n")
 }
 
-fn runs(rt: &impl Print) {
+fn runs(rt: &impl Print) -> io::Result<()> {
     let mut rec = [0u8; 122];
     rec[51] = 4;
     rec[62] = 1;
-    print(rt, b"shares at 0, 1, 3:");
+    print(rt, b"shares at 0, 1, 3:")?;
     if record_reader::well_formed(&rec) {
-        print_runs(rt, &rec);
+        print_runs(rt, &rec)?;
     }
-    print(rt, b"\n");
+    print(rt, b"\n")
 }
 
-fn main(rt: HostRuntime) {
-    malformed(&rt);
-    heads(&rt);
-    includes(&rt);
-    ranges(&rt);
-    accepts(&rt);
-    runs(&rt);
+fn main(rt: HostRuntime) -> io::Result<()> {
+    malformed(&rt)?;
+    heads(&rt)?;
+    includes(&rt)?;
+    ranges(&rt)?;
+    accepts(&rt)?;
+    runs(&rt)
 }

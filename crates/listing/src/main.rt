@@ -3,7 +3,9 @@
 #![tactic(auto)]
 
 use list_readings_spec::FinalList;
+use std::process::ExitCode;
 
-fn main(rt: HostRuntime) {
-    listing_run::listing(&rt, &mut rt.stdin(), b"stakes", FinalList::Ordinary);
+fn main(rt: HostRuntime) -> ExitCode {
+    let failed = listing_run::listing(&rt, &mut rt.stdin(), b"stakes", FinalList::Ordinary);
+    ExitCode::from(u8::from(failed))
 }

@@ -116,6 +116,17 @@ pub fn open<R: Files>(rt: &R, name: &[u8]) -> io::Result<R::File> {
     }
 }
 
+// Writes bytes to standard output; whether that failed, which standard error is told.
+pub fn write_failed<R: Print + Eprint>(rt: &R, bytes: &[u8]) -> bool {
+    match rt.write_all(bytes) {
+        Ok(()) => false,
+        Err(error) => {
+            fail(rt, b"standard output", error);
+            true
+        }
+    }
+}
+
 // Writes a line to standard error: what failed, a colon and why.
 pub fn fail(rt: &impl Eprint, what: &[u8], error: io::Error) {
     for chunk in what.utf8_chunks() {

@@ -27,20 +27,15 @@ const RECORD_BYTES: usize = 8192;
 fn write_failed<R: Print + Eprint>(rt: &R, out: &[u8], n: usize) -> bool
     requires { n ≤ length out.now }
 {
-    match rt.write_all(&out[..n]) {
-        Ok(()) => false,
-        Err(error) => {
-            listing_io::fail(rt, b"standard output", error);
-            true
-        }
-    }
+    listing_io::write_failed(rt, &out[..n])
 }
 
-// The records so far, and whether reading or writing failed.
+// The records so far, whether reading or writing failed, and whether it was writing.
 #[derive(Clone, Copy)]
 struct Records {
     fed: Fed,
     failed: bool,
+    unwritten: bool,
 }
 
 // Reads what stands next, feeds it, and writes its lines.
@@ -61,12 +56,20 @@ fn next_record<R: Print + Eprint, I: Read>(
     let next = listing_io::read_record(input, &mut rec);
     if let Some(error) = next.failed {
         listing_io::fail(rt, b"standard input", error);
-        return Records { fed, failed: true };
+        return Records {
+            fed,
+            failed: true,
+            unwritten: false,
+        };
     }
     let size = next.size;
     let after = listing_feed_steps::step(stakes, store, table, size, &rec, out, fed);
     let failed = write_failed(rt, out, after.put);
-    Records { fed: after, failed }
+    Records {
+        fed: after,
+        failed,
+        unwritten: failed,
+    }
 }
 
 // Reads and feeds every record. The count of turns only makes the loop end: no input has so many records.
@@ -101,7 +104,11 @@ fn feed_all<R: Print + Eprint, I: Read>(
         }
         turn += 1;
     }
-    Records { fed, failed: true }
+    Records {
+        fed,
+        failed: true,
+        unwritten: false,
+    }
 }
 
 // Writes the lines of a stretch; whether that failed.
@@ -185,19 +192,19 @@ fn print_list<R: Print + Eprint>(
     }
 }
 
-// Feeds all records from a fresh store and a table of zeros, then writes the list and the counts.
-fn run<R: Print + Eprint, I: Read>(rt: &R, input: &mut I, stakes: &[u64], list: FinalList) {
+// Feeds all records from a fresh store and a table of zeros, then writes the list and the counts; whether writing failed.
+fn run<R: Print + Eprint, I: Read>(rt: &R, input: &mut I, stakes: &[u64], list: FinalList) -> bool {
     let mut store = [0u8; STORE_BYTES];
     let mut table = [0u64; TABLE_WORDS];
     let mut out = [0u8; listing_feed_steps::LINES_BYTES];
     listing_lent::fresh_store(&mut store);
     let records = feed_all(rt, input, stakes, &mut store, &mut table, &mut out);
     if records.failed {
-        return;
+        return records.unwritten;
     }
     let listed = print_list(rt, stakes, &store, &mut out, list);
     if listed.failed {
-        return;
+        return true;
     }
     let fed = records.fed;
     let n = listing_counts::put_counts(
@@ -208,28 +215,28 @@ fn run<R: Print + Eprint, I: Read>(rt: &R, input: &mut I, stakes: &[u64], list: 
         fed.processed,
         listed.finals,
     );
-    write_failed(rt, &out, n);
+    write_failed(rt, &out, n)
 }
 
-// A refused committee has its line and an end of zeros.
-fn refuse<R: Print + Eprint>(rt: &R, number: u64) {
+// A refused committee has its line and an end of zeros; whether writing them failed.
+fn refuse<R: Print + Eprint>(rt: &R, number: u64) -> bool {
     let mut out = [0u8; 256];
     let n = listing_counts::put_refusal(&mut out, number);
-    write_failed(rt, &out, n);
+    write_failed(rt, &out, n)
 }
 
-// Reads an input and writes its lines; `file` names the file of stakes, which the member count 255 asks for.
+// Reads an input and writes its lines; `file` names the file of stakes, which the member count 255 asks for. Says whether writing failed.
 pub fn listing<R: Files + Print + Eprint, I: Read>(
     rt: &R,
     input: &mut I,
     file: &[u8],
     list: FinalList,
-) {
+) -> bool {
     let mut stakes = [0u64; 254];
     let read = listing_stakes::read_committee(rt, input, file, &mut stakes);
     if let Some(error) = read.failed {
         listing_io::fail(rt, b"standard input", error);
-        return;
+        return false;
     }
     let answer = read.answer;
     match answer {

@@ -2,7 +2,9 @@
 #![tactic(auto)]
 
 use list_readings_spec::FinalList;
+use std::process::ExitCode;
 
-fn main(rt: HostRuntime) {
-    listing_files::run_arguments(&rt, FinalList::Ordinary);
+fn main(rt: HostRuntime) -> ExitCode {
+    let failed = listing_files::run_arguments(&rt, FinalList::Ordinary);
+    ExitCode::from(u8::from(failed))
 }

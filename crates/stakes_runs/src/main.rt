@@ -1,7 +1,10 @@
 // Prints the listing of one input whose member count is 255: with the file `stakes`, then with each file that its arguments name.
 #![tactic(auto)]
 
-fn main(rt: HostRuntime) {
-    listing_files::run_file(&rt, b"input.bin");
-    listing_files::run_tables(&rt, b"input.bin");
+use std::process::ExitCode;
+
+fn main(rt: HostRuntime) -> ExitCode {
+    let failed = listing_files::run_file(&rt, b"input.bin")
+        || listing_files::run_tables(&rt, b"input.bin");
+    ExitCode::from(u8::from(failed))
 }

@@ -12,17 +12,17 @@ loop-turn-init g c = λ o. going_start _ _
 pub returns-then-listed : goal.returns-then-listed
 returns-then-listed g c = λ e o.
     let more : c.ask-asked.result.more ≡ false =
-        elim c.then-listed.branch [
-          then-listed-via-then-listed w ↦ cc (w.if-listed.true, e)
-        | then-listed-via-else-listed+then-not-asked w ↦ not-true c.ask-asked.result.more w.if-not-asked.true
-        ] in
+    elim c.then-listed.branch [
+      | then-listed-via-then-listed w ↦ cc (w.if-listed.true, e)
+      | then-listed-via-else-listed+then-not-asked w ↦ not-true c.ask-asked.result.more w.if-not-asked.true
+    ] in
     rw c.wrapping_add_u64-finals.ensures.value
     (going_end _ _ _ _ _ _ _ _ (rw o at c.ask-asked.ensures.result_value) (rw o at c.ask-asked.ensures.stretches_after)
-        (c.loop-turn.invariant o) (c.print_stretches-listed.ensures e) more)
+    (c.loop-turn.invariant o) (c.print_stretches-listed.ensures e) more)
 
 pub loop-turn-preserved : goal.loop-turn-preserved
 loop-turn-preserved g c = λ o.
     let more : c.ask-asked.result.more ≡ true = not-false c.ask-asked.result.more c.if-not-asked.false in
     rw (c.wrapping_add_u64-finals.ensures.value, c.last_locator-after.ensures)
     (going_on _ _ _ _ _ _ _ _ (rw o at c.ask-asked.ensures.result_value) (rw o at c.ask-asked.ensures.stretches_after)
-        (c.loop-turn.invariant o) (c.print_stretches-listed.ensures c.if-listed.false) more)
+    (c.loop-turn.invariant o) (c.print_stretches-listed.ensures c.if-listed.false) more)
