@@ -1,4 +1,6 @@
 // Feeding many records with one call: the lent memory is checked once. Follows committee.rs (`TransactionAggregator`) and block_store.rs.
+#![tactic(auto)]
+
 ghost use Rattle.std.specs.Prelude.{◌≡◌, ◌≤◌, ◌<◌, length};
 ghost use Rattle.feed_spec.specs.Feed.{feed, lent_of};
 ghost use Rattle.feed_frames.specs.Frames.{records_in};
