@@ -1,4 +1,6 @@
 // A certifying block of a slip with its voters: its form, and what it shows.
+#![tactic(auto)]
+
 ghost use Rattle.std.specs.Prelude.{◌≤◌, ◌≡◌, false, length};
 ghost use Rattle.std.proofs.Math.Option.{Option};
 ghost use Rattle.committee.specs.Committee.{total_stake, broken, is_quorum};
