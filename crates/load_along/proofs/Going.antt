@@ -46,6 +46,7 @@ keep_fewer p q (x ∷ xs) f = go (p x) refl (q x) refl (keep_fewer p q xs f)
 keep_less : {A : Type 0} (p q : A → Bool) (xs : List A) → ((x : A) → q x ≡ true → p x ≡ true) → {x : A} → x ∈ xs → p x ≡ true → q x ≡ false → length
     (keep q xs) < length (keep p xs)
 unfolding keep
+keep_less {A = A} p q [] f x6 h k = elim x6 [ ]
 keep_less p q (x ∷ xs) f here h k = rw (h, k) (let e = keep_fewer p q xs f in omega arith)
 keep_less p q (y ∷ xs) f (there m) h k = go (p y) refl (q y) refl (keep_less p q xs f m h k)
   where

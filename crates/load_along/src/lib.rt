@@ -1,4 +1,6 @@
 // The ordinary list, of the final stored shares, gone along stretch by stretch with one sweep over the edges.
+#![tactic(auto)]
+
 ghost use Rattle.std.specs.Prelude.{◌≡◌, ℕ, get_or};
 ghost use Rattle.final_readings_spec.specs.Readings.{Reading as ReadAs};
 ghost use Rattle.final_readings_spec.specs.Answers.{as_reading};
