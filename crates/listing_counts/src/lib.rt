@@ -1,4 +1,6 @@
 // How many offsets of a table are pending, and the lines that counts stand in: the last one, and those of a refused committee.
+#![tactic(auto)]
+
 ghost use Rattle.std.specs.Prelude.{◌≡◌, ◌%◌, ◌^◌, ◌≤◌, ◌++◌, length};
 ghost use Rattle.pending_spec.specs.Table.{HoldsItems, items_of};
 ghost use Rattle.listing_text.specs.Text.{Wrote};
