@@ -1,4 +1,6 @@
 // Feeding a record with the index beside the store: one call over the committee and all lent memory.
+#![tactic(auto)]
+
 ghost use Rattle.std.specs.Prelude.{◌≡◌};
 ghost use Rattle.feed_spec.specs.Feed.{lent_of};
 ghost use Rattle.feed_single.specs.Answers.{as_feed_answer};
