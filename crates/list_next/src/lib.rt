@@ -1,4 +1,6 @@
 // The next locator of a list of final ones: of the ordinary list and of the wide one, in either reading of a reject. Follows finalization_interpreter.rs.
+#![tactic(auto)]
+
 ghost use Rattle.std.specs.Prelude.{◌≡◌, true, false};
 ghost use Rattle.final_spec.specs.NextFinal.{next_final};
 ghost use Rattle.list_ordinary_spec.specs.FinalShares.{next_final_share};

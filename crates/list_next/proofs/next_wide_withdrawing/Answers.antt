@@ -1,0 +1,7 @@
+use Rattle.final_readings_spec.specs.Answers.{as_reading}
+use Rattle.list_readings_spec.specs.Answers.{is_ordinary}
+use Rattle.list_next.proofs.next_wide_withdrawing.Goals as goal
+
+pub returns : goal.returns
+unfolding is_ordinary as_reading
+returns c = c.next_listed.ensures
