@@ -1,5 +1,7 @@
 // Weekly windows in which quarries fire: definitions, what the answers of `blast_calendar` mean, the second of the week of a time, and the
 // first one that lies in no window.
+#![tactic(auto)]
+
 ghost use Rattle.std.specs.Prelude.{◌≡◌, true};
 ghost use Rattle.base.specs.Lists.{pick};
 ghost use Rattle.calendar_windows.specs.Calendar.{windows, within, good_calendar, week_second};
