@@ -1,4 +1,6 @@
 // What one record of our own takes: how many statements are written, and its bytes. Follows types.rs.
+#![tactic(auto)]
+
 ghost use Rattle.std.specs.Prelude.{◌≡◌, true, ℕ};
 ghost use Rattle.draft_spec.specs.Draft.{draft_in};
 ghost use Rattle.draft_joined.specs.Step.{joined_from};
