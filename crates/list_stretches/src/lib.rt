@@ -1,4 +1,6 @@
 // A slice filled with the stretches of a list of final locators, by one sweep over the edges.
+#![tactic(auto)]
+
 ghost use Rattle.std.specs.Prelude.{◌≡◌, List, ℕ, length};
 ghost use Rattle.base.specs.Checks.{answered};
 ghost use Rattle.final_spec.specs.Finality.{blocks_of};
