@@ -1,4 +1,6 @@
 // A word for each stored block that marks a share of it by the offset and one more, and is taken away where a stretch covers the share.
+#![tactic(auto)]
+
 ghost use Rattle.std.specs.Prelude.{◌≡◌, true, ◌≤◌, length};
 ghost use Rattle.record_spec.specs.Reference.{locators};
 ghost use Rattle.types.specs.Values.{as_range, as_reference};
