@@ -1,4 +1,6 @@
 // The lines of a stretch of final locators.
+#![tactic(auto)]
+
 ghost use Rattle.std.specs.Prelude.{◌+◌, ◌<◌};
 ghost use Rattle.listing_final_lines.specs.Lines.{PutLines};
 
