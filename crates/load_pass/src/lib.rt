@@ -1,4 +1,6 @@
 // The ordinary list gone along, and its loadable shares listed.
+#![tactic(auto)]
+
 ghost use Rattle.std.specs.Prelude.{◌≡◌, true, ◌*◌, ◌≤◌, length};
 ghost use Rattle.types.specs.Values.{as_range, as_reference};
 ghost use Rattle.store_spec.specs.Layout.{entries, position_of, lookup};
