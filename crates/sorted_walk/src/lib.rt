@@ -1,4 +1,6 @@
 // A sorted list of locators answered with the index: the form of the list (62), and one step for each stored block in order of arrival.
+#![tactic(auto)]
+
 ghost use Rattle.std.specs.Prelude.{◌≡◌, true, false, map, ◌*◌, ◌≤◌, length, replicate};
 ghost use Rattle.base.specs.Lists.{holds};
 ghost use Rattle.committee.specs.Committee.{broken, total_stake};
