@@ -1,4 +1,6 @@
 // The lists of final locators in bulk, the ordinary and the wide one, in either reading of a reject: stretches of locators that have the same certifying blocks.
+#![tactic(auto)]
+
 ghost use Rattle.std.specs.Prelude.{◌≡◌, true, false};
 ghost use Rattle.base.specs.Checks.{answered};
 ghost use Rattle.final_spec.specs.Finality.{blocks_of};
