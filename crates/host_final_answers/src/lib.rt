@@ -1,4 +1,6 @@
 // How the questions about the lists cross: where they go on, the room that they are lent, and their answers as one word.
+#![tactic(auto)]
+
 ghost use Rattle.std.specs.Prelude.{◌≡◌, eqb, length};
 ghost use Rattle.list_next.specs.Answers.{as_next_final};
 ghost use Rattle.list_stretch_bytes.specs.Answers.{as_stretches};
