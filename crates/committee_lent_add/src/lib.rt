@@ -1,4 +1,6 @@
 // Plain calls of the forms over a reference, for callers that hold values.
+#![tactic(auto)]
+
 ghost use Rattle.std.specs.Prelude.{◌≡◌};
 ghost use Rattle.committee_aggregator.specs.StakeAggregator.{add};
 ghost use Rattle.committee_aggregator.specs.Answers.{as_aggregator, as_added};
