@@ -1,4 +1,6 @@
 // The interpreter that holds the store it reads, as the Rust's `FinalizationInterpreter` does: thin functions over the covered questions.
+#![tactic(auto)]
+
 ghost use Rattle.std.specs.Prelude.{◌≡◌};
 ghost use Rattle.types.specs.Values.{as_locator};
 ghost use Rattle.final_spec.specs.Finality.{finality};
