@@ -1,4 +1,6 @@
 // The parts of one record of our own written: its front, counts, edition and time, and statements. Follows types.rs.
+#![tactic(auto)]
+
 ghost use Rattle.std.specs.Prelude.{◌≡◌, true, ◌+◌, ◌≤◌, length};
 ghost use Rattle.std.proofs.lemmas.List.Edits.{sets};
 ghost use Rattle.record_spec.specs.Record.{time_bytes};
