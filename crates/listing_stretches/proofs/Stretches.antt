@@ -1,11 +1,9 @@
 -- Stretches from their bytes: the head of a digest from its first word, and the last locator. Assumes nothing.
 use mathlib.Core.Path.{◌≡◌, refl, sym, ap, ◌∙◌}
-use mathlib.Core.List.{reverse}
 use mathlib.Core.Option.{Option, some}
 use Prim.Native.Nat.{ℕ, zero, suc, ◌+◌, ◌-◌, ◌*◌, ◌/◌, ◌<◌}
 use native.Mathlib.Omega.{arith}
-use lib.ListN.{take}
-use Rattle.base.specs.Le.{Bytes, le_number, le_bytes, le_at}
+use Rattle.base.specs.Le.{Bytes, le_bytes, le_at}
 use Rattle.base.proofs.Le.{le_number_le_bytes}
 use Rattle.record_spec.specs.Reference.{TransactionLocator, locator}
 use Rattle.types.specs.Values.{be_bytes, digest_bytes, as_reference, as_locator}

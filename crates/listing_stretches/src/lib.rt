@@ -1,4 +1,6 @@
 // The stretches of a list in bulk, read from the 80 bytes of each: author, round, digest, first offset, end, certifying blocks, stake.
+#![tactic(auto)]
+
 ghost use Rattle.std.specs.Prelude.{◌≡◌, ◌+◌, ◌-◌, ◌*◌, ◌≤◌, length};
 ghost use Rattle.list_after.specs.Answers.{as_maybe};
 ghost use Rattle.listing_stretches.specs.Stretches.{ReadStretch, last_of};
