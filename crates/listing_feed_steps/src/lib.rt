@@ -1,4 +1,6 @@
 // The records of an input of `listing`, one at a time: what stands next is fed, its lines are put, and it is counted.
+#![tactic(auto)]
+
 ghost use Rattle.std.specs.Prelude.{◌*◌, ◌≤◌, length};
 ghost use Rattle.listing_io.specs.Sizes.{size_at_most};
 ghost use Rattle.listing_spec.specs.Output.{framed, refused_with, accepted_with, told};
