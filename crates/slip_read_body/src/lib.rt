@@ -1,4 +1,6 @@
 // The certifying blocks of a slip one after the other, and what the slip shows.
+#![tactic(auto)]
+
 ghost use Rattle.std.specs.Prelude.{◌+◌, ◌≤◌, ◌≡◌, true, ◌||◌, eqb, length};
 ghost use Rattle.record_spec.specs.Reference.{reference_before};
 ghost use Rattle.record_reference_bytes.specs.Step.{reference_at};
