@@ -1,4 +1,6 @@
 // The final list asked for, as many stretches at a time as there is room for.
+#![tactic(auto)]
+
 ghost use Rattle.std.specs.Prelude.{◌≡◌, ◌*◌, ◌≤◌, length};
 ghost use Rattle.final_readings_spec.specs.Readings.{old};
 ghost use Rattle.list_readings_spec.specs.Answers.{is_ordinary};

@@ -9,30 +9,16 @@ use Rattle.list_readings_spec.specs.Lists.{listing, listed_stretches}
 use Rattle.list_after.specs.Answers.{as_maybe}
 use Rattle.listing_final_steps.specs.Steps.{given_in, given_by}
 use Rattle.listing_final_steps.proofs.Steps.{few_given}
-use borrow.Author.Rules.{rules}
-use Rattle.listing_final_steps.proofs.ask.Statement.{statement}
-use Rattle.listing_final_steps.proofs.ask.Tie as tie
+use Rattle.listing_final_steps.proofs.ask.Goals as goal
 
-list-stretches-requires : tie.Need-list-stretches-requires
-list-stretches-requires c κs = search rules
-
-told-requires : tie.Need-told-requires
-told-requires c κs = search rules
-
-same_length : tie.Need-same-length
-same_length c = search rules
-
-returns : tie.Need-returns
+pub returns : goal.returns
 unfolding given_in as_reading
 returns c =
-    let start = c.before.before.before.before.before.before.before.before.args in
-    let ls = c.before.before.before.list-stretches.ensures in
+    let start = c.args in
+    let ls = c.list_stretches-answer.ensures in
     let given : given_in c.told.result ≡ given_by (listed_stretches (is_ordinary start.list) old start.stakes.now start.store.now
     start.stretches.now (as_maybe start.after)).answer =
-    c.told.ensures ∙ ap given_by ls.0 in
+    c.told.ensures ∙ ap given_by ls.result_value in
     let few = few_given start.stakes.now start.store.now (listing (is_ordinary start.list) old start.stakes.now (blocks_of start.store.now))
     start.stretches.now (as_maybe start.after) in
-    (given, (ls.1, omega (arith, ap (λ (g : Given). g.stretches) given, few)))
-
-pub ask-spec : {M : Type 1} → statement M
-ask-spec = tie.close (tie.spec list-stretches-requires told-requires same_length returns)
+    record { result_value = given; stretches_after = ls.out_after; count_in_bounds = omega (arith, ap (λ (g : Given). g.stretches) given, few) }
