@@ -1,4 +1,6 @@
 // The bytes of a slip, over the front of a slice: of the certifying blocks of a table, each with all its voters by the shortest, then first, path.
+#![tactic(auto)]
+
 ghost use Rattle.std.specs.Prelude.{◌≡◌, ◌*◌, ◌≤◌, length};
 ghost use Rattle.types.specs.Values.{as_locator};
 ghost use Rattle.final_block_votes.specs.Walk.{SortedStore};
