@@ -1,4 +1,6 @@
 // Whom to ring so that a change gets its quorum: the owners of largest stake first, until the votes hold quorum.
+#![tactic(auto)]
+
 ghost use Rattle.std.specs.Prelude.{◌≡◌, true, false};
 ghost use Rattle.committee.specs.Committee.{total_stake, is_quorum, broken};
 ghost use Rattle.committee_set.specs.AuthoritySet.{united, set_of, stake_of};
