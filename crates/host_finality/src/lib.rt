@@ -1,4 +1,6 @@
 // The finality question of a host, over byte slices, in either reading.
+#![tactic(auto)]
+
 ghost use Rattle.std.specs.Prelude.{◌≡◌, length};
 ghost use Rattle.final_question.specs.Answers.{as_finality};
 ghost use Rattle.final_readings_spec.specs.Answers.{as_reading};
