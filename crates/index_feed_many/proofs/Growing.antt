@@ -1,7 +1,7 @@
 -- One feed with the index of memory in order: what is told of it, and that memory is in order and the parts are known again. Assumes nothing.
 use mathlib.Core.Path.{◌≡◌, refl, sym, ap, subst, ◌∙◌}
 use mathlib.Core.Bool.{Bool, true, false}
-use mathlib.Core.List.{List, [], ◌∷◌, map}
+use mathlib.Core.List.{List, ◌∷◌, map}
 use mathlib.Core.Option.{Option, none, some}
 use Prim.Native.Nat.{ℕ, ◌+◌, ◌*◌, ◌^◌, ◌≤◌, ◌<◌}
 use native.Mathlib.Omega.{arith}
@@ -9,7 +9,7 @@ use lib.ListN.{length, get_or, take}
 use lib.Seq.{length-take-le}
 use Rattle.base.specs.Lists.{pick}
 use Rattle.base.specs.Le.{Bytes, le_at}
-use Rattle.base.specs.Checks.{refusal, passes, Answer, refused, answered}
+use Rattle.base.specs.Checks.{refusal, passes, refused, answered}
 use Rattle.base.proofs.Le.{AllBytes}
 use Rattle.base.proofs.Tests.{and_left}
 use Rattle.base.proofs.Checks.{passes_first, passes_others}
@@ -20,11 +20,11 @@ use Rattle.store_spec.specs.Layout.{Record, read_record, used_by}
 use Rattle.store_spec.specs.Store.{used_length, block_count, records_of, store_holding}
 use Rattle.store_spec.specs.Entry.{laid_out, is_in, sorted_positions}
 use Rattle.store_spec.specs.Accept.{is_stored, block_checks}
-use Rattle.store_spec.proofs.Store.{read_record_some, InOrder, in_order_lem, Holding, accepting}
+use Rattle.store_spec.proofs.Store.{read_record_some, in_order_lem, Holding, accepting}
 use Rattle.store_spec.proofs.Sorted.{is_in_lem}
 use Rattle.store_spec.proofs.Check.{order_laid}
-use Rattle.feed_spec.specs.Feed.{Lent, lent_of, feed_checks, refused_feed, accepted_feed, feed}
-use Rattle.feed_spec.proofs.Keeping.{State, Kept, Passed, passed, feed_keeps}
+use Rattle.feed_spec.specs.Feed.{Lent, refused_feed, accepted_feed, feed}
+use Rattle.feed_spec.proofs.Keeping.{State, Passed, passed, feed_keeps}
 use Rattle.pending_question.proofs.Lending.{lying, refuses_none}
 use Rattle.final_spec.specs.Finality.{blocks_of}
 use Rattle.final_block_votes.proofs.Along.{sorted_count, block_count_lem}
@@ -43,7 +43,6 @@ use Rattle.index_feed_spec.proofs.Order.{room_passes}
 use Rattle.index_feed_spec.proofs.Claimed.{as_without_lem, refused_leaves, stays_agreed}
 use Rattle.index_feed_refusals.specs.Step.{Agreed}
 use Rattle.feed_many.specs.Records.{outcome_of, words_told}
-use Rattle.feed_many.specs.declared.Told.{Told}
 use Rattle.feed_many.proofs.Telling.{telling}
 use Rattle.index_feed_many.specs.Step.{ReadyIndexed, FedNextIndexed}
 

@@ -1,4 +1,6 @@
 // Feeding many records with one call and the index beside the store: memory and index are checked once, and part after part is appended.
+#![tactic(auto)]
+
 ghost use Rattle.std.specs.Prelude.{◌≡◌, ◌≤◌, length};
 ghost use Rattle.feed_spec.specs.Feed.{lent_of};
 ghost use Rattle.feed_frames.specs.Frames.{records_in};
