@@ -12,10 +12,9 @@ use Rattle.mission_theorems.proofs.Finals.{store_of, gives_finals, gives_final_s
 use Rattle.list_theorems.specs.Bulk.{ReachesEnd}
 use Rattle.list_theorems.proofs.Reaching.{reach}
 use Rattle.list_theorems.proofs.Asked.{wide_spread, ordinary_spread, wide_alike_on, longest_on, ordinary_alike_on}
-use Rattle.list_theorems.proofs.bulk_statement.Statement.{statement}
-use Rattle.list_theorems.proofs.bulk_statement.Tie as tie
+use Rattle.list_theorems.proofs.bulk_statement.Goals as goal
 
-returns : tie.Need-returns
+pub returns : goal.returns
 returns c =
     record {
       spread = λ d b t ts on ls k. wide_spread d (engine_of d t).store b (store_of d t).order on ls k;
@@ -44,6 +43,3 @@ returns c =
           reach d s b (store_of d t).order (ordinary d (blocks_of s)) (ordinary_lawful d (blocks_of s)) outs f some none ls
           ((ordinary_gives d s b (store_of d t).order none ls).1 k) few;
     }
-
-pub bulk-statement-spec : {M : Type 1} → statement M
-bulk-statement-spec = tie.close (tie.spec returns)
