@@ -177,7 +177,8 @@ module _ (s : Bytes) (order : List ℕ) (l : TransactionLocator) where
             long_steps = r.beside.long ∙ d.long_steps;
             known = λ q n a w. known q n a w (ℕ_discrete q k);
             led = led_all;
-            fresh = λ x (n : 128 * (k + 1) ≤ x). get_or-set_other near (128 * k + author b) x 1 0 (λ (z : x ≡ 128 * k + author b). omega (arith, small)) ∙ r.words.beside.above x (omega arith) ∙ d.fresh x (omega arith);
+            fresh = λ x (n : 128 * (k + 1) ≤ x). get_or-set_other near (128 * k + author b) x 1 0 (λ (z : x ≡ 128 * k + author b). omega (arith, small))
+                ∙ r.words.beside.above x (omega arith) ∙ d.fresh x (omega arith);
           }
         where
           here : (a : ℕ) → a < 128 → Dec (a ≡ author b) → get_or (set near (128 * k + author b) 1) (128 * k + a) 0 ≡ word (away s l a b.reference)
