@@ -1,4 +1,6 @@
 // What the host's calls about the ordinary and the wide list, in either reading of a reject, are made of, over byte slices.
+#![tactic(auto)]
+
 ghost use Rattle.std.specs.Prelude.{◌≡◌};
 ghost use Rattle.final_spec.specs.Finality.{blocks_of};
 ghost use Rattle.final_readings_spec.specs.Answers.{as_reading};
