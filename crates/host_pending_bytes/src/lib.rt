@@ -1,4 +1,6 @@
 // The pending question, with table and locator as bytes.
+#![tactic(auto)]
+
 ghost use Rattle.std.specs.Prelude.{◌≡◌, true, [], ◌∷◌, ◌++◌};
 ghost use Rattle.base.specs.Checks.{◌⇒◌, refusal};
 ghost use Rattle.pending_question.specs.Answers.{as_pending};
