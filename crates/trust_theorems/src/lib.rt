@@ -1,5 +1,7 @@
 // Why finality can be trusted while blocks still arrive: two certificates always meet, and what is final stays final, in both readings.
 // The functions do nothing: a contract is the theorem, so that no check passes without the proof.
+#![tactic(auto)]
+
 ghost use Rattle.trust_theorems.specs.Meeting.{CertificatesMeet};
 ghost use Rattle.trust_theorems.specs.Staying.{StaysFinal};
 ghost use Rattle.trust_theorems.specs.Slips.{SlipsStay};
