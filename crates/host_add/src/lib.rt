@@ -1,4 +1,6 @@
 // Adding a vote to an aggregator that a host holds as bytes.
+#![tactic(auto)]
+
 ghost use Rattle.std.specs.Prelude.{◌≡◌, true, [], ◌∷◌, length};
 ghost use Rattle.base.specs.Checks.{◌⇒◌, refusal};
 ghost use Rattle.committee.specs.Committee.{broken};
