@@ -1,5 +1,7 @@
 // The blast calendar: weekly windows in which quarries fire and no station may load a change.
 // A calendar is words, two a window: its start and its end (excluded) in seconds of the week. No function loops over seconds.
+#![tactic(auto)]
+
 ghost use Rattle.std.specs.Prelude.{◌≡◌, true, ◌+◌, ◌<◌};
 ghost use Rattle.calendar_windows.specs.Calendar.{week, windows, good_calendar, FirstOpen, ask_open, ask_next_open};
 ghost use Rattle.calendar_question.specs.Answers.{as_open, as_next_open};
