@@ -53,7 +53,7 @@ module _ (c : Committee) where
   shorter n s h = omega (arith, length-drop (4 + le_at 4 s 0) s)
 
   -- as many turns as there are bytes are enough
-  records : (n : ℕ) {m left : Feeding} {s lines : Bytes} → length s ≤ n → Records c m s lines left
+  records : (n : ℕ) {m : Feeding} {s : Bytes} {left : Feeding} {lines : Bytes} → length s ≤ n → Records c m s lines left
       → (lines ≡ (told_up_to n c m s).lines) × (left ≡ (told_up_to n c m s).left)
   unfolding told_up_to onward
   records zero {m} {s = []} h (ends e) = (ap (λ (t : Told). t.lines) (none_next m), ap (λ (t : Told). t.left) (none_next m))
