@@ -1,5 +1,7 @@
 // Writes one record of our own from author, round, digest, mark, includes and statements, and the time of its creation where one is given.
 // Follows types.rs.
+#![tactic(auto)]
+
 ghost use Rattle.std.specs.Prelude.{◌≡◌};
 ghost use Rattle.std.proofs.Math.Option.{some};
 ghost use Rattle.record_reader.specs.Values.{as_time};
