@@ -1,4 +1,6 @@
 // Marked shares held against the ordinary list: the marks of final ones are taken away.
+#![tactic(auto)]
+
 ghost use Rattle.std.specs.Prelude.{true, ◌≤◌, length};
 ghost use Rattle.final_spec.specs.Finality.{blocks_of};
 ghost use Rattle.final_readings_spec.specs.Answers.{as_reading};
