@@ -1,4 +1,6 @@
 // What a run of `listing` lends to its feeds: a fresh store.
+#![tactic(auto)]
+
 ghost use Rattle.std.specs.Prelude.{◌≡◌, [], ◌++◌, replicate};
 ghost use Rattle.store_spec.specs.Layout.{layout};
 
