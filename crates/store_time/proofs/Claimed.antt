@@ -21,6 +21,7 @@ use Rattle.store_time.specs.Claims.{Claims}
 -- a record has an entry
 record-entry : (rs : List Record) (r : Record) → r ∈ rs → (p : ℕ) × (record { position = p; bytes = r.bytes; block = r.block } ∈ entries rs)
 unfolding entries
+record-entry mathlib.Core.List.[] q x' = elim x' [ ]
 record-entry (r ∷ rs) q here = (_, here)
 record-entry (r ∷ rs) q (there m) = let e = record-entry rs q m in (e.0, there e.1)
 

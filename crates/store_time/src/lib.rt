@@ -1,4 +1,6 @@
 // The time of a stored block's creation, by its reference (`meta_creation_time_ns` of types.rs).
+#![tactic(auto)]
+
 ghost use Rattle.std.specs.Prelude.{◌≡◌};
 ghost use Rattle.types.specs.Values.{as_reference};
 ghost use Rattle.store_time.specs.Times.{ask_time};
