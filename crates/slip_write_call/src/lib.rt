@@ -1,4 +1,6 @@
 // Writes the slip of a final locator, in either reading, or answers why not.
+#![tactic(auto)]
+
 ghost use Rattle.std.specs.Prelude.{◌≡◌, map, ◌≤◌, length};
 ghost use Rattle.committee.specs.Committee.{total_stake};
 ghost use Rattle.committee_set.specs.AuthoritySet.{set_of};
