@@ -1,4 +1,6 @@
 // Reads a finality slip of either reading with the records that come with it: one pass over the slip's bytes, with no store.
+#![tactic(auto)]
+
 ghost use Rattle.std.specs.Prelude.{◌≤◌, ◌<◌, ◌≡◌, true, false, length};
 ghost use Rattle.committee.specs.Committee.{total_stake, broken};
 ghost use Rattle.final_readings_spec.specs.Answers.{as_reading};

@@ -6,9 +6,7 @@ use native.Mathlib.Omega.{arith}
 use lib.Dec.{ltb}
 use lib.ListN.{length, get_or}
 use Rattle.slip_spec.specs.Slip.{names_reading}
-use borrow.Author.Rules.{rules}
-use Rattle.slip_read_call.proofs.names_reading.Statement.{statement}
-use Rattle.slip_read_call.proofs.names_reading.Tie as tie
+use Rattle.slip_read_call.proofs.names_reading.Goals as goal
 
 no_byte : (s : List ℕ) → length s ≡ 0 → false ≡ names_reading s
 unfolding names_reading
@@ -20,14 +18,8 @@ unfolding names_reading
 a_byte [] h = absurd (h refl)
 a_byte (b ∷ s) h = refl
 
-returns : tie.Need-returns
-returns c = no_byte c.before.args.slip.now c.if1.true
+pub returns-then-slip-eq0 : goal.returns-then-slip-eq0
+returns-then-slip-eq0 c = no_byte c.args.slip.now c.if-slip-eq0.true
 
-shared-slice-read-result : tie.Need-shared-slice-read-result
-shared-slice-read-result c = search rules
-
-returns-2 : tie.Need-returns-2
-returns-2 c = a_byte c.before.before.args.slip.now c.before.if1.false
-
-pub names-reading-spec : {M : Type 1} → statement M
-names-reading-spec = tie.close (tie.spec returns shared-slice-read-result returns-2)
+pub returns : goal.returns
+returns c = a_byte c.args.slip.now c.if-slip-eq0.false
