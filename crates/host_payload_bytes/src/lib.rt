@@ -1,4 +1,6 @@
 // The questions about a share's payload, with the locator as bytes.
+#![tactic(auto)]
+
 ghost use Rattle.std.specs.Prelude.{◌≡◌};
 ghost use Rattle.store_spec.specs.Payload.{payload_length};
 ghost use Rattle.store_payload.specs.Answers.{as_payload_length, as_place, payload_place};
