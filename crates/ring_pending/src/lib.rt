@@ -1,4 +1,6 @@
 // Whom to ring for a pending locator: the voters are those of its item in the table.
+#![tactic(auto)]
+
 ghost use Rattle.std.specs.Prelude.{◌≡◌, true};
 ghost use Rattle.types.specs.Values.{as_locator};
 ghost use Rattle.store_spec.specs.Entry.{laid_out};
