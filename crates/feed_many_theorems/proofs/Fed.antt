@@ -1,5 +1,5 @@
 -- The statement, by induction over the records of the call. Assumes nothing.
-use mathlib.Core.Path.{◌≡◌, refl, sym, ap, ◌∙◌}
+use mathlib.Core.Path.{◌≡◌, refl, sym, ◌∙◌}
 use mathlib.Core.Bool.{false}
 use mathlib.Core.List.{List, [], ◌∷◌, ◌++◌, map, reverse, reverse_aux, reverse_aux-eq}
 use Prim.Native.Nat.{ℕ}
@@ -32,9 +32,11 @@ same_engine c t w v rs = sym (run_all c _ _ rs t.feeds refl)
 
 fed_bytes : (c : Committee) (m : Lent) (rs : List Bytes) (earlier : List Feed)
     → map (λ f. f.bytes) (feeds_of c m rs earlier) ≡ reverse_aux rs (map (λ f. f.bytes) earlier)
-unfolding feeds_of reverse_aux
+unfolding feeds_of
 fed_bytes c m [] earlier = refl
-fed_bytes c m (r ∷ rs) earlier = fed_bytes c _ rs (record { bytes = r; work = m.work; events = m.events } ∷ earlier)
+fed_bytes c m (r ∷ rs) earlier =
+    fed_bytes c (lent_of (feed c m r).store (feed c m r).table m.work (drop (words_told (feed c m r).answer) (feed c m r).events)) rs
+    (record { bytes = r; work = m.work; events = m.events } ∷ earlier)
 
 pub same_records : (c : Committee) (t : Start) (w v : List ℕ) (rs : List Bytes)
     → map (λ f. f.bytes) (fed_on c t w v rs).feeds ≡ reverse rs ++ map (λ f. f.bytes) t.feeds

@@ -1,4 +1,6 @@
 // What a call with many records means beside other calls, and the mission's third statement of engines that were fed this way.
+#![tactic(auto)]
+
 ghost use Rattle.feed_many_theorems.specs.Claims.{Claims};
 ghost use Rattle.feed_many_theorems.specs.Fed.{RecordsStatement};
 

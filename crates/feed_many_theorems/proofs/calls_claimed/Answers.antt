@@ -2,10 +2,9 @@ use Rattle.feed_many_theorems.proofs.Framed.{records_framed, broken_end}
 use Rattle.feed_many_theorems.proofs.Appended.{past_kept}
 use Rattle.feed_many_theorems.proofs.AnyEvents.{all_any}
 use Rattle.feed_many_theorems.proofs.Claimed.{malformed, one, joined}
-use Rattle.feed_many_theorems.proofs.calls_claimed.Statement.{statement}
-use Rattle.feed_many_theorems.proofs.calls_claimed.Tie as tie
+use Rattle.feed_many_theorems.proofs.calls_claimed.Goals as goal
 
-returns : tie.Need-returns
+pub returns : goal.returns
 returns c = record {
   framing = records_framed;
   broken_end = broken_end;
@@ -16,6 +15,3 @@ returns c = record {
   any_events =
       all_any;
 }
-
-pub calls-claimed-spec : {M : Type 1} → statement M
-calls-claimed-spec = tie.close (tie.spec returns)
