@@ -1,4 +1,6 @@
 // The list of all loadable stored shares, in either reading of a reject.
+#![tactic(auto)]
+
 ghost use Rattle.std.specs.Prelude.{◌≡◌};
 ghost use Rattle.final_readings_spec.specs.Readings.{old, withdrawing};
 ghost use Rattle.final_readings_spec.specs.Answers.{as_reading};
