@@ -1,4 +1,6 @@
 // A sorted list of locators answered in one pass with the index.
+#![tactic(auto)]
+
 ghost use Rattle.std.specs.Prelude.{◌≡◌};
 ghost use Rattle.sorted_spec.specs.Sorted.{answer_sorted};
 ghost use Rattle.sorted_question.specs.Answers.{as_sorted};
