@@ -1,5 +1,7 @@
 // The lists of final locators in bulk, with the index: it is held against the store (54), and the list is then that of the store, which is opened once.
 // One sweep over the store takes less than a walk over the parts of an index, which the check has read already.
+#![tactic(auto)]
+
 ghost use Rattle.std.specs.Prelude.{◌≡◌, true, false};
 ghost use Rattle.final_spec.specs.Finality.{blocks_of};
 ghost use Rattle.list_after.specs.Answers.{as_maybe};
