@@ -1,4 +1,6 @@
 // What the host's calls about the blast calendar are made of, over byte slices.
+#![tactic(auto)]
+
 ghost use Rattle.std.specs.Prelude.{◌≡◌, length};
 ghost use Rattle.host_calls.specs.Calls.{encoded};
 ghost use Rattle.host_calendar.specs.Calendar.{holds_words, is_open_call, next_open_call};
