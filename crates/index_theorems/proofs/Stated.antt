@@ -4,7 +4,6 @@ use mathlib.Core.Bool.{Bool, true, false}
 use mathlib.Core.List.{List, [], ◌∷◌, ◌++◌, map}
 use Prim.Native.Nat.{ℕ}
 use Rattle.base.specs.Lists.{◌∈◌}
-use Rattle.base.specs.Le.{Bytes}
 use Rattle.base.proofs.Orders.{same_refl, same_true}
 use Rattle.committee.specs.Committee.{Committee, broken}
 use Rattle.record_spec.specs.Reference.{TransactionLocator}
