@@ -41,7 +41,7 @@ use Rattle.host_final_answers.specs.Answers.{after_of, whole_stretches}
 use Rattle.host_finals.specs.NextFinal.{asked_next_final, next_final_call, next_wide_call}
 use Rattle.host_finals.specs.Stretches.{asked_stretches, stretches_call, wide_stretches_call}
 use Rattle.host_theorems.specs.Feeds.{ByteStart, host_of, accepted_by}
-use Rattle.host_theorems.specs.Lists.{NextCall, FoundOn, BulkCall, StretchesOn}
+use Rattle.host_theorems.specs.Lists.{NextCall, FoundOn, BulkCall}
 use Rattle.host_theorems.specs.Statement.{Gives, Holds, SameRecords, HostStatement}
 use Rattle.host_theorems.proofs.Running.{in_bytes, to_start, host_engine, host_accepted, host_fits}
 use Rattle.host_theorems.proofs.Calls.{answered_final, answered_40, stands, not_pending}

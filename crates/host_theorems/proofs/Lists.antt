@@ -330,6 +330,7 @@ module _ (c : Committee) (b : broken c ≡ false) (s : Bytes) (o : store_in_orde
       -- what the bytes hold is what the engine lists
       pub from_bulk : (x : Bytes) (a : Option TransactionLocator) → after_of x ≡ some a → (outs : List Bytes) (ts : List FinalStretch)
           → StretchesOn call stakes s x outs ts → bulk.StretchesOn c s k a ts
+      from_bulk x a e [] ts x4 = elim x4 [ ]
       from_bulk x a e (out ∷ outs) ts (ends n h r) =
           let w = call_whole x a out (2 * n) e h in
           let q = even (length (held out a)) n (follow out a) (call_number x a out (2 * n) e w h) in
