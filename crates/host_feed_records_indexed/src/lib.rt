@@ -1,5 +1,7 @@
 // Feeding many records with the index, for a host: stakes, table and records as bytes, index, events and outcomes as words. A call answers one word: below 2^63 it is
 // the answer, and 2^63 + n is refusal n (`encoded` in host_calls, specs/Calls).
+#![tactic(auto)]
+
 ghost use Rattle.std.specs.Prelude.{◌≡◌};
 ghost use Rattle.feed_many.specs.Answers.{as_records_answer};
 ghost use Rattle.host_calls.specs.Calls.{encoded};
