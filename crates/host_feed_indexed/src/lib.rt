@@ -1,5 +1,7 @@
 // Feeding a record with the index, for numbers, byte slices and an index of words. A call answers one word: below 2^63 it is the answer, and
 // 2^63 + n is refusal n (`encoded` in host_calls, specs/Calls).
+#![tactic(auto)]
+
 ghost use Rattle.std.specs.Prelude.{◌≡◌, true, [], ◌∷◌, ◌++◌, length};
 ghost use Rattle.base.specs.Checks.{◌⇒◌, refusal};
 ghost use Rattle.words.specs.Words.{words_of, bytes_of};
