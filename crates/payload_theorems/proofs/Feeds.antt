@@ -144,6 +144,8 @@ outcome_same c g h f k a e = fed_same c _ _ (lent_apart c g h f k a e) f.bytes k
 
 pub run_same : (c : Committee) (g h : Engine) → EngineApart c g h → (fs ks : List Feed) → EachApart fs ks → EngineApart c (run c g fs) (run c h ks)
 unfolding run left tell
+run_same c g h a (f ∷ fs) [] x3 = elim x3 [ ]
+run_same c g h a [] (k ∷ ks) x'' = elim x'' [ ]
 run_same c g h a [] [] no_feeds = a
 run_same c g h a (f ∷ fs) (k ∷ ks) (and_feed e es) =
     let o = outcome_same c (run c g fs) (run c h ks) f k (run_same c g h a fs ks es) e in
@@ -151,6 +153,8 @@ run_same c g h a (f ∷ fs) (k ∷ ks) (and_feed e es) =
 
 pub told_same : (c : Committee) (g h : Engine) → EngineApart c g h → (fs ks : List Feed) → EachApart fs ks → told c g fs ≡ told c h ks
 unfolding told
+told_same c g h a (f ∷ fs) [] x3 = elim x3 [ ]
+told_same c g h a [] (k ∷ ks) x'' = elim x'' [ ]
 told_same c g h a [] [] no_feeds = refl
 told_same c g h a (f ∷ fs) (k ∷ ks) (and_feed e es) =
     ap₂ {C = List Told} (λ x xs. x ∷ xs) (outcome_same c (run c g fs) (run c h ks) f k (run_same c g h a fs ks es) e).told (told_same c g h a fs ks es)
