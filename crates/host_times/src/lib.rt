@@ -1,4 +1,6 @@
 // What the host's call about a stored block's time is made of, over byte slices.
+#![tactic(auto)]
+
 ghost use Rattle.std.specs.Prelude.{◌≡◌};
 ghost use Rattle.host_calls.specs.Calls.{encoded};
 ghost use Rattle.host_times.specs.Times.{reference_of, asked_time, creation_time_call};
