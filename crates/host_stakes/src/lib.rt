@@ -1,4 +1,6 @@
 // What the host's call that loads a network's own stakes is made of, over byte slices.
+#![tactic(auto)]
+
 ghost use Rattle.std.specs.Prelude.{◌≡◌, ◌≤◌, length};
 ghost use Rattle.base.specs.Checks.{answered};
 ghost use Rattle.host_calls.specs.Calls.{encoded};
