@@ -1,4 +1,6 @@
 // What the host's calls about the lists with the index are made of: the index crosses as words, the rest as bytes.
+#![tactic(auto)]
+
 ghost use Rattle.std.specs.Prelude.{◌≡◌};
 ghost use Rattle.final_spec.specs.Finality.{blocks_of};
 ghost use Rattle.final_readings_spec.specs.Readings.{old};
