@@ -1,5 +1,7 @@
 // A committee and its thresholds, for numbers and byte slices. A call answers one word: below 2^63 it is the answer, and
 // 2^63 + n is refusal n (`encoded` in host_calls, specs/Calls).
+#![tactic(auto)]
+
 ghost use Rattle.std.specs.Prelude.{◌≡◌};
 ghost use Rattle.committee.specs.Committee.{quorum_of, valid_of};
 ghost use Rattle.host_calls.specs.Calls.{encoded, flag, new_committee_call};
