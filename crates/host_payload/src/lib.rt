@@ -1,5 +1,7 @@
 // Payloads of stored shares, for numbers and byte slices. A call answers one word: below 2^63 it is the answer, and
 // 2^63 + n is refusal n (`encoded` in host_calls, specs/Calls).
+#![tactic(auto)]
+
 ghost use Rattle.std.specs.Prelude.{◌≡◌};
 ghost use Rattle.host_calls.specs.Calls.{encoded};
 ghost use Rattle.host_payload_bytes.specs.Payload.{payload_length_call, payload_start_call};
