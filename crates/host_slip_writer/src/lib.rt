@@ -1,4 +1,6 @@
 // The writer of slips, for a host: stakes and locator as bytes.
+#![tactic(auto)]
+
 ghost use Rattle.std.specs.Prelude.{◌≡◌};
 ghost use Rattle.final_readings_spec.specs.Answers.{as_reading};
 ghost use Rattle.slip_write_bytes.specs.Answers.{as_slip_answer};
