@@ -1,5 +1,7 @@
 // Feeding a record, for numbers and byte slices. A call answers one word: below 2^63 it is the answer, and
 // 2^63 + n is refusal n (`encoded` in host_calls, specs/Calls).
+#![tactic(auto)]
+
 ghost use Rattle.std.specs.Prelude.{◌≡◌};
 ghost use Rattle.host_calls.specs.Calls.{encoded};
 ghost use Rattle.host_feed_bytes.specs.Feed.{feed_call};
