@@ -1,4 +1,6 @@
 // What the host's calls about slips are made of, over byte slices.
+#![tactic(auto)]
+
 ghost use Rattle.std.specs.Prelude.{◌≡◌};
 ghost use Rattle.host_calls.specs.Calls.{encoded, committee_of};
 ghost use Rattle.slip_spec.specs.Reading.{read_answer};
