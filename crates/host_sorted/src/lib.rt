@@ -1,4 +1,6 @@
 // A sorted list of locators answered for a host: stakes as bytes, index and replies as words.
+#![tactic(auto)]
+
 ghost use Rattle.std.specs.Prelude.{◌≡◌};
 ghost use Rattle.sorted_spec.specs.Sorted.{answer_sorted};
 ghost use Rattle.host_calls.specs.Calls.{encoded, committee_of};
