@@ -1,4 +1,6 @@
 // What the host's calls that write a record are made of.
+#![tactic(auto)]
+
 ghost use Rattle.std.specs.Prelude.{◌≡◌};
 ghost use Rattle.std.proofs.Math.Option.{some};
 ghost use Rattle.draft_spec.specs.Writing.{write_timed, write_record};
