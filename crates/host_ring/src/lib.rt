@@ -1,4 +1,6 @@
 // Whom to ring, for a host: stakes, table and locator as bytes, the answer's set and stake as three words.
+#![tactic(auto)]
+
 ghost use Rattle.std.specs.Prelude.{◌≡◌, true, [], ◌∷◌, length};
 ghost use Rattle.base.specs.Checks.{◌⇒◌, refusal};
 ghost use Rattle.committee.specs.Committee.{broken};
