@@ -1,5 +1,5 @@
 -- The statement, by induction over the records of the call. Assumes nothing.
-use mathlib.Core.Path.{◌≡◌, refl, sym, ap, ◌∙◌}
+use mathlib.Core.Path.{◌≡◌, refl, sym, ◌∙◌}
 use mathlib.Core.Bool.{false}
 use mathlib.Core.List.{List, [], ◌∷◌, ◌++◌, map, reverse, reverse_aux, reverse_aux-eq}
 use Prim.Native.Nat.{ℕ}
@@ -38,9 +38,12 @@ same_engine c t w v rs = sym (run_all c _ _ _ rs t.start.feeds refl)
 
 fed_bytes : (c : Committee) (m : Lent) (ix : List ℕ) (rs : List Bytes) (earlier : List Feed)
     → map (λ f. f.bytes) (feeds_of c m ix rs earlier) ≡ reverse_aux rs (map (λ f. f.bytes) earlier)
-unfolding feeds_of reverse_aux
+unfolding feeds_of
 fed_bytes c m ix [] earlier = refl
-fed_bytes c m ix (r ∷ rs) earlier = fed_bytes c _ _ rs (record { bytes = r; work = m.work; events = m.events } ∷ earlier)
+fed_bytes c m ix (r ∷ rs) earlier =
+    let f : IndexedFed = feed_indexed c m ix r in
+    fed_bytes c (lent_of f.fed.store f.fed.table m.work (drop (words_told f.fed.answer) f.fed.events)) f.index rs
+    (record { bytes = r; work = m.work; events = m.events } ∷ earlier)
 
 pub same_records : (c : Committee) (t : IndexedStart) (w v : List ℕ) (rs : List Bytes)
     → map (λ f. f.bytes) (fed_on c t w v rs).start.feeds ≡ reverse rs ++ map (λ f. f.bytes) t.start.feeds

@@ -1,4 +1,6 @@
 // Many records fed with the index by one call: two calls are one, and the mission's third statement holds of engines that were fed so.
+#![tactic(auto)]
+
 ghost use Rattle.index_feed_theorems.specs.Joined.{Claims};
 ghost use Rattle.index_feed_theorems.specs.Fed.{IndexedRecordsStatement};
 
