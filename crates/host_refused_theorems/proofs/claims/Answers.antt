@@ -6,10 +6,9 @@ use Rattle.host_index_finals.specs.Indexed.{stretches_indexed_call, wide_stretch
 use Rattle.host_refused_theorems.specs.Claims.{NextKept, StretchesKept}
 use Rattle.host_refused_theorems.proofs.Feeds.{refused_feed_lem, refused_records, refused_records_indexed}
 use Rattle.host_refused_theorems.proofs.Lists.{next_kept, stretches_kept, indexed_kept}
-use Rattle.host_refused_theorems.proofs.claims.Statement.{statement}
-use Rattle.host_refused_theorems.proofs.claims.Tie as tie
+use Rattle.host_refused_theorems.proofs.claims.Goals as goal
 
-returns : tie.Need-returns
+pub returns : goal.returns
 unfolding NextKept StretchesKept next_final_call next_wide_call next_final_withdrawing_call next_wide_withdrawing_call stretches_call wide_stretches_call
     stretches_withdrawing_call wide_stretches_withdrawing_call stretches_indexed_call wide_stretches_indexed_call
 returns c =
@@ -28,6 +27,3 @@ returns c =
       stretches_indexed = λ ix stakes s after out n e. indexed_kept (committee_of stakes) s _ out n ix (after_of after) e;
       wide_stretches_indexed = λ ix stakes s after out n e. indexed_kept (committee_of stakes) s _ out n ix (after_of after) e;
     }
-
-pub claims-spec : {M : Type 1} → statement M
-claims-spec = tie.close (tie.spec returns)
