@@ -1,4 +1,6 @@
 // The questions about loadable shares, for a host: stakes and locator as bytes, places as words.
+#![tactic(auto)]
+
 ghost use Rattle.std.specs.Prelude.{◌≡◌};
 ghost use Rattle.final_readings_spec.specs.Readings.{old, withdrawing};
 ghost use Rattle.final_readings_spec.specs.Answers.{as_reading};
