@@ -36,7 +36,8 @@ module _ (ws : List Window) (g : in_order ws ≡ true) (t : ℕ) where
   waited h = go (dec_lt (free_from ws (week_second t)) week)
     where
       go : Dec (free_from ws (week_second t) < week)
-          → FirstOpen ws t (t + pick (ltb (free_from ws (week_second t)) week) (free_from ws (week_second t) - week_second t) (week - week_second t + free_from ws 0))
+          → FirstOpen ws t (t + pick (ltb (free_from ws (week_second t)) week) (free_from ws (week_second t) - week_second t)
+          (week - week_second t + free_from ws 0))
       go (yes k) = rw (lt-ltb (free_from ws (week_second t)) week k) (this_week ws t (free_from ws (week_second t)) (freed ws g (week_second t)) k)
       go (no k) =
           let l : week ≤ free_from ws (week_second t) = omega arith in
@@ -53,7 +54,8 @@ module _ (ws : List Window) (g : in_order ws ≡ true) (t : ℕ) where
       go (yes h) k = rw (le-leb week (free_from ws 0) h) (full_week ws (free_from ws 0) t (freed ws g 0) h)
       go (no h) (yes k) =
           let l : free_from ws 0 < week = omega arith in
-          rw (lt-leb week (free_from ws 0) l, le-leb (t + wait_from ws (week_second t)) last_second k) (in_count ws t (t + wait_from ws (week_second t)) (waited l) k)
+          rw (lt-leb week (free_from ws 0) l, le-leb (t + wait_from ws (week_second t)) last_second k)
+          (in_count ws t (t + wait_from ws (week_second t)) (waited l) k)
       go (no h) (no k) =
           let l : free_from ws 0 < week = omega arith in
           let m : last_second < t + wait_from ws (week_second t) = omega arith in

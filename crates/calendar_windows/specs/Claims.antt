@@ -39,7 +39,8 @@ NoneWeekly = (ws : List Window) (t : ℕ) → first_open ws t ≡ none → first
 
 -- 02: "Over 64 windows, or any overlapping or out of order or range, answer 59": both calls, and only then
 unfoldable pub RefusedMeant : Type 0
-RefusedMeant = (ns : List ℕ) (t : ℕ) → ((ask_open ns t ≡ refused 59) ↔ (good_calendar ns ≡ false)) × ((ask_next_open ns t ≡ refused 59) ↔ (good_calendar ns ≡ false))
+RefusedMeant = (ns : List ℕ) (t : ℕ) → ((ask_open ns t ≡ refused 59) ↔ (good_calendar ns ≡ false))
+    × ((ask_next_open ns t ≡ refused 59) ↔ (good_calendar ns ≡ false))
 
 pub record Claims : Type 0 where
   pub week_meant : WeekMeant

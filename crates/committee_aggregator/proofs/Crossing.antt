@@ -111,7 +111,8 @@ crossings_from c (a ∷ later) g = rw (crossed_meant c g a, crossings_from c lat
     go false true h k = rw (k refl)
     go false false h k = omega arith
 
-pub crosses_once : (c : Committee) (voters : List AuthorityIndex) → crossings (answers c no_votes voters) ≡ pick (has_quorum c (added_all c no_votes voters)) 1 0
+pub crosses_once : (c : Committee) (voters : List AuthorityIndex) → crossings (answers c no_votes voters)
+    ≡ pick (has_quorum c (added_all c no_votes voters)) 1 0
 crosses_once c voters = crossings_from c voters no_votes ∙ rw (no_quorum c)
 
 -- ---- and which

@@ -58,7 +58,8 @@ pub record Claims : Type 0 where
   pub which_vote : (c : Committee) (voters : List AuthorityIndex) → (has_quorum c (added_all c no_votes voters) ≡ true) ↔ CrossesAt c voters
   -- 5, 3, again, 3, unknown, 1 (12: quorum), 1, again
   pub eight_votes : answers course_committee no_votes (0 ∷ 1 ∷ 1 ∷ 2 ∷ 7 ∷ 5 ∷ 6 ∷ 6 ∷ [])
-      ≡ answered new_below ∷ answered new_below ∷ answered repeated_below ∷ answered new_below ∷ refused 21 ∷ answered (new_with true) ∷ answered (new_with false) ∷
+      ≡ answered new_below ∷ answered new_below ∷ answered repeated_below ∷ answered new_below ∷ refused 21 ∷ answered (new_with true)
+      ∷ answered (new_with false) ∷
       answered repeated_with ∷ []
   pub new : add course_committee (has 3 0 8) 2 ≡ record { answer = answered new_below; aggregator = has 7 0 11 }
   pub crossing : add course_committee (has 7 0 11) 5 ≡ record { answer = answered (new_with true); aggregator = has 39 0 12 }

@@ -64,4 +64,5 @@ stake_members c v few known =
     let kept : keep (member v) (count_from 0 128) ≡ keep (member v) (count_from 0 (length c)) =
     ap (keep (member v)) whole ∙ keep_append (member v) (count_from 0 (length c)) (count_from (0 + length c) n) ∙ ap
     (λ (l : List ℕ). keep (member v) (count_from 0 (length c)) ++ l) above ∙ append-nil (keep (member v) (count_from 0 (length c))) in
-    sym (stakes_kept v (λ a. get_or c a 0) 0 c (λ i. let e : 0 + i ≡ i = omega arith in rw e)) ∙ ap (λ (l : List ℕ). sum_of (map (λ a. get_or c a 0) l)) (sym kept)
+    sym (stakes_kept v (λ a. get_or c a 0) 0 c (λ i. let e : 0 + i ≡ i = omega arith in rw e))
+    ∙ ap (λ (l : List ℕ). sum_of (map (λ a. get_or c a 0) l)) (sym kept)

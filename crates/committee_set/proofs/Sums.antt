@@ -48,7 +48,8 @@ members_known c v h = in_all (known c) (members v) (λ a m. let k = keep_in (mem
         not_below a l e (yes k) = lt-ltb a (length c) k
         not_below a l e (no k) = absurd (not_both e (h a (omega arith) (omega arith)))
 
-pub members_unknown : (c : Committee) (v : AuthoritySet) (a : AuthorityIndex) → length c ≤ a → a < 128 → member v a ≡ true → all_of (known c) (members v) ≡ false
+pub members_unknown : (c : Committee) (v : AuthoritySet) (a : AuthorityIndex) → length c ≤ a → a < 128 → member v a ≡ true → all_of (known c) (members v)
+    ≡ false
 unfolding members known
 members_unknown c v a h l e =
     fails (all_of (known c) (members v)) (λ k. not_both (all_in (known c) (members v) k

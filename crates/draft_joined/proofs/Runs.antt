@@ -123,7 +123,8 @@ accept_off r l e (some ss) = rw (fronted_off r l (pieces ss) (pieces_right ss) e
 
 module _ (s : List ℕ) (p : ℕ) where
   -- nothing more, or another form: no run goes on
-  pub ends_none : read_given (drop p s) ≡ none → p ≤ length s → (r : TransactionLocatorRange) → joined_after r s p ≡ followed (run_statement r) (joined_from s p)
+  pub ends_none : read_given (drop p s) ≡ none → p ≤ length s → (r : TransactionLocatorRange) → joined_after r s p
+      ≡ followed (run_statement r) (joined_from s p)
   unfolding joined_after joined_from followed joined pieces fronted piece_statement
   ends_none k h r = go (dec_lt p (length s))
     where

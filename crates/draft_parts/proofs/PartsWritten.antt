@@ -14,7 +14,13 @@ use Rattle.draft_size.specs.Step.{front_bytes, count_bytes, part_bytes}
 pub front_written : (l : List ℕ) (a r : ℕ) (d : List ℕ) → sets (sets (sets l 0 (le_bytes 8 a)) 8 (le_bytes 8 r)) 16 d ≡ sets l 0 (front_bytes a r d)
 unfolding front_bytes
 front_written l a r d =
-    sym (rw (sets_append (le_bytes 8 a) (le_bytes 8 r ++ d) l 0, length_le_bytes 8 a, sets_append (le_bytes 8 r) d (sets l 0 (le_bytes 8 a)) 8, length_le_bytes 8 r))
+    sym (rw (
+      sets_append (le_bytes 8 a) (le_bytes 8 r ++ d) l 0,
+      length_le_bytes 8 a,
+      sets_append (le_bytes 8 r) d (sets l 0 (le_bytes 8 a)) 8,
+      length_le_bytes
+          8 r,
+    ))
 
 pub counts_written : (l : List ℕ) (m i n : ℕ) → sets (sets (set l 48 m) 49 (le_bytes 2 i)) 51 (le_bytes 2 n) ≡ sets l 48 (count_bytes m i n)
 unfolding count_bytes

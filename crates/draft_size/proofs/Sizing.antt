@@ -21,7 +21,8 @@ use Rattle.base.proofs.Le.{AllBytes, length_le_bytes}
 use Rattle.base.proofs.Fixed.{fixed_repeated}
 use Rattle.record_spec.specs.Reference.{BlockReference, TransactionLocator, locators}
 use Rattle.record_spec.specs.Block.{Statement, accept}
-use Rattle.record_spec.specs.Record.{read_reference, reference_bytes, statement_bytes, edition_bytes, time_bytes, bytes_in as record_in, edition_for, timed_bytes}
+use Rattle.record_spec.specs.Record.{read_reference, reference_bytes, statement_bytes, edition_bytes, time_bytes, bytes_in as record_in, edition_for}
+use Rattle.record_spec.specs.Record.{timed_bytes}
 use Rattle.record_spec.proofs.Records.{mark_byte, three_bytes, length_includes}
 use Rattle.record_reference_bytes.proofs.Fixed.{fixed_reference}
 use Rattle.draft_spec.specs.Draft.{Draft, Request, includes_in, statements_in, with_parts, draft_in}

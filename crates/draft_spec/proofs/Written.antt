@@ -142,7 +142,8 @@ block_fits q d f g w =
 -- ---- the slice afterwards
 
 module _ (o : Option ℕ) where
-  shows_given : is_time o ≡ true → (q : Request) (d : Draft) → RequestFits q → draft_in q ≡ some d → passes (form_checks d) ≡ true → Shows o q (record_bytes o d)
+  shows_given : is_time o ≡ true → (q : Request) (d : Draft) → RequestFits q → draft_in q ≡ some d → passes (form_checks d) ≡ true
+      → Shows o q (record_bytes o d)
   unfolding is_time record_bytes written_block
   shows_given t q d f e p =
       let g : Drafted q d = drafted q d f e in
@@ -151,7 +152,8 @@ module _ (o : Option ℕ) where
         draft = d;
         given = e;
         block = written_block d;
-        reads = timed_of_timed_bytes (record { block = written_block d; time = o }) (record { block = block_fits q d f g w; time = time_fits (edition_for o) o t });
+        reads = timed_of_timed_bytes (record { block = written_block d; time = o })
+            (record { block = block_fits q d f g w; time = time_fits (edition_for o) o t });
         author = g.author;
         round = g.round;
         digest = g.digest;
@@ -177,7 +179,8 @@ module _ (o : Option ℕ) where
         size = omega (arith, length-append r (drop (length r) out), length-drop (length r) out);
       }
 
-  drafted_well : is_time o ≡ true → (q : Request) (d : Draft) (out : Bytes) (n : ℕ) → RequestFits q → draft_in q ≡ some d → (write_draft o (some d) out).answer ≡
+  drafted_well : is_time o ≡ true → (q : Request) (d : Draft) (out : Bytes) (n : ℕ) → RequestFits q → draft_in q ≡ some d → (write_draft o (some d) out).answer
+      ≡
       answered n
       → WrittenWell o q out n (write_draft o (some d) out).out
   unfolding write_draft write_checks

@@ -14,7 +14,8 @@ use Rattle.record_spec.specs.Reference.{BlockReference, TransactionLocatorRange,
 use Rattle.record_spec.specs.Block.{Statement, Block, author, voted_range, shared_ranges}
 use Rattle.store_spec.specs.Layout.{blocks, Record, used_by, Entry, blocks_at, reference_of, entries, position_of, lookup}
 use Rattle.store_spec.specs.Shares.{is_stored_share}
-use Rattle.pending_spec.specs.Items.{Item, item_holds, item_at, falls_inside, front_of, back_of, cut_item, cut_at, both_cuts, item_within, voted_item, vote_over, stays}
+use Rattle.pending_spec.specs.Items.{Item, item_holds, item_at, falls_inside, front_of, back_of, cut_item, cut_at, both_cuts, item_within, voted_item}
+use Rattle.pending_spec.specs.Items.{vote_over, stays}
 use Rattle.pending_spec.specs.Items.{after_leaving, first_vote, registered, register}
 use Rattle.feed_spec.specs.ProcessBlock.{Event, missed, event_at, event_of, Processing, vote, votes, registering, process_block}
 
@@ -96,7 +97,8 @@ module _ (R : ℕ → ℕ → Type 0) (alike : (p q m n : ℕ) → R p q → R m
         go true = record { at = t.at; start = t.start; end = t.end; votes = rw t.votes }
         go false = t
 
-    vote_over_lem : (c : Committee) (a : AuthorityIndex) (s e : ℕ) {xs ys : List Item} → Twins R xs ys → Twins R (vote_over c a p s e xs) (vote_over c a q s e ys)
+    vote_over_lem : (c : Committee) (a : AuthorityIndex) (s e : ℕ) {xs ys : List Item} → Twins R xs ys
+        → Twins R (vote_over c a p s e xs) (vote_over c a q s e ys)
     unfolding vote_over
     vote_over_lem c a s e ts = voted_each c a s e (both_cuts_lem s e ts)
 

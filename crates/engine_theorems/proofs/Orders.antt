@@ -27,7 +27,8 @@ stored_of : (c : Committee) → broken c ≡ false → (s : Bytes) → store_in_
 unfolding blocks_of
 stored_of c b s h = record { sound = b; records = records_of s; accepted = (in_order_lem c s h).accepted; blocks = refl }
 
-module _ (ordinary : Bool) (reading : Reading) (c : Committee) (b : broken c ≡ false) (s r : Bytes) (h : store_in_order c s ≡ true) (k : store_in_order c r ≡ true)
+module _ (ordinary : Bool) (reading : Reading) (c : Committee) (b : broken c ≡ false) (s r : Bytes) (h : store_in_order c s ≡ true)
+    (k : store_in_order c r ≡ true)
     (same : SameInAnyOrder ordinary reading c (blocks_of s) (blocks_of r)) where
   same_next : (after : Option TransactionLocator) → next_listed ordinary reading c s after ≡ next_listed ordinary reading c r after
   unfolding list_next next_final_checks checked passes all_of listing

@@ -98,4 +98,5 @@ others_not_pending c b t w l n =
     let s : Bytes = (engine_of c t).store in
     let h : State c s (engine_of c t).table = engine_state c t w in
     pending_passes c s (engine_of c t).table l b h
-    ∙ none_held c s (engine_of c t).table h l (subst (λ (bs : List Block). is_stored_share bs l ≡ false) (sym (blocks_are c s (accepted_of c t) (store_of c t))) n)
+    ∙ none_held c s (engine_of c t).table h l (subst (λ (bs : List Block). is_stored_share bs l ≡ false) (sym (blocks_are c s (accepted_of c t) (store_of c t)))
+    n)

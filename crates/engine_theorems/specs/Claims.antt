@@ -28,7 +28,8 @@ OthersNotPending = (c : Committee) → broken c ≡ false → (t : Start) → 1 
 -- 02, Twelve: "order of arrival changes neither's lists": each list in each reading, asked one by one and in bulk, answers and writes the same
 pub record SameAnswers (ordinary : Bool) (reading : Reading) (c : Committee) (s r : Bytes) : Type 0 where
   pub next : (after : Option TransactionLocator) → next_listed ordinary reading c s after ≡ next_listed ordinary reading c r after
-  pub bulk : (out : Bytes) (after : Option TransactionLocator) → listed_stretches ordinary reading c s out after ≡ listed_stretches ordinary reading c r out after
+  pub bulk : (out : Bytes) (after : Option TransactionLocator) → listed_stretches ordinary reading c s out after
+      ≡ listed_stretches ordinary reading c r out after
 
 -- after any two lists of feeds that leave the same records stored
 unfoldable pub OrderUnseen : Type 0

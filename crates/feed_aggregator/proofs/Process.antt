@@ -66,7 +66,8 @@ module _ (c : Committee) (s rec : Bytes) (t : List ℕ) (h : Feeding c s rec t) 
 
   sound : Sound c (with_new s rec) (registering c (with_new s rec) (block_in rec) (items_of t))
   unfolding new
-  sound = rw with_new_lem (sound_registered c (entries (records_of s)) new (entries_below (records_of s)) (known_author c (records_of s) (block_in rec) h.checks)
+  sound = rw with_new_lem (sound_registered c (entries (records_of s)) new (entries_below (records_of s))
+      (known_author c (records_of s) (block_in rec) h.checks)
       (items_of t) lies.ordered lies.items)
 
   registers : registering c (with_new s rec) (block_in rec) (items_of t) ≡ record { items = added; events = []; most = length added }

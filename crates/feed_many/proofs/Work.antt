@@ -10,7 +10,8 @@ use Rattle.host_feed_bytes.proofs.Feeds.{work_free}
 use Rattle.feed_frames.specs.Frames.{records_in}
 use Rattle.feed_many.specs.Records.{words_told, feed_all, records_checks, refused_call, feed_records}
 
-all_work : (c : Committee) (s : Bytes) (t w u v : List ℕ) (rs : List Bytes) → length w ≡ length u → feed_all c (lent_of s t w v) rs ≡ feed_all c (lent_of s t u v)
+all_work : (c : Committee) (s : Bytes) (t w u v : List ℕ) (rs : List Bytes) → length w ≡ length u → feed_all c (lent_of s t w v) rs
+    ≡ feed_all c (lent_of s t u v)
     rs
 unfolding feed_all
 all_work c s t w u v [] e = refl

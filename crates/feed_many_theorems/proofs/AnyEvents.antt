@@ -18,7 +18,8 @@ use Rattle.record_spec.specs.Block.{event_room}
 use Rattle.store_spec.specs.Layout.{Record, read_record}
 use Rattle.store_spec.specs.Store.{store_full}
 use Rattle.pending_spec.specs.Table.{room}
-use Rattle.feed_spec.specs.Feed.{Lent, lent_of, Fed, processed, lent_checks, rule_checks, accept_checks, record_checks, feed_checks, refused_feed, accepted_feed}
+use Rattle.feed_spec.specs.Feed.{Lent, lent_of, Fed, processed, lent_checks, rule_checks, accept_checks, record_checks, feed_checks, refused_feed}
+use Rattle.feed_spec.specs.Feed.{accepted_feed}
 use Rattle.feed_spec.specs.Feed.{feed_record, feed}
 use Rattle.feed_many.specs.Records.{outcome_of, words_told, FedAll, feed_all}
 use Rattle.feed_many_theorems.specs.Claims.{ran_out, SameFeeds}

@@ -28,7 +28,8 @@ pub record Parted (c : Committee) (m : Lent) (rs qs : List Bytes) : Type 0 where
   pub outcomes : (feed_all c m (rs ++ qs)).outcomes ≡ (feed_all c m rs).outcomes ++ (feed_all c (after c m rs) qs).outcomes
   pub store : (feed_all c m (rs ++ qs)).store ≡ (feed_all c (after c m rs) qs).store
   pub table : (feed_all c m (rs ++ qs)).table ≡ (feed_all c (after c m rs) qs).table
-  pub events : (feed_all c m (rs ++ qs)).events ≡ take (words_of_all (feed_all c m rs).outcomes) (feed_all c m rs).events ++ (feed_all c (after c m rs) qs).events
+  pub events : (feed_all c m (rs ++ qs)).events ≡ take (words_of_all (feed_all c m rs).outcomes) (feed_all c m rs).events
+      ++ (feed_all c (after c m rs) qs).events
 
 module _ (c : Committee) (m : Lent) (r : Bytes) (rs : List Bytes) (l : length m.events < 2 ^ 63) where
   -- the words of the first record's events, and of the others'

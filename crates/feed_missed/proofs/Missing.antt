@@ -72,7 +72,8 @@ module _ (s rec : Bytes) (r : BlockReference) where
   unfolding lookup find new
   other h = rw (with_new_lem, h)
 
-  pub position_less : reference_order (block_in rec).reference r ≡ Less → position_of (lookup (with_new s rec) r) ≡ position_of (lookup (entries (records_of s)) r)
+  pub position_less : reference_order (block_in rec).reference r ≡ Less → position_of (lookup (with_new s rec) r)
+      ≡ position_of (lookup (entries (records_of s)) r)
   unfolding reference_order
   position_less h = other (not_equal _ _ Less h less_equal)
 
@@ -106,7 +107,8 @@ module _ (s rec : Bytes) (r : BlockReference) where
       ))
 
   -- the block being fed
-  pub missed_own : laid_out s ≡ true → is_stored (records_of s) (block_in rec).reference ≡ false → used_by (records_of s) ≡ position_of (lookup (with_new s rec) r) →
+  pub missed_own : laid_out s ≡ true → is_stored (records_of s) (block_in rec).reference ≡ false → used_by (records_of s)
+      ≡ position_of (lookup (with_new s rec) r) →
       (o : ℕ)
       → missed (with_new s rec) r o ≡ pick (is_share_at (block_in rec) o) 2 3
   unfolding holds position_of new
@@ -122,7 +124,8 @@ module _ (s rec : Bytes) (r : BlockReference) where
       go (some e) q z = rw (own e (in_cases (rw with_new_lem at (lookup_in (with_new s rec) r e q).0)) (sym z))
 
   -- another stored block
-  module _ (p : ℕ) (at : p ≡ position_of (lookup (with_new s rec) r)) (some-where : p ≡ 0 → ⊥) (earlier : p ≡ used_by (records_of s) → ⊥) (ok : readable s ≡ true)
+  module _ (p : ℕ) (at : p ≡ position_of (lookup (with_new s rec) r)) (some-where : p ≡ 0 → ⊥) (earlier : p ≡ used_by (records_of s) → ⊥)
+      (ok : readable s ≡ true)
     where
       record Stood : Type 0 where
         entry : Entry

@@ -98,6 +98,7 @@ same_kinds f g i start end h = go (count_from start (end - start))
     go (o ∷ os) = rw (h o, go os)
 
 -- events by another way to say their kinds
-pub retold : (f g : ℕ → ℕ) (i start end n : ℕ) (before after : List ℕ) → ((o : ℕ) → f o ≡ g o) → after ≡ sets before (3 * n) (words_of (events_by f i start end))
+pub retold : (f g : ℕ → ℕ) (i start end n : ℕ) (before after : List ℕ) → ((o : ℕ) → f o ≡ g o) → after
+    ≡ sets before (3 * n) (words_of (events_by f i start end))
     → after ≡ sets before (3 * n) (words_of (events_by g i start end))
 retold f g i start end n before after h w = w ∙ ap (λ (vs : List Event). sets before (3 * n) (words_of vs)) (same_kinds f g i start end h)

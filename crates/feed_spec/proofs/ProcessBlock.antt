@@ -16,7 +16,8 @@ use Rattle.record_spec.specs.Block.{Statement, Block, author, voted_range, count
 use Rattle.store_spec.specs.Layout.{Entry, position_of, lookup}
 use Rattle.pending_spec.specs.Items.{Item, item_at, vote_over}
 use Rattle.pending_spec.proofs.Items.{Ordered, ordered_vote_over, ordered_after_leaving}
-use Rattle.pending_spec.proofs.Order.{Pending, pending_vote_over, pending_after_leaving, pending_register, ordered_register, length_vote_over, length_after_leaving}
+use Rattle.pending_spec.proofs.Order.{Pending, pending_vote_over, pending_after_leaving, pending_register, ordered_register, length_vote_over}
+use Rattle.pending_spec.proofs.Order.{length_after_leaving}
 use Rattle.feed_spec.specs.ProcessBlock.{Event, event_words, words_of, event_at, event_of, Processing, vote, votes, registering, process_block}
 
 -- a new entry is found by its reference

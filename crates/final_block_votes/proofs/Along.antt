@@ -89,4 +89,5 @@ module _ (s : Bytes) (h : laid_out s ≡ true) where
 
   pub walked_end : (order₀ order : List ℕ) (at : ℕ) → Walked s order₀ order at (block_count s) → take (block_count s) order ≡ sorted_positions (records_of s)
   walked_end order₀ order at w =
-      w.kept ∙ ap (λ (n : ℕ). take n (sorted_positions (records_of s))) (block_count_lem s h ∙ sym (sorted_count s h)) ∙ take-length (sorted_positions (records_of s))
+      w.kept ∙ ap (λ (n : ℕ). take n (sorted_positions (records_of s))) (block_count_lem s h ∙ sym (sorted_count s h))
+      ∙ take-length (sorted_positions (records_of s))

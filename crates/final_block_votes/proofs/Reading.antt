@@ -12,7 +12,8 @@ use lib.Seq.{drop-cons}
 use borrow.Author.Tests.{le-leb, lt-leb, leb-true, lt-ltb, ltb-true, eqb-true, eq-eqb}
 use Rattle.base.specs.Lists.{any_of, holds}
 use Rattle.base.proofs.Tests.{same_test, and_both, and_left, and_right}
-use Rattle.record_spec.specs.Reference.{BlockReference, TransactionLocator, TransactionLocatorRange, locator, new_range, one_range, within, same_reference, covers}
+use Rattle.record_spec.specs.Reference.{BlockReference, TransactionLocator, TransactionLocatorRange, locator, new_range, one_range, within, same_reference}
+use Rattle.record_spec.specs.Reference.{covers}
 use Rattle.record_spec.specs.Block.{Statement, Block, is_share, voted_range, spans_from, spans}
 use Rattle.record_spec.specs.Record.{no_statement}
 use Rattle.final_spec.specs.Voters.{votes_for}

@@ -52,7 +52,8 @@ lower_include c rs b h i m =
     (passes_none (block_checks c rs b) h (leb (round b) i.round ⇒ 25)
     (in_right (head_checks c b) (there (in_left _ (in_left _ (in_flatten (there here) (in_map (include_checks c b) m)))))))
 
-lower_includes : (c : Committee) (rs : List Record) → all_accepted c rs ≡ true → (b : Block) → b ∈ blocks rs → (i : BlockReference) → i ∈ b.includes → i.round < round b
+lower_includes : (c : Committee) (rs : List Record) → all_accepted c rs ≡ true → (b : Block) → b ∈ blocks rs → (i : BlockReference) → i ∈ b.includes
+    → i.round < round b
 unfolding all_accepted
 lower_includes c [] h b m i k = absurd (in_empty m)
 lower_includes c (r ∷ rs) h b here i k = lower_include c rs b (and_left _ _ h) i k

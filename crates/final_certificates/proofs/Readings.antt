@@ -24,7 +24,8 @@ module _ (c : Committee) (s : Bytes) (order : List ℕ) (l : TransactionLocator)
   at = block_at s (get_or order k 0)
 
   -- the voters of the block decide
-  pub certifies_old : (v : AuthoritySet) → v ≡ spoken_at own_vote s order l k → certifies_in old c (blocks_of s) l at ≡ not at.marked && is_quorum c (stake_of c v)
+  pub certifies_old : (v : AuthoritySet) → v ≡ spoken_at own_vote s order l k → certifies_in old c (blocks_of s) l at ≡ not at.marked
+      && is_quorum c (stake_of c v)
   unfolding certifies_in voters_in spoken_at block_at_place
   certifies_old v e = rw e
 
@@ -33,7 +34,8 @@ module _ (c : Committee) (s : Bytes) (order : List ℕ) (l : TransactionLocator)
   certifies_neither reading e = fails (certifies_in reading c (blocks_of s) l at) (λ h. not_both (certifies_in_old reading c (blocks_of s) l at h) e)
 
   -- where they do, those who do not reject decide
-  pub certifies_new : (v w : AuthoritySet) → v ≡ spoken_at own_vote s order l k → w ≡ spoken_at own_reject s order l k → certifies_in old c (blocks_of s) l at ≡ true
+  pub certifies_new : (v w : AuthoritySet) → v ≡ spoken_at own_vote s order l k → w ≡ spoken_at own_reject s order l k → certifies_in old c (blocks_of s) l at
+      ≡ true
       → certifies_in withdrawing c (blocks_of s) l at ≡ is_quorum c (stake_of c (without v w))
   unfolding certifies_in voters_in spoken_at block_at_place
   certifies_new v w e f h = rw (e, f) (ap (λ (t : Bool). t && is_quorum c

@@ -45,7 +45,8 @@ module _ (test : Block → Bool) (s : Bytes) where
   abbrev pub found : List ℕ → ℕ → List ℕ
   found order k = keep holds_at (take k order)
 
-  pub found_yes : (order : List ℕ) (k : ℕ) → k < length order → holds_at (get_or order k 0) ≡ true → found order (k + 1) ≡ found order k ++ (get_or order k 0 ∷ [])
+  pub found_yes : (order : List ℕ) (k : ℕ) → k < length order → holds_at (get_or order k 0) ≡ true → found order (k + 1) ≡ found order k
+      ++ (get_or order k 0 ∷ [])
   unfolding keep
   found_yes order k h e = rw (add-one k, take-suc order k 0 h, keep_append holds_at (take k order) (get_or order k 0 ∷ []), e)
 
@@ -81,7 +82,8 @@ unfolding any_of
 any_more p g [] x = or-false (p (g x))
 any_more p g (y ∷ ys) x = go (p (g y)) (any_more p g ys x)
   where
-    go : (t : Bool) → any_of p (map g (ys ++ (x ∷ []))) ≡ any_of p (map g ys) || p (g x) → t || any_of p (map g (ys ++ (x ∷ []))) ≡ (t || any_of p (map g ys)) ||
+    go : (t : Bool) → any_of p (map g (ys ++ (x ∷ []))) ≡ any_of p (map g ys) || p (g x) → t || any_of p (map g (ys ++ (x ∷ []))) ≡ (t || any_of p (map g ys))
+        ||
         p (g x)
     go true h = refl
     go false h = h
@@ -125,7 +127,8 @@ module _ (c : Committee) (s : Bytes) (order : List ℕ) (o : Sorted c s order) w
       let k : e.0.position ∈ sorted_positions (records_of s) = in_map (λ d. d.position) (in_ascending (entries (records_of s)) e.0 e.1) in
       (e.0.position, subst (λ (ps : List ℕ). e.0.position ∈ ps) (sym o.places) k, block_of_entry s (laid_out_lem s o.laid).reads e.0 e.1 ∙ e.2)
 
-  pub authors_all : (test : Block → Bool) (v : AuthoritySet) → Authors s (found test s order (length order)) v → v ≡ set_of (map author (keep test (blocks_of s)))
+  pub authors_all : (test : Block → Bool) (v : AuthoritySet) → Authors s (found test s order (length order)) v → v
+      ≡ set_of (map author (keep test (blocks_of s)))
   authors_all test v w =
       set_ext v (set_of (map author (keep test (blocks_of s)))) w.small (small_set (map author (keep test (blocks_of s))) below)
       (λ a h. w.are a ∙ same_test _ _ (there_too a) (back a) ∙ sym (member_set_of (map author (keep test (blocks_of s))) a))

@@ -65,7 +65,8 @@ module _ (c : Committee) (bs : List Block) (after : Option TransactionLocator) w
   unfolding candidates_in
   reject_candidate d m k = in_right (candidates bs after) (in_flatten k (in_map after_rejections m))
 
-  stepped : (l : TransactionLocator) → (l ∈ candidates_in withdrawing bs after → ⊥) → is_final_in withdrawing c bs l ≡ true → is_after after l ≡ true → JustBefore
+  stepped : (l : TransactionLocator) → (l ∈ candidates_in withdrawing bs after → ⊥) → is_final_in withdrawing c bs l ≡ true → is_after after l ≡ true
+      → JustBefore
       (is_final_in withdrawing c bs) after l
   stepped l none_there f h =
       let r = final_just_before withdrawing c bs l (λ d m k. none_there (start_candidate d m k)) (λ d m k. none_there (reject_candidate d m k)) f in
@@ -86,7 +87,8 @@ least_stands reading c bs after l h =
     stood (least_locator_lem (keep (λ x. is_after after x && is_final_in reading c bs x) (candidates_in reading bs after)))
     (least_once (is_final_in reading c bs) (is_final_in reading c bs) (λ x. refl) after (least_final_in_lem reading c bs after) h)
   where
-    stood : {o : Option TransactionLocator} → Least (keep (λ x. is_after after x && is_final_in reading c bs x) (candidates_in reading bs after)) o → o ≡ some l →
+    stood : {o : Option TransactionLocator} → Least (keep (λ x. is_after after x && is_final_in reading c bs x) (candidates_in reading bs after)) o → o ≡ some l
+        →
         l ∈ candidates_in reading bs after
     stood (one_of x m f) e =
         subst (λ (y : TransactionLocator). y ∈ candidates_in reading bs after) (some-injective x l e)

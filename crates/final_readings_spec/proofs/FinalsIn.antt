@@ -138,7 +138,8 @@ pub certifies_in_same : (reading : Reading) (c : Committee) (bs : List Block) �
 unfolding certifies_in
 certifies_in_same reading c bs f l b = ap (λ (v : AuthoritySet). not b.marked && is_quorum c (stake_of c v)) (voters_in_same reading bs f l b.reference)
 
-pub final_in_same : (reading : Reading) (c : Committee) (bs : List Block) → NoRejects bs → (l : TransactionLocator) → is_final_in reading c bs l ≡ is_final_in old
+pub final_in_same : (reading : Reading) (c : Committee) (bs : List Block) → NoRejects bs → (l : TransactionLocator) → is_final_in reading c bs l
+    ≡ is_final_in old
     c bs l
 unfolding is_final_in certifiers_in
 final_in_same reading c bs f l = λ i. is_quorum c (stake_of c (set_of (map author (keep (λ b. certifies_in_same reading c bs f l b i) bs))))

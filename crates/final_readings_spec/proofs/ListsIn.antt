@@ -36,7 +36,8 @@ pub list_in : (reading : Reading) (c : Committee) (bs : List Block) (l : Transac
 unfolding final_list_in
 list_in reading c bs l = (
   λ m. (keep_in (is_final_in reading c bs) (ascending_locators (flatten (map voted bs))) m).1,
-  λ e. in_keep (is_final_in reading c bs) (ascending_locators (flatten (map voted bs))) (in_ascending l (flatten (map voted bs)) (final_voted reading c bs l e)) e,
+  λ e. in_keep (is_final_in reading c bs) (ascending_locators (flatten (map voted bs))) (in_ascending l (flatten (map voted bs)) (final_voted reading c bs l e))
+      e,
 )
 
 -- where the same locators are final, the lists are the same, and so are the least ones

@@ -169,7 +169,8 @@ final_list_in c bs l = (
 )
 
 -- order: the final list depends on which blocks are stored alone
-pub final_list_order : (c : Committee) {bs cs : List Block} → WellStored bs → WellStored cs → ((x : Block) → x ∈ bs ↔ x ∈ cs) → final_list c bs ≡ final_list c cs
+pub final_list_order : (c : Committee) {bs cs : List Block} → WellStored bs → WellStored cs → ((x : Block) → x ∈ bs ↔ x ∈ cs) → final_list c bs
+    ≡ final_list c cs
 final_list_order c {bs} {cs} v w same_blocks =
     ascending_unique (final_list_ascending c bs) (final_list_ascending c cs)
     (λ l m. (final_list_in c cs l).1 (sym (is_final_order c v w same_blocks l) ∙ (final_list_in c bs l).0 m))

@@ -76,7 +76,8 @@ module _ (f : BlockReference → AuthoritySet) (is : List BlockReference) where
   pub unions_on : (j : ℕ) (votes : AuthoritySet) → j < length is → united votes (unions (map f (drop j is))) ≡ united
       (united votes (f (get_or is j no_reference))) (unions (map f (drop (j + 1) is)))
   unfolding unions
-  unions_on j votes h = rw (drop-cons is j no_reference h, add-one j) (sym (united_assoc votes (f (get_or is j no_reference)) (unions (map f (drop (suc j) is)))))
+  unions_on j votes h = rw (drop-cons is j no_reference h, add-one j)
+      (sym (united_assoc votes (f (get_or is j no_reference)) (unions (map f (drop (suc j) is)))))
 
   pub unions_end : (j : ℕ) (votes : AuthoritySet) → length is ≤ j → united votes (unions (map f (drop j is))) ≡ votes
   unfolding unions

@@ -28,7 +28,8 @@ unfolding bytes_of flatten
 three_bytes a b c = rw (append-nil (le_bytes 8 c))
 
 -- three words written one after the other
-pub three_written : (a b c : ℕ) (l : List ℕ) → length l ≡ 24 → sets (sets (sets l 0 (le_bytes 8 a)) 8 (le_bytes 8 b)) 16 (le_bytes 8 c) ≡ bytes_of (a ∷ b ∷ c ∷ [])
+pub three_written : (a b c : ℕ) (l : List ℕ) → length l ≡ 24 → sets (sets (sets l 0 (le_bytes 8 a)) 8 (le_bytes 8 b)) 16 (le_bytes 8 c)
+    ≡ bytes_of (a ∷ b ∷ c ∷ [])
 three_written a b c l h =
     sym (sym (sets_complete l (bytes_of (a ∷ b ∷ c ∷ [])) (length_bytes_of (a ∷ b ∷ c ∷ []) ∙ sym h)) ∙ rw (
       three_bytes a b c,

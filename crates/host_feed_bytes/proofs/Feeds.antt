@@ -22,7 +22,8 @@ use Rattle.store_spec.specs.Accept.{block_checks}
 use Rattle.store_spec.specs.Store.{records_of}
 use Rattle.words.specs.Words.{words_in, words_of}
 use Rattle.feed_spec.specs.Pending.{pending_checks}
-use Rattle.feed_spec.specs.Feed.{Lent, lent_of, processed, lent_checks, rule_checks, accept_checks, record_checks, feed_checks, refused_feed, accepted_feed, feed_record}
+use Rattle.feed_spec.specs.Feed.{Lent, lent_of, processed, lent_checks, rule_checks, accept_checks, record_checks, feed_checks, refused_feed, accepted_feed}
+use Rattle.feed_spec.specs.Feed.{feed_record}
 use Rattle.feed_spec.specs.Feed.{feed}
 use Rattle.feed_refusals.specs.Refusals.{early_checks}
 use Rattle.host_locators.specs.Locators.{refusal_before}

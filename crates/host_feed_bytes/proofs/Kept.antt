@@ -41,7 +41,8 @@ module _ (c : Committee) (s t v rec : List ℕ) (n : ℕ) where
   unfolding refused_call
   same_bytes k e = (ap (λ (x : FeedCall). x.store) e, (ap (λ (x : FeedCall). x.table) e, ap (λ (x : FeedCall). x.events) e))
 
-  sized_kept : AllBytes t → AllBytes v → length t ≡ 49160 → length v ≡ 65536 → (feed_of c s t v rec).answer ≡ refused n → feed_of c s t v rec ≡ refused_call s t v n
+  sized_kept : AllBytes t → AllBytes v → length t ≡ 49160 → length v ≡ 65536 → (feed_of c s t v rec).answer ≡ refused n → feed_of c s t v rec
+      ≡ refused_call s t v n
   unfolding refused_call fed_call fed_with refused_feed words_of
   sized_kept a b h k e =
       let sized = feed_sized c s t v rec h k in

@@ -19,7 +19,8 @@ use Rattle.store_spec.specs.Layout.{Record, read_record}
 use Rattle.words.specs.Words.{words_in, words_of}
 use Rattle.feed_spec.specs.Pending.{pending_checks}
 use Rattle.feed_spec.specs.Feed.{Lent, lent_of, processed, record_checks, refused_feed, accepted_feed}
-use Rattle.index_feed_spec.specs.IndexedFeed.{indexed_lent_checks, room_checks, indexed_checks, refused_indexed, accepted_indexed, feed_indexed_record, feed_indexed}
+use Rattle.index_feed_spec.specs.IndexedFeed.{indexed_lent_checks, room_checks, indexed_checks, refused_indexed, accepted_indexed, feed_indexed_record}
+use Rattle.index_feed_spec.specs.IndexedFeed.{feed_indexed}
 use Rattle.index_feed_refusals.specs.Refusals.{early_indexed_checks}
 use Rattle.host_locators.specs.Locators.{refusal_before}
 use Rattle.host_locators.proofs.Locators.{before_most}

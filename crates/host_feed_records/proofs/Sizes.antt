@@ -30,7 +30,8 @@ records_most c m o recs n e = go (passes (records_checks c m o (records_in recs)
     most : refusal (records_checks c m o (records_in recs)) ≤ 64
     most = unfold records_checks lent_checks pending_checks all_of in refusal_most 64 (records_checks c m o (records_in recs)) refl
 
-    go : (b : Bool) → (pick b (fed_call o (feed_all c m (records_in recs))) (refused_call m o (refusal (records_checks c m o (records_in recs))))).answer ≡ refused n
+    go : (b : Bool) → (pick b (fed_call o (feed_all c m (records_in recs))) (refused_call m o (refusal (records_checks c m o (records_in recs))))).answer
+        ≡ refused n
         → n ≤ 64
     go true e = let z : ◌≡◌ {A = ℕ} 0 1 = cc in absurd (omega arith)
     go false e = let z : refusal (records_checks c m o (records_in recs)) ≡ n = cc in omega (arith, most)

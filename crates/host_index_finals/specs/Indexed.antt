@@ -34,8 +34,10 @@ asked_stretches_indexed c s ix k (some after) out =
 
 -- of the ordinary list
 unfoldable pub stretches_indexed_call : Bytes → Bytes → List ℕ → Bytes → Bytes → StretchesCall
-stretches_indexed_call stakes s ix after out = asked_stretches_indexed (committee_of stakes) s ix (ordinary (committee_of stakes) (blocks_of s)) (after_of after) out
+stretches_indexed_call stakes s ix after out = asked_stretches_indexed (committee_of stakes) s ix (ordinary (committee_of stakes) (blocks_of s))
+    (after_of after) out
 
 -- of the wide list
 unfoldable pub wide_stretches_indexed_call : Bytes → Bytes → List ℕ → Bytes → Bytes → StretchesCall
-wide_stretches_indexed_call stakes s ix after out = asked_stretches_indexed (committee_of stakes) s ix (wide (committee_of stakes) (blocks_of s)) (after_of after) out
+wide_stretches_indexed_call stakes s ix after out = asked_stretches_indexed (committee_of stakes) s ix (wide (committee_of stakes) (blocks_of s))
+    (after_of after) out

@@ -64,7 +64,8 @@ pub list_same : (reading : Reading) (stakes s : Bytes) (ps : List ℕ) (c : Comm
 unfolding loadable_call
 list_same reading stakes s ps c h = rw h
 
-module _ (reading : Reading) (stakes s : Bytes) (ps : List ℕ) (r : all.LoadableList) (e : as_loadable_list r ≡ (loadable_call reading stakes s ps).answer) (n : ℕ)
+module _ (reading : Reading) (stakes s : Bytes) (ps : List ℕ) (r : all.LoadableList) (e : as_loadable_list r ≡ (loadable_call reading stakes s ps).answer)
+    (n : ℕ)
   where
     pub told_number : r ≡ Places n → n ≡ encoded (loadable_call reading stakes s ps).answer
     unfolding as_loadable_list encoded

@@ -97,7 +97,8 @@ refused_records stakes s t v o recs n a = by (ℕ_discrete (length t) 49160)
     c : Committee
     c = committee_of stakes
 
-    by : Dec (length t ≡ 49160) → (plain.feed_records_of c s t v o recs).answer ≡ refused n → plain.feed_records_of c s t v o recs ≡ plain.refused_host s t v o n
+    by : Dec (length t ≡ 49160) → (plain.feed_records_of c s t v o recs).answer ≡ refused n → plain.feed_records_of c s t v o recs
+        ≡ plain.refused_host s t v o n
     by (no h) = rw (ne_eqb (length t) 49160 h) λ e. let z : refusal_before 11 c s ≡ n = cc in rw z
     by (yes h) = rw (eq-eqb (length t) 49160 h) (go (passes ks))
       where

@@ -51,7 +51,8 @@ module _ (c : Committee) (s : Bytes) (k : Listing) (out : Bytes) (n : ℕ) where
       go true e = let z : ◌≡◌ {A = ℕ} 0 1 = cc in absurd (omega arith)
       go false e = refl
 
-  pub stretches_kept : (o : Option (Option TransactionLocator)) → (asked_stretches c s k o out).answer ≡ refused n → (asked_stretches c s k o out).stretches ≡ out
+  pub stretches_kept : (o : Option (Option TransactionLocator)) → (asked_stretches c s k o out).answer ≡ refused n → (asked_stretches c s k o out).stretches
+      ≡ out
   unfolding asked_stretches stretches_in list_stretches
   stretches_kept none e = refl
   stretches_kept (some after) e = go (whole_stretches out) e

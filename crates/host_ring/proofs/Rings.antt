@@ -40,7 +40,8 @@ module _ (c : Committee) (s t : List ℕ) (r : AuthoritySet) where
   in_refused none n h = rw (refusal_first (pending_checks c s t) ((true ⇒ 20) ∷ []) h)
   in_refused (some l) n h = go (eqb n 24)
     where
-      go : (b : Bool) → pick b (whom_to_ring c s t r l) (refused (refusal (pending_checks c s t ++ ((true ⇒ 40) ∷ [])))) ≡ refused (refusal (pending_checks c s t))
+      go : (b : Bool) → pick b (whom_to_ring c s t r l) (refused (refusal (pending_checks c s t ++ ((true ⇒ 40) ∷ []))))
+          ≡ refused (refusal (pending_checks c s t))
       go true = asked_refused c s t r l h
       go false = rw (refusal_first (pending_checks c s t) ((true ⇒ 40) ∷ []) h)
 

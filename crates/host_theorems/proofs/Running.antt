@@ -71,7 +71,14 @@ few_items : (t : List ℕ) → length t ≡ 6145 → t ≡ table_of (length t) (
 unfolding table_of
 few_items t e l =
     let whole : length t ≡ length (table_of (length t) (items_of t)) = ap (λ (w : List ℕ). length w) l in
-    omega (arith, whole, e, length_words (items_of t), length-append (flatten (map item_words (items_of t))) (replicate (length t - 1 - 6 * length (items_of t)) 0))
+    omega (
+      arith,
+      whole,
+      e,
+      length_words (items_of t),
+      length-append (flatten (map item_words (items_of t)))
+          (replicate (length t - 1 - 6 * length (items_of t)) 0),
+    )
 
 module _ (c : Committee) (b : broken c ≡ false) where
   pub table_fits : (g : Engine) → Fits c g → Words g.table

@@ -47,12 +47,14 @@ module _ (c : Committee) (s b out : List ℕ) where
   unfolding asked_time
   time_malformed h = rw (reference_none b h)
 
-  pub time_unsized : length b ≡ 48 → (length out ≡ 8 → ⊥) → asked_time c s (reference_of b) out ≡ record { answer = refused (refusal_before 40 c s); found = out }
+  pub time_unsized : length b ≡ 48 → (length out ≡ 8 → ⊥) → asked_time c s (reference_of b) out
+      ≡ record { answer = refused (refusal_before 40 c s); found = out }
   unfolding asked_time
   time_unsized e h = rw (reference_read b e, ne_eqb (length out) 8 h)
 
   -- a reference and room for a time: the engine's question
-  pub time_asked : (a : Answer (Option ℕ)) → length b ≡ 48 → length out ≡ 8 → ask_time c s (reference_at b 0) ≡ a → asked_time c s (reference_of b) out ≡ found_in
+  pub time_asked : (a : Answer (Option ℕ)) → length b ≡ 48 → length out ≡ 8 → ask_time c s (reference_at b 0) ≡ a → asked_time c s (reference_of b) out
+      ≡ found_in
       out a
   unfolding asked_time
   time_asked a e h k = rw (reference_read b e, eq-eqb (length out) 8 h, k)

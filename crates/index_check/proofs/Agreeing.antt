@@ -134,7 +134,8 @@ module _ (c : Committee) (s : Bytes) (order ix starts₀ : List ℕ) (o : Sorted
         unfolding block_at_place
         one_place j n q = go (dec_lt j k) (dec_lt k j)
           where
-            apart : (x y : ℕ) → x < y → y < length order → (block_at s (get_or order x 0)).reference ≡ b.reference → (block_at s (get_or order y 0)).reference ≡ b.reference → ⊥
+            apart : (x y : ℕ) → x < y → y < length order → (block_at s (get_or order x 0)).reference ≡ b.reference → (block_at s (get_or order y 0)).reference
+                ≡ b.reference → ⊥
             apart x y u v e₁ e₂ =
                 reference_irrefl b.reference
                 (subst (λ (z : BlockReference). reference_before z b.reference ≡ true) e₁

@@ -67,7 +67,8 @@ arrival rs i h =
     let k : ℕ = length rs - (i + 1) in
     let m : k < length rs = omega arith in
     let e : k + 1 ≡ length rs - i = omega arith in
-    let n : drop k rs ≡ get_or rs k (record_in []) ∷ drop (length rs - i) rs = drop_next_record k m ∙ ap (λ (j : ℕ). get_or rs k (record_in []) ∷ drop j rs) e in
+    let n : drop k rs ≡ get_or rs k (record_in []) ∷ drop (length rs - i) rs = drop_next_record k m
+    ∙ ap (λ (j : ℕ). get_or rs k (record_in []) ∷ drop j rs) e in
     record {
       newer = take k rs;
       own = get_or rs k (record_in []);

@@ -106,9 +106,11 @@ module _ (s : Bytes) (order ix starts : List ℕ) (bs : List Block) (b : Block) 
           room = room;
           inside = h.inside;
           chains = λ k m. subst (λ (xs : List Run). Chain Anything anywhere xs) (sym (h.are k m))
-              (loosened (part_in bs (get_or b.includes k no_reference)) (runs_chain (part_in bs (get_or b.includes k no_reference)) (part_runs bs (get_or b.includes k no_reference))));
+              (loosened (part_in bs (get_or b.includes k no_reference))
+              (runs_chain (part_in bs (get_or b.includes k no_reference)) (part_runs bs (get_or b.includes k no_reference))));
         };
-        names = λ l. all l n (omega arith) ∙ ap (λ (is : List BlockReference). unions (map (λ i. voters_in (part_in bs i) l) is)) (ap (λ (k : ℕ). take k b.includes) e ∙ take-length b.includes);
+        names = λ l. all l n (omega arith) ∙ ap (λ (is : List BlockReference). unions (map (λ i. voters_in (part_in bs i) l) is))
+            (ap (λ (k : ℕ). take k b.includes) e ∙ take-length b.includes);
       }
     where
       all : (l : TransactionLocator) (k : ℕ) → k ≤ n → named_by ix cs k l ≡ unions (map (λ i. voters_in (part_in bs i) l) (take k b.includes))
@@ -125,32 +127,34 @@ module _ (s : Bytes) (order ix starts : List ℕ) (bs : List Block) (b : Block) 
 -- ---- the part
 
 -- a block's own runs as a source
-module _ (b : Block) (ws : List ℕ) (m : ℕ) (o : OwnRuns b ws m) (ms : List ℕ) (long : length ms ≡ 2) (first : get_or ms 0 0 ≡ 0) (left : get_or ms 1 0 ≡ m) where
-  own_source : source ws ms 0 ≡ runs_from m ws
-  unfolding source cursor_at cursor_left
-  own_source = ap (λ (k : ℕ). runs_from k (drop (get_or ms 0 0) ws)) left ∙ ap (λ (k : ℕ). runs_from m (drop k ws)) first
+module _ (b : Block) (ws : List ℕ) (m : ℕ) (o : OwnRuns b ws m) (ms : List ℕ) (long : length ms ≡ 2) (first : get_or ms 0 0 ≡ 0) (left : get_or ms 1 0 ≡ m)
+  where
+    own_source : source ws ms 0 ≡ runs_from m ws
+    unfolding source cursor_at cursor_left
+    own_source = ap (λ (k : ℕ). runs_from k (drop (get_or ms 0 0) ws)) left ∙ ap (λ (k : ℕ). runs_from m (drop k ws)) first
 
-  alone : (k : ℕ) → k < 1 → k ≡ 0
-  alone k h = omega arith
+    alone : (k : ℕ) → k < 1 → k ≡ 0
+    alone k h = omega arith
 
-  pub own_ready : Ready ws ms 1
-  unfolding cursor_at cursor_left
-  own_ready =
-      record {
-        room = omega arith;
-        inside = λ k h. rw (alone k h) (omega (arith, first, left, o.inside));
-        chains = λ k h. rw (alone k h, own_source) o.chain;
-      }
+    pub own_ready : Ready ws ms 1
+    unfolding cursor_at cursor_left
+    own_ready =
+        record {
+          room = omega arith;
+          inside = λ k h. rw (alone k h) (omega (arith, first, left, o.inside));
+          chains = λ k h. rw (alone k h, own_source) o.chain;
+        }
 
-  own_names : (l : TransactionLocator) → named_by ws ms 1 l ≡ own_vote b l
-  unfolding named_by
-  own_names l = nobody_united (voters_in (source ws ms 0) l) ∙ ap (λ (xs : List Run). voters_in xs l) own_source ∙ o.names l
+    own_names : (l : TransactionLocator) → named_by ws ms 1 l ≡ own_vote b l
+    unfolding named_by
+    own_names l = nobody_united (voters_in (source ws ms 0) l) ∙ ap (λ (xs : List Run). voters_in xs l) own_source ∙ o.names l
 
-  pub opened_runs : (bs : List Block) (ix cs : List ℕ) (n : ℕ) → Opened bs b ix cs n → RunsOf (together ws ms ix cs n) (part_from b (map (part_in bs) b.includes))
-  unfolding part_from together
-  opened_runs bs ix cs n h =
-      stretched_runs (λ l. united (named_by ws ms 1 l) (named_by ix cs n l)) (own_runs b ++ flatten (map (part_in bs) b.includes))
-      (λ l.
-      from_names b (part_in bs) (λ i. voters_in (part_in bs i) l) l (λ r. refl)
-      ∙ ap (united (own_vote b l)) (sym (h.names l))
-      ∙ ap (λ (v : AuthoritySet). united v (named_by ix cs n l)) (sym (own_names l)))
+    pub opened_runs : (bs : List Block) (ix cs : List ℕ) (n : ℕ) → Opened bs b ix cs n
+        → RunsOf (together ws ms ix cs n) (part_from b (map (part_in bs) b.includes))
+    unfolding part_from together
+    opened_runs bs ix cs n h =
+        stretched_runs (λ l. united (named_by ws ms 1 l) (named_by ix cs n l)) (own_runs b ++ flatten (map (part_in bs) b.includes))
+        (λ l.
+        from_names b (part_in bs) (λ i. voters_in (part_in bs i) l) l (λ r. refl)
+        ∙ ap (united (own_vote b l)) (sym (h.names l))
+        ∙ ap (λ (v : AuthoritySet). united v (named_by ix cs n l)) (sym (own_names l)))

@@ -26,7 +26,8 @@ module _ (cs₀ : List ℕ) (k : ℕ) where
       next = set (set cs (2 * j) a) (2 * j + 1) b
 
       at_same : get_or next (2 * j) 0 ≡ a
-      at_same = get_or-set_other (set cs (2 * j) a) (2 * j + 1) (2 * j) b 0 (λ (e : 2 * j ≡ 2 * j + 1). omega arith) ∙ get_or-set_same cs (2 * j) a 0 (omega arith)
+      at_same = get_or-set_other (set cs (2 * j) a) (2 * j + 1) (2 * j) b 0 (λ (e : 2 * j ≡ 2 * j + 1). omega arith)
+          ∙ get_or-set_same cs (2 * j) a 0 (omega arith)
 
       left_same : get_or next (2 * j + 1) 0 ≡ b
       left_same = let h : 2 * j + 1 < length (set cs (2 * j) a) = omega (arith, length-set cs (2 * j) a) in get_or-set_same (set cs (2 * j) a) (2 * j + 1) b 0 h

@@ -101,7 +101,8 @@ taken c m ix bytes n e = go (read_record bytes) refl e
     go (some r) q e = by (passes (indexed_checks c m ix (some r))) refl e
       where
         by : (t : Bool) → passes (indexed_checks c m ix (some r)) ≡ t
-            → (pick t (accepted_indexed c m ix r) (refused_indexed m ix (refusal (indexed_checks c m ix (some r))))).fed.answer ≡ answered n → Taken c m ix bytes
+            → (pick t (accepted_indexed c m ix r) (refused_indexed m ix (refusal (indexed_checks c m ix (some r))))).fed.answer ≡ answered n
+            → Taken c m ix bytes
         by true p e = record { own = r; read = q; right = p; is = rw (q, p) }
         by false p e = let z : ◌≡◌ {A = ℕ} 0 1 = cc in absurd (omega arith)
 

@@ -15,7 +15,8 @@ use Rattle.committee.specs.Committee.{Committee}
 use Rattle.store_spec.specs.Layout.{Record, read_record}
 use Rattle.feed_spec.specs.Pending.{pending_checks}
 use Rattle.feed_spec.specs.Feed.{Lent, lent_of, processed, record_checks, refused_feed, accepted_feed}
-use Rattle.index_feed_spec.specs.IndexedFeed.{indexed_lent_checks, room_checks, indexed_checks, refused_indexed, accepted_indexed, feed_indexed_record, feed_indexed}
+use Rattle.index_feed_spec.specs.IndexedFeed.{indexed_lent_checks, room_checks, indexed_checks, refused_indexed, accepted_indexed, feed_indexed_record}
+use Rattle.index_feed_spec.specs.IndexedFeed.{feed_indexed}
 use Rattle.host_feed_bytes.proofs.Feeds.{Below, below, record-ordinary}
 
 -- ---- the numbers are below 56
@@ -39,7 +40,8 @@ unfolding feed_indexed feed_indexed_record refused_indexed accepted_indexed refu
 feed_below c m ix rec n e = by (read_record rec) e
   where
     by : (o : Option Record) → (feed_indexed_record c m ix o).fed.answer ≡ refused n → n < 56
-    by none e = let z : refusal (indexed_checks c m ix none) ≡ n = cc in omega (arith, below 56 (lit< tt) (indexed_checks c m ix none) (checks_below c m ix none))
+    by none e = let z : refusal (indexed_checks c m ix none)
+        ≡ n = cc in omega (arith, below 56 (lit< tt) (indexed_checks c m ix none) (checks_below c m ix none))
     by (some r) e = go (passes (indexed_checks c m ix (some r))) e
       where
         go : (t : Bool) → (pick t (accepted_indexed c m ix r) (refused_indexed m ix (refusal (indexed_checks c m ix (some r))))).fed.answer ≡ refused n → n < 56

@@ -29,7 +29,8 @@ use Rattle.index_feed_spec.proofs.Order.{agreed_refusal, room_refusal, room_pass
 -- what holds of every refusal and of every record that passes the checks holds of the feed
 indexed_cases : (c : Committee) (m : Lent) (ix : List ℕ) (bytes : Bytes) (P : IndexedFed → Type 0)
     → ((n : ℕ) → P (refused_indexed m ix n))
-    → ((r : Record) → read_record bytes ≡ some r → passes (indexed_checks c m ix (some r)) ≡ true → P (accepted_indexed c m ix r)) → P (feed_indexed c m ix bytes)
+    → ((r : Record) → read_record bytes ≡ some r → passes (indexed_checks c m ix (some r)) ≡ true → P (accepted_indexed c m ix r))
+    → P (feed_indexed c m ix bytes)
 unfolding feed_indexed feed_indexed_record
 indexed_cases c m ix bytes P kept took = go (read_record bytes) refl
   where

@@ -13,7 +13,8 @@ use Rattle.feed_many.specs.Records.{words_told}
 use Rattle.index_feed_many.specs.Records.{feed_all_indexed}
 use Rattle.mission_theorems.specs.Feeds.{Feed, left}
 use Rattle.mission_theorems.specs.ThirdStatement.{Holds}
-use Rattle.index_theorems.specs.Indexed.{IndexedEngine, outcome_indexed, left_indexed, run_indexed, IndexedStart, fresh_indexed, engine_indexed, accepted_indexed_of}
+use Rattle.index_theorems.specs.Indexed.{IndexedEngine, outcome_indexed, left_indexed, run_indexed, IndexedStart, fresh_indexed, engine_indexed}
+use Rattle.index_theorems.specs.Indexed.{accepted_indexed_of}
 use Rattle.index_theorems.proofs.Stated.{index_statement, third_indexed}
 use Rattle.index_feed_theorems.specs.Fed.{feeds_of, lent_by, fed_on, engine_fed}
 
@@ -23,7 +24,11 @@ held m ix = record { engine = record { store = m.store; table = m.table }; index
 
 run_all : (c : Committee) (g : IndexedEngine) (m : Lent) (ix : List ℕ) (rs : List Bytes) (earlier : List Feed) → run_indexed c g earlier ≡ held m ix
     → run_indexed c g (feeds_of c m ix rs earlier)
-    ≡ record { engine = record { store = (feed_all_indexed c m ix rs).store; table = (feed_all_indexed c m ix rs).table }; index = (feed_all_indexed c m ix rs).index }
+    ≡ record {
+      engine = record { store = (feed_all_indexed c m ix rs).store; table = (feed_all_indexed c m ix rs).table };
+      index =
+          (feed_all_indexed c m ix rs).index;
+    }
 unfolding feeds_of feed_all_indexed
 run_all c g m ix [] earlier e = e
 run_all c g m ix (r ∷ rs) earlier e =

@@ -165,6 +165,7 @@ parted c m ix (r ∷ rs) qs k l =
       events = ap (λ (x : List ℕ). take (words_told (feed_indexed c m ix r).fed.answer) (feed_indexed c m ix r).fed.events ++ x) ih.events
           ∙ sym (append_assoc (take (words_told (feed_indexed c m ix r).fed.answer) (feed_indexed c m ix r).fed.events) _ _)
           ∙ ap (λ (x : List ℕ). x ++ (feed_all_indexed c (after c (onward c m ix r) (next c m ix r) rs) last qs).events) (sym (front_on c m ix r rs k l))
-          ∙ ap (λ (x : Lent). take (words_of_all (feed_all_indexed c m ix (r ∷ rs)).outcomes) (feed_all_indexed c m ix (r ∷ rs)).events ++ (feed_all_indexed c x last
+          ∙ ap (λ (x : Lent). take (words_of_all (feed_all_indexed c m ix (r ∷ rs)).outcomes) (feed_all_indexed c m ix (r ∷ rs)).events
+          ++ (feed_all_indexed c x last
           qs).events) (sym e);
     }

@@ -53,7 +53,8 @@ module _ (s rec : Bytes) (ix : List ℕ) (a : index_agrees (blocks_of s) ix ≡ 
     pub counted_short : r ≡ TooMany → index_short (block_in rec ∷ blocks_of s) ix ≡ true
     unfolding Counted
     counted_short e =
-        let many : (length ix - get_or ix 0 0 - 1) / 10 < length (new_part s rec) = subst (Counted ((length ix - get_or ix 0 0 - 1) / 10) (new_part s rec)) e h in
+        let many : (length ix - get_or ix 0 0 - 1) / 10 < length (new_part s rec) = subst (Counted ((length ix - get_or ix 0 0 - 1) / 10) (new_part s rec)) e h
+        in
         room_short (omega arith)
 
     module _ (k : ℕ) (e : r ≡ Runs k) where

@@ -82,7 +82,8 @@ module _ (c : Committee) (s : Bytes) (ix : List ℕ) (k : Listing) (out : Bytes)
   unfolding next_final_checks passes all_of
   fifty_four h d = go (holds_or_not (broken c)) (holds_or_not (store_in_order c s))
     where
-      go : (broken c ≡ true) ⊎ (broken c ≡ false) → (store_in_order c s ≡ true) ⊎ (store_in_order c s ≡ false) → list_stretches_indexed c s ix k out after ≡ record
+      go : (broken c ≡ true) ⊎ (broken c ≡ false) → (store_in_order c s ≡ true) ⊎ (store_in_order c s ≡ false) → list_stretches_indexed c s ix k out after
+          ≡ record
           { answer = refused 54; out = out }
       go (inl b) o = let t : passes (next_final_checks c s) ≡ false = rw b in absurd (not_both h t)
       go (inr b) (inl o) = sym (indexed_disagrees b o d)

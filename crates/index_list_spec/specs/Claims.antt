@@ -24,7 +24,8 @@ KeptLists = (c : Committee) (s : Bytes) (ix : List ℕ) (k : Listing) (out : Byt
 
 -- 5 and 10 come first, whatever the index
 unfoldable pub RefusedAlike : Type 0
-RefusedAlike = (c : Committee) (s : Bytes) (ix : List ℕ) (k : Listing) (out : Bytes) (after : Option TransactionLocator) → passes (next_final_checks c s) ≡ false
+RefusedAlike = (c : Committee) (s : Bytes) (ix : List ℕ) (k : Listing) (out : Bytes) (after : Option TransactionLocator) → passes (next_final_checks c s)
+    ≡ false
     → list_stretches_indexed c s ix k out after ≡ list_stretches c s k out after
 
 -- 02: "An index that disagrees with the store answers 54"; the slice is as it was

@@ -88,7 +88,8 @@ pub together_piece : (own ms ix cs : List ℕ) (n : ℕ) (p : Place) (o next : O
 unfolding PieceOr NobodyFrom together
 together_piece own ms ix cs n p o next h k =
     k (named_by own ms 1)
-    (pieces_same (λ l. united nobody (named_by own ms 1 l)) (named_by own ms 1) p o (λ l a. nobody_united (named_by own ms 1 l)) (h (λ l. nobody) (λ l a. refl)))
+    (pieces_same (λ l. united nobody (named_by own ms 1 l)) (named_by own ms 1) p o (λ l a. nobody_united (named_by own ms 1 l))
+    (h (λ l. nobody) (λ l a. refl)))
 
 -- ---- the loop
 

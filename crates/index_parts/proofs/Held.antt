@@ -130,7 +130,8 @@ pub record Holding (own ms₀ ms ix : List ℕ) (n : ℕ) (cs₀ cs : List ℕ) 
   pub pos : s.pos ≡ at + 1 + 10 * (get_or ix at 0 - s.left)
   pub held : Held own ms₀ ms ix n cs₀ cs (as_place s.place) at (get_or ix at 0 - s.left)
 
-pub holding_start : (own ms ix : List ℕ) (n : ℕ) (cs : List ℕ) (s : Spot) (at : ℕ) → Ready ix cs n → Ready own ms 1 → as_place s.place ≡ anywhere → s.pos ≡ at + 1 → s.left ≡ get_or ix at 0
+pub holding_start : (own ms ix : List ℕ) (n : ℕ) (cs : List ℕ) (s : Spot) (at : ℕ) → Ready ix cs n → Ready own ms 1 → as_place s.place ≡ anywhere → s.pos
+    ≡ at + 1 → s.left ≡ get_or ix at 0
     → Holding own ms ms ix n cs cs s at
 holding_start own ms ix n cs s at r o p e d =
     let z : 0 ≡ get_or ix at 0 - s.left = omega arith in

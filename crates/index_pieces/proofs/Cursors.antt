@@ -41,7 +41,8 @@ module _ (p : Place) (ix : List ℕ) (at left : ℕ) (h : 0 < left) where
   unfolding first_piece or_else
   piece_stop y e = rw (next, e)
 
-  pub piece_on : from_place p (run_from (drop at ix)) ≡ none → first_piece p (runs_from left (drop at ix)) ≡ first_piece p (runs_from (left - 1) (drop (at + 10) ix))
+  pub piece_on : from_place p (run_from (drop at ix)) ≡ none → first_piece p (runs_from left (drop at ix))
+      ≡ first_piece p (runs_from (left - 1) (drop (at + 10) ix))
   unfolding first_piece or_else
   piece_on e = rw (next, e)
 
@@ -171,4 +172,5 @@ module _ (ix cs₀ : List ℕ) (p : Place) (other : Option Run) where
       pieces_same (λ l. united (g l) (voters_in (source ix cs₀ k) l)) (λ l. united (f l) (united (named_by ix cs₀ k l) (voters_in (source ix cs₀ k) l))) p
       (both o q)
       (λ l a. united_assoc (f l) (named_by ix cs₀ k l) (voters_in (source ix cs₀ k) l))
-      (both_pieces g (voters_in (source ix cs₀ k)) p o q (s f m) (subst (PieceOr (voters_in (source ix cs₀ k)) p) (sym e) (first_piece_lem p (source ix cs₀ k) h))))
+      (both_pieces g (voters_in (source ix cs₀ k)) p o q (s f m)
+      (subst (PieceOr (voters_in (source ix cs₀ k)) p) (sym e) (first_piece_lem p (source ix cs₀ k) h))))

@@ -295,6 +295,7 @@ unfolding skipped kept_if
 skipped_names p [] l a = refl
 skipped_names p (x ∷ xs) l a = go (from_place p x) refl (skipped_names p xs l a)
   where
-    go : (o : Option Run) → from_place p x ≡ o → voters_in (skipped p xs) l ≡ voters_in xs l → voters_in (kept_if o (x ∷ xs) (skipped p xs)) l ≡ voters_in (x ∷ xs) l
+    go : (o : Option Run) → from_place p x ≡ o → voters_in (skipped p xs) l ≡ voters_in xs l → voters_in (kept_if o (x ∷ xs) (skipped p xs)) l
+        ≡ voters_in (x ∷ xs) l
     go (some y) e ih = refl
     go none e ih = ih ∙ sym (past_head x xs l (passed p x e l a))

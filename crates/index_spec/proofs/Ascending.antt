@@ -101,7 +101,8 @@ unfolding gathered voters_in
 gathered_names [] l = refl
 gathered_names (x ∷ xs) l = go (says x) refl (gathered_names xs l)
   where
-    go : (t : Bool) → says x ≡ t → voters_in (gathered xs) l ≡ voters_in xs l → voters_in (pick t (added x (gathered xs)) (gathered xs)) l ≡ united (votes_at x l)
+    go : (t : Bool) → says x ≡ t → voters_in (gathered xs) l ≡ voters_in xs l → voters_in (pick t (added x (gathered xs)) (gathered xs)) l
+        ≡ united (votes_at x l)
         (voters_in xs l)
     go true e ih =
         added_names x (gathered xs) (says_good x e).full (λ z m. (good_in z (gathered xs) (gathered_chain xs) m).full) l

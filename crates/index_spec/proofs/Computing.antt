@@ -8,7 +8,9 @@ use Rattle.index_spec.specs.Index.{index_agrees, index_short, index_holding, app
 use Rattle.index_spec.specs.Certified.{part_certifies, quorum_run, author_run, certifying_runs, certified}
 
 unfoldable pub computing : Unit {0}
-unfolding computing-finality run run_covers votes_at voters_in same_voters run_before touches unless_empty overlaid overlapping added says gathered joined_to joined
-    stretched merged own_run own_runs part_from part_in digest_words run_words part_words indexed body_words used_words index_words index_of fresh_index used_part
+unfolding computing-finality run run_covers votes_at voters_in same_voters run_before touches unless_empty overlaid overlapping added says gathered joined_to
+    joined
+    stretched merged own_run own_runs part_from part_in digest_words run_words part_words indexed body_words used_words index_words index_of fresh_index
+    used_part
     index_agrees index_short index_holding appended part_certifies quorum_run author_run certifying_runs certified
 computing = tt

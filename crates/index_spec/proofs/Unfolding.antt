@@ -109,4 +109,5 @@ pub somebody : (xs : List Run) (x : Run) → x ∈ xs → (l : TransactionLocato
 unfolding voters_in
 somebody [] x x6 l c v e = elim x6 [ ]
 somebody (y ∷ xs) x here l c v e = v (sym (votes_in x l c) ∙ united_nobody_left (votes_at x l) (voters_in xs l) e)
-somebody (y ∷ xs) x (there m) l c v e = somebody xs x m l c v (united_nobody_left (voters_in xs l) (votes_at y l) (united_comm (voters_in xs l) (votes_at y l) ∙ e))
+somebody (y ∷ xs) x (there m) l c v e = somebody xs x m l c v
+    (united_nobody_left (voters_in xs l) (votes_at y l) (united_comm (voters_in xs l) (votes_at y l) ∙ e))

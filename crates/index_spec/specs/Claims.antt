@@ -17,7 +17,8 @@ use Rattle.final_spec.specs.Finality.{blocks_of}
 use Rattle.final_spec.specs.Claims.{Stored}
 use Rattle.index_spec.specs.Runs.{Run, voters_in, merged}
 use Rattle.index_spec.specs.Part.{RunsOf, PartOf, Longest, part_in}
-use Rattle.index_spec.specs.Index.{part_words, Indexed, indexed, body_words, used_words, index_words, index_of, fresh_index, used_part, index_agrees, index_short}
+use Rattle.index_spec.specs.Index.{part_words, Indexed, indexed, body_words, used_words, index_words, index_of, fresh_index, used_part, index_agrees}
+use Rattle.index_spec.specs.Index.{index_short}
 use Rattle.index_spec.specs.Index.{index_holding, appended, Kept}
 use Rattle.index_spec.specs.Certified.{certified}
 

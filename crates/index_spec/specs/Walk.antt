@@ -41,7 +41,11 @@ digest_of a b c d = le_bytes 8 a ++ (le_bytes 8 b ++ (le_bytes 8 c ++ le_bytes 8
 unfoldable pub run_from : List ℕ → Run
 run_from ws =
     record {
-      reference = record { authority = get_or ws 0 0; round = get_or ws 1 0; digest = digest_of (get_or ws 2 0) (get_or ws 3 0) (get_or ws 4 0) (get_or ws 5 0) };
+      reference = record {
+        authority = get_or ws 0 0;
+        round = get_or ws 1 0;
+        digest = digest_of (get_or ws 2 0) (get_or ws 3 0) (get_or ws 4 0) (get_or ws 5 0);
+      };
       start = get_or ws 6 0;
       end = get_or ws 7 0;
       votes = record { low = get_or ws 8 0; high = get_or ws 9 0 };

@@ -108,7 +108,8 @@ module _ (ix : List ℕ) (at : ℕ) (xs : List Run) where
   stood_end h = h ∙ ap (λ (zs : List Run). runs_words zs ++ drop (at + 1 + 10 * length xs) ix) (take-length xs)
 
   -- the whole part
-  pub stood_part : at < length ix → get_or ix at 0 ≡ length xs → Stood ix at (length xs) xs → drop at ix ≡ part_words xs ++ drop (at + length (part_words xs)) ix
+  pub stood_part : at < length ix → get_or ix at 0 ≡ length xs → Stood ix at (length xs) xs → drop at ix ≡ part_words xs
+      ++ drop (at + length (part_words xs)) ix
   unfolding part_words
   stood_part h c s =
       let e : at + 1 + 10 * length xs ≡ at + length (part_words xs) = omega (arith, part_length xs) in
@@ -119,7 +120,8 @@ module _ (ix : List ℕ) (at : ℕ) (xs : List Run) where
 -- ---- a run where it stands
 
 -- ten words, through their run
-run_words_lem : (ws : List ℕ) → ((i : ℕ) → get_or ws i 0 < 18446744073709551616) → (rest : List ℕ) → run_words (run_from ws) ++ rest ≡ get_or ws 0 0 ∷ get_or ws 1 0 ∷
+run_words_lem : (ws : List ℕ) → ((i : ℕ) → get_or ws i 0 < 18446744073709551616) → (rest : List ℕ) → run_words (run_from ws) ++ rest ≡ get_or ws 0 0
+    ∷ get_or ws 1 0 ∷
     get_or ws 2 0 ∷ get_or ws 3 0 ∷ get_or ws 4 0 ∷ get_or ws 5 0 ∷ get_or ws 6 0 ∷ get_or ws 7 0 ∷ get_or ws 8 0 ∷ get_or ws 9 0 ∷ rest
 unfolding run_words run_from digest_words digest_of le_bytes
 run_words_lem ws h rest =
@@ -130,7 +132,8 @@ run_words_lem ws h rest =
     λ i. get_or ws 0 0 ∷ get_or ws 1 0 ∷ a i ∷ b i ∷ c i ∷ d i ∷ get_or ws 6 0 ∷ get_or ws 7 0 ∷ get_or ws 8 0 ∷ get_or ws 9 0 ∷ rest
 
 ten : (ws : List ℕ) → 10 ≤ length ws
-    → ws ≡ get_or ws 0 0 ∷ get_or ws 1 0 ∷ get_or ws 2 0 ∷ get_or ws 3 0 ∷ get_or ws 4 0 ∷ get_or ws 5 0 ∷ get_or ws 6 0 ∷ get_or ws 7 0 ∷ get_or ws 8 0 ∷ get_or ws 9 0 ∷ drop
+    → ws ≡ get_or ws 0 0 ∷ get_or ws 1 0 ∷ get_or ws 2 0 ∷ get_or ws 3 0 ∷ get_or ws 4 0 ∷ get_or ws 5 0 ∷ get_or ws 6 0 ∷ get_or ws 7 0 ∷ get_or ws 8 0
+    ∷ get_or ws 9 0 ∷ drop
     10 ws
 ten [] m = absurd (omega arith)
 ten (a ∷ []) m = absurd (omega arith)
@@ -156,7 +159,8 @@ run_here ix pos h m =
 -- ---- runs where they stand
 
 -- the words of the runs that are read from words
-pub runs_words_lem : (m : ℕ) (ws : List ℕ) → ((i : ℕ) → get_or ws i 0 < 18446744073709551616) → 10 * m ≤ length ws → runs_words (runs_from m ws) ≡ take (10 * m) ws
+pub runs_words_lem : (m : ℕ) (ws : List ℕ) → ((i : ℕ) → get_or ws i 0 < 18446744073709551616) → 10 * m ≤ length ws → runs_words (runs_from m ws)
+    ≡ take (10 * m) ws
 unfolding runs_from flatten
 runs_words_lem zero ws h k = refl
 runs_words_lem (suc m) ws h k =

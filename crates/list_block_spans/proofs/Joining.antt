@@ -9,7 +9,8 @@ use lib.ListN.{length, get_or, drop, length-drop, drop_of_length-le}
 use lib.Seq.{drop-cons, drop-drop}
 use Rattle.base.specs.Lists.{pick, any_of}
 use Rattle.base.proofs.Tests.{not_both}
-use Rattle.record_spec.specs.Reference.{BlockReference, TransactionLocator, TransactionLocatorRange, locator, new_range, one_range, within, same_reference, covers}
+use Rattle.record_spec.specs.Reference.{BlockReference, TransactionLocator, TransactionLocatorRange, locator, new_range, one_range, within, same_reference}
+use Rattle.record_spec.specs.Reference.{covers}
 use Rattle.record_spec.specs.Block.{Statement, Block, is_share, voted_range, spans_from, spans}
 use Rattle.record_spec.specs.Record.{no_statement}
 use Rattle.record_spec.proofs.Ranges.{within_parts}
@@ -79,7 +80,8 @@ module _ (l : TransactionLocator) where
       ∙ with_run r o (o + 1 + suc (leading true xs)) (joined_from r (o + 1 + suc (leading true xs)) (drop (leading true xs) xs)) (omega arith)
       ∙ ap (λ (qs : List TransactionLocatorRange). at (new_range r o (o + 1)) || any_of at qs) (sym (joined_run r (o + 1) x xs e))
 
-  alone_covers : (r : BlockReference) (o : ℕ) (qs : List TransactionLocatorRange) → any_of at (lengthened r o false qs) ≡ at (new_range r o (o + 1)) || any_of at
+  alone_covers : (r : BlockReference) (o : ℕ) (qs : List TransactionLocatorRange) → any_of at (lengthened r o false qs) ≡ at (new_range r o (o + 1))
+      || any_of at
       qs
   unfolding lengthened any_of
   alone_covers r o qs = refl
@@ -102,7 +104,8 @@ module _ (l : TransactionLocator) where
           → any_of at (pick t (lengthened r o (begins_share ss) (joined_from r (o + 1) ss)) (Option-to_list (voted_range s) ++ joined_from r (o + 1) ss))
           ≡ any_of at (pick t (one_range (locator r o) ∷ []) (Option-to_list (voted_range s)) ++ spans_from r (o + 1) ss)
       go true ih = with_share r o ss ∙ ap (λ (t : Bool). at (new_range r o (o + 1)) || t) ih
-      go false ih = any_append at (Option-to_list (voted_range s)) (joined_from r (o + 1) ss) ∙ ap (λ (t : Bool). any_of at (Option-to_list (voted_range s)) || t)
+      go false ih = any_append at (Option-to_list (voted_range s)) (joined_from r (o + 1) ss)
+          ∙ ap (λ (t : Bool). any_of at (Option-to_list (voted_range s)) || t)
           ih ∙ sym (any_append at (Option-to_list (voted_range s)) (spans_from r (o + 1) ss))
 
 pub joined_votes : (b : Block) (l : TransactionLocator) → any_of (λ q. covers q l) (joined_spans b) ≡ votes_for b l

@@ -41,12 +41,14 @@ module _ (s : Bytes) (k : ℕ) (rows es : List Row) (proper : Every (Proper s) r
   start_passed {q} m h = in_keep (reached s l) es (in_permuted same (start_in k rows m)) (is_reached _ (covers_start s k q l h))
 
   -- the last of them is a beginning: of a row that ends after the locator
-  last_start : (p : Row) → p ∈ rows → locator_before l (key_of s (start_edge k p)) ≡ false → ((f : Row) → f ∈ passed → row_before s (start_edge k p) f ≡ false) →
+  last_start : (p : Row) → p ∈ rows → locator_before l (key_of s (start_edge k p)) ≡ false → ((f : Row) → f ∈ passed → row_before s (start_edge k p) f ≡ false)
+      →
       any_covers s rows l ≡ true
   unfolding any_covers reached
   last_start p m h last = in_any (row_covers s l) m (covers_between s k p l h (ends (holds_or_not (locator_before l (key_of s (end_edge k p))))))
     where
-      ends : (locator_before l (key_of s (end_edge k p)) ≡ true) ⊎ (locator_before l (key_of s (end_edge k p)) ≡ false) → locator_before l (key_of s (end_edge k p)) ≡
+      ends : (locator_before l (key_of s (end_edge k p)) ≡ true) ⊎ (locator_before l (key_of s (end_edge k p)) ≡ false)
+          → locator_before l (key_of s (end_edge k p)) ≡
           true
       ends (inl e) = e
       ends (inr e) = absurd (not_both (start_before s k p (every_in rows p proper m))

@@ -57,7 +57,8 @@ unfolding Sorted
 place_says s rss es d o k h p a l =
     let e : 0 + k ≡ k = omega arith in
     let own = rw e at (from_place 0 k rss h) in
-    edges_say s k (get_or rss k []) (keep (of_place k) es) p a (subst (λ (ys : List Row). Permuted (keep (of_place k) es) ys) own (permuted_keep (of_place k) d))
+    edges_say s k (get_or rss k []) (keep (of_place k) es) p a
+    (subst (λ (ys : List Row). Permuted (keep (of_place k) es) ys) own (permuted_keep (of_place k) d))
     (pairs_keep (of_place k) es o) l
 
 -- ---- a pass over the table

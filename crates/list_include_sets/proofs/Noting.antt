@@ -42,7 +42,8 @@ module _ (sets : List ℕ) (k p : ℕ) (low : p < 1024) (room : 17 * k + 16 < le
           at (yes f) = eq-eqb (q % 64) (p % 64) (ap (λ (x : ℕ). x % 64) f) ∙ sym (eq-eqb q p f)
           at (no f) = ne_eqb (q % 64) (p % 64) (λ (z : q % 64 ≡ p % 64). f (omega arith)) ∙ sym (ne_eqb q p f)
 
-      go : Dec (q / 64 ≡ p / 64) → bit (get_or (set sets (17 * k + p / 64) (bit_or (get_or sets (17 * k + p / 64) 0) (2 ^ (p % 64)))) (17 * k + q / 64) 0) (q % 64)
+      go : Dec (q / 64 ≡ p / 64) → bit (get_or (set sets (17 * k + p / 64) (bit_or (get_or sets (17 * k + p / 64) 0) (2 ^ (p % 64)))) (17 * k + q / 64) 0)
+          (q % 64)
           ≡ bit (get_or sets (17 * k + q / 64) 0) (q % 64) || eqb q p
       go (yes e) =
           rw (
@@ -84,7 +85,8 @@ module _ (s : Bytes) (order : List ℕ) (k : ℕ) where
           ((j < n + 1) × IsPlace s order q (get_or (block_at_place s order k).includes j no_reference))
       sound_too q l h = go (or_cases (has sets k q) (eqb q p) (sym (grown q) ∙ h))
         where
-          go : (has sets k q ≡ true) ⊎ (eqb q p ≡ true) → (j : ℕ) × ((j < n + 1) × IsPlace s order q (get_or (block_at_place s order k).includes j no_reference))
+          go : (has sets k q ≡ true) ⊎ (eqb q p ≡ true) → (j : ℕ)
+              × ((j < n + 1) × IsPlace s order q (get_or (block_at_place s order k).includes j no_reference))
           go (inl e) = let y = w.sound q l e in (y.0, (omega (arith, y.1.0), y.1.1))
           go (inr e) = (n, (omega arith, rw (eqb-true q p e) x))
 

@@ -54,7 +54,8 @@ module _ (r : Bytes) (bytes : AllBytes r) (well : well_formed r ≡ true) (i : �
         let told = reject_told (block_in r) i h vote v r next onward in
         record { are = told.0; onward = told.1; inside = inside; stands = placed _ v (rejects_stand r bytes well i h) }
 
-    pub vote_next : (kind : RangeKind) → is_rejects kind ≡ false → is_shares kind ≡ false → is_share st ≡ false → voted_by vote ≡ Option-to_list (voted_range st) →
+    pub vote_next : (kind : RangeKind) → is_rejects kind ≡ false → is_shares kind ≡ false → is_share st ≡ false → voted_by vote
+        ≡ Option-to_list (voted_range st) →
         NextIn kind r i (record { vote = vote; at = at + 1; next = next })
     unfolding is_rejects is_shares kind_ranges_at ranges_at
     vote_next Rejects t u e v = absurd (true≢false t)

@@ -18,7 +18,8 @@ use Rattle.base.proofs.Read.{part}
 use Rattle.base.proofs.Fixed.{reads_at}
 use Rattle.record_spec.specs.Reference.{BlockReference, TransactionLocator, TransactionLocatorRange, new_range, one_range}
 use Rattle.record_spec.specs.Block.{Statement, share, accept, reject, vote_range, voted_range}
-use Rattle.record_spec.specs.Record.{read_reference, well_formed, block_in, time_in, no_statement, reference_bytes, locator_bytes, statement_bytes, statement_start}
+use Rattle.record_spec.specs.Record.{read_reference, well_formed, block_in, time_in, no_statement, reference_bytes, locator_bytes, statement_bytes}
+use Rattle.record_spec.specs.Record.{statement_start}
 use Rattle.record_spec.proofs.Records.{ReferenceFits, StatementFits, BlockFits, reference_reads, length_reference, block_of_fits, block_of_lem, timed_of_lem}
 use Rattle.record_spec.proofs.Places.{statements_place}
 use Rattle.record_reference_bytes.proofs.Fixed.{fixed_reference, reference_value}

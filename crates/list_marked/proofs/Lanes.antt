@@ -83,7 +83,8 @@ module _ (w : Wanted) (s : Bytes) (order marks : List ℕ) (few : length order �
 
     pub owned_rejects : wants_rejects w.reading ≡ true → (l.offset ≡ 18446744073709551615 → ⊥) → Owned true s order l (take 1024 (drop 1024 marks))
     unfolding Owned
-    owned_rejects t n k h = rw (get_or-take 1024 (drop 1024 marks) k 0 (omega arith), get_or-drop 1024 marks k 0) (reject_mark w s order marks few l right k h t n)
+    owned_rejects t n k h = rw (get_or-take 1024 (drop 1024 marks) k 0 (omega arith), get_or-drop 1024 marks k 0)
+        (reject_mark w s order marks few l right k h t n)
 
     pub shares_marked : SortedStore s order → is_ordinary w.list ≡ true → (b : Bool) → AnyMarked (take 1024 (drop 2048 marks)) (length order) b →
         is_stored_share (blocks_of s) l ≡ b

@@ -73,7 +73,8 @@ unfolding MarkedIn
 marked_in_more s order marks n v f k h e = member_inserted v (author (block_at_place s order n)) (author (block_at_place s order k)) ∙ go (ℕ_discrete k n)
   where
     go : Dec (k ≡ n) → member v (author (block_at_place s order k)) || eqb (author (block_at_place s order k)) (author (block_at_place s order n)) ≡ true
-    go (yes z) = rw (z, eq-eqb (author (block_at_place s order n)) (author (block_at_place s order n)) refl) (or-true (member v (author (block_at_place s order n))))
+    go (yes z) = rw (z, eq-eqb (author (block_at_place s order n)) (author (block_at_place s order n)) refl)
+        (or-true (member v (author (block_at_place s order n))))
     go (no z) = rw (f k (omega arith) e)
 
 pub marked_in_none : (s : Bytes) (order marks : List ℕ) (n : ℕ) (v : AuthoritySet) → MarkedIn s order marks n v → eqb (get_or marks n 0) 1 ≡ false → MarkedIn s
@@ -108,7 +109,8 @@ module _ (w : Wanted) (c : Committee) (s : Bytes) (order marks : List ℕ) (o : 
       (lane_ranges w s order) marks l → (list_for w c (blocks_of s)).shows l ≡ false
   unfolding MarkedIn listing is_listed
   few_hidden v f q l right = not_final (is_ordinary w.list) (fails (is_final_in (as_reading w.reading) c (blocks_of s) l)
-      (λ t. not_both (voters_quorum c (blocks_of s) l v own (sym (final_is_old c (blocks_of s) l) ∙ final_in_old (as_reading w.reading) c (blocks_of s) l t)) q))
+      (λ t. not_both (voters_quorum c (blocks_of s) l v own (sym (final_is_old c (blocks_of s) l) ∙ final_in_old (as_reading w.reading) c (blocks_of s) l t))
+      q))
     where
       own : (d : Block) → d ∈ blocks_of s → votes_for d l ≡ true → member v (author d) ≡ true
       own d m e =
@@ -145,7 +147,8 @@ module _ (w : Wanted) (c : Committee) (s : Bytes) (order marks : List ℕ) (o : 
       certified_new gone heard f l right = rw (reading_new w.reading t)
           (f withdrawing l (owned_votes w s order marks few l right) (go (ℕ_discrete l.offset 18446744073709551615)))
         where
-          unvoted : ((d : Block) → d ∈ blocks_of s → votes_for d l ≡ false) → (k : ℕ) → counted true (spoken_at own_vote s order l k) (set_at gone k) ≡ voters_in
+          unvoted : ((d : Block) → d ∈ blocks_of s → votes_for d l ≡ false) → (k : ℕ) → counted true (spoken_at own_vote s order l k) (set_at gone k)
+              ≡ voters_in
               withdrawing (blocks_of s) l (block_at_place s order k).reference
           unvoted none k =
               let r = (block_at_place s order k).reference in
@@ -198,6 +201,7 @@ module _ (w : Wanted) (c : Committee) (s : Bytes) (order marks : List ℕ) (o : 
     may_be e t = shares_marked w s order marks few l right o t b (may.ordinary t) ∙ e
 
 -- quorum by the numbers
-pub quorum_told : (c : Committee) (t x : ℕ) (v : AuthoritySet) (b : Bool) → t ≡ total_stake c → x ≡ stake_of c v → b ≡ quorum_of t x → is_quorum c (stake_of c v) ≡ b
+pub quorum_told : (c : Committee) (t x : ℕ) (v : AuthoritySet) (b : Bool) → t ≡ total_stake c → x ≡ stake_of c v → b ≡ quorum_of t x
+    → is_quorum c (stake_of c v) ≡ b
 unfolding is_quorum
 quorum_told c t x v b e f g = sym (g ∙ ap₂ quorum_of e f)

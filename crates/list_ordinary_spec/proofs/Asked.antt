@@ -25,7 +25,8 @@ module _ (c : Committee) (s : Bytes) (b : broken c ≡ false) (h : store_in_orde
   unfolding next_final_share next_final_checks checked passes refusal all_of
   next_share_answers after = rw (b, h)
 
-  answers : (after : Option TransactionLocator) {o : Option TransactionLocator} → LeastFinalShare c (blocks_of s) after o → next_final_share c s after ≡ answered o
+  answers : (after : Option TransactionLocator) {o : Option TransactionLocator} → LeastFinalShare c (blocks_of s) after o → next_final_share c s after
+      ≡ answered o
   answers after {o} k =
       next_share_answers after ∙ ap {B = Answer (Option TransactionLocator)} answered
       (one_least (is_final_share c (blocks_of s)) after (least_final_share_lem c (blocks_of s) after) k)
@@ -37,7 +38,8 @@ module _ (c : Committee) (s : Bytes) (b : broken c ≡ false) (h : store_in_orde
       subst (LeastFinal c (blocks_of s) after) q (least_final_lem c (blocks_of s) after)
 
   -- two questions with the same answer go on alike
-  asked_from : {after from : Option TransactionLocator} {ls : List TransactionLocator} → next_final_share c s after ≡ next_final_share c s from → SharesAskedOn c
+  asked_from : {after from : Option TransactionLocator} {ls : List TransactionLocator} → next_final_share c s after ≡ next_final_share c s from
+      → SharesAskedOn c
       s from ls → SharesAskedOn c s after ls
   asked_from e (done f) = done (e ∙ f)
   asked_from e (onward f a) = onward (e ∙ f) a

@@ -95,5 +95,6 @@ module _ (c : Committee) {bs cs : List Block} (v : WellStored bs) (w : WellStore
         shares = same_all_shares e;
         test = same_stored e;
         final = same_final_shares;
-        next = λ after. least_once (is_final_share c bs) (is_final_share c cs) same_final_share after (least_final_share_lem c bs after) (least_final_share_lem c cs after);
+        next = λ after. least_once (is_final_share c bs) (is_final_share c cs) same_final_share after (least_final_share_lem c bs after)
+            (least_final_share_lem c cs after);
       }

@@ -10,7 +10,8 @@ use Rattle.base.specs.Le.{Bytes}
 use Rattle.base.proofs.Lists.{Every, none_of, and, Pairs, no_pairs, with_later, every_in}
 use Rattle.base.proofs.Members.{any_in, in_map, map_in, in_flatten, flatten_in}
 use Rattle.committee.specs.Committee.{Committee}
-use Rattle.record_spec.specs.Reference.{BlockReference, TransactionLocator, TransactionLocatorRange, locator, within, locators, locator_before, reference_before}
+use Rattle.record_spec.specs.Reference.{BlockReference, TransactionLocator, TransactionLocatorRange, locator, within, locators, locator_before}
+use Rattle.record_spec.specs.Reference.{reference_before}
 use Rattle.record_spec.specs.Block.{Block, is_share_at, shared_ranges}
 use Rattle.record_spec.proofs.References.{by_block, is_before}
 use Rattle.record_spec.proofs.Ranges.{within_true}

@@ -72,13 +72,15 @@ module _ (s : Bytes) where
     unfolding join_in join_last any_covers any_of
     covers_in r q [] (and p none_of) (and h none_of) = go (ends_before s q r) refl
       where
-        go : (t : Bool) → ends_before s q r ≡ t → any_of (row_covers s l) (pick t (q ∷ r ∷ []) (widened q r ∷ [])) ≡ (row_covers s l q || false) || row_covers s l r
+        go : (t : Bool) → ends_before s q r ≡ t → any_of (row_covers s l) (pick t (q ∷ r ∷ []) (widened q r ∷ [])) ≡ (row_covers s l q || false)
+            || row_covers s l r
         go true e = rw (or-false (row_covers s l r), or-false (row_covers s l q))
         go false e = rw (or-false (row_covers s l (widened q r)), or-false (row_covers s l q)) (covers_widened s q r p h e l)
     covers_in r q (p ∷ ps) (and a as') (and h hs) = ap (λ (t : Bool). row_covers s l q || t) (covers_in r p ps as' hs) ∙ sym
         (or_assoc (row_covers s l q) (any_of (row_covers s l) (p ∷ ps)) (row_covers s l r))
 
-    pub covers_join : (qs : List Row) (r : Row) → Every (Proper s) qs → Every (λ x. row_before s r x ≡ false) qs → any_covers s (join_onto s qs r) l ≡ any_covers
+    pub covers_join : (qs : List Row) (r : Row) → Every (Proper s) qs → Every (λ x. row_before s r x ≡ false) qs → any_covers s (join_onto s qs r) l
+        ≡ any_covers
         s qs l || row_covers s l r
     unfolding join_onto any_covers any_of
     covers_join [] r h k = or-false (row_covers s l r)

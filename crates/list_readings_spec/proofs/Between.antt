@@ -51,7 +51,8 @@ module _ {f : Block → List TransactionLocatorRange} (told : Telling f) (bs : L
   votes_same d m = same_test _ _ (back told bs r o gap d m) (forth told bs r o gap d m)
 
   module _ (c : Committee) where
-    certifies_same : NoCut withdrawing bs r o → (b : Block) → certifies_in withdrawing c bs (locator r (o + 1)) b ≡ certifies_in withdrawing c bs (locator r o) b
+    certifies_same : NoCut withdrawing bs r o → (b : Block) → certifies_in withdrawing c bs (locator r (o + 1)) b
+        ≡ certifies_in withdrawing c bs (locator r o) b
     unfolding certifies_in
     certifies_same (inl same) b = certifies_in_alike withdrawing c bs (locator r (o + 1)) (locator r o) votes_same same b
     certifies_same (inr none) b =

@@ -39,7 +39,8 @@ module _ (reading : Reading) (c : Committee) (bs : List Block) (after : Option T
   in_passing : (l : TransactionLocator) → is_listed true reading c bs l ≡ true → is_after after l ≡ true → l ∈ keep passing (flatten (map shares_of bs))
   unfolding passing is_listed
   in_passing l f a =
-      in_keep passing (flatten (map shares_of bs)) (in_gathered bs l (stored_share bs l (and_left _ _ f))) (and_both _ _ a (and_right (is_stored_share bs l) _ f))
+      in_keep passing (flatten (map shares_of bs)) (in_gathered bs l (stored_share bs l (and_left _ _ f)))
+      (and_both _ _ a (and_right (is_stored_share bs l) _ f))
 
   passing_in : (l : TransactionLocator) → l ∈ keep passing (flatten (map shares_of bs)) → (is_listed true reading c bs l ≡ true) × (is_after after l ≡ true)
   unfolding passing is_listed

@@ -16,11 +16,13 @@ use Rattle.list_readings_spec.specs.Lists.{is_listed, least_listed, list_edges, 
 
 module _ (c : Committee) (bs : List Block) where
   pub old_wide : listing false old c bs ≡ wide c bs
-  unfolding listing is_listed least_listed list_edges least_final_in candidates_in is_final_in certifiers_in certifies_in voters_in least_final is_final certifiers certifies
+  unfolding listing is_listed least_listed list_edges least_final_in candidates_in is_final_in certifiers_in certifies_in voters_in least_final is_final
+      certifiers certifies
   old_wide = refl
 
   pub old_ordinary : listing true old c bs ≡ ordinary c bs
-  unfolding listing is_listed least_listed list_edges is_final_in certifiers_in certifies_in voters_in is_final certifiers certifies is_final_share least_final_share
+  unfolding listing is_listed least_listed list_edges is_final_in certifiers_in certifies_in voters_in is_final certifiers certifies is_final_share
+      least_final_share
   old_ordinary = refl
 
 module _ (o : Bool) (c : Committee) (bs : List Block) where

@@ -21,7 +21,8 @@ use Rattle.committee_set.proofs.Quorums.{stake_same}
 use Rattle.record_spec.specs.Reference.{TransactionLocator, locator}
 use Rattle.record_spec.specs.Block.{Block, author}
 use Rattle.store_spec.proofs.Stored.{WellStored, fresh, stored}
-use Rattle.list_stretches_spec.specs.Stretches.{Listing, FinalStretch, last_locator, agree, certified_alike, goes_on, stretch_end, stretch_at, from_found, stretches}
+use Rattle.list_stretches_spec.specs.Stretches.{Listing, FinalStretch, last_locator, agree, certified_alike, goes_on, stretch_end, stretch_at, from_found}
+use Rattle.list_stretches_spec.specs.Stretches.{stretches}
 use Rattle.final_spec.specs.NextFinal.{LeastOf, least, nothing}
 use Rattle.final_spec.proofs.LeastOf.{least_once}
 use Rattle.list_stretches_spec.specs.Claims.{Lawful}
@@ -103,7 +104,8 @@ module _ (c : Committee) {bs cs : List Block} (v : WellStored bs) (w : WellStore
       let b = map_in author xs x.1 in
       member_set_of (map author ys) a ∙ in_any (eqb a) (in_map author (f b.0 b.1)) (ap (λ (n : AuthorityIndex). eqb a n) b.2 ∙ x.2)
 
-  stake_alike : (l : TransactionLocator) → stake_of c (set_of (map author (keep (k.certifies l) bs))) ≡ stake_of c (set_of (map author (keep (q.certifies l) cs)))
+  stake_alike : (l : TransactionLocator) → stake_of c (set_of (map author (keep (k.certifies l) bs)))
+      ≡ stake_of c (set_of (map author (keep (q.certifies l) cs)))
   stake_alike l =
       stake_same c _ _
       (λ a i. same_test _ _ (authors_in (keep (k.certifies l) bs) (keep (q.certifies l) cs) (certified_in l) a)

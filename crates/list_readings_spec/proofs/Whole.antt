@@ -59,7 +59,8 @@ module _ (shared : Bool) (reading : Reading) (c : Committee) (s : Bytes) (b : br
   pub asked_whole : AskedOf (next_listed shared reading c s) none (all_listed shared reading c (blocks_of s))
   asked_whole =
       asked_all (is_listed shared reading c (blocks_of s)) (next_listed shared reading c s) (least_listed shared reading c (blocks_of s)) next_answers
-      (λ after. least_listed_lem shared reading c (blocks_of s) after) (all_ascending shared reading c (blocks_of s)) (λ l. all_in shared reading c (blocks_of s) l)
+      (λ after. least_listed_lem shared reading c (blocks_of s) after) (all_ascending shared reading c (blocks_of s))
+      (λ l. all_in shared reading c (blocks_of s) l)
 
   -- the list gives what the question gives
   pub gives_whole : {after : Option TransactionLocator} {ls : List TransactionLocator} → Gives (listing shared reading c (blocks_of s)) after ls ↔ AskedOf

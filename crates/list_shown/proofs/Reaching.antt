@@ -61,7 +61,8 @@ here_marks lanes s t marks v st = st.right (as_locator v.here)
 pub fewer_follow : (h q : TransactionLocator) (es : List TransactionLocator) → is_after (some h) q ≡ true → q ∈ es → length (keep (is_after (some q)) es) <
     length (keep (is_after (some h)) es)
 unfolding is_after
-fewer_follow h q es a m = fewer_kept (is_after (some h)) (is_after (some q)) (λ x t. locator_trans h q x a t) q a (fails (locator_before q q) (locator_irrefl q))
+fewer_follow h q es a m = fewer_kept (is_after (some h)) (is_after (some q)) (λ x t. locator_trans h q x a t) q a
+    (fails (locator_before q q) (locator_irrefl q))
     es m
 
 module _ (w : Wanted) (c : Committee) (s : Bytes) (order : List ℕ) where

@@ -84,7 +84,8 @@ digest_bytes_lem d =
     (bytes_append (be_bytes 8 d.1) _ (word_bytes d.1) (bytes_append (be_bytes 8 d.2) _ (word_bytes d.2) (word_bytes d.3)))
 
 held_laid : (l : locators.TransactionLocator) (end blocks : ℕ) (stake : Stake)
-    → stretch_bytes (final_stretch (as_locator l) end blocks stake) ≡ locator_bytes (as_locator l) ++ (le_bytes 8 end ++ (le_bytes 8 blocks ++ le_bytes 8 stake))
+    → stretch_bytes (final_stretch (as_locator l) end blocks stake) ≡ locator_bytes (as_locator l)
+    ++ (le_bytes 8 end ++ (le_bytes 8 blocks ++ le_bytes 8 stake))
 unfolding final_stretch as_locator as_reference locator
 held_laid l end blocks stake =
     stretch_laid (final_stretch (as_locator l) end blocks stake) (digest_bytes_lem l.block.digest) (length_digest_bytes l.block.digest)

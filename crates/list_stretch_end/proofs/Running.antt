@@ -42,7 +42,8 @@ use Rattle.list_shown.specs.Shown.{AllAlike}
 
 module _ (ordinary : Bool) (reading : Reading) (c : Committee) (s : Bytes) (order : List ℕ) (o : SortedStore s order) (l m : TransactionLocator)
     (a b : List ℕ) (f : Flags reading c s order l a) (g : Flags reading c s order m b) where
-  same_there : (k : ℕ) → k < length order → get_or a k 0 ≡ get_or b k 0 → certifies_in reading c (blocks_of s) m (block_at_place s order k) ≡ certifies_in reading c
+  same_there : (k : ℕ) → k < length order → get_or a k 0 ≡ get_or b k 0 → certifies_in reading c (blocks_of s) m (block_at_place s order k)
+      ≡ certifies_in reading c
       (blocks_of s) l (block_at_place s order k)
   unfolding Flags
   same_there k h e = sym (flag_same _ _ (sym (f k h) ∙ e ∙ g k h))

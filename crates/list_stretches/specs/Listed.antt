@@ -18,5 +18,6 @@ use Rattle.list_shown.specs.Shown.{Reaching}
 unfoldable pub FilledFrom : Wanted → Committee → Bytes → TransactionLocator → Bytes → Bytes → answer.StretchesAnswer → Type 0
 FilledFrom w c s h out out' r =
     (after : Option TransactionLocator) → Reaching w c s after h
-    → (as_stretches r ≡ answered (given_after (list_for w c (blocks_of s)) after (stretches c (blocks_of s) (list_for w c (blocks_of s)) (stretch_room out) after)))
+    → (as_stretches r ≡ answered (given_after (list_for w c (blocks_of s)) after
+    (stretches c (blocks_of s) (list_for w c (blocks_of s)) (stretch_room out) after)))
     × (out' ≡ bytes_after (stretches c (blocks_of s) (list_for w c (blocks_of s)) (stretch_room out) after) out)

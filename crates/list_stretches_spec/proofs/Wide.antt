@@ -139,7 +139,13 @@ wide_bounded c bs r o h =
     )
 
 pub wide_lawful_lem : (c : Committee) (bs : List Block) → Lawful bs (wide c bs)
-wide_lawful_lem c bs = record { next = least_final_lem c bs; edges = wide_edges by_spans c bs; bound = λ r. sum_of (edges_by spans bs r); bounded = wide_bounded c bs }
+wide_lawful_lem c bs = record {
+  next = least_final_lem c bs;
+  edges = wide_edges by_spans c bs;
+  bound = λ r. sum_of (edges_by spans bs r);
+  bounded = wide_bounded
+      c bs;
+}
 
 -- ---- what it gives
 
@@ -197,7 +203,8 @@ stretch_in t m i h =
     let k = count_from_in t.first (t.end - t.first) x.1 in
     (x.0, (k.0, (omega (arith, k), x.2)))
 
-pub alike_at : (c : Committee) (s : Bytes) → store_in_order c s ≡ true → (a : TransactionLocator) (o : ℕ) → goes_on (blocks_of s) (wide c (blocks_of s)) a o ≡ true
+pub alike_at : (c : Committee) (s : Bytes) → store_in_order c s ≡ true → (a : TransactionLocator) (o : ℕ) → goes_on (blocks_of s) (wide c (blocks_of s)) a o
+    ≡ true
     → Alike c s (stretch_at c (blocks_of s) (wide c (blocks_of s)) a) (locator a.block o)
 unfolding stretch_at goes_on certifiers locator
 alike_at c s h a o g =

@@ -60,7 +60,8 @@ after_on none q l h f = refl
 after_on (some m) q l h f = lt_le m q l h f
 
 -- what is before a locator up to which a window is whole is so too
-short_below : (bound : Option TransactionLocator) (q l : TransactionLocator) → is_after_best bound q ≡ false → locator_before l q ≡ true → is_after_best bound l ≡
+short_below : (bound : Option TransactionLocator) (q l : TransactionLocator) → is_after_best bound q ≡ false → locator_before l q ≡ true → is_after_best bound l
+    ≡
     false
 unfolding is_after_best is_after is_none
 short_below none q l h f = refl

@@ -60,7 +60,8 @@ unfolding as_locator locator
 offset_same g = refl
 
 module _ (lanes : Lanes) (s : Bytes) (t marks : List ℕ) (w : Window) where
-  swept_none : (last : Option TransactionLocator) → ((k : ℕ) → k < 3072 → eqb (get_or marks k 0) 1 ≡ said_at (lanes k) last) → Swept (λ k. said_at (lanes k) last)
+  swept_none : (last : Option TransactionLocator) → ((k : ℕ) → k < 3072 → eqb (get_or marks k 0) 1 ≡ said_at (lanes k) last)
+      → Swept (λ k. said_at (lanes k) last)
       t marks 0
   unfolding Swept rows_of rows_from count_from keep last_begins
   swept_none last f k m = f k m
@@ -168,7 +169,8 @@ module _ (lanes : Lanes) (s : Bytes) (t marks : List ℕ) (w : Window) where
               (λ j h. not_before_trans (key_of s (row_at t j)) next l (low j h) f) c;
         }
 
-    behind : (i j : ℕ) → i ≤ j → j < w.n → (x : TransactionLocator) → locator_before x (key_of s (row_at t i)) ≡ true → locator_before x (key_of s (row_at t j)) ≡
+    behind : (i j : ℕ) → i ≤ j → j < w.n → (x : TransactionLocator) → locator_before x (key_of s (row_at t i)) ≡ true → locator_before x (key_of s (row_at t j))
+        ≡
         true
     unfolding row_before
     behind i j h k x b = go (ℕ_discrete i j)

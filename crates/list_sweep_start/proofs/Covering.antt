@@ -34,16 +34,19 @@ module _ (s : Bytes) (t : List ℕ) (l : TransactionLocator) where
   one_more i h k = ap (λ (xs : List Row). any_of (row_covers s l) xs) (rows_more t i) ∙ covers_append s (rows_of t i) (row_at t i ∷ []) l ∙ rw (h, k)
 
   -- it begins after the locator
-  pub later_row : (i : ℕ) → any_covers s (rows_of t i) l ≡ false → locator_before l (key_of s (start_edge 0 (row_at t i))) ≡ true → any_covers s (rows_of t (i + 1)) l
+  pub later_row : (i : ℕ) → any_covers s (rows_of t i) l ≡ false → locator_before l (key_of s (start_edge 0 (row_at t i))) ≡ true
+      → any_covers s (rows_of t (i + 1)) l
       ≡ false
   later_row i h k = one_more i h (fails (row_covers s l (row_at t i)) (λ c. not_both k (covers_start s 0 (row_at t i) l c)))
 
   -- or ends there or before
-  pub earlier_row : (i : ℕ) → any_covers s (rows_of t i) l ≡ false → locator_before l (key_of s (end_edge 0 (row_at t i))) ≡ false → any_covers s (rows_of t (i + 1))
+  pub earlier_row : (i : ℕ) → any_covers s (rows_of t i) l ≡ false → locator_before l (key_of s (end_edge 0 (row_at t i))) ≡ false
+      → any_covers s (rows_of t (i + 1))
       l ≡ false
   earlier_row i h k = one_more i h (fails (row_covers s l (row_at t i)) (λ c. not_both (covers_end s 0 (row_at t i) l c) k))
 
-  pub covering_row : (m i : ℕ) → i < m → locator_before l (key_of s (start_edge 0 (row_at t i))) ≡ false → locator_before l (key_of s (end_edge 0 (row_at t i))) ≡
+  pub covering_row : (m i : ℕ) → i < m → locator_before l (key_of s (start_edge 0 (row_at t i))) ≡ false → locator_before l (key_of s (end_edge 0 (row_at t i)))
+      ≡
       true → any_covers s (rows_of t m) l ≡ true
   unfolding any_covers
   covering_row m i h a b = in_any (row_covers s l) (row_in t m i h) (covers_between s 0 (row_at t i) l a b)

@@ -43,7 +43,8 @@ module _ (s : Bytes) (order : List ℕ) (l : TransactionLocator) where
   -- where nobody rejects, both are the same
   pub counted_same : ((r : BlockReference) → rejecters (blocks_of s) l r ≡ nobody) → (gone : List ℕ) → CountedRight false withdrawing s order l gone
   unfolding counted voters_in spoken_at
-  counted_same none gone k h = sym (rw (none (block_at_place s order k).reference) (without_nobody (voters (blocks_of s) l (block_at_place s order k).reference)))
+  counted_same none gone k h = sym (rw (none (block_at_place s order k).reference)
+      (without_nobody (voters (blocks_of s) l (block_at_place s order k).reference)))
 
   -- where nobody votes, too
   pub counted_none : (reading : Reading) → ((d : Block) → d ∈ blocks_of s → votes_for d l ≡ false) → (gone : List ℕ) → CountedRight false reading s order l gone

@@ -85,7 +85,8 @@ module _ (reading : Reading) (c : Committee) (s : Bytes) (l : TransactionLocator
         }
 
 -- one word more
-pub same_more : (a b : List ℕ) (k : ℕ) → ((j : ℕ) → j < k → get_or a j 0 ≡ get_or b j 0) → get_or a k 0 ≡ get_or b k 0 → (j : ℕ) → j < k + 1 → get_or a j 0 ≡ get_or b j 0
+pub same_more : (a b : List ℕ) (k : ℕ) → ((j : ℕ) → j < k → get_or a j 0 ≡ get_or b j 0) → get_or a k 0 ≡ get_or b k 0 → (j : ℕ) → j < k + 1 → get_or a j 0
+    ≡ get_or b j 0
 same_more a b k f e j h = go (ℕ_discrete j k)
   where
     go : Dec (j ≡ k) → get_or a j 0 ≡ get_or b j 0

@@ -15,7 +15,8 @@ use Rattle.base.specs.Le.{Bytes}
 use Rattle.base.proofs.Tests.{and_left, and_right, and_both}
 use Rattle.base.proofs.Members.{in_empty, in_append, any_in, in_any, keep_in}
 use Rattle.base.proofs.Lists.{Every, every_in, Pairs}
-use Rattle.record_spec.specs.Reference.{BlockReference, TransactionLocator, TransactionLocatorRange, locator, same_reference, reference_before, covers, new_range}
+use Rattle.record_spec.specs.Reference.{BlockReference, TransactionLocator, TransactionLocatorRange, locator, same_reference, reference_before, covers}
+use Rattle.record_spec.specs.Reference.{new_range}
 use Rattle.record_spec.proofs.References.{Precedes, by_block, by_offset, precedes, reference_same, same_reference_lem, reference_irrefl}
 use Rattle.record_spec.proofs.Ranges.{within_yes, within_true}
 use Rattle.final_spec.specs.NextFinal.{is_after}

@@ -139,6 +139,7 @@ module _ (lanes : Lanes) (s : Bytes) (bound : Option TransactionLocator) (t : Li
   window_says (some m) g a =
       let r = g.all.right k h in
       same_last (some m) g (any_span (lanes k) m)
-      ∙ ap (λ (c : Bool). last_begins c (keep (in_window s (some m) (some l)) (edges_of k (own (some m) g)))) (sym (r.covering m (within_last bound l short m a)))
+      ∙ ap (λ (c : Bool). last_begins c (keep (in_window s (some m) (some l)) (edges_of k (own (some m) g))))
+      (sym (r.covering m (within_last bound l short m a)))
       ∙ from_last s k (own (some m) g) r.proper r.apart l m a
       ∙ r.covering l (within_after bound l short (some m) a)

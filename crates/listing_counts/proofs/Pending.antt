@@ -25,7 +25,8 @@ offsets_at [] k h = absurd (omega arith)
 offsets_at (x ∷ xs) zero h = refl
 offsets_at (x ∷ xs) (suc k) h = offsets_at xs k (omega arith)
 
-pub summed_on : (xs : List Item) (k sum d : ℕ) → Summed xs k sum → k < length xs → d ≡ item_offsets (get_or xs k no_item) → Summed xs (k + 1) ((sum + d) % 2 ^ 64)
+pub summed_on : (xs : List Item) (k sum d : ℕ) → Summed xs k sum → k < length xs → d ≡ item_offsets (get_or xs k no_item)
+    → Summed xs (k + 1) ((sum + d) % 2 ^ 64)
 summed_on xs k sum d a h e =
     let l : List ℕ = map item_offsets xs in
     let rest : ℕ = sum_of (drop (k + 1) l) in

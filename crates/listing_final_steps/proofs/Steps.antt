@@ -34,7 +34,8 @@ unfolding list_stretches given_after given_by checked
 few_given c s k out after = go (passes (next_final_checks c s))
   where
     go : (t : Bool)
-        → 80 * (given_by (pick t (answered (given_after k after (stretches c (blocks_of s) k (stretch_room out) after))) (refused (refusal (next_final_checks c s))))
+        → 80 * (given_by (pick t (answered (given_after k after (stretches c (blocks_of s) k (stretch_room out) after)))
+        (refused (refusal (next_final_checks c s))))
         ).stretches ≤ length out
     go true = omega (arith, few_stretches c (blocks_of s) k (stretch_room out) after)
     go false = omega arith

@@ -83,7 +83,8 @@ few_items c es t o =
     let words = flatten (map item_words xs) in
     omega (arith, ap length o.laid, length-append words (replicate (length t - 1 - 6 * length xs) 0), length_words xs)
 
-pub few_pending : (c : Committee) (s : Bytes) (t : List ℕ) → store_in_order c s ≡ true → AllBytes s → tables.InOrder c (entries (records_of s)) t → length t ≡ 6145
+pub few_pending : (c : Committee) (s : Bytes) (t : List ℕ) → store_in_order c s ≡ true → AllBytes s → tables.InOrder c (entries (records_of s)) t → length t
+    ≡ 6145
     → pending_offsets (items_of t) < 18446744073709551616
 unfolding pending_offsets
 few_pending c s t h bytes o n =

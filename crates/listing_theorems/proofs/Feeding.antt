@@ -25,7 +25,8 @@ use Rattle.listing_input.specs.declared.Size.{Size}
 use Rattle.listing_input.specs.declared.Size.TheVariants.{End, Broken, Of}
 use Rattle.listing_input.specs.Input.{size_of}
 use Rattle.listing_feed_steps.proofs.Feeds.{fresh_state}
-use Rattle.listing_spec.specs.Output.{Frame, nothing, broken, framed, frame_of, frame_at, after_record, Feeding, start, fed_to, refused_with, accepted_with, left_by}
+use Rattle.listing_spec.specs.Output.{Frame, nothing, broken, framed, frame_of, frame_at, after_record, Feeding, start, fed_to, refused_with, accepted_with}
+use Rattle.listing_spec.specs.Output.{left_by}
 use Rattle.listing_spec.specs.Output.{told_by, told}
 use Rattle.listing_theorems.specs.Whole.{Records, ends, goes}
 

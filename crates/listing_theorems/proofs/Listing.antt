@@ -39,7 +39,8 @@ lines_for c s ls = flatten (map (final_line_of c (blocks_of s)) ls)
 
 lines_append : (c : Committee) (s : Bytes) (ls ms : List TransactionLocator) → lines_for c s (ls ++ ms) ≡ lines_for c s ls ++ lines_for c s ms
 lines_append c s ls ms =
-    ap flatten (map-append (final_line_of c (blocks_of s)) ls ms) ∙ flatten_append (map (final_line_of c (blocks_of s)) ls) (map (final_line_of c (blocks_of s)) ms)
+    ap flatten (map-append (final_line_of c (blocks_of s)) ls ms)
+    ∙ flatten_append (map (final_line_of c (blocks_of s)) ls) (map (final_line_of c (blocks_of s)) ms)
 
 -- ---- the lines of a stretch
 

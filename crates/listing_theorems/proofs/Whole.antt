@@ -35,7 +35,8 @@ use Rattle.load_along.specs.Along.{share_list}
 use Rattle.load_along.proofs.Going.{gives_all}
 use Rattle.listing_input.specs.Input.{stake_bytes, StakesFile, absent, holding, unreadable, file_stakes, listed_stakes, size_of}
 use Rattle.listing_counts.specs.Pending.{pending_offsets}
-use Rattle.listing_spec.specs.Output.{frame_of, frame_at, after_record, Feeding, Told, told, onward, told_up_to, told_all, final_lines, end_of, output_of, member_count}
+use Rattle.listing_spec.specs.Output.{frame_of, frame_at, after_record, Feeding, Told, told, onward, told_up_to, told_all, final_lines, end_of, output_of}
+use Rattle.listing_spec.specs.Output.{member_count}
 use Rattle.listing_spec.specs.Output.{committee_of, listing_output}
 use Rattle.listing_theorems.specs.Whole.{Records, ends, goes, Listed, after_committee, Printed, no_committee, counted, Whole}
 use Rattle.listing_theorems.proofs.Parts.{parts}

@@ -94,7 +94,8 @@ pub record Whole : Type 0 where
   pub list : (c : Committee) (s : Bytes) → broken c ≡ false → store_in_order c s ≡ true → are_bytes s ≡ true → (lines : Bytes) (m : ℕ) → Listed c s none lines m
       → lines ≡ final_lines c (blocks_of s)
   -- and its lines are as many as there are final stored shares
-  pub finals : (c : Committee) (s : Bytes) → broken c ≡ false → store_in_order c s ≡ true → are_bytes s ≡ true → (lines : Bytes) (m : ℕ) → Listed c s none lines m
+  pub finals : (c : Committee) (s : Bytes) → broken c ≡ false → store_in_order c s ≡ true → are_bytes s ≡ true → (lines : Bytes) (m : ℕ)
+      → Listed c s none lines m
       → m ≡ length (final_shares c (blocks_of s))
   -- what a run prints is what the definition says, whatever the input and the file
   pub printed : (input : Bytes) (f : StakesFile) → are_bytes input ≡ true → (out : Bytes) → Printed input f out → out ≡ listing_output input f

@@ -108,7 +108,8 @@ module _ (s : Bytes) (order : List ℕ) (l : TransactionLocator) (marks : List �
     free : (o : ℕ) → get_or marks k 0 ≡ suc o → ⊥
     free o h = let a = w.above k o p.inside h in let e = own_round in omega arith
 
-    still_shares : (j o : ℕ) → j < length order → get_or (set marks k (change.offset + 1)) j 0 ≡ suc o → is_stored_share (blocks_of s) (share_in s order j o) ≡ true
+    still_shares : (j o : ℕ) → j < length order → get_or (set marks k (change.offset + 1)) j 0 ≡ suc o → is_stored_share (blocks_of s) (share_in s order j o)
+        ≡ true
     still_shares = marked_all s order marks w.fits change k p (λ x. is_stored_share (blocks_of s) x ≡ true) p.stored w.shares
 
     pub collected : ((reading : Reading) (c : Committee) → store_in_order c s ≡ true → is_loadable_in reading c (blocks_of s) change ≡ is_final_in reading c

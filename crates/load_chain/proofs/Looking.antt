@@ -47,7 +47,8 @@ module _ (s : Bytes) (bytes : AllBytes s) (l : TransactionLocator) where
     pub looked_stored : (c : Committee) → store_in_order c s ≡ true → is_stored_share (blocks_of s) l ≡ true
     looked_stored c x = share_stored (blocks_of s) l (shared_stored (payload_shared (blocks_of s) l held (has c x)))
 
-    pub looked_placed : (c : Committee) → store_in_order c s ≡ true → (order : List ℕ) (k : ℕ) → k < length order → (block_at_place s order k).reference ≡ l.block
+    pub looked_placed : (c : Committee) → store_in_order c s ≡ true → (order : List ℕ) (k : ℕ) → k < length order → (block_at_place s order k).reference
+        ≡ l.block
         → Placed s order l k
     unfolding is_share_at
     looked_placed c x order k inside block =

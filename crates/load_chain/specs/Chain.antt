@@ -47,7 +47,8 @@ AllFinal reading c s order marks = (k o : ℕ) → k < length order → get_or m
 -- the marks are of stored shares, and all of these are final exactly where the share is loadable
 pub record Chain (s : Bytes) (order : List ℕ) (l : TransactionLocator) (marks : List ℕ) : Type 0 where
   pub shares : (k o : ℕ) → k < length order → get_or marks k 0 ≡ suc o → is_stored_share (blocks_of s) (share_in s order k o) ≡ true
-  pub means : (reading : Reading) (c : Committee) → store_in_order c s ≡ true → (is_loadable_in reading c (blocks_of s) l ≡ true) ↔ AllFinal reading c s order marks
+  pub means : (reading : Reading) (c : Committee) → store_in_order c s ≡ true → (is_loadable_in reading c (blocks_of s) l ≡ true)
+      ↔ AllFinal reading c s order marks
 
 unfoldable pub Collected : Bytes → List ℕ → TransactionLocator → List ℕ → Bool → Type 0
 Collected s order l marks true = Chain s order l marks

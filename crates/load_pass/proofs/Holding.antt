@@ -104,7 +104,8 @@ pub holding_all : (reading : Reading) (c : Committee) (s : Bytes) → store_in_o
     (2 * length (loadable_list_in reading c (blocks_of s))) ps)
 holding_all reading c s o ps qs n g p =
     let found : List TransactionLocator = loadable_list_in reading c (blocks_of s) in
-    let all : keep (is_loadable_in reading c (blocks_of s)) (all_listed true reading c (blocks_of s)) ≡ found = (walked_finals_lem reading c (in_order_stored c s o)
+    let all : keep (is_loadable_in reading c (blocks_of s)) (all_listed true reading c (blocks_of s))
+    ≡ found = (walked_finals_lem reading c (in_order_stored c s o)
     ).kept in
     let many : n ≡ length found = g.many ∙ ap length all in (
       many,
@@ -177,7 +178,8 @@ module _ (reading : Reading) (c : Committee) (s : Bytes) (order : store_in_order
     later : all_listed true reading c (blocks_of s) ≡ (xs ++ l ∷ []) ++ ys
     later = e ∙ sym (append_assoc xs (l ∷ []) ys)
 
-    kept : (t : Bool) → is_loadable_in reading c (blocks_of s) l ≡ t → keep (is_loadable_in reading c (blocks_of s)) (xs ++ l ∷ []) ≡ pick t (found ++ l ∷ []) found
+    kept : (t : Bool) → is_loadable_in reading c (blocks_of s) l ≡ t → keep (is_loadable_in reading c (blocks_of s)) (xs ++ l ∷ [])
+        ≡ pick t (found ++ l ∷ []) found
     unfolding keep
     kept true k = keep_append (is_loadable_in reading c (blocks_of s)) xs (l ∷ []) ∙ rw k
     kept false k = keep_append (is_loadable_in reading c (blocks_of s)) xs (l ∷ []) ∙ rw k (append-nil found)
@@ -193,7 +195,8 @@ module _ (reading : Reading) (c : Committee) (s : Bytes) (order : store_in_order
         }
 
     module _ (at : ℕ) (place : at ≡ position_of (lookup (entries (records_of s)) l.block)) where
-      words_on : flatten (map (place_words (entries (records_of s))) (found ++ l ∷ [])) ≡ flatten (map (place_words (entries (records_of s))) found) ++ at ∷ l.offset ∷ []
+      words_on : flatten (map (place_words (entries (records_of s))) (found ++ l ∷ [])) ≡ flatten (map (place_words (entries (records_of s))) found) ++ at
+          ∷ l.offset ∷ []
       unfolding flatten place_words
       words_on =
           ap flatten (map-append (place_words (entries (records_of s))) found (l ∷ []))

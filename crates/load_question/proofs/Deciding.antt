@@ -31,7 +31,8 @@ module _ (reading : Reading) (c : Committee) (s : Bytes) (x : store_in_order c s
   unfolding is_listed
   listed_final k o m = and_right (is_stored_share (blocks_of s) (share_in s order k o)) _ ((all_in true reading c (blocks_of s) (share_in s order k o)).0 m)
 
-  final_listed : (k o : ℕ) → is_stored_share (blocks_of s) (share_in s order k o) ≡ true → is_final_in reading c (blocks_of s) (share_in s order k o) ≡ true → share_in
+  final_listed : (k o : ℕ) → is_stored_share (blocks_of s) (share_in s order k o) ≡ true → is_final_in reading c (blocks_of s) (share_in s order k o) ≡ true
+      → share_in
       s order k o ∈ finals
   unfolding is_listed
   final_listed k o h f = (all_in true reading c (blocks_of s) (share_in s order k o)).1 (and_both _ _ h f)

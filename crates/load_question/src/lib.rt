@@ -1,6 +1,7 @@
 // Whether a stored share is loadable, in either reading of a reject: a share that needs nothing is asked by itself, the others with their chain of
 // needed changes against the ordinary list.
 #![tactic(auto)]
+
 ghost use Rattle.std.specs.Prelude.{◌≡◌};
 ghost use Rattle.types.specs.Values.{as_locator};
 ghost use Rattle.final_spec.specs.Finality.{blocks_of};

@@ -30,7 +30,8 @@ module _ (reading : Reading) (c : Committee) (s : Bytes) (l : TransactionLocator
   unfolding loadable_question_in next_final_checks checked passes refusal all_of
   question_disordered h k = rw (h, k)
 
-  pub question_asked : broken c ≡ false → store_in_order c s ≡ true → (t : Bool) → t ≡ is_loadable_in reading c (blocks_of s) l → answered t ≡ loadable_question_in
+  pub question_asked : broken c ≡ false → store_in_order c s ≡ true → (t : Bool) → t ≡ is_loadable_in reading c (blocks_of s) l → answered t
+      ≡ loadable_question_in
       reading c s l
   unfolding loadable_question_in next_final_checks checked passes refusal all_of
   question_asked h k t e = rw (h, k, e)

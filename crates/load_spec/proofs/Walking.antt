@@ -29,7 +29,8 @@ module _ (reading : Reading) (c : Committee) {bs : List Block} (w : WellStored b
     (every : (m : TransactionLocator) → LoadableIn reading c bs m → m ∈ zs) where
   -- those found before one say of each of a lower round whether it is loadable
   found_tells : (xs : List TransactionLocator) (l : TransactionLocator) (ys : List TransactionLocator) → zs ≡ xs ++ l ∷ ys
-      → (m : TransactionLocator) → m.block.round < l.block.round → any_of (same_locator m) (keep (is_loadable_in reading c bs) xs) ≡ is_loadable_in reading c bs m
+      → (m : TransactionLocator) → m.block.round < l.block.round → any_of (same_locator m) (keep (is_loadable_in reading c bs) xs)
+      ≡ is_loadable_in reading c bs m
   found_tells xs l ys e m r =
       same_test (any_of (same_locator m) (keep (is_loadable_in reading c bs) xs)) (is_loadable_in reading c bs m)
       (λ h.

@@ -6,6 +6,7 @@ use Rattle.mission_theorems.specs.Shares.{is_vote_for, votes_from, counted_votes
 use Rattle.mission_theorems.specs.ThirdStatement.{engine_of, accepted_of}
 
 unfoldable pub computing : Unit {0}
-unfolding computing-feeds computing-finality fresh outcome left run events_in accepted_in accepted stored_blocks stored_records is_vote_for votes_from counted_votes
+unfolding computing-feeds computing-finality fresh outcome left run events_in accepted_in accepted stored_blocks stored_records is_vote_for votes_from
+    counted_votes
     counted_voters votes_under announces announced_by announcements engine_of accepted_of
 computing = tt

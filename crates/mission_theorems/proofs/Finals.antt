@@ -142,13 +142,17 @@ gives_finals c b t = gives_final c (engine_of c t) (accepted_of c t) b (store_of
 pub gives_final_shares : (c : Committee) → broken c ≡ false → (t : Start) → GivesFinalShares c (engine_of c t) (stored_blocks (accepted_of c t))
 gives_final_shares c b t = gives_final_share c (engine_of c t) (accepted_of c t) b (store_of c t)
 
-pub same_blocks : (c : Committee) (t u : Start) → SameRecords c t u → (e : Block) → (e ∈ blocks_of (engine_of c t).store) ↔ (e ∈ blocks_of (engine_of c u).store)
+pub same_blocks : (c : Committee) (t u : Start) → SameRecords c t u → (e : Block) → (e ∈ blocks_of (engine_of c t).store)
+    ↔ (e ∈ blocks_of (engine_of c u).store)
 same_blocks c t u f e =
     let h = store_of c t in
     let k = store_of c u in
     let s : Bytes = (engine_of c t).store in
-    let r : Bytes = (engine_of c u).store in
-    (block_carried c c s r (accepted_of c t) (accepted_of c u) h k (λ z. (f z).0) e, block_carried c c r s (accepted_of c u) (accepted_of c t) k h (λ z. (f z).1) e)
+    let r : Bytes = (engine_of c u).store in (
+      block_carried c c s r (accepted_of c t) (accepted_of c u) h k (λ z. (f z).0) e,
+      block_carried c c r s (accepted_of c u) (accepted_of c t) k h
+          (λ z. (f z).1) e,
+    )
 
 pub same_list_lem : (c : Committee) → broken c ≡ false → (t u : Start) → SameRecords c t u → (ls ms : List TransactionLocator)
     → FinalList c (engine_of c t).store ls → FinalList c (engine_of c u).store ms → ls ≡ ms

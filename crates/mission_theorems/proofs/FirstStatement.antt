@@ -22,7 +22,8 @@ use Rattle.store_spec.proofs.Store.{length_layout, read_record_some, Holding, ac
 use Rattle.pending_spec.specs.Table.{room}
 use Rattle.pending_spec.proofs.Table.{items_of_table_of}
 use Rattle.feed_spec.specs.Pending.{pending_checks}
-use Rattle.feed_spec.specs.Feed.{Lent, processed, lent_checks, rule_checks, accept_checks, record_checks, feed_checks, refused_feed, accepted_feed, feed_record, feed}
+use Rattle.feed_spec.specs.Feed.{Lent, processed, lent_checks, rule_checks, accept_checks, record_checks, feed_checks, refused_feed, accepted_feed, feed_record}
+use Rattle.feed_spec.specs.Feed.{feed}
 use Rattle.feed_spec.specs.ProcessBlock.{words_of}
 use Rattle.feed_spec.proofs.Keeping.{Passed, passed, items_fit, State, lent_state, Kept, feed_keeps}
 use Rattle.feed_spec.proofs.ProcessBlock.{length_words}

@@ -184,7 +184,8 @@ module _ (c : Committee) (l : TransactionLocator) where
           (announcements as' l) 0 r.block.statements (λ j. let n : 0 + j ≡ j = omega arith in rw n) z (sound_registering c m r (lent_state c m r p) ok)
           (unfold registering announced_by in rw (append-nil (announcements as' l)) g.stands)
 
-      after : (r : Record) → read_record bytes ≡ some r → passes (feed_checks c m (some r)) ≡ true → is_stored_share (stored_blocks (taken c m r ∷ as')) l ≡ true
+      after : (r : Record) → read_record bytes ≡ some r → passes (feed_checks c m (some r)) ≡ true → is_stored_share (stored_blocks (taken c m r ∷ as')) l
+          ≡ true
           → Follows (accepted_feed c m r).store (accepted_feed c m r).table (taken c m r ∷ as')
       after r e p stored =
           let was : State c m.store m.table = lent_state c m r p in

@@ -33,7 +33,8 @@ announced_keep k b [] l = refl
 announced_keep k b (v ∷ vs) l = go (announces b l v) (announced_keep k b vs l)
   where
     go : (t : Bool) → announced_by k b vs l ≡ map (place_in k) (keep (announces b l) vs)
-        → pick t (place_in k v ∷ announced_by k b vs l) (announced_by k b vs l) ≡ map (place_in k) (pick t (v ∷ keep (announces b l) vs) (keep (announces b l) vs))
+        → pick t (place_in k v ∷ announced_by k b vs l) (announced_by k b vs l)
+        ≡ map (place_in k) (pick t (v ∷ keep (announces b l) vs) (keep (announces b l) vs))
     go true e = ap {B = List Place} (λ ps. place_in k v ∷ ps) e
     go false e = e
 
@@ -133,6 +134,7 @@ module _ (c : Committee) (rs : List Record) (l : TransactionLocator) (e : Entry)
       later : (j : ℕ) → get_elem? b.statements (i + 1 + j) ≡ get_elem? ss j
       later j = let n : i + 1 + j ≡ i + suc j = omega arith in rw n (at (suc j))
 
-      join : (u : Bool) → pick u (vote_at i ∷ []) [] ++ votes_from k a (i + 1) ss l ≡ pick u (vote_at i ∷ votes_from k a (i + 1) ss l) (votes_from k a (i + 1) ss l)
+      join : (u : Bool) → pick u (vote_at i ∷ []) [] ++ votes_from k a (i + 1) ss l
+          ≡ pick u (vote_at i ∷ votes_from k a (i + 1) ss l) (votes_from k a (i + 1) ss l)
       join true = refl
       join false = refl

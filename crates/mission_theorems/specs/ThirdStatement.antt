@@ -77,7 +77,8 @@ pub record Holds (c : Committee) (g : Engine) (as' : List Accepted) : Type 0 whe
   -- "No other locator was announced so."
   pub others : (l : TransactionLocator) → is_stored_share (stored_blocks as') l ≡ false → announcements as' l ≡ []
   -- "A final stored share that got a vote, and none in a block stored before its own, was announced so."
-  pub announced : (l : TransactionLocator) → is_stored_share (stored_blocks as') l ≡ true → Final c (stored_blocks as') l → VotedOnlySince as' l → Announced as' l
+  pub announced : (l : TransactionLocator) → is_stored_share (stored_blocks as') l ≡ true → Final c (stored_blocks as') l → VotedOnlySince as' l
+      → Announced as' l
 
 -- 01: "a fresh store and a table of zeros", and the feeds from there: the bytes past the header, the words of the table, the feeds, the last first
 pub record Start : Type 0 where

@@ -10,7 +10,8 @@ use Rattle.base.specs.Lists.{pick, any_of, find, holds}
 use Rattle.committee.specs.Committee.{AuthorityIndex, Committee}
 use Rattle.committee_aggregator.specs.StakeAggregator.{has_quorum}
 use Rattle.record_spec.specs.Reference.{BlockReference, TransactionLocator, TransactionLocatorRange, locator, same_reference, offsets}
-use Rattle.record_spec.specs.Block.{Statement, share, accept, reject, vote_range, Block, author, is_share, is_share_at, voted_range, joined, runs_from, shared_ranges}
+use Rattle.record_spec.specs.Block.{Statement, share, accept, reject, vote_range, Block, author, is_share, is_share_at, voted_range, joined, runs_from}
+use Rattle.record_spec.specs.Block.{shared_ranges}
 use Rattle.store_spec.specs.Layout.{Entry, blocks_at, position_of, lookup}
 use Rattle.store_spec.specs.Shares.{is_share_of, is_stored_share}
 use Rattle.pending_spec.specs.Items.{Item, item_at, both_cuts, vote_over, after_leaving, register}

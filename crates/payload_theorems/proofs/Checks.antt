@@ -42,7 +42,8 @@ unfolding is_empty
 empty_same [] = refl
 empty_same (s ∷ ss) = refl
 
-rooms_same : (ss : List Statement) → sum_of (map (λ s. counted_offsets (voted_range s)) (map emptied ss)) ≡ sum_of (map (λ s. counted_offsets (voted_range s)) ss)
+rooms_same : (ss : List Statement) → sum_of (map (λ s. counted_offsets (voted_range s)) (map emptied ss))
+    ≡ sum_of (map (λ s. counted_offsets (voted_range s)) ss)
 unfolding sum_of
 rooms_same [] = refl
 rooms_same (s ∷ ss) = ap₂ (λ (q : Option TransactionLocatorRange) (n : ℕ). counted_offsets q + n) (same_range s) (rooms_same ss)

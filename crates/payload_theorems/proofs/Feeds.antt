@@ -18,7 +18,8 @@ use Rattle.store_spec.specs.Store.{records_of, store_full}
 use Rattle.store_spec.proofs.Store.{read_record_some, Holding, accepting}
 use Rattle.pending_spec.specs.Table.{items_of}
 use Rattle.feed_spec.specs.Pending.{pending_checks}
-use Rattle.feed_spec.specs.Feed.{Lent, processed, lent_checks, rule_checks, accept_checks, record_checks, feed_checks, refused_feed, accepted_feed, feed_record, feed}
+use Rattle.feed_spec.specs.Feed.{Lent, processed, lent_checks, rule_checks, accept_checks, record_checks, feed_checks, refused_feed, accepted_feed, feed_record}
+use Rattle.feed_spec.specs.Feed.{feed}
 use Rattle.feed_spec.proofs.Keeping.{passed, lent_state}
 use Rattle.load_spec.specs.Needs.{without_payloads}
 use Rattle.mission_theorems.specs.Feeds.{Feed, Engine, fresh, outcome, left, run}

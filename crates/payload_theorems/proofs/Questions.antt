@@ -18,7 +18,8 @@ use Rattle.store_spec.specs.Store.{records_of}
 use Rattle.feed_spec.specs.Pending.{standing_at, pending}
 use Rattle.final_spec.specs.Finality.{blocks_of, finality_checks}
 use Rattle.final_spec.specs.NextFinal.{is_after, just_after, candidates, least_locator, next_final_checks}
-use Rattle.list_stretches_spec.specs.Stretches.{Listing, FinalStretch, edges_of, edges_by, certified_alike, goes_on, nearest, end_among, stretch_end, stretch_at}
+use Rattle.list_stretches_spec.specs.Stretches.{Listing, FinalStretch, edges_of, edges_by, certified_alike, goes_on, nearest, end_among, stretch_end}
+use Rattle.list_stretches_spec.specs.Stretches.{stretch_at}
 use Rattle.list_stretches_spec.specs.Stretches.{from_found, stretches, last_locator}
 use Rattle.list_stretches_spec.specs.Bulk.{stretch_room, bytes_after, given_after, list_next, list_stretches}
 use Rattle.final_readings_spec.specs.Rejecting.{rejections}
@@ -166,7 +167,8 @@ module _ (c : Committee) (k : Listing) (blind : (l : TransactionLocator) (b : Bl
   stretches_same (suc n) after = ap (from_found (k.next after)) (λ j l. each (λ a. stretches_same n a) l j)
     where
       each : ((a : Option TransactionLocator) → stretches c (map without_payloads bs) k n a ≡ stretches c bs k n a) → (l : TransactionLocator)
-          → stretch_at c (map without_payloads bs) k l ∷ stretches c (map without_payloads bs) k n (some (last_locator (stretch_at c (map without_payloads bs) k l)))
+          → stretch_at c (map without_payloads bs) k l
+          ∷ stretches c (map without_payloads bs) k n (some (last_locator (stretch_at c (map without_payloads bs) k l)))
           ≡ stretch_at c bs k l ∷ stretches c bs k n (some (last_locator (stretch_at c bs k l)))
       each more l =
           ap₂ {C = List FinalStretch} (λ (x : FinalStretch) (f : Option TransactionLocator → List FinalStretch). x ∷ f (some (last_locator x)))

@@ -34,7 +34,8 @@ module _ (xs : List Item) (i o : ℕ) (h : i < length xs) where
   unfolding in_two
   split_below j k = get_or-append (take i xs) _ no_item j (omega (arith, before)) ∙ get_or-take i xs j no_item k
 
-  split_right : (j k : ℕ) → j ≡ i + k → get_or (in_two xs i o) j no_item ≡ get_or (front_of (get_or xs i no_item) o ∷ back_of (get_or xs i no_item) o ∷ drop (i + 1) xs) k
+  split_right : (j k : ℕ) → j ≡ i + k → get_or (in_two xs i o) j no_item
+      ≡ get_or (front_of (get_or xs i no_item) o ∷ back_of (get_or xs i no_item) o ∷ drop (i + 1) xs) k
       no_item
   unfolding in_two
   split_right j k e =

@@ -30,7 +30,8 @@ stands_next (r ∷ newer) older = go (stands_next newer older)
     go (inl x) = inl (x.0, there x.1, x.2)
     go (inr e) = inl (record { position = used_by (newer ++ older); bytes = r.bytes; block = r.block }, here, sym e)
 
-nothing_between : (newer older : List Record) (own : Record) (d : Entry) → d ∈ entries (newer ++ own ∷ older) → d.position < used_by (own ∷ older) → d.position ≤ used_by older
+nothing_between : (newer older : List Record) (own : Record) (d : Entry) → d ∈ entries (newer ++ own ∷ older) → d.position < used_by (own ∷ older)
+    → d.position ≤ used_by older
 unfolding entries
 nothing_between [] older own d here h = omega arith
 nothing_between [] older own d (there m) h = omega (arith, every_in (entries older) d (entries_below older) m)

@@ -89,7 +89,8 @@ module _ (r : Bytes) (start end : ℕ) where
       go q l u (yes k) = s.shares q l k
       go q l u (no k) = let z : q ≡ o = omega arith in rw z e
 
-  pub sharing_no : (o : ℕ) (c : StatementCursor) → Sharing r start end o c → o < end → is_share_at (block_in r) o ≡ false → shares_in (block_in r) start end ≡ false
+  pub sharing_no : (o : ℕ) (c : StatementCursor) → Sharing r start end o c → o < end → is_share_at (block_in r) o ≡ false → shares_in (block_in r) start end
+      ≡ false
   sharing_no o c s h e = one_missing (block_in r) start end o s.from h e
 
   pub sharing_all : (o : ℕ) (c : StatementCursor) → Sharing r start end o c → end ≤ o → (true ≡ shares_in (block_in r) start end) ×

@@ -7,7 +7,9 @@ use Rattle.pending_spec.specs.Table.{item_words, table_of, room, item_from, read
 use Rattle.pending_spec.specs.Table.{table_in_order, table_formed, table_stored}
 
 unfoldable pub computing : Unit {0}
-unfolding computing-stake-aggregator computing-store-layout item_before item_full item_holds item_at falls_inside cut_item cut_at both_cuts item_within voted_item
-    vote_over stays after_leaving first_vote registered register item_words table_of room item_from read_item items_read items_of shares_in item_suits item_stored
+unfolding computing-stake-aggregator computing-store-layout item_before item_full item_holds item_at falls_inside cut_item cut_at both_cuts item_within
+    voted_item
+    vote_over stays after_leaving first_vote registered register item_words table_of room item_from read_item items_read items_of shares_in item_suits
+    item_stored
     item_in_order table_in_order table_formed table_stored
 computing = tt

@@ -21,7 +21,8 @@ use Rattle.record_spec.specs.Reference.{TransactionLocatorRange, within}
 use Rattle.record_spec.specs.Block.{Block, is_share_at, shared_ranges}
 use Rattle.record_spec.proofs.Ranges.{within_yes, within_no, within_true, within_parts}
 use Rattle.record_spec.proofs.Runs.{shared_cover}
-use Rattle.pending_spec.specs.Items.{Item, item_before, item_holds, item_at, falls_inside, front_of, back_of, cut_item, cut_at, both_cuts, item_within, voted_item}
+use Rattle.pending_spec.specs.Items.{Item, item_before, item_holds, item_at, falls_inside, front_of, back_of, cut_item, cut_at, both_cuts, item_within}
+use Rattle.pending_spec.specs.Items.{voted_item}
 use Rattle.pending_spec.specs.Items.{vote_over, stays, after_leaving, first_vote, registered, register}
 
 -- ---- the view by locator
@@ -279,7 +280,8 @@ before_pieces x y v w s t h = before_from v w (go (before_facts x y h))
 
 ordered_parts : (q c : ℕ) (x : Item) (ys : List Item) → Cut q c x ys → Ordered ys
 ordered_parts q c x ys (two e h k) =
-    with_later {x = front_of x c} (and {x = back_of x c} (before_from (front_of x c) (back_of x c) (inr (refl, omega arith))) none_of) (with_later none_of no_pairs)
+    with_later {x = front_of x c} (and {x = back_of x c} (before_from (front_of x c) (back_of x c) (inr (refl, omega arith))) none_of)
+    (with_later none_of no_pairs)
 ordered_parts q c x ys (complete f) = with_later none_of no_pairs
 
 -- a cut keeps the order

@@ -108,7 +108,8 @@ pub pending_vote_over : (c : Committee) (es : List Entry) (a : AuthorityIndex) �
     → Every (Pending c es) xs → Every (Pending c es) (vote_over c a q s e xs)
 unfolding vote_over
 pending_vote_over c es a k q s e xs h =
-    every_map (λ x. pick (item_within q s e x) (voted_item c a x) x) (λ x p. go (item_within q s e x) x p) (both_cuts q s e xs) (pending_both_cuts c es q s e xs h)
+    every_map (λ x. pick (item_within q s e x) (voted_item c a x) x) (λ x p. go (item_within q s e x) x p) (both_cuts q s e xs)
+    (pending_both_cuts c es q s e xs h)
   where
     go : (t : Bool) (x : Item) → Pending c es x → Pending c es (pick t (voted_item c a x) x)
     go true x p = pending_voted c es a k x p
@@ -195,7 +196,8 @@ in_order_lem c es t h =
     }
 
 -- a table of n words written from items in order is in order, and holds them
-pub order_table_of : (c : Committee) (es : List Entry) (n : ℕ) (xs : List Item) → 1 + 6 * length xs ≤ n → Ordered xs → Every (Pending c es) xs → table_in_order c
+pub order_table_of : (c : Committee) (es : List Entry) (n : ℕ) (xs : List Item) → 1 + 6 * length xs ≤ n → Ordered xs → Every (Pending c es) xs
+    → table_in_order c
     es (table_of n xs) ≡ true
 unfolding table_in_order
 order_table_of c es n xs h o p =

@@ -103,7 +103,8 @@ words_slot c n (x ∷ xs) (suc i) =
     (λ k l. at k)
     ∙ words_slot c n xs i
   where
-    at : (k : ℕ) → get_or (c ∷ flatten (map item_words (x ∷ xs)) ++ replicate n 0) (6 * suc i + 1 + k) 0 ≡ get_or (c ∷ flatten (map item_words xs) ++ replicate n 0)
+    at : (k : ℕ) → get_or (c ∷ flatten (map item_words (x ∷ xs)) ++ replicate n 0) (6 * suc i + 1 + k) 0
+        ≡ get_or (c ∷ flatten (map item_words xs) ++ replicate n 0)
         (6 * i + 1 + k) 0
     at k =
         let e : 6 * suc i + 1 + k ≡ suc (suc (suc (suc (suc (suc (suc (6 * i + k))))))) = omega arith in

@@ -14,7 +14,8 @@ use Rattle.base.proofs.Le.{AllBytes}
 use Rattle.base.specs.Read.{Part}
 use Rattle.base.proofs.Read.{part}
 use Rattle.record_spec.specs.Block.{Statement, Block}
-use Rattle.record_spec.specs.Record.{read_statement, Timed, timed_of, time_in, well_formed, block_in, no_statement, statement_bytes, body_start, statement_start}
+use Rattle.record_spec.specs.Record.{read_statement, Timed, timed_of, time_in, well_formed, block_in, no_statement, statement_bytes, body_start}
+use Rattle.record_spec.specs.Record.{statement_start}
 use Rattle.record_spec.proofs.Records.{BlockFits, statement_reads, block_of_fits, block_of_lem, timed_of_lem}
 use Rattle.record_spec.proofs.Places.{statements_place}
 use Rattle.record_statement.specs.Values.{as_statement}

@@ -66,7 +66,8 @@ module _ (s : List ℕ) (long : 56 ≤ length s) where
   not_second h = not_three (same_here ∙ rw (ne_eqb (get_or s 54 0) 0 h) (and-false (eqb (get_or s 53 0) (first_of (edition_of s)))))
 
   pub not_third : (get_or s 55 0 ≡ 0 → ⊥) → edition_right s ≡ false
-  not_third h = not_three (same_here ∙ rw (ne_eqb (get_or s 55 0) 0 h, and-false (eqb (get_or s 54 0) 0)) (and-false (eqb (get_or s 53 0) (first_of (edition_of s)))))
+  not_third h = not_three (same_here ∙ rw (ne_eqb (get_or s 55 0) 0 h, and-false (eqb (get_or s 54 0) 0))
+      (and-false (eqb (get_or s 53 0) (first_of (edition_of s)))))
 
   pub is_neither : (get_or s 53 0 ≡ 0 → ⊥) → (get_or s 53 0 ≡ 2 → ⊥) → edition_right s ≡ false
   unfolding edition_of first_of

@@ -15,7 +15,8 @@ use Rattle.base.proofs.Tests.{and_left, and_right, and_both, fails, not_both}
 use Rattle.base.proofs.Le.{le_at_byte}
 use Rattle.base.proofs.Fixed.{fixed_items, fixed_number, fixed_repeated, Least, least_zero, least_bind, reads_at, short_at, items_at, number_at}
 use Rattle.record_spec.specs.Reference.{BlockReference}
-use Rattle.record_spec.specs.Record.{read_reference, read_statement, Edition, Timed, edition_bytes, read_time, read_in, edition_of, timed_of, block_of, well_formed}
+use Rattle.record_spec.specs.Record.{read_reference, read_statement, Edition, Timed, edition_bytes, read_time, read_in, edition_of, timed_of, block_of}
+use Rattle.record_spec.specs.Record.{well_formed}
 use Rattle.record_spec.specs.Record.{body_start}
 use Rattle.record_statement.specs.Step.{statements_only}
 use Rattle.record_edition.specs.Step.{edition_right}

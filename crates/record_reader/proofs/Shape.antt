@@ -17,7 +17,8 @@ use Rattle.base.proofs.Read.{part}
 use Rattle.base.proofs.Fixed.{fixed_repeated, values_of, length_values_of, get_d_values_of, reads_at, map_some, complete_some, repeated_length}
 use Rattle.record_spec.specs.Reference.{BlockReference}
 use Rattle.record_spec.specs.Block.{Statement, Block}
-use Rattle.record_spec.specs.Record.{read_reference, read_statement, Timed, read_in, edition_of, timed_of, time_in, well_formed, no_reference, block_in, body_start}
+use Rattle.record_spec.specs.Record.{read_reference, read_statement, Timed, read_in, edition_of, timed_of, time_in, well_formed, no_reference, block_in}
+use Rattle.record_spec.specs.Record.{body_start}
 use Rattle.record_spec.proofs.Records.{block_of_lem, timed_of_lem}
 use Rattle.record_reference_bytes.specs.Step.{reference_at}
 use Rattle.record_reference_bytes.proofs.Fixed.{fixed_reference, reference_value}

@@ -123,7 +123,8 @@ unfolding joined runs_from leading is_of_kind
 run_alone r i [] h = refl
 run_alone r i (s ∷ ss) h = go (is_share s) refl h
   where
-    go : (t : Bool) → is_share s ≡ t → leading true (s ∷ ss) ≡ 0 → joined r i (runs_from r (i + 1) (s ∷ ss)) ≡ new_range r i (i + 1) ∷ runs_from r (i + 1) (s ∷ ss)
+    go : (t : Bool) → is_share s ≡ t → leading true (s ∷ ss) ≡ 0 → joined r i (runs_from r (i + 1) (s ∷ ss)) ≡ new_range r i (i + 1)
+        ∷ runs_from r (i + 1) (s ∷ ss)
     go true e k = absurd (let z : suc (leading true ss) ≡ 0 = rw e at k in omega arith)
     go false e k = rw e (joined_apart r i (i + 1 + 1) ss (omega arith))
 

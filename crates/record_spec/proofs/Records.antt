@@ -23,7 +23,8 @@ use Rattle.base.proofs.Read.{map_back, Items, items_back, Number, number_back, O
 use Rattle.record_spec.specs.Reference.{BlockReference, TransactionLocator, TransactionLocatorRange, new_range}
 use Rattle.record_spec.specs.Block.{Statement, share, accept, reject, vote_range, Block}
 use Rattle.record_spec.specs.Record.{read_reference, read_locator, read_share, read_accept, read_other, read_reject, read_range, read_kind, read_statement}
-use Rattle.record_spec.specs.Record.{Edition, old, timed, Timed, edition_bytes, read_time, read_in, edition_of, timed_of, block_of, time_of, time_in, well_formed}
+use Rattle.record_spec.specs.Record.{Edition, old, timed, Timed, edition_bytes, read_time, read_in, edition_of, timed_of, block_of, time_of, time_in}
+use Rattle.record_spec.specs.Record.{well_formed}
 use Rattle.record_spec.specs.Record.{no_block, block_in, reference_bytes, locator_bytes, other_bytes, statement_bytes, time_bytes, bytes_in, edition_for}
 use Rattle.record_spec.specs.Record.{timed_bytes}
 
@@ -425,7 +426,8 @@ pub edition_said : (e : Edition) (t : Timed) → BlockFits t.block → edition_o
 unfolding edition_of
 edition_said e t f =
     let first : get_or (bytes_in e t) 53 0 ≡ get_or (edition_bytes e) 0 0 =
-    sym (get_or-drop 53 (bytes_in e t) 0 0) ∙ sym (get_or-take 3 (drop 53 (bytes_in e t)) 0 0 (lit< tt)) ∙ ap (λ (l : List ℕ). get_or l 0 0) (edition_place e t f) in
+    sym (get_or-drop 53 (bytes_in e t) 0 0) ∙ sym (get_or-take 3 (drop 53 (bytes_in e t)) 0 0 (lit< tt))
+    ∙ ap (λ (l : List ℕ). get_or l 0 0) (edition_place e t f) in
     rw first (edition_told e)
 
 -- ---- either edition

@@ -91,7 +91,8 @@ unfolding runs_from
 runs_below r o [] = no_pairs
 runs_below r o (s ∷ ss) = go (is_share s) refl (runs_below r (o + 1) ss)
   where
-    go : (t : Bool) → is_share s ≡ t → Pairs Below (runs_from r (o + 1) ss) → Pairs Below (pick t (joined r o (runs_from r (o + 1) ss)) (runs_from r (o + 1) ss))
+    go : (t : Bool) → is_share s ≡ t → Pairs Below (runs_from r (o + 1) ss)
+        → Pairs Below (pick t (joined r o (runs_from r (o + 1) ss)) (runs_from r (o + 1) ss))
     go true e h = joined_below r o s ss e (runs_from r (o + 1) ss) (runs_from_lem r (o + 1) ss) h
     go false e h = h
 
@@ -165,7 +166,8 @@ cover_step o k s ss t u ih = rw ih (go (dec_le o k) (dec_lt o k))
 runs_cover : (r : BlockReference) (o : ℕ) (ss : List Statement) (k : ℕ) → any_of (In k) (runs_from r o ss) ≡ leb o k && holds is_share (get_elem? ss (k - o))
 unfolding runs_from any_of holds
 runs_cover r o [] k = sym (and-false (leb o k))
-runs_cover r o (s ∷ ss) k = with_first (is_share s) ∙ cover_step o k s ss (any_of (In k) rest) (is_share s) (runs_cover r (o + 1) ss k) ∙ same_share (eqb k o) refl
+runs_cover r o (s ∷ ss) k = with_first (is_share s) ∙ cover_step o k s ss (any_of (In k) rest) (is_share s) (runs_cover r (o + 1) ss k)
+    ∙ same_share (eqb k o) refl
   where
     rest : List TransactionLocatorRange
     rest = runs_from r (o + 1) ss

@@ -19,7 +19,8 @@ pub data Span (r : BlockReference) (o : ℕ) (ss : List Statement) (q : Transact
   of_vote : (s : Statement) → s ∈ ss → voted_range s ≡ some q → Span r o ss q
 
 -- a share's own locator is a span
-pub share_span : (r : BlockReference) (o k : ℕ) (ss : List Statement) → holds is_share (get_elem? ss k) ≡ true → one_range (locator r (o + k)) ∈ spans_from r o ss
+pub share_span : (r : BlockReference) (o k : ℕ) (ss : List Statement) → holds is_share (get_elem? ss k) ≡ true
+    → one_range (locator r (o + k)) ∈ spans_from r o ss
 unfolding spans_from holds
 share_span r o k [] h = absurd (true≢false (sym h))
 share_span r o zero (s ∷ ss) h = let e : o + 0 ≡ o = omega arith in rw (e, h) here

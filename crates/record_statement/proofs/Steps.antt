@@ -68,7 +68,8 @@ module _ (s : List ℕ) (p : ℕ) where
   unfolding read_kind
   kind_range h = rw h
 
-  pub kind_none : p < length s → (get_or s p 0 ≡ 0 → ⊥) → (get_or s p 0 ≡ 1 → ⊥) → (get_or s p 0 ≡ 2 → ⊥) → (get_or s p 0 ≡ 3 → ⊥) → read_statement (drop p s) ≡ none
+  pub kind_none : p < length s → (get_or s p 0 ≡ 0 → ⊥) → (get_or s p 0 ≡ 1 → ⊥) → (get_or s p 0 ≡ 2 → ⊥) → (get_or s p 0 ≡ 3 → ⊥) → read_statement (drop p s)
+      ≡ none
   unfolding read_kind fail
   kind_none h a b c d = rw (statement_on h, ne_eqb (get_or s p 0) 0 a, ne_eqb (get_or s p 0) 1 b, ne_eqb (get_or s p 0) 2 c, ne_eqb (get_or s p 0) 3 d)
 
@@ -158,7 +159,8 @@ module _ (s : List ℕ) (p : ℕ) (h : p < length s) (k : get_or s p 0 ≡ 2) wh
         f,
       )
 
-  pub reject_reads : p + 58 ≤ length s → get_or s (p + 57) 0 ≡ 0 → read_statement (drop p s) ≡ some (part (reject (locator_at s (p + 1)) none) (drop (p + 58) s))
+  pub reject_reads : p + 58 ≤ length s → get_or s (p + 57) 0 ≡ 0 → read_statement (drop p s)
+      ≡ some (part (reject (locator_at s (p + 1)) none) (drop (p + 58) s))
   unfolding read_other ◌>>=◌ onward give
   reject_reads l e = rw (is_reject, reject_on l, e)
 

@@ -27,7 +27,8 @@ ahead_not : (c : Committee) (a b : AuthorityIndex) → ahead c a b ≡ true → 
 unfolding ahead
 ahead_not c a b h = fails _ (λ k. both (or_cases (ltb (get_stake c b) (get_stake c a)) _ h) (or_cases (ltb (get_stake c a) (get_stake c b)) _ k))
   where
-    both : (ltb (get_stake c b) (get_stake c a) ≡ true) ⊎ (eqb (get_stake c b) (get_stake c a) && ltb a b ≡ true) → (ltb (get_stake c a) (get_stake c b) ≡ true) ⊎
+    both : (ltb (get_stake c b) (get_stake c a) ≡ true) ⊎ (eqb (get_stake c b) (get_stake c a) && ltb a b ≡ true) → (ltb (get_stake c a) (get_stake c b) ≡ true)
+        ⊎
         (eqb (get_stake c a) (get_stake c b) && ltb b a ≡ true) → ⊥
     both (inl p) (inl q) = omega (arith, ltb-true (get_stake c b) (get_stake c a) p, ltb-true (get_stake c a) (get_stake c b) q)
     both (inl p) (inr q) = omega (

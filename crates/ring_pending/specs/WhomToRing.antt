@@ -30,5 +30,6 @@ whom_to_ring c s t r l = pick (passes (pending_checks c s t)) (ring_at c s t r l
 
 pub record Claims : Type 0 where
   -- what refuses the pending question refuses this one, with the same number and before 60
-  pub refused_alike : (c : Committee) (s : Bytes) (t : List ℕ) (r : AuthoritySet) (l : TransactionLocator) (n : ℕ) → pending c s t l ≡ refused n → whom_to_ring c
+  pub refused_alike : (c : Committee) (s : Bytes) (t : List ℕ) (r : AuthoritySet) (l : TransactionLocator) (n : ℕ) → pending c s t l ≡ refused n
+      → whom_to_ring c
       s t r l ≡ refused n

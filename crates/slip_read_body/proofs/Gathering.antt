@@ -90,7 +90,8 @@ module _ (c : Committee) (s : Bytes) (q : Bytes) (order votes lacking rejecting 
             one.certifier end one.reads
             (not_first (neither_left (eqb i 0) _ h)) (ap (reference_before (reference_at s last)) one.named_by ∙ neither_right (eqb i 0) _ h)
 
-        pub gathering_on : (new author : ℕ) (with : AuthoritySet) → eqb i 0 || reference_before (reference_at s last) (reference_at s at) ≡ true → author ≡ le_at
+        pub gathering_on : (new author : ℕ) (with : AuthoritySet) → eqb i 0 || reference_before (reference_at s last) (reference_at s at) ≡ true → author
+            ≡ le_at
             8 s at
             → with ≡ pick (ltb author 128) (inserted authors author) authors → new ≡ worse shown own → Gathering end with new at (i + 1)
         unfolding reference_at

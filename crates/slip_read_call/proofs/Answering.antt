@@ -124,7 +124,8 @@ unfolding Right right_records
 right_of c q h r = (c, (h, and_right (not (is_none (supplied_records q))) _ r))
 
 -- what was noted in the reading that the first byte names
-pub known_all : (s q : Bytes) (order votes lacking rejecting : List ℕ) (l : TransactionLocator) (reading : Reading) → reading ≡ reading_at s → l ≡ locator_at s 1
+pub known_all : (s q : Bytes) (order votes lacking rejecting : List ℕ) (l : TransactionLocator) (reading : Reading) → reading ≡ reading_at s → l
+    ≡ locator_at s 1
     → Noted q order l (length order) votes → LackingIn reading q order lacking → RejectingIn reading q order l rejecting
     → Known (reading_at s) q order (locator_at s 1) votes lacking rejecting
 known_all s q order votes lacking rejecting l reading e f n k r = rw (← e, ← f) (record { noted = n; lacks = k; rejects = r })

@@ -29,7 +29,8 @@ use Rattle.slip_read_certifier.specs.Verdict.{own_verdict, standing_verdict, cer
 pub quorum_same : (c : Committee) (v : AuthoritySet) (as' : List AuthorityIndex) → broken c ≡ false → Speak v as' → is_quorum c (stake_of c v) ≡ is_quorum c
     (stake_of c (set_of as'))
 unfolding Speak
-quorum_same c v as' b h = ap (is_quorum c) (stake_same c v (set_of as') (λ a (k : a < length c). h a (omega (arith, few_members c b)) ∙ sym (member_set_of as' a)))
+quorum_same c v as' b h = ap (is_quorum c) (stake_same c v (set_of as')
+    (λ a (k : a < length c). h a (omega (arith, few_members c b)) ∙ sym (member_set_of as' a)))
 
 -- ---- one test more
 

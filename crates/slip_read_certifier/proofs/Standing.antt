@@ -48,7 +48,8 @@ other_is : (x : Bool) (n : ℕ) → n ≡ pick x 1 0 → (n ≡ 1 → ⊥) → x
 other_is true n e h = absurd (h e)
 other_is false n e h = refl
 
-module _ (reading : Reading) (q : Bytes) (order : List ℕ) (l : TransactionLocator) (vs : List SlipVoter) (fit : Right q) (p : Places q (supplied_blocks q) order)
+module _ (reading : Reading) (q : Bytes) (order : List ℕ) (l : TransactionLocator) (vs : List SlipVoter) (fit : Right q)
+    (p : Places q (supplied_blocks q) order)
     (lacking rejecting : List ℕ) (n : LackingIn reading q order lacking) (k : RejectingIn reading q order l rejecting) (j : ℕ) (h : j < length order) where
   abbrev b : Block
   b = block_at_place q order j

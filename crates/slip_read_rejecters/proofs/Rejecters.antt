@@ -117,11 +117,13 @@ module _ (q : Bytes) (order : List ℕ) (p : Places q (supplied_blocks q) order)
         → Joined q order j t own w (k + 1)
     joined_more w r m d e = record { same = λ l n a s. rejects_on t j h l a n s k m v w r d e ∙ o.same l n a s }
 
-    pub joined_all : (l : TransactionLocator) → own ≡ own_reject (block_at_place q order j) l → length (block_at_place q order j).includes ≤ k → Rejecting q order
+    pub joined_all : (l : TransactionLocator) → own ≡ own_reject (block_at_place q order j) l → length (block_at_place q order j).includes ≤ k
+        → Rejecting q order
         l j t
         → (a : ℕ) → a < 128 → member v a ≡ in_ancestry (rejects_as l a) bs (block_at_place q order j)
     joined_all l e m n a s =
-        rejects_all t j h l a v k m (o.same l n a s ∙ ap (λ (x : AuthoritySet). member x a || any_of (rejects_below q l a) (block_at_place q order j).includes) e)
+        rejects_all t j h l a v k m (o.same l n a s ∙ ap (λ (x : AuthoritySet). member x a || any_of (rejects_below q l a) (block_at_place q order j).includes)
+        e)
 
   pub joined_none : (t : List ℕ) (j : ℕ) (own : AuthoritySet) → Joined q order j t own own 0
   joined_none t j own = record { same = λ l n a s. refl }

@@ -74,7 +74,8 @@ module _ {A : Type 0} (p : A → Bool) where
   place_stays [] ys h = absurd (not_both h refl)
   place_stays (x ∷ xs) ys h = go (p x) h (place_stays xs ys)
     where
-      go : (t : Bool) → t || any_of p xs ≡ true → (any_of p xs ≡ true → first_place p (xs ++ ys) ≡ first_place p xs) → pick t 0 (suc (first_place p (xs ++ ys))) ≡
+      go : (t : Bool) → t || any_of p xs ≡ true → (any_of p xs ≡ true → first_place p (xs ++ ys) ≡ first_place p xs) → pick t 0 (suc (first_place p (xs ++ ys)))
+          ≡
           pick t 0 (suc (first_place p xs))
       go true k ih = refl
       go false k ih = ap suc (ih k)

@@ -205,7 +205,8 @@ module _ (c : Committee) (r q : Bytes) (n : ℕ) where
 
     right_by_themselves : right_blocks c (supplied_blocks q) ≡ true
     unfolding read_checks
-    right_by_themselves = not-false _ (passes_none (read_checks c r q) pass (not (right_blocks c (supplied_blocks q)) ⇒ 52) (there (there (there (there here)))))
+    right_by_themselves = not-false _ (passes_none (read_checks c r q) pass (not (right_blocks c (supplied_blocks q)) ⇒ 52)
+        (there (there (there (there here)))))
 
     pub accepted_right : RightSlip c (supplied_blocks q) (slip_in r)
     accepted_right = slip_right c (supplied_blocks q) (right_falling c (supplied_blocks q) right_by_themselves) (slip_in r) held given_all

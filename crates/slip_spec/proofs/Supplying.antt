@@ -103,7 +103,8 @@ module _ (c : Committee) (t : Bytes) (o : InOrder c t) where
     unfolding supplied_records supplied_bytes
     records_supplied few =
         up_to_reads read_supplied length_first length_not_empty 1024 rs few
-        (in_every rs (λ x m. supplied_reads x (every_in (records_of t) x (records_of_right t) (f x m)) (omega (arith, every_in (records_of t) x short (f x m)))))
+        (in_every rs (λ x m. supplied_reads x (every_in (records_of t) x (records_of_right t) (f x m))
+        (omega (arith, every_in (records_of t) x short (f x m)))))
       where
         short : Every (λ r. length r.bytes ≤ 4294967295) (records_of t)
         short = short_records 4294967295 (records_of t) (omega (arith, used_within c t o, longest t o.allowed))

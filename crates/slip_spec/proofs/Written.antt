@@ -187,7 +187,8 @@ module _ (reading : Reading) (c : Committee) (t out : Bytes) (l : TransactionLoc
   pub slice_carried : (rs : List Record) → ((x : Record) → x ∈ rs → x ∈ records_of t) → Once rs → length rs ≤ 1024
       → ((d : Block) → NamedBy (blocks_of t) (slip_for reading c (blocks_of t) l) d → d ∈ blocks rs)
       → read_answer c (take n (write_slip reading c t out l).out) (supplied_bytes rs) ≡ answered (length (certifiers_in reading c (blocks_of t) l))
-  slice_carried rs f e few g = slice_accepted (supplied_bytes rs) (stored_supply c t (in_order_lem c t ordered) rs f e few (slip_for reading c (blocks_of t) l) g)
+  slice_carried rs f e few g = slice_accepted (supplied_bytes rs)
+      (stored_supply c t (in_order_lem c t ordered) rs f e few (slip_for reading c (blocks_of t) l) g)
 
   pub slice_whole : read_answer c (take n (write_slip reading c t out l).out) (supplied_bytes (records_of t)) ≡ answered
       (length (certifiers_in reading c (blocks_of t) l))

@@ -47,7 +47,8 @@ map_twice {C = C} f g (x ∷ xs) = ap {B = List C} (λ ys. f (g x) ∷ ys) (map_
 
 module _ (reading : Reading) (s : Bytes) (order : List ℕ) (l : TransactionLocator) (ps t : List ℕ) (w : Listed reading s order l ps t (length ps)) where
   -- whoever votes in a reading votes
-  old_member : (r : Reading) (a : ℕ) (b : BlockReference) → member (readings.voters_in r (blocks_of s) l b) a ≡ true → member (voters (blocks_of s) l b) a ≡ true
+  old_member : (r : Reading) (a : ℕ) (b : BlockReference) → member (readings.voters_in r (blocks_of s) l b) a ≡ true → member (voters (blocks_of s) l b) a
+      ≡ true
   old_member r a b h = unfold readings.voters_in in voters_in_old r (blocks_of s) l b a h
 
   -- of each voter of the block a vote is some way away

@@ -46,7 +46,8 @@ module _ (reading : Reading) (c : Committee) (s out : Bytes) (l : TransactionLoc
       unfolding write_slip write_checks checked passes refusal all_of
       slip_not_final h = rw (b, o, h)
 
-      slip_over : is_final_in reading c (blocks_of s) l ≡ true → written_over (slip_bytes (slip_for reading c (blocks_of s) l)) out ≡ write_slip reading c s out l
+      slip_over : is_final_in reading c (blocks_of s) l ≡ true → written_over (slip_bytes (slip_for reading c (blocks_of s) l)) out
+          ≡ write_slip reading c s out l
       unfolding write_slip write_checks checked passes refusal all_of written_over
       slip_over h = go (ltb (length out) (length (slip_bytes (slip_for reading c (blocks_of s) l)))) refl
         where
@@ -61,7 +62,8 @@ module _ (reading : Reading) (c : Committee) (s out : Bytes) (l : TransactionLoc
           (sym (certifiers_at reading c s l o))
 
       -- the slip is that of the certifying positions
-      pub slip_final : is_final_in reading c (blocks_of s) l ≡ true → written_over (slip_bytes (slip_at reading s l (certifying_positions_in reading c s l))) out ≡
+      pub slip_final : is_final_in reading c (blocks_of s) l ≡ true
+          → written_over (slip_bytes (slip_at reading s l (certifying_positions_in reading c s l))) out ≡
           write_slip reading c s out l
       slip_final h = ap (λ (x : Slip). written_over (slip_bytes x) out) slip_same ∙ slip_over h
 

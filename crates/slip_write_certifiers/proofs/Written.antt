@@ -82,7 +82,8 @@ module _ (s : Bytes) (order : List ℕ) (l : TransactionLocator) (near steps : L
 
     -- reference, number of voters, voters
     pub certifier_written : (out : List ℕ) (at : ℕ)
-        → sets (set (sets out at (reference_bytes (block_at_place s order k).reference)) (at + 48) (number_of_voters v)) (at + 49) (voters_at s order l k v) ≡ sets
+        → sets (set (sets out at (reference_bytes (block_at_place s order k).reference)) (at + 48) (number_of_voters v)) (at + 49) (voters_at s order l k v)
+        ≡ sets
         out at (certifier_bytes_at s order l k v)
     unfolding certifier_bytes_at
     certifier_written out at =

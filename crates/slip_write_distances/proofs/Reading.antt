@@ -193,7 +193,8 @@ module _ (s : Bytes) (order : List ℕ) (l : TransactionLocator) where
               (away s l a (block_at_place s order q).reference)
           known q n a w (yes z) = rw z (here a w (ℕ_discrete a (author b)))
           known q n a w (no z) =
-              get_or-set_other near (128 * k + author b) (128 * q + a) 1 0 (λ (u : 128 * q + a ≡ 128 * k + author b). omega (arith, small)) ∙ r.words.beside.below (128 * q + a) (omega arith)
+              get_or-set_other near (128 * k + author b) (128 * q + a) 1 0 (λ (u : 128 * q + a ≡ 128 * k + author b). omega (arith, small))
+              ∙ r.words.beside.below (128 * q + a) (omega arith)
               ∙ d.known q (omega arith) a w
 
       pub reading_done : (near' : List ℕ) → near' ≡ pick (votes_for b l) (set near (128 * k + author b) 1) near → Distances s order l near' steps (k + 1)

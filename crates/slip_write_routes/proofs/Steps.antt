@@ -27,7 +27,8 @@ use Rattle.slip_write_distances.specs.Near.{away, word, Distances}
 use Rattle.slip_write_distances.proofs.Folding.{some_near}
 
 -- the test holds at the first place, where it holds of some element
-place_holds : {A : Type 0} (d : A) (p : A → Bool) (xs : List A) → any_of p xs ≡ true → (first_place p xs < length xs) × (p (get_or xs (first_place p xs) d) ≡ true)
+place_holds : {A : Type 0} (d : A) (p : A → Bool) (xs : List A) → any_of p xs ≡ true → (first_place p xs < length xs)
+    × (p (get_or xs (first_place p xs) d) ≡ true)
 unfolding first_place any_of
 place_holds d p [] h = absurd (not_both h refl)
 place_holds d p (x ∷ xs) h = go (p x) refl h (place_holds d p xs)

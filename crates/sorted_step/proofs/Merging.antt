@@ -40,7 +40,8 @@ module _ (c : Committee) (P : Block → Type 0) (xs : List Run) (ls : List Trans
   module _ (bytes : Bytes) (l : Listed bytes ls) (s : Settled c (length ls) ws₀) where
     -- one more reply, w
     next : (ws ws₁ w : List ℕ) (i : ℕ) → i < length ls → Merging c P xs ls ws₀ ws i → length ws₁ ≡ length ws → take (3 * (i + 1)) ws₁ ≡ take (3 * i) ws ++ w
-        → drop (3 * (i + 1)) ws₁ ≡ drop (3 * (i + 1)) ws → ((b : Block) → P b → reply_words (step_reply c b xs (at bytes i) (reply_from (drop (3 * i) ws₀))) ≡ w)
+        → drop (3 * (i + 1)) ws₁ ≡ drop (3 * (i + 1)) ws
+        → ((b : Block) → P b → reply_words (step_reply c b xs (at bytes i) (reply_from (drop (3 * i) ws₀))) ≡ w)
         → Merging c P xs ls ws₀ ws₁ (i + 1)
     next ws ws₁ w i h g e t d f = record { long = e ∙ g.long; kept = d ∙ onward ws ∙ ap (drop 3) g.kept ∙ sym (onward ws₀); done = done }
       where

@@ -66,7 +66,8 @@ module _ (c : Committee) where
   settled_reply : (ws : List ℕ) → SettledReply c ws → reply_from ws ≡ reply_of c (reply_from ws).authors
   unfolding SettledReply reply_from reply_of reply_words
   settled_reply ws h =
-      let w : get_or ws 0 0 ≡ pick (is_quorum c (stake_of c (record { low = get_or ws 1 0; high = get_or ws 2 0 }))) 1 0 = sym (get_or-take 3 ws 0 0 (omega arith)) ∙ ap
+      let w : get_or ws 0 0 ≡ pick (is_quorum c (stake_of c (record { low = get_or ws 1 0; high = get_or ws 2 0 }))) 1 0 = sym
+      (get_or-take 3 ws 0 0 (omega arith)) ∙ ap
       (λ (xs : List ℕ). get_or xs 0 0) h in
       let e = ap (λ (n : ℕ). eqb n 1) w ∙ flag_back (is_quorum c (stake_of c (record { low = get_or ws 1 0; high = get_or ws 2 0 }))) in
       λ i. record { final = e i; authors = record { low = get_or ws 1 0; high = get_or ws 2 0 } }
@@ -113,7 +114,8 @@ module _ (ws : List ℕ) (i : ℕ) where
       λ k. record { low = e k; high = f k }
 
   module _ (c : Committee) (a : ℕ) where
-    pub add_again : 3 * i + 3 ≤ length ws → SettledReply c (drop (3 * i) ws) → Small (record { low = get_or ws (3 * i + 1) 0; high = get_or ws (3 * i + 2) 0 }) →
+    pub add_again : 3 * i + 3 ≤ length ws → SettledReply c (drop (3 * i) ws) → Small (record { low = get_or ws (3 * i + 1) 0; high = get_or ws (3 * i + 2) 0 })
+        →
         a < 128
         → member (record { low = get_or ws (3 * i + 1) 0; high = get_or ws (3 * i + 2) 0 }) a ≡ true
         → ws ≡ sets ws (3 * i) (reply_words (reply_of c (inserted (reply_from (drop (3 * i) ws)).authors a)))

@@ -153,7 +153,8 @@ module _ (c : Committee) (s bytes : Bytes) (ws : List ℕ) (k at p : ℕ) (g : A
         }
 
 -- 02: "after k steps these are the replies for the first k blocks alone"
-pub answered_first : (c : Committee) (s bytes : Bytes) → broken c ≡ false → store_in_order c s ≡ true → (ws : List ℕ) (k at p : ℕ) → Answering c s bytes ws k at p
+pub answered_first : (c : Committee) (s bytes : Bytes) → broken c ≡ false → store_in_order c s ≡ true → (ws : List ℕ) (k at p : ℕ)
+    → Answering c s bytes ws k at p
     → ws ≡ replies_words (map (single_reply c (first_blocks k (blocks_of s))) (asked bytes))
 unfolding blocks_of first_blocks
 answered_first c s bytes b o ws k at p g =
@@ -163,7 +164,8 @@ answered_first c s bytes b o ws k at p g =
     let many : length (blocks_of s) - k ≡ length (blocks newer) =
     omega (arith, ap length all, length-append (blocks newer) (blocks older), length-map older (λ (r : Record). r.block), g.arriving.many) in
     let first : drop (length (blocks_of s) - k) (blocks_of s) ≡ blocks older =
-    ap (λ (n : ℕ). drop n (blocks_of s)) many ∙ ap (λ (bs : List Block). drop (length (blocks newer)) bs) all ∙ drop-append_seam (blocks newer) (blocks older) in
+    ap (λ (n : ℕ). drop n (blocks_of s)) many ∙ ap (λ (bs : List Block). drop (length (blocks newer)) bs) all
+    ∙ drop-append_seam (blocks newer) (blocks older) in
     let accepted : all_accepted c older ≡ true = accepted_older c newer older
     (subst (λ (rs : List Record). all_accepted c rs ≡ true) g.arriving.all (in_order_lem c s o).accepted) in
     g.replies

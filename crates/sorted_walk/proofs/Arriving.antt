@@ -161,7 +161,8 @@ module _ (c : Committee) (s : Bytes) (ix : List ℕ) (sound : broken c ≡ false
       record {
         next = r;
         entry = subst (λ (n : ℕ). is_entry s n ≡ true) (sym g.place)
-            (is_entry_lem s e (laid_out_lem s (order_laid c s ordered)).tested (subst (λ (rs : List Record). e ∈ entries rs) (sym all) (entry_in front r older)));
+            (is_entry_lem s e (laid_out_lem s (order_laid c s ordered)).tested
+            (subst (λ (rs : List Record). e ∈ entries rs) (sym all) (entry_in front r older)));
         block = block_at_lem s at r st₁;
         small = small_authors c (blocks_of s) stored b (subst (λ (rs : List Record). b ∈ blocks rs) (sym all) (block_in_lem front r older));
         inside = omega (arith, ap length words, length-append (part_words xs) here-is.0, length-drop p ix);

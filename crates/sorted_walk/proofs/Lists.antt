@@ -101,7 +101,8 @@ module _ (bytes : Bytes) where
         let z = length_list bytes in
         rw (list_at bytes j (omega arith), list_at bytes k (omega arith), r j k a (omega arith)))))
 
-    sorted_pairs : holds sorted_locators (locators_of bytes) ≡ true → (j k : ℕ) → j < k → k < length bytes / 56 → locator_before (at bytes k) (at bytes j) ≡ false
+    sorted_pairs : holds sorted_locators (locators_of bytes) ≡ true → (j k : ℕ) → j < k → k < length bytes / 56 → locator_before (at bytes k) (at bytes j)
+        ≡ false
     unfolding holds sorted_locators
     sorted_pairs t j k a b =
         let z = length_list bytes in
@@ -109,7 +110,8 @@ module _ (bytes : Bytes) where
         (omega arith) in
         not-true _ (rw (list_at bytes j (omega arith), list_at bytes k b) at p)
 
-    pub sorted_no : (i : ℕ) → 0 < i → i < length bytes / 56 → locator_before (at bytes i) (at bytes (i - 1)) ≡ true → holds sorted_locators (locators_of bytes) ≡
+    pub sorted_no : (i : ℕ) → 0 < i → i < length bytes / 56 → locator_before (at bytes i) (at bytes (i - 1)) ≡ true → holds sorted_locators (locators_of bytes)
+        ≡
         false
     sorted_no i p n e = fails (holds sorted_locators (locators_of bytes)) (λ t. not_both e (sorted_pairs t (i - 1) i (omega arith) n))
 

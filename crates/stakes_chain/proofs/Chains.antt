@@ -88,7 +88,8 @@ module _ (f : Bytes) where
       go (no e) = absurd (none-ne-some is (rw (ne_eqb i 0 e) at h))
   from_chain (suc n) i is h = go (ℕ_discrete i 0) (in_file f i) refl (λ later k. from_chain n (next_index f i) later k)
     where
-      go : Dec (i ≡ 0) → (t : Bool) → in_file f i ≡ t → ((later : List ℕ) → chain_from n f (next_index f i) ≡ some later → Chain f (next_index f i) later) → Chain
+      go : Dec (i ≡ 0) → (t : Bool) → in_file f i ≡ t → ((later : List ℕ) → chain_from n f (next_index f i) ≡ some later → Chain f (next_index f i) later)
+          → Chain
           f i is
       go (yes e) t k ih = at_end i is e (rw (eq-eqb i 0 e) at h)
       go (no e) false k ih = absurd (none-ne-some is (rw (ne_eqb i 0 e, k) at h))

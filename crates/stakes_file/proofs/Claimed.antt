@@ -114,7 +114,8 @@ map_same : {B : Type 0} (s t : ℕ → B) (is : List ℕ) → ((i : ℕ) → i �
 map_same s t [] f = refl
 map_same s t (i ∷ is) f = rw (f i here, map_same s t is (λ j m. f j (there m)))
 
-along_same : (f g : Bytes) (is : List ℕ) → map (name_at f) is ≡ map (name_at g) is → map (stake_at f) is ≡ map (stake_at g) is → load_along f (some is) ≡ load_along
+along_same : (f g : Bytes) (is : List ℕ) → map (name_at f) is ≡ map (name_at g) is → map (stake_at f) is ≡ map (stake_at g) is → load_along f (some is)
+    ≡ load_along
     g (some is)
 unfolding load_along member_checks members_at
 along_same f g is n s = rw (n, s)

@@ -6,6 +6,7 @@ use Rattle.stakes_names.specs.Names.{name_at, padded, good_name, good_names}
 use Rattle.stakes_file.specs.Load.{stake_at, members_at, member_checks, load_along, load, loaded_into}
 
 unfoldable pub computing : Unit {0}
-unfolding computing-committee well_sized record_count place first_index next_index in_file linked chain_from chain_of name_at padded good_name good_names stake_at
+unfolding computing-committee well_sized record_count place first_index next_index in_file linked chain_from chain_of name_at padded good_name good_names
+    stake_at
     members_at member_checks load_along load loaded_into
 computing = tt

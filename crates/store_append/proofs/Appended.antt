@@ -178,7 +178,8 @@ module _ (s : Bytes) (b : AllBytes s) (h : laid_out s ≡ true) (r : Record) (be
   body = body_bytes es es
 
   -- the entry, the used length and the count
-  three : sets (sets (sets s (used_by rs) own) 4 used) 8 count ≡ le_bytes 4 (first_position es) ++ (used ++ (count ++ (replicate 6 0 ++ (body ++ (own ++ rest)))))
+  three : sets (sets (sets s (used_by rs) own) 4 used) 8 count ≡ le_bytes 4 (first_position es)
+      ++ (used ++ (count ++ (replicate 6 0 ++ (body ++ (own ++ rest)))))
   unfolding used_by
   three =
       let t : Bytes = drop (used_by rs) s in
@@ -196,7 +197,8 @@ module _ (s : Bytes) (b : AllBytes s) (h : laid_out s ≡ true) (r : Record) (be
       (length_le_bytes 4 _) (length_le_bytes 4 _) (length_le_bytes 4 _) (length_le_bytes 2 _) (length_le_bytes 2 _)
 
   -- the store that holds the record too, field by field
-  held : store_holding (r ∷ rs) s ≡ le_bytes 4 (first_position (new ∷ es)) ++ (used ++ (count ++ (replicate 6 0 ++ (body_bytes (new ∷ es) es ++ (own ++ rest)))))
+  held : store_holding (r ∷ rs) s ≡ le_bytes 4 (first_position (new ∷ es))
+      ++ (used ++ (count ++ (replicate 6 0 ++ (body_bytes (new ∷ es) es ++ (own ++ rest)))))
   unfolding store_holding entries body_bytes
   held =
       laid (r ∷ rs) rest

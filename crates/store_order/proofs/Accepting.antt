@@ -50,7 +50,8 @@ all_ext f g e (x ∷ xs) = rw (e x, all_ext f g e xs)
 -- a stored record is accepted where its block passes the checks of its own and its includes are stored before it
 pub accepted_parts : (c : Committee) (s : Bytes) (p : ℕ) → laid_out s ≡ true → is_entry s p ≡ true
     → accepted_at c (records_of s) p
-    ≡ passes (head_checks c (block_at s p)) && (passes (body_checks c (block_at s p)) && all_of (stored_before (entries (records_of s)) p) (block_at s p).includes)
+    ≡ passes (head_checks c (block_at s p)) && (passes (body_checks c (block_at s p))
+    && all_of (stored_before (entries (records_of s)) p) (block_at s p).includes)
 accepted_parts c s p h k =
     let x : EntryAt s p = entry_at s p k in
     let rs : List Record = records_of s in

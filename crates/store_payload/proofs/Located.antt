@@ -54,9 +54,11 @@ unfolding as_share share_stretch
 share_past rec o h = rw (element_past (block_in rec).statements o h)
 
 share_told : (rec : Bytes) → AllBytes rec → well_formed rec ≡ true → (o next : ℕ) (st : BaseStatement) → o < length (block_in rec).statements
-    → as_statement rec st ≡ get_or (block_in rec).statements o no_statement → payload_between (statement_start rec o) next st ≡ true → next ≡ statement_start rec
+    → as_statement rec st ≡ get_or (block_in rec).statements o no_statement → payload_between (statement_start rec o) next st ≡ true → next
+    ≡ statement_start rec
     (o + 1)
-    → (as_share (shared_by st) ≡ share_stretch (statement_start rec o) (get_elem? (block_in rec).statements o)) × (share_within (length rec) (shared_by st) ≡ true)
+    → (as_share (shared_by st) ≡ share_stretch (statement_start rec o) (get_elem? (block_in rec).statements o))
+    × (share_within (length rec) (shared_by st) ≡ true)
 unfolding as_share share_stretch share_within shared_by as_statement payload_between
 share_told rec bs w o next st h e p q = go st e p
   where
@@ -64,7 +66,8 @@ share_told rec bs w o next st h e p q = go st e p
     at_is = element_at (block_in rec).statements o no_statement h
 
     go : (t : BaseStatement) → as_statement rec t ≡ get_or (block_in rec).statements o no_statement → payload_between (statement_start rec o) next t ≡ true
-        → (as_share (shared_by t) ≡ share_stretch (statement_start rec o) (get_elem? (block_in rec).statements o)) × (share_within (length rec) (shared_by t) ≡ true)
+        → (as_share (shared_by t) ≡ share_stretch (statement_start rec o) (get_elem? (block_in rec).statements o))
+        × (share_within (length rec) (shared_by t) ≡ true)
     go (Share start len) e p =
         let k : ℕ = statement_start rec o in
         let begins : start ≡ k + 3 = eqb-true start (k + 3) (and_left (eqb start (k + 3)) _ p) in
@@ -117,7 +120,8 @@ module _ (c : Committee) (s : Bytes) (l : TransactionLocator) where
   unfolding payload_place payload payload_length checked
   place_refused k h = go (passes (payload_checks c s l)) h
     where
-      go : (t : Bool) → refused k ≡ pick t (answered (Option.get_or (payload_at s l) (record { start = 0; count = 0 }))) (refused (refusal (payload_checks c s l)))
+      go : (t : Bool) → refused k ≡ pick t (answered (Option.get_or (payload_at s l) (record { start = 0; count = 0 })))
+          (refused (refusal (payload_checks c s l)))
           → ([] ≡ pick t (stretch_of (payload_at s l) s) []) × (refused k ≡ pick t (answered (length (stretch_of (payload_at s l) s)))
           (refused (refusal (payload_checks c s l))))
       go true e = absurd (let z : ◌≡◌ {A = ℕ} 0 1 = cc in omega arith)
@@ -132,7 +136,8 @@ module _ (c : Committee) (s : Bytes) (l : TransactionLocator) where
           (record { start = start; count = count }) (Option.get_or o (record { start = 0; count = 0 }))
           → (take count (drop start s) ≡ stretch_of o s) × (answered count ≡ answered (length (stretch_of o s)))
       by_place none q p e =
-          let k : store_in_order c s ≡ true = not-false (store_in_order c s) (passes_none (payload_checks c s l) p (not (store_in_order c s) ⇒ 10) (there here)) in
+          let k : store_in_order c s ≡ true = not-false (store_in_order c s) (passes_none (payload_checks c s l) p (not (store_in_order c s) ⇒ 10) (there here))
+          in
           let stored : is_stored_share (blocks (records_of s)) l ≡ true = not-false _
           (passes_none (payload_checks c s l) p (not (is_stored_share (blocks (records_of s)) l) ⇒ 41) (there (there here))) in
           absurd (not_both stored (rw (share_has_payload c s k l, q)))

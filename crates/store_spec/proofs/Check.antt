@@ -51,7 +51,8 @@ number_part n v s p h q =
 
 -- ---- from the parts to the layout
 
-header_bytes_lem : (s : Bytes) (rs : List Record) → AllBytes s → 16 ≤ length s → le_at 4 s 0 ≡ first_position (entries rs) → le_at 4 s 4 ≡ used_by rs → le_at 2 s 8 ≡
+header_bytes_lem : (s : Bytes) (rs : List Record) → AllBytes s → 16 ≤ length s → le_at 4 s 0 ≡ first_position (entries rs) → le_at 4 s 4 ≡ used_by rs
+    → le_at 2 s 8 ≡
     length rs → le_at 6 s 10 ≡ 0
     → take 16 s ≡ header_bytes rs
 unfolding header_bytes flatten le_bytes
@@ -173,7 +174,8 @@ is_readable s h = go (read_entries (block_count s) (drop 16 s)) refl (and_right 
               (eqb-true (used_by q.value) (used_length s) k);
         }
 
-pub readable_is : (s : Bytes) (rs : List Record) → header_right s ≡ true → Walked s rs → length rs ≡ block_count s → used_by rs ≡ used_length s → readable s ≡ true
+pub readable_is : (s : Bytes) (rs : List Record) → header_right s ≡ true → Walked s rs → length rs ≡ block_count s → used_by rs ≡ used_length s → readable s
+    ≡ true
 unfolding readable ends_at
 readable_is s rs h w m u = rw (h, ← m, walked_reads s rs w) (eq-eqb (used_by rs) (used_length s) u)
 
@@ -192,7 +194,8 @@ is_chained s h =
     record {
       first = eqb-true (le_at 4 s 0) (first_position es) (and_left _ _ h);
       next = every (λ e k. eqb-true (le_at 4 s e.position) (next_position es e) k) es (all_every nexts es (and_left (all_of nexts es) _ h₁));
-      distinct = pairs_same (λ e d k. not-true (same_reference (reference_of e) (reference_of d)) k) (pairwise_pairs others es (and_right (all_of nexts es) _ h₁));
+      distinct = pairs_same (λ e d k. not-true (same_reference (reference_of e) (reference_of d)) k)
+          (pairwise_pairs others es (and_right (all_of nexts es) _ h₁));
     }
 
 pub chained_is : (s : Bytes) → Chained s (entries (records_of s)) → chained s ≡ true
@@ -239,7 +242,8 @@ module _ (s : Bytes) (rs : List Record) (t : Bytes) (split : s ≡ layout rs ++ 
   unfolding first_position
   first_laid =
       let f : Bytes = le_bytes 4 (first_position (entries rs)) in
-      number_part 4 (first_position (entries rs)) s 0 (omega (arith, least_below (used_by rs) (omega (arith, length_body [] rs)) (entries rs) (entries_below rs)))
+      number_part 4 (first_position (entries rs)) s 0 (omega
+      (arith, least_below (used_by rs) (omega (arith, length_body [] rs)) (entries rs) (entries_below rs)))
       (part_same s _ f 0 (split ∙ laid rs t) (part_left f f _ 0 (part_complete f)))
 
   next_laid : Every (λ e. le_at 4 s e.position ≡ next_position (entries rs) e) (entries rs)

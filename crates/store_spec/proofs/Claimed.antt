@@ -110,7 +110,8 @@ unfolding AcceptingKeepsOrder
 accepting_keeps_order c s r o e p f = (accepting-holds c s r o (read_record_some r.bytes r e) p f).order
 
 -- accepted records are held once they were accepted one after the other
-accepts_all : (c : Committee) (rs : List Record) (s : Bytes) → allowed_length s ≡ true → Every Right rs → length rs ≤ 1024 → used_by rs ≤ length s → all_accepted
+accepts_all : (c : Committee) (rs : List Record) (s : Bytes) → allowed_length s ≡ true → Every Right rs → length rs ≤ 1024 → used_by rs ≤ length s
+    → all_accepted
     c rs ≡ true
     → Accepts c s rs (store_holding rs s)
 unfolding used_by all_accepted store_full

@@ -10,8 +10,11 @@ use Rattle.store_spec.specs.Payload.{share_stretch, payload_of, payload_at, payl
 use Rattle.store_spec.specs.Claims.{ChainMeant, FreshInOrder, AcceptingKeepsOrder}
 
 unfoldable pub computing : Unit {0}
-unfolding computing-blocks read_record used_by entries lesser least position_of first_position next_position entry_bytes body_bytes header_bytes layout lookup placed
-    ascending is_stored block_checks all_accepted used_length block_count give_record read_entry read_entries records_read records_of allowed_length store_in_order
-    store_full store_holding is_share_of is_stored_share share_stretch payload_of payload_at payload_checks stretch_of payload payload_length ChainMeant FreshInOrder
+unfolding computing-blocks read_record used_by entries lesser least position_of first_position next_position entry_bytes body_bytes header_bytes layout lookup
+    placed
+    ascending is_stored block_checks all_accepted used_length block_count give_record read_entry read_entries records_read records_of allowed_length
+    store_in_order
+    store_full store_holding is_share_of is_stored_share share_stretch payload_of payload_at payload_checks stretch_of payload payload_length ChainMeant
+    FreshInOrder
     AcceptingKeepsOrder
 computing = tt

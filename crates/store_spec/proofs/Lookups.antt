@@ -185,7 +185,8 @@ pub accepted_at_lem : (c : Committee) (newer older : List Record) (r : Record) �
 unfolding accepted_at used_by
 accepted_at_lem c [] older r = rw (eq-eqb (used_by older) (used_by older) refl)
 accepted_at_lem c (n ∷ newer) older r =
-    rw (ne_eqb (used_by (newer ++ r ∷ older)) (used_by older) (λ (e : used_by (newer ++ r ∷ older) ≡ used_by older). omega (arith, used_more newer (r ∷ older))))
+    rw (ne_eqb (used_by (newer ++ r ∷ older)) (used_by older)
+    (λ (e : used_by (newer ++ r ∷ older) ≡ used_by older). omega (arith, used_more newer (r ∷ older))))
     (accepted_at_lem c newer older r)
 
 -- where its reference is new, a block is accepted where it passes the checks of its own and its includes are stored
@@ -195,7 +196,8 @@ unfolding block_checks passes all_of
 checks_new c older b h =
     let missing : Check = any_of (λ i. not (is_stored older i)) b.includes ⇒ 30 in
     passes_append (head_checks c b) ((is_stored older b.reference ⇒ 23) ∷ body_checks c b ++ (missing ∷ []))
-    ∙ ap (λ (t : Bool). passes (head_checks c b) && t) (first ∙ passes_append (body_checks c b) (missing ∷ []) ∙ ap (λ (t : Bool). passes (body_checks c b) && t)
+    ∙ ap (λ (t : Bool). passes (head_checks c b) && t)
+    (first ∙ passes_append (body_checks c b) (missing ∷ []) ∙ ap (λ (t : Bool). passes (body_checks c b) && t)
     last)
   where
     first : passes ((is_stored older b.reference ⇒ 23) ∷ body_checks c b ++ ((any_of (λ i. not (is_stored older i)) b.includes ⇒ 30) ∷ []))
@@ -225,7 +227,8 @@ unfolding is_none
 none_is o h = rw h
 
 module _ (rs : List Record) (is : List BlockReference) (k : ℕ) where
-  pub missing_on : k < length is → is_none (lookup (entries rs) (get_or is k no_reference)) ≡ false → k + first_missing rs (drop k is) ≡ k + 1 + first_missing rs
+  pub missing_on : k < length is → is_none (lookup (entries rs) (get_or is k no_reference)) ≡ false → k + first_missing rs (drop k is)
+      ≡ k + 1 + first_missing rs
       (drop (k + 1) is)
   unfolding first_missing
   missing_on h t = rw (add-one k, drop-cons is k no_reference h, lookup_stored rs (get_or is k no_reference), t) (omega arith)
@@ -246,7 +249,8 @@ missing_test rs (i ∷ is) = go (is_stored rs i) (missing_test rs is)
   where
     go : (t : Bool) → any_of (λ j. not (is_stored rs j)) is ≡ ltb (first_missing rs is) (length is)
         → not t || any_of (λ j. not (is_stored rs j)) is ≡ ltb (pick t (first_missing rs is + 1) 0) (suc (length is))
-    go true h = h ∙ ltb_same (first_missing rs is) (length is) (first_missing rs is + 1) (suc (length is)) (λ (l : first_missing rs is < length is). omega arith)
+    go true h = h ∙ ltb_same (first_missing rs is) (length is) (first_missing rs is + 1) (suc (length is))
+        (λ (l : first_missing rs is < length is). omega arith)
         (λ (l : first_missing rs is + 1 < suc (length is)). omega arith)
     go false h = sym (lt-ltb 0 (suc (length is)) (omega arith))
 

@@ -36,7 +36,8 @@ positions_below : (rs : List Record) → Every (λ p. p < used_by rs) (positions
 unfolding positions used_by
 positions_below [] = none_of
 positions_below (r ∷ rs) =
-    every_append (positions rs) (used_by rs ∷ []) (every (λ p (h : p < used_by rs). omega arith) (positions rs) (positions_below rs)) (and (omega arith) none_of)
+    every_append (positions rs) (used_by rs ∷ []) (every (λ p (h : p < used_by rs). omega arith) (positions rs) (positions_below rs))
+    (and (omega arith) none_of)
 
 positions_rise : (rs : List Record) → Pairs (λ p q. ltb p q ≡ true) (positions rs)
 unfolding positions
@@ -195,7 +196,8 @@ walking_on s i at end starts w h e l f =
     subst (λ (p : ℕ). Walking s (i + 1) p (set starts i at)) same (walking_step s i at starts _ w h st)
 
 -- no record stands where the next should
-pub walking_stop : (s : Bytes) (i at : ℕ) (starts : List ℕ) → Walking s i at starts → i < block_count s → ((r : Record) → Stands s at r → ⊥) → readable s ≡ false
+pub walking_stop : (s : Bytes) (i at : ℕ) (starts : List ℕ) → Walking s i at starts → i < block_count s → ((r : Record) → Stands s at r → ⊥) → readable s
+    ≡ false
 walking_stop s i at starts w h f = fails (readable s) λ t.
     let r : Readable s = is_readable s t in
     let x = walked_on s w.rs (records_of s) w.walked r.walked (omega (arith, w.many, r.many)) in
@@ -331,14 +333,16 @@ module _ (s : Bytes) (r : Readable s) where
       let from : 16 ≤ x.position = (every_in (entries (records_of s)) x (entries_within (records_of s)) k).from in
       rw (ne_eqb last 0 (λ (z : last ≡ 0). omega arith), q, ← p, block_of_entry x k, block_of_entry e m)
 
-  pub latest_entry : readable s ≡ true → (xs : List Entry) (last : ℕ) → Every (λ x. x ∈ entries (records_of s)) xs → last ≡ position_of (first xs) → none_or_entry
+  pub latest_entry : readable s ≡ true → (xs : List Entry) (last : ℕ) → Every (λ x. x ∈ entries (records_of s)) xs → last ≡ position_of (first xs)
+      → none_or_entry
       s last ≡ true
   unfolding none_or_entry position_of first
   latest_entry h [] last none_of q = rw q
   latest_entry h (x ∷ xs) last (and k ks) q = or_right (eqb last 0) (is_entry s last) (rw q (is_entry_lem s x h k))
 
 -- the order of two references decides
-pub follows_by : (s : Bytes) (last at : ℕ) (x y : BlockReference) (t : Bool) → (last ≡ 0 → ⊥) → x ≡ (block_at s last).reference → y ≡ (block_at s at).reference →
+pub follows_by : (s : Bytes) (last at : ℕ) (x y : BlockReference) (t : Bool) → (last ≡ 0 → ⊥) → x ≡ (block_at s last).reference → y ≡ (block_at s at).reference
+    →
     reference_before x y ≡ t
     → t ≡ follows s last at
 unfolding follows
@@ -389,7 +393,8 @@ module _ (s : Bytes) (h : readable s ≡ true) (places : List ℕ) (q : places �
         let n : Next s (records_of s) v.xs at = visiting_next s (records_of s) k at last order v (is_chained s t) (omega (arith, many_places)) in
         not_both (follows_above s (is_readable s h) v.xs last at n.entry v.stored v.latest n.there_is n.place ∙ n.higher) f
 
-    pub visiting_on : (next : ℕ) → k < length order → is_in at places ≡ true → follows s last at ≡ true → next ≡ le_at 4 s at → Visiting s (records_of s) (k + 1)
+    pub visiting_on : (next : ℕ) → k < length order → is_in at places ≡ true → follows s last at ≡ true → next ≡ le_at 4 s at
+        → Visiting s (records_of s) (k + 1)
         next at (set order k at)
     visiting_on next l m f e =
         let x : EntryAt s at = entry_at s at (place_entry at m) in

@@ -63,7 +63,8 @@ module _ (s : Bytes) (h : laid_out s ≡ true) (order : List ℕ) (q : order ≡
 
   reference_is : (j : ℕ) → j < length order → reference_in s order j ≡ reference_of (sorted j)
   unfolding reference_in
-  reference_is j l = ap (λ (p : ℕ). (block_at s p).reference) (place j) ∙ ap (λ b. b.reference) (block_of_entry s (laid_out_lem s h).reads (sorted j) (stored j l))
+  reference_is j l = ap (λ (p : ℕ). (block_at s p).reference) (place j)
+      ∙ ap (λ b. b.reference) (block_of_entry s (laid_out_lem s h).reads (sorted j) (stored j l))
 
   pub order_entry : (j : ℕ) → j < length order → is_entry s (get_or order j 0) ≡ true
   order_entry j l = rw (place j) (is_entry_lem s (sorted j) (laid_out_lem s h).tested (stored j l))
@@ -79,7 +80,8 @@ module _ (s : Bytes) (h : laid_out s ≡ true) (order : List ℕ) (q : order ≡
   found_there j r l e = rw (lookup_hit es (laid_out_lem s h).chain.distinct (sorted j) (stored j l) r (sym (reference_is j l) ∙ e)) (place j)
 
   pub found_nowhere : (r : BlockReference) (low high : ℕ) → high ≤ low
-      → Narrowed (length order) (λ j. reference_before (reference_in s order j) r ≡ true) (λ j. reference_before r (reference_in s order j) ≡ true) low high → 0 ≡
+      → Narrowed (length order) (λ j. reference_before (reference_in s order j) r ≡ true) (λ j. reference_before r (reference_in s order j) ≡ true) low high → 0
+      ≡
       position_of (lookup es r)
   unfolding position_of sorted
   found_nowhere r low high l n = rw (lookup_miss es r (λ e m. every_in (ascending es) e others (in_ascending es e m)))

@@ -268,7 +268,8 @@ pub record Holding (c : Committee) (rs : List Record) (s : Bytes) : Type 0 where
   pub size : length (store_holding rs s) ≡ length s
 
 -- it is in order, holds them, and is as long as before
-pub holding : (c : Committee) (rs : List Record) (s : Bytes) → allowed_length s ≡ true → Every Right rs → length rs ≤ 1024 → used_by rs ≤ length s → all_accepted
+pub holding : (c : Committee) (rs : List Record) (s : Bytes) → allowed_length s ≡ true → Every Right rs → length rs ≤ 1024 → used_by rs ≤ length s
+    → all_accepted
     c rs ≡ true → Holding c rs s
 unfolding store_holding allowed_length
 holding c rs s a h few fits acc =

@@ -40,7 +40,8 @@ module _ (reading : Reading) (c : Committee) (s : Bytes) (ps : List ℕ) (l : Tr
     (e : (finality_in reading c s ps l).answer ≡ answered (record { final = f; certifying = n })) where
   -- what an answer tells
   told : (passes (finality_checks c s ps) ≡ true) × (◌≡◌ {A = Finality}
-      (record { final = is_final_in reading c (blocks_of s) l; certifying = length (certifying_positions_in reading c s l) }) (record { final = f; certifying = n }))
+      (record { final = is_final_in reading c (blocks_of s) l; certifying = length (certifying_positions_in reading c s l) })
+      (record { final = f; certifying = n }))
   told = unfold finality_in in checked_answered (finality_checks c s ps)
       (record { final = is_final_in reading c (blocks_of s) l; certifying = length (certifying_positions_in reading c s l) })
       (record { final = f; certifying = n }) e

@@ -74,7 +74,8 @@ bytes_step (suc n) v w xs ys h k =
     go (no a) b (no c) = rw (ne_eqb (v / 256) (w / 256) a, ne_eqb v w (λ (e : v ≡ w). a (ap (λ x. x / 256) e)), word_greater v w (omega arith))
         (word_greater (v / 256) (w / 256) (omega arith))
 
-pub word_step : (n v w : ℕ) (xs ys : List ℕ) → v < 256 ^ n → w < 256 ^ n → key_order (be_bytes n v ++ xs) (be_bytes n w ++ ys) ≡ pick (eqb v w) (key_order xs ys)
+pub word_step : (n v w : ℕ) (xs ys : List ℕ) → v < 256 ^ n → w < 256 ^ n → key_order (be_bytes n v ++ xs) (be_bytes n w ++ ys)
+    ≡ pick (eqb v w) (key_order xs ys)
     (word_order v w)
 unfolding be_bytes
 word_step n v w xs ys h k = rw (← reverse_aux-eq (le_bytes n v) xs, ← reverse_aux-eq (le_bytes n w) ys) (bytes_step n v w xs ys h k)

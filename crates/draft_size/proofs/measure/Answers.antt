@@ -53,7 +53,11 @@ returns-then-count-eq-MAX_STATEMENTS c =
     let next = c.in-Statement.next in
     let told : TookJoined s l.at (Statement st next) = rw c.in-Statement.is at
     c.next_joined.ensures in
-    record { value = sym (l.invariant.1.1.1 ∙ rw told.0 (measured_many l.count l.bytes (as_statement s st) (omega (arith, c.if-count-eq-MAX_STATEMENTS.true)) (joined_from s next))); result_value = refl }
+    record {
+      value = sym (l.invariant.1.1.1 ∙ rw told.0
+          (measured_many l.count l.bytes (as_statement s st) (omega (arith, c.if-count-eq-MAX_STATEMENTS.true)) (joined_from s next)));
+      result_value = refl;
+    }
 
 pub overflow_add-count : goal.overflow_add-count
 overflow_add-count c = omega (arith, c.loop-at.invariant.1.0)

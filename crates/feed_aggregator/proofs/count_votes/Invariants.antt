@@ -9,7 +9,8 @@ use Rattle.feed_aggregator.proofs.count_votes.Given as goal
 
 abbrev pub invariant-loop-cursor : goal.invariant-loop-cursor
 invariant-loop-cursor l =
-    Counting l.stakes (with_new l.store l.rec) (block_in l.rec).reference.authority (block_in l.rec).statements l.telling l.initial.table l.initial.events l.cursor.index l.table l.events l.n
+    Counting l.stakes (with_new l.store l.rec) (block_in l.rec).reference.authority (block_in l.rec).statements l.telling l.initial.table l.initial.events
+    l.cursor.index l.table l.events l.n
     × (l.cursor ≡ cursor_at l.rec l.cursor.index)
     × (l.cursor.index ≤ length (block_in l.rec).statements)
 

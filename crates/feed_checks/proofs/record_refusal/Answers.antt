@@ -24,7 +24,8 @@ event_words-requires c = (
 )
 
 pub returns-then-words-event_words : goal.returns-then-words-event_words
-returns-then-words-event_words c = sym (record-events _ _ _ _ (sym c.well_formed-2.ensures ∙ c.if-not-well_formed.false) (sym c.block_refusal-refusal.ensures ∙ c.if-refusal-ne0.false)
+returns-then-words-event_words c = sym (record-events _ _ _ _ (sym c.well_formed-2.ensures ∙ c.if-not-well_formed.false)
+    (sym c.block_refusal-refusal.ensures ∙ c.if-refusal-ne0.false)
     (omega (arith, c.if-words-event_words.true, c.event_words.ensures)))
 
 pub returns-then-is_full : goal.returns-then-is_full

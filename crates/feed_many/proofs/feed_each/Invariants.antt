@@ -13,7 +13,8 @@ invariant-loop-at l =
     ((length l.store ≡ length l.initial.store) × ((length l.table ≡ length l.initial.table) ×
     ((length l.work ≡ length l.initial.work) × ((length l.events ≡ length l.initial.events) × (length l.outcomes ≡ length l.initial.outcomes)))))
     × (Ready l.stakes l.store l.table l.work
-    × Walked l.stakes l.initial.work (feed_all l.stakes (lent_of l.initial.store l.initial.table l.initial.work l.initial.events) (records_in l.records)) l.initial.outcomes l.records l.store l.table l.events l.outcomes l.at l.used l.k)
+    × Walked l.stakes l.initial.work (feed_all l.stakes (lent_of l.initial.store l.initial.table l.initial.work l.initial.events) (records_in l.records))
+    l.initial.outcomes l.records l.store l.table l.events l.outcomes l.at l.used l.k)
 
 abbrev pub decreases-loop-at : goal.decreases-loop-at
 decreases-loop-at l =

@@ -7,8 +7,10 @@ use Prim.Native.Nat.{ℕ}
 use native.Mathlib.Omega.{arith}
 use Rattle.feed_many.proofs.feed_records.Goals as goal
 
-named_result_value_store_after_table_after_events_after_outcomes_after : {P0 P1 P2 P3 P4 : Type 0} → P0 × (P1 × (P2 × (P3 × P4))) → record { result_value : P0; store_after : P1; table_after : P2; events_after : P3; outcomes_after : P4 }
-named_result_value_store_after_table_after_events_after_outcomes_after p = record { result_value = p.0; store_after = p.1.0; table_after = p.1.1.0; events_after = p.1.1.1.0; outcomes_after = p.1.1.1.1 }
+named_result_value_store_after_table_after_events_after_outcomes_after : {P0 P1 P2 P3 P4 : Type 0} → P0 × (P1 × (P2 × (P3 × P4)))
+    → record { result_value : P0; store_after : P1; table_after : P2; events_after : P3; outcomes_after : P4 }
+named_result_value_store_after_table_after_events_after_outcomes_after p = record
+    { result_value = p.0; store_after = p.1.0; table_after = p.1.1.0; events_after = p.1.1.1.0; outcomes_after = p.1.1.1.1 }
 
 pub returns-then-lent-ne0 : goal.returns-then-lent-ne0
 unfolding as_records_answer

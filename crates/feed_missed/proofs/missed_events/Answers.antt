@@ -43,7 +43,8 @@ overflow_add-from c =
     omega (
       arith,
       (entry_room o.args.store.now o.args.p (stored_at _ _ _ _ o.requires.stored.2 c.if-p-eq0.false
-          (λ z. c.if-at-read_u32.false (z ∙ (is_readable _ (laid_readable _ o.requires.stored.0)).used ∙ sym c.read_u32.ensures)) (laid_readable _ o.requires.stored.0))
+          (λ z. c.if-at-read_u32.false (z ∙ (is_readable _ (laid_readable _ o.requires.stored.0)).used ∙ sym c.read_u32.ensures))
+          (laid_readable _ o.requires.stored.0))
           ).inside,
     )
 
@@ -52,7 +53,8 @@ unfolding used_length
 record_end-stop-requires c =
     let o = c in
     (stored_at _ _ _ _ o.requires.stored.2 c.if-p-eq0.false
-    (λ z. c.if-at-read_u32.false (z ∙ (is_readable _ (laid_readable _ o.requires.stored.0)).used ∙ sym c.read_u32.ensures)) (laid_readable _ o.requires.stored.0))
+    (λ z. c.if-at-read_u32.false (z ∙ (is_readable _ (laid_readable _ o.requires.stored.0)).used ∙ sym c.read_u32.ensures))
+    (laid_readable _ o.requires.stored.0))
 
 pub slice_bounds-missed_in-end : goal.slice_bounds-missed_in-end
 unfolding used_length

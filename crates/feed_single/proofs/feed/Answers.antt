@@ -6,7 +6,8 @@ use Rattle.feed_refusals.proofs.Order.{feeds_lent}
 use Rattle.feed_single.proofs.Giving.{gives_refusal}
 use Rattle.feed_single.proofs.feed.Goals as goal
 
-named_result_value_store_after_table_after_events_after : {P0 P1 P2 P3 : Type 0} → P0 × (P1 × (P2 × P3)) → record { result_value : P0; store_after : P1; table_after : P2; events_after : P3 }
+named_result_value_store_after_table_after_events_after : {P0 P1 P2 P3 : Type 0} → P0 × (P1 × (P2 × P3))
+    → record { result_value : P0; store_after : P1; table_after : P2; events_after : P3 }
 named_result_value_store_after_table_after_events_after p = record { result_value = p.0; store_after = p.1.0; table_after = p.1.1.0; events_after = p.1.1.1 }
 
 pub returns-then-lent-ne0 : goal.returns-then-lent-ne0

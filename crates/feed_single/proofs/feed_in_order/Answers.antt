@@ -6,7 +6,8 @@ use Rattle.feed_single.specs.Answers.{as_feed_answer}
 use Rattle.feed_single.proofs.Giving.{gives_refusal, gives_acceptance}
 use Rattle.feed_single.proofs.feed_in_order.Goals as goal
 
-named_result_value_store_after_table_after_events_after : {P0 P1 P2 P3 : Type 0} → P0 × (P1 × (P2 × P3)) → record { result_value : P0; store_after : P1; table_after : P2; events_after : P3 }
+named_result_value_store_after_table_after_events_after : {P0 P1 P2 P3 : Type 0} → P0 × (P1 × (P2 × P3))
+    → record { result_value : P0; store_after : P1; table_after : P2; events_after : P3 }
 named_result_value_store_after_table_after_events_after p = record { result_value = p.0; store_after = p.1.0; table_after = p.1.1.0; events_after = p.1.1.1 }
 
 pub slice_bounds-record_refusal-end : goal.slice_bounds-record_refusal-end
@@ -29,7 +30,8 @@ slice_bounds-accept-end c =
 
 pub accept-requires : goal.accept-requires
 accept-requires c =
-    let e = c.record_refusal-refusal.ensures in record { accepting = rw e.kept (e.accepting c.if-refusal-ne0.false); order = c.sorted_positions-count.ensures.1.1 }
+    let e = c.record_refusal-refusal.ensures in record
+    { accepting = rw e.kept (e.accepting c.if-refusal-ne0.false); order = c.sorted_positions-count.ensures.1.1 }
 
 pub returns : goal.returns
 unfolding as_feed_answer

@@ -10,7 +10,8 @@ use Rattle.final_block_rejects.proofs.rejects.Given as goal
 
 abbrev pub invariant-loop-cursor : goal.invariant-loop-cursor
 invariant-loop-cursor l = (l.cursor ≡ cursor_at l.rec l.cursor.index) ×
-    ((l.cursor.index ≤ length (block_in l.rec).statements) × (rejects (block_in l.rec) (as_locator l.locator) ≡ rejects_from (block_in l.rec) (as_locator l.locator)
+    ((l.cursor.index ≤ length (block_in l.rec).statements)
+    × (rejects (block_in l.rec) (as_locator l.locator) ≡ rejects_from (block_in l.rec) (as_locator l.locator)
     l.cursor.index))
 
 abbrev pub decreases-loop-cursor : goal.decreases-loop-cursor

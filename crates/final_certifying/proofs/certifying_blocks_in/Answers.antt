@@ -8,4 +8,5 @@ find_certifying_blocks-requires c = let a = c.args in
     (p.0, (p.1.1, both_nothing a.store.now a.order.now (as_locator a.locator) p.1.0))
 
 pub returns : goal.returns
-returns c = let v = c.find_certifying_blocks.ensures in record { blocks_value = v.blocks_value; authors_value = v.authors_value; positions_after = v.positions_after }
+returns c = let v = c.find_certifying_blocks.ensures in record
+    { blocks_value = v.blocks_value; authors_value = v.authors_value; positions_after = v.positions_after }

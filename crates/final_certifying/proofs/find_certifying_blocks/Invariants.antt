@@ -10,7 +10,8 @@ use Rattle.final_certifying.proofs.find_certifying_blocks.Given as goal
 
 abbrev pub invariant-loop-k : goal.invariant-loop-k
 invariant-loop-k l =
-    RemembersBoth l.store l.order (as_locator l.locator) l.memo × Walked (certifies_in (as_reading l.reading) l.stakes (blocks_of l.store) (as_locator l.locator)) l.store l.order
+    RemembersBoth l.store l.order (as_locator l.locator) l.memo
+    × Walked (certifies_in (as_reading l.reading) l.stakes (blocks_of l.store) (as_locator l.locator)) l.store l.order
     l.initial.positions l.positions l.authors l.blocks l.k
 
 abbrev pub decreases-loop-k : goal.decreases-loop-k

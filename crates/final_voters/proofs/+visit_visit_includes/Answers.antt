@@ -138,6 +138,7 @@ visit_includes-returns t c = let a = c.args in
     let is = (block_at_place a.store.now a.order.now a.k).includes in
     let l = c.loop-j in
     let h : length is ≤ l.j = omega (arith, c.loop-j-test.false, c.include_count_at-count.ensures) in record {
-      value = sym (unions_end (spoken (speech_of (is_rejecting a.speech)) (blocks_of a.store.now) (as_locator a.locator)) is l.j l.found h) ∙ l.invariant.together;
+      value = sym (unions_end (spoken (speech_of (is_rejecting a.speech)) (blocks_of a.store.now) (as_locator a.locator)) is l.j l.found h)
+          ∙ l.invariant.together;
       remembers = l.invariant.remembers;
     }

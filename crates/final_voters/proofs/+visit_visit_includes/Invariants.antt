@@ -12,7 +12,8 @@ abbrev pub decreases-visit_includes : goal.decreases-visit_includes
 decreases-visit_includes l = 2 * l.k
 
 abbrev pub invariant-visit_includes-loop-j : goal.invariant-visit_includes-loop-j
-invariant-visit_includes-loop-j l = VisitedIncludes (speech_of (is_rejecting l.speech)) l.store l.order (as_locator l.locator) l.k l.initial.memo l.memo l.found l.j
+invariant-visit_includes-loop-j l = VisitedIncludes (speech_of (is_rejecting l.speech)) l.store l.order (as_locator l.locator) l.k l.initial.memo l.memo l.found
+    l.j
 
 abbrev pub decreases-visit_includes-loop-j : goal.decreases-visit_includes-loop-j
 decreases-visit_includes-loop-j l = l.count - l.j

@@ -12,14 +12,26 @@ unfolding as_feed_answer refused_call
 returns-then-table-ne-TABLE_BYTES c =
     let start = c.args in
     let e = feed_unsized start.stakes.now start.store.now start.table.now start.events.now start.rec.now c.if-table-ne-TABLE_BYTES.true
-    in record { result_value = ap refused c.refusal_before.ensures ∙ sym (ap (λ (x : FeedCall). x.answer) e); store_after = sym (ap (λ (x : FeedCall). x.store) e); table_after = sym (ap (λ (x : FeedCall). x.table) e); events_after = sym (ap (λ (x : FeedCall). x.events) e) }
+    in record {
+      result_value = ap refused c.refusal_before.ensures
+          ∙ sym (ap (λ (x : FeedCall). x.answer) e);
+      store_after = sym (ap (λ (x : FeedCall). x.store) e);
+      table_after = sym (ap (λ (x : FeedCall). x.table) e);
+      events_after = sym (ap (λ (x : FeedCall). x.events) e);
+    }
 
 pub returns-then-events-ne-EVENT_BYTES : goal.returns-then-events-ne-EVENT_BYTES
 unfolding as_feed_answer refused_call
 returns-then-events-ne-EVENT_BYTES c =
     let start = c.args in
     let e = feed_eventless start.stakes.now start.store.now start.table.now start.events.now start.rec.now
-    c.if-table-ne-TABLE_BYTES.false c.if-events-ne-EVENT_BYTES.true in record { result_value = rw (c.no_events.ensures, c.words_of.ensures) (sym (ap (λ (x : FeedCall). x.answer) e)); store_after = sym (ap (λ (x : FeedCall). x.store) e); table_after = sym (ap (λ (x : FeedCall). x.table) e); events_after = sym (ap (λ (x : FeedCall). x.events) e) }
+    c.if-table-ne-TABLE_BYTES.false c.if-events-ne-EVENT_BYTES.true in record {
+      result_value = rw (c.no_events.ensures, c.words_of.ensures) (sym (ap (λ (x : FeedCall). x.answer) e));
+      store_after = sym
+          (ap (λ (x : FeedCall). x.store) e);
+      table_after = sym (ap (λ (x : FeedCall). x.table) e);
+      events_after = sym (ap (λ (x : FeedCall). x.events) e);
+    }
 
 pub returns : goal.returns
 unfolding fed_call

@@ -29,10 +29,24 @@ pub returns-in-Events : goal.returns-in-Events
 unfolding encoded feed_indexed_call as_feed_answer
 returns-in-Events c = let s = c.stakes_of-n.ensures.1 in
     let f = c.feed_of.ensures in
-    record { value = rw (← s, ← f.result_value, c.in-Events.is); store_after = rw (← s) f.store_after; table_after = rw (← s) f.table_after; index_after = rw (← s) f.index_after; events_after = rw (← s) f.events_after }
+    record {
+      value = rw (← s, ← f.result_value, c.in-Events.is);
+      store_after = rw (← s) f.store_after;
+      table_after = rw (← s) f.table_after;
+      index_after = rw
+          (← s) f.index_after;
+      events_after = rw (← s) f.events_after;
+    }
 
 pub returns-in-Refused : goal.returns-in-Refused
 unfolding encoded feed_indexed_call as_feed_answer
 returns-in-Refused c = let s = c.stakes_of-n.ensures.1 in
     let f = c.feed_of.ensures in
-    record { value = rw (← s, ← f.result_value, c.in-Refused.is); store_after = rw (← s) f.store_after; table_after = rw (← s) f.table_after; index_after = rw (← s) f.index_after; events_after = rw (← s) f.events_after }
+    record {
+      value = rw (← s, ← f.result_value, c.in-Refused.is);
+      store_after = rw (← s) f.store_after;
+      table_after = rw (← s) f.table_after;
+      index_after = rw
+          (← s) f.index_after;
+      events_after = rw (← s) f.events_after;
+    }

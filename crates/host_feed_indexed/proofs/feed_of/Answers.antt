@@ -11,14 +11,31 @@ pub returns-then-table-ne-TABLE_BYTES : goal.returns-then-table-ne-TABLE_BYTES
 unfolding as_feed_answer refused_call
 returns-then-table-ne-TABLE_BYTES c =
     let a = c.args in
-    let e = feed_unsized a.stakes.now a.store.now a.table.now a.index.now a.events.now a.rec.now c.if-table-ne-TABLE_BYTES.true in record { result_value = ap refused c.refusal_before.ensures ∙ sym (ap (λ (x : IndexedCall). x.answer) e); store_after = sym (ap (λ (x : IndexedCall). x.store) e); table_after = sym (ap (λ (x : IndexedCall). x.table) e); index_after = sym (ap (λ (x : IndexedCall). x.index) e); events_after = sym (ap (λ (x : IndexedCall). x.events) e) }
+    let e = feed_unsized a.stakes.now a.store.now a.table.now a.index.now a.events.now a.rec.now c.if-table-ne-TABLE_BYTES.true in record {
+      result_value = ap refused c.refusal_before.ensures
+          ∙ sym (ap (λ (x : IndexedCall). x.answer) e);
+      store_after = sym (ap (λ (x : IndexedCall). x.store) e);
+      table_after = sym
+          (ap (λ (x : IndexedCall). x.table) e);
+      index_after = sym (ap (λ (x : IndexedCall). x.index) e);
+      events_after = sym
+          (ap (λ (x : IndexedCall). x.events) e);
+    }
 
 pub returns-then-events-ne-EVENT_BYTES : goal.returns-then-events-ne-EVENT_BYTES
 unfolding as_feed_answer refused_call
 returns-then-events-ne-EVENT_BYTES c =
     let a = c.args in
     let e = feed_eventless a.stakes.now a.store.now a.table.now a.index.now a.events.now a.rec.now
-    c.if-table-ne-TABLE_BYTES.false c.if-events-ne-EVENT_BYTES.true in record { result_value = rw (c.no_events.ensures, c.words_of.ensures) (sym (ap (λ (x : IndexedCall). x.answer) e)); store_after = sym (ap (λ (x : IndexedCall). x.store) e); table_after = sym (ap (λ (x : IndexedCall). x.table) e); index_after = sym (ap (λ (x : IndexedCall). x.index) e); events_after = sym (ap (λ (x : IndexedCall). x.events) e) }
+    c.if-table-ne-TABLE_BYTES.false c.if-events-ne-EVENT_BYTES.true in record {
+      result_value = rw (c.no_events.ensures, c.words_of.ensures) (sym (ap (λ (x : IndexedCall). x.answer) e));
+      store_after = sym
+          (ap (λ (x : IndexedCall). x.store) e);
+      table_after = sym (ap (λ (x : IndexedCall). x.table) e);
+      index_after = sym
+          (ap (λ (x : IndexedCall). x.index) e);
+      events_after = sym (ap (λ (x : IndexedCall). x.events) e);
+    }
 
 pub returns : goal.returns
 unfolding fed_call

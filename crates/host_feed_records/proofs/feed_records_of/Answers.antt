@@ -13,7 +13,14 @@ unfolding as_records_answer refused_host
 returns-then-table-ne-TABLE_BYTES c =
     let a = c.args in
     let e = host_unsized a.stakes.now a.store.now a.table.now a.events.now a.outcomes.now a.records.now
-    c.if-table-ne-TABLE_BYTES.true in record { result_value = ap refused c.refusal_before.ensures ∙ sym (ap (λ (x : HostCall). x.answer) e); store_after = sym (ap (λ (x : HostCall). x.store) e); table_after = sym (ap (λ (x : HostCall). x.table) e); events_after = sym (ap (λ (x : HostCall). x.events) e); outcomes_after = sym (ap (λ (x : HostCall). x.outcomes) e) }
+    c.if-table-ne-TABLE_BYTES.true in record {
+      result_value = ap refused c.refusal_before.ensures
+          ∙ sym (ap (λ (x : HostCall). x.answer) e);
+      store_after = sym (ap (λ (x : HostCall). x.store) e);
+      table_after = sym (ap (λ (x : HostCall). x.table) e);
+      events_after = sym (ap (λ (x : HostCall). x.events) e);
+      outcomes_after = sym (ap (λ (x : HostCall). x.outcomes) e);
+    }
 
 pub returns : goal.returns
 unfolding told_host
@@ -24,4 +31,13 @@ returns c =
     host_fed a.stakes.now a.store.now a.table.now a.events.now a.outcomes.now a.records.now w.new.words _
     c.if-table-ne-TABLE_BYTES.false
     w.ensures (length-replicate {A = ℕ} 6145 0 ∙ sym w.auto.words) in
-    let f = c.feed_records-answer.ensures in record { result_value = f.result_value ∙ sym (ap (λ (x : HostCall). x.answer) e); store_after = f.store_after ∙ sym (ap (λ (x : HostCall). x.store) e); table_after = c.bytes_of.ensures ∙ ap bytes_of f.table_after ∙ sym (ap (λ (x : HostCall). x.table) e); events_after = f.events_after ∙ sym (ap (λ (x : HostCall). x.events) e); outcomes_after = f.outcomes_after ∙ sym (ap (λ (x : HostCall). x.outcomes) e) }
+    let f = c.feed_records-answer.ensures in record {
+      result_value = f.result_value ∙ sym (ap (λ (x : HostCall). x.answer) e);
+      store_after = f.store_after
+          ∙ sym (ap (λ (x : HostCall). x.store) e);
+      table_after = c.bytes_of.ensures ∙ ap bytes_of f.table_after
+          ∙ sym (ap (λ (x : HostCall). x.table) e);
+      events_after = f.events_after
+          ∙ sym (ap (λ (x : HostCall). x.events) e);
+      outcomes_after = f.outcomes_after ∙ sym (ap (λ (x : HostCall). x.outcomes) e);
+    }

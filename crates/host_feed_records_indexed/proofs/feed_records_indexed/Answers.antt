@@ -29,10 +29,26 @@ pub returns-in-Records : goal.returns-in-Records
 unfolding encoded feed_records_indexed_call as_records_answer
 returns-in-Records c =
     let s = c.stakes_of-n.ensures.1 in
-    let f = c.feed_records_of.ensures in record { value = rw (← s, ← f.result_value, c.in-Records.is); store_after = rw (← s) f.store_after; table_after = rw (← s) f.table_after; index_after = rw (← s) f.index_after; events_after = rw (← s) f.events_after; outcomes_after = rw (← s) f.outcomes_after }
+    let f = c.feed_records_of.ensures in record {
+      value = rw (← s, ← f.result_value, c.in-Records.is);
+      store_after = rw (← s) f.store_after;
+      table_after = rw
+          (← s) f.table_after;
+      index_after = rw (← s) f.index_after;
+      events_after = rw (← s) f.events_after;
+      outcomes_after = rw (← s) f.outcomes_after;
+    }
 
 pub returns-in-Refused : goal.returns-in-Refused
 unfolding encoded feed_records_indexed_call as_records_answer
 returns-in-Refused c =
     let s = c.stakes_of-n.ensures.1 in
-    let f = c.feed_records_of.ensures in record { value = rw (← s, ← f.result_value, c.in-Refused.is); store_after = rw (← s) f.store_after; table_after = rw (← s) f.table_after; index_after = rw (← s) f.index_after; events_after = rw (← s) f.events_after; outcomes_after = rw (← s) f.outcomes_after }
+    let f = c.feed_records_of.ensures in record {
+      value = rw (← s, ← f.result_value, c.in-Refused.is);
+      store_after = rw (← s) f.store_after;
+      table_after = rw
+          (← s) f.table_after;
+      index_after = rw (← s) f.index_after;
+      events_after = rw (← s) f.events_after;
+      outcomes_after = rw (← s) f.outcomes_after;
+    }

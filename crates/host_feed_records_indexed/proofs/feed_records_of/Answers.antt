@@ -13,7 +13,16 @@ unfolding as_records_answer refused_host
 returns-then-table-ne-TABLE_BYTES c =
     let a = c.args in
     let e = host_unsized a.stakes.now a.store.now a.table.now a.index.now a.events.now a.outcomes.now a.records.now
-    c.if-table-ne-TABLE_BYTES.true in record { result_value = ap refused c.refusal_before.ensures ∙ sym (ap (λ (x : HostCall). x.answer) e); store_after = sym (ap (λ (x : HostCall). x.store) e); table_after = sym (ap (λ (x : HostCall). x.table) e); index_after = sym (ap (λ (x : HostCall). x.index) e); events_after = sym (ap (λ (x : HostCall). x.events) e); outcomes_after = sym (ap (λ (x : HostCall). x.outcomes) e) }
+    c.if-table-ne-TABLE_BYTES.true in record {
+      result_value = ap refused c.refusal_before.ensures
+          ∙ sym (ap (λ (x : HostCall). x.answer) e);
+      store_after = sym (ap (λ (x : HostCall). x.store) e);
+      table_after = sym (ap (λ (x : HostCall). x.table) e);
+      index_after = sym (ap (λ (x : HostCall). x.index) e);
+      events_after = sym (ap (λ (x : HostCall). x.events) e);
+      outcomes_after = sym
+          (ap (λ (x : HostCall). x.outcomes) e);
+    }
 
 pub returns : goal.returns
 unfolding told_host

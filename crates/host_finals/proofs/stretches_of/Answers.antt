@@ -51,8 +51,11 @@ returns-then-not-holds_stretches c =
     let room = sym c.holds_stretches.ensures ∙ c.if-not-holds_stretches.true in
     let e = stretches_unsized start.stakes.now start.store.now
     (listing (is_ordinary start.list) (as_reading start.reading) start.stakes.now (blocks_of start.store.now)) (after_of start.after.now)
-    start.out.now _ place room in
-    (rw c.refusal_before-then-not-holds_stretches.ensures (sym (ap (λ (x : StretchesCall). encoded x.answer) e)), sym (ap (λ (x : StretchesCall). x.stretches) e))
+    start.out.now _ place room in (
+      rw c.refusal_before-then-not-holds_stretches.ensures (sym (ap (λ (x : StretchesCall). encoded x.answer) e)),
+      sym
+          (ap (λ (x : StretchesCall). x.stretches) e),
+    )
 
 pub stretches_number-requires : goal.stretches_number-requires
 stretches_number-requires c =

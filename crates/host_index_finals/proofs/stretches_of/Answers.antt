@@ -53,8 +53,11 @@ returns-then-not-holds_stretches c =
     let room = sym c.holds_stretches.ensures ∙ c.if-not-holds_stretches.true in
     let e = stretches_unsized start.stakes.now start.store.now start.index.now
     (listing (is_ordinary start.list) old start.stakes.now (blocks_of start.store.now)) (after_of start.after.now) start.out.now _ place
-    room in
-    (rw c.refusal_indexed-then-not-holds_stretches.ensures (sym (ap (λ (x : StretchesCall). encoded x.answer) e)), sym (ap (λ (x : StretchesCall). x.stretches) e))
+    room in (
+      rw c.refusal_indexed-then-not-holds_stretches.ensures (sym (ap (λ (x : StretchesCall). encoded x.answer) e)),
+      sym
+          (ap (λ (x : StretchesCall). x.stretches) e),
+    )
 
 pub stretches_number-requires : goal.stretches_number-requires
 stretches_number-requires c =

@@ -30,11 +30,13 @@ include-requires c = let h : c.loop-j.j < length (block_in c.args.rec.now).inclu
     (c.requires.«record», h)
 
 pub place_of-place-requires : goal.place_of-place-requires
-place_of-place-requires c = let h : c.loop-j.j < length (block_in c.args.rec.now).includes = omega (arith, c.loop-j-test.true, c.include_count-count.ensures) in (
-  c.requires.store,
-  subst (λ (r : BlockReference). is_stored (records_of c.args.store.now) r ≡ true) (sym c.include.ensures) (c.requires.known.1.1.stored (get_or (block_in c.args.rec.now).includes c.loop-j.j no_reference) (in_place no_reference (block_in
-      c.args.rec.now).includes c.loop-j.j h)),
-)
+place_of-place-requires c =
+    let h : c.loop-j.j < length (block_in c.args.rec.now).includes = omega (arith, c.loop-j-test.true, c.include_count-count.ensures) in (
+      c.requires.store,
+      subst (λ (r : BlockReference). is_stored (records_of c.args.store.now) r ≡ true) (sym c.include.ensures)
+          (c.requires.known.1.1.stored (get_or (block_in c.args.rec.now).includes c.loop-j.j no_reference) (in_place no_reference (block_in
+          c.args.rec.now).includes c.loop-j.j h)),
+    )
 
 pub bounds-starts-place : goal.bounds-starts-place
 bounds-starts-place c = omega (
@@ -51,7 +53,8 @@ overflow_add-cursors c = let h : c.loop-j.j < length (block_in c.args.rec.now).i
 ) in
     omega (
       arith,
-      (include_stands c.args.store.now c.args.order.now c.args.index.now c.args.starts.now c.requires.known.0 (block_in c.args.rec.now) c.requires.known.1.0 c.requires.known.1.1 c.loop-j.j c.place_of-place.result h c.place_of-place.ensures.0 (c.place_of-place.ensures.1 ∙ c.include.ensures)).inside,
+      (include_stands c.args.store.now c.args.order.now c.args.index.now c.args.starts.now c.requires.known.0 (block_in c.args.rec.now) c.requires.known.1.0
+          c.requires.known.1.1 c.loop-j.j c.place_of-place.result h c.place_of-place.ensures.0 (c.place_of-place.ensures.1 ∙ c.include.ensures)).inside,
       c.well_formed.1.1.1.0,
     )
 
@@ -102,7 +105,8 @@ offset_bounds-index-start c = let h : c.loop-j.j < length (block_in c.args.rec.n
 ) in
     omega (
       arith,
-      (include_stands c.args.store.now c.args.order.now c.args.index.now c.args.starts.now c.requires.known.0 (block_in c.args.rec.now) c.requires.known.1.0 c.requires.known.1.1 c.loop-j.j c.place_of-place.result h c.place_of-place.ensures.0 (c.place_of-place.ensures.1 ∙ c.include.ensures)).inside,
+      (include_stands c.args.store.now c.args.order.now c.args.index.now c.args.starts.now c.requires.known.0 (block_in c.args.rec.now) c.requires.known.1.0
+          c.requires.known.1.1 c.loop-j.j c.place_of-place.result h c.place_of-place.ensures.0 (c.place_of-place.ensures.1 ∙ c.include.ensures)).inside,
       c.well_formed.1.1.1.0,
     )
 
@@ -114,7 +118,8 @@ bounds-index-start c = let h : c.loop-j.j < length (block_in c.args.rec.now).inc
 ) in
     omega (
       arith,
-      (include_stands c.args.store.now c.args.order.now c.args.index.now c.args.starts.now c.requires.known.0 (block_in c.args.rec.now) c.requires.known.1.0 c.requires.known.1.1 c.loop-j.j c.place_of-place.result h c.place_of-place.ensures.0 (c.place_of-place.ensures.1 ∙ c.include.ensures)).inside,
+      (include_stands c.args.store.now c.args.order.now c.args.index.now c.args.starts.now c.requires.known.0 (block_in c.args.rec.now) c.requires.known.1.0
+          c.requires.known.1.1 c.loop-j.j c.place_of-place.result h c.place_of-place.ensures.0 (c.place_of-place.ensures.1 ∙ c.include.ensures)).inside,
     )
 
 pub overflow_mul-cursors-in-loop-j : goal.overflow_mul-cursors-in-loop-j
@@ -163,7 +168,8 @@ bounds-cursors-j-in-loop-j c = let h : c.loop-j.j < length (block_in c.args.rec.
       arith,
       c.loop-j.invariant.0,
       c.requires.room,
-      (block_of_fits c.args.rec.now (block_in c.args.rec.now) (bytes_of c.args.rec.now (λ i h. omega (arith, c.shared_slice_known-5-1.given i))) (block_of_lem c.args.rec.now c.requires.«record»)).few_includes,
+      (block_of_fits c.args.rec.now (block_in c.args.rec.now) (bytes_of c.args.rec.now (λ i h. omega (arith, c.shared_slice_known-5-1.given i)))
+          (block_of_lem c.args.rec.now c.requires.«record»)).few_includes,
     ))
 
 pub loop-j-smaller : goal.loop-j-smaller
@@ -175,20 +181,24 @@ loop-j-preserved c = let h : c.loop-j.j < length (block_in c.args.rec.now).inclu
   c.loop-j-test.true,
   c.include_count-count.ensures,
 ) in (
-  length-set (set c.loop-j.cursors (2 * c.loop-j.j) ((get_or c.args.starts.now c.place_of-place.result 0) + 1)) (2 * c.loop-j.j + 1) (get_or c.args.index.now (get_or c.args.starts.now c.place_of-place.result 0) 0) ∙ length-set c.loop-j.cursors (2 * c.loop-j.j) ((get_or c.args.starts.now c.place_of-place.result 0) + 1) ∙ c.loop-j.invariant.0,
+  length-set (set c.loop-j.cursors (2 * c.loop-j.j) ((get_or c.args.starts.now c.place_of-place.result 0) + 1)) (2 * c.loop-j.j + 1)
+      (get_or c.args.index.now (get_or c.args.starts.now c.place_of-place.result 0) 0)
+      ∙ length-set c.loop-j.cursors (2 * c.loop-j.j) ((get_or c.args.starts.now c.place_of-place.result 0) + 1) ∙ c.loop-j.invariant.0,
   (
     omega arith,
-    λ bs k r. opening_on c.args.store.now c.args.order.now c.args.index.now c.args.starts.now bs (block_in c.args.rec.now) c.loop-j.cursors c.loop-j.j (get_or c.args.starts.now c.place_of-place.result 0) (omega (
-      arith,
-      c.loop-j.invariant.0,
-      c.requires.room,
-      (block_of_fits
-          c.args.rec.now
-          (block_in c.args.rec.now) (bytes_of c.args.rec.now (λ i h. omega (
-            arith,
-            c.shared_slice_known-5-1.given i,
-          ))) (block_of_lem c.args.rec.now c.requires.«record»)).few_includes,
-    )) (c.loop-j.invariant.1.1 bs k r) (include_stands c.args.store.now c.args.order.now c.args.index.now c.args.starts.now bs (block_in c.args.rec.now) k r c.loop-j.j c.place_of-place.result h c.place_of-place.ensures.0 (c.place_of-place.ensures.1 ∙ c.include.ensures)),
+    λ bs k r. opening_on c.args.store.now c.args.order.now c.args.index.now c.args.starts.now bs (block_in c.args.rec.now) c.loop-j.cursors c.loop-j.j
+        (get_or c.args.starts.now c.place_of-place.result 0) (omega (
+          arith,
+          c.loop-j.invariant.0,
+          c.requires.room,
+          (block_of_fits
+              c.args.rec.now
+              (block_in c.args.rec.now) (bytes_of c.args.rec.now (λ i h. omega (
+                arith,
+                c.shared_slice_known-5-1.given i,
+              ))) (block_of_lem c.args.rec.now c.requires.«record»)).few_includes,
+        )) (c.loop-j.invariant.1.1 bs k r) (include_stands c.args.store.now c.args.order.now c.args.index.now c.args.starts.now bs (block_in c.args.rec.now) k r
+        c.loop-j.j c.place_of-place.result h c.place_of-place.ensures.0 (c.place_of-place.ensures.1 ∙ c.include.ensures)),
   ),
 )
 
@@ -203,11 +213,13 @@ returns c = λ bs k r.
       c.loop-j-test.false,
       c.include_count-count.ensures,
     ) in
-    opening_end c.args.store.now c.args.order.now c.args.index.now c.args.starts.now bs (block_in c.args.rec.now) c.loop-j.cursors c.include_count-count.result c.include_count-count.ensures (omega (
+    opening_end c.args.store.now c.args.order.now c.args.index.now c.args.starts.now bs (block_in c.args.rec.now) c.loop-j.cursors c.include_count-count.result
+    c.include_count-count.ensures (omega (
       arith,
       c.loop-j.invariant.0,
       c.requires.room,
-      (block_of_fits c.args.rec.now (block_in c.args.rec.now) (bytes_of c.args.rec.now (λ i h. omega (arith, c.shared_slice_known-5-1.given i))) (block_of_lem c.args.rec.now c.requires.«record»)
+      (block_of_fits c.args.rec.now (block_in c.args.rec.now) (bytes_of c.args.rec.now (λ i h. omega (arith, c.shared_slice_known-5-1.given i)))
+          (block_of_lem c.args.rec.now c.requires.«record»)
           ).few_includes,
       c.include_count-count.ensures,
     )) (subst (Opening bs (block_in c.args.rec.now) c.args.index.now c.loop-j.cursors) e (c.loop-j.invariant.1.1 bs k r))

@@ -164,7 +164,8 @@ place_of-place-requires c = let a = c.args in
       c.shared_slice_known-1.given i,
     )) in (
       q,
-      subst (λ (r : BlockReference). is_stored (records_of a.store.now) r ≡ true) (sym c.reference_at.ensures) (next_stored q.0 a.store.now a.order.now a.index.now a.starts.now q.1 bytes g.starts g.at g.pos g.i g.invariant.1
+      subst (λ (r : BlockReference). is_stored (records_of a.store.now) r ≡ true) (sym c.reference_at.ensures)
+          (next_stored q.0 a.store.now a.order.now a.index.now a.starts.now q.1 bytes g.starts g.at g.pos g.i g.invariant.1
           (omega (arith, c.loop-i-test.true))),
     )
 

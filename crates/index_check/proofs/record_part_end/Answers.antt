@@ -27,5 +27,6 @@ part_end-requires c = record {
 }
 
 pub returns : goal.returns
-returns c = λ bs k r. c.part_end.ensures _ (opened_runs (block_in c.args.rec.now) c.own_runs.new.words c.own_runs.result c.own_runs.ensures.own_runs (0 ∷ c.own_runs.result ∷ []) refl refl refl bs c.args.index.now _ _
+returns c = λ bs k r. c.part_end.ensures _ (opened_runs (block_in c.args.rec.now) c.own_runs.new.words c.own_runs.result c.own_runs.ensures.own_runs
+    (0 ∷ c.own_runs.result ∷ []) refl refl refl bs c.args.index.now _ _
     (c.open_sources-n.ensures bs k r))

@@ -9,13 +9,22 @@ use Rattle.index_feed_many.proofs.Growing.{agreed_counted}
 use Rattle.index_feed_many.proofs.Calls.{refuses_lent, refuses_work, refuses_outcomes, refuses_nothing, calls_refusal, calls_feeds}
 use Rattle.index_feed_many.proofs.feed_records_indexed.Goals as goal
 
-named_result_value_store_after_table_after_index_after_events_after_outcomes_after : {P0 P1 P2 P3 P4 P5 : Type 0} → P0 × (P1 × (P2 × (P3 × (P4 × P5)))) → record { result_value : P0; store_after : P1; table_after : P2; index_after : P3; events_after : P4; outcomes_after : P5 }
-named_result_value_store_after_table_after_index_after_events_after_outcomes_after p = record { result_value = p.0; store_after = p.1.0; table_after = p.1.1.0; index_after = p.1.1.1.0; events_after = p.1.1.1.1.0; outcomes_after = p.1.1.1.1.1 }
+named_after : {P0 P1 P2 P3 P4 P5 : Type 0}
+    → P0 × (P1 × (P2 × (P3 × (P4 × P5))))
+    → record { result_value : P0; store_after : P1; table_after : P2; index_after : P3; events_after : P4; outcomes_after : P5 }
+named_after p = record {
+  result_value = p.0;
+  store_after = p.1.0;
+  table_after = p.1.1.0;
+  index_after = p.1.1.1.0;
+  events_after = p.1.1.1.1.0;
+  outcomes_after = p.1.1.1.1.1;
+}
 
 pub returns-then-lent-ne0 : goal.returns-then-lent-ne0
 unfolding as_records_answer
 returns-then-lent-ne0 c =
-    named_result_value_store_after_table_after_index_after_events_after_outcomes_after (let a = c.args in
+    named_after (let a = c.args in
     let k = a.stakes.now in
     let m : Lent = lent_of a.store.now a.table.now a.work.now a.events.now in
     let x = a.index.now in
@@ -27,7 +36,7 @@ returns-then-lent-ne0 c =
 pub returns-then-work-table : goal.returns-then-work-table
 unfolding as_records_answer
 returns-then-work-table c =
-    named_result_value_store_after_table_after_index_after_events_after_outcomes_after (let a = c.args in
+    named_after (let a = c.args in
     let k = a.stakes.now in
     let m : Lent = lent_of a.store.now a.table.now a.work.now a.events.now in
     let x = a.index.now in
@@ -39,7 +48,7 @@ returns-then-work-table c =
 pub returns-then-outcomes-record_count : goal.returns-then-outcomes-record_count
 unfolding as_records_answer
 returns-then-outcomes-record_count c =
-    named_result_value_store_after_table_after_index_after_events_after_outcomes_after (let a = c.args in
+    named_after (let a = c.args in
     let k = a.stakes.now in
     let m : Lent = lent_of a.store.now a.table.now a.work.now a.events.now in
     let x = a.index.now in
@@ -72,7 +81,7 @@ feed_each-n-requires c =
 pub returns : goal.returns
 unfolding as_records_answer
 returns c =
-    named_result_value_store_after_table_after_index_after_events_after_outcomes_after (let a = c.args in
+    named_after (let a = c.args in
     let k = a.stakes.now in
     let m : Lent = lent_of a.store.now a.table.now a.work.now a.events.now in
     let x = a.index.now in

@@ -12,7 +12,11 @@ use Rattle.index_feed_refusals.proofs.lent_refusal.Goals as goal
 pub returns-then-lent-ne0 : goal.returns-then-lent-ne0
 returns-then-lent-ne0 c = let a = c.args in
     let e = c.lent_refusal-lent.ensures.first in
-    record { refusal_value = e ∙ sym (lent_pending a.stakes.now a.store.now a.table.now a.index.now (λ z. c.if-lent-ne0.true (e ∙ z))); count_bound = λ z. absurd (c.if-lent-ne0.true z) }
+    record {
+      refusal_value = e ∙ sym (lent_pending a.stakes.now a.store.now a.table.now a.index.now (λ z. c.if-lent-ne0.true (e ∙ z)));
+      count_bound = λ z.
+          absurd (c.if-lent-ne0.true z);
+    }
 
 pub sorted_positions-count-requires : goal.sorted_positions-count-requires
 sorted_positions-count-requires c = (

@@ -8,8 +8,10 @@ use Rattle.index_feed_single.proofs.Growing.{growing}
 use Rattle.index_feed_single.proofs.Giving.{gives_record, gives_short, gives_acceptance}
 use Rattle.index_feed_single.proofs.feed_agreed.Goals as goal
 
-named_result_value_store_after_table_after_index_after_events_after : {P0 P1 P2 P3 P4 : Type 0} → P0 × (P1 × (P2 × (P3 × P4))) → record { result_value : P0; store_after : P1; table_after : P2; index_after : P3; events_after : P4 }
-named_result_value_store_after_table_after_index_after_events_after p = record { result_value = p.0; store_after = p.1.0; table_after = p.1.1.0; index_after = p.1.1.1.0; events_after = p.1.1.1.1 }
+named_result_value_store_after_table_after_index_after_events_after : {P0 P1 P2 P3 P4 : Type 0} → P0 × (P1 × (P2 × (P3 × P4)))
+    → record { result_value : P0; store_after : P1; table_after : P2; index_after : P3; events_after : P4 }
+named_result_value_store_after_table_after_index_after_events_after p = record
+    { result_value = p.0; store_after = p.1.0; table_after = p.1.1.0; index_after = p.1.1.1.0; events_after = p.1.1.1.1 }
 
 pub record_refusal-refusal-requires : goal.record_refusal-refusal-requires
 record_refusal-refusal-requires c = let a = c.requires in (
@@ -46,7 +48,8 @@ returns-in_default c = named_result_value_store_after_table_after_index_after_ev
     (sym e.first ∙ c.if-refusal-ne0.false) g.0))
 
 pub accept-requires : goal.accept-requires
-accept-requires c = let e = c.record_refusal-refusal.ensures in record { accepting = rw e.kept (e.accepting c.if-refusal-ne0.false); order = c.requires.sorted.places }
+accept-requires c = let e = c.record_refusal-refusal.ensures in record
+    { accepting = rw e.kept (e.accepting c.if-refusal-ne0.false); order = c.requires.sorted.places }
 
 pub returns : goal.returns
 unfolding as_feed_answer Grew

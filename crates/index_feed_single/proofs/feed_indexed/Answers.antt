@@ -8,8 +8,10 @@ use Rattle.index_feed_spec.proofs.Order.{lent_refuses}
 use Rattle.index_feed_single.proofs.Giving.{gives_refusal}
 use Rattle.index_feed_single.proofs.feed_indexed.Goals as goal
 
-named_result_value_store_after_table_after_index_after_events_after : {P0 P1 P2 P3 P4 : Type 0} → P0 × (P1 × (P2 × (P3 × P4))) → record { result_value : P0; store_after : P1; table_after : P2; index_after : P3; events_after : P4 }
-named_result_value_store_after_table_after_index_after_events_after p = record { result_value = p.0; store_after = p.1.0; table_after = p.1.1.0; index_after = p.1.1.1.0; events_after = p.1.1.1.1 }
+named_result_value_store_after_table_after_index_after_events_after : {P0 P1 P2 P3 P4 : Type 0} → P0 × (P1 × (P2 × (P3 × P4)))
+    → record { result_value : P0; store_after : P1; table_after : P2; index_after : P3; events_after : P4 }
+named_result_value_store_after_table_after_index_after_events_after p = record
+    { result_value = p.0; store_after = p.1.0; table_after = p.1.1.0; index_after = p.1.1.1.0; events_after = p.1.1.1.1 }
 
 pub slice_bounds-lent_refusal-end : goal.slice_bounds-lent_refusal-end
 slice_bounds-lent_refusal-end c = refl

@@ -16,7 +16,11 @@ pub returns-in_default : goal.returns-in_default
 returns-in_default c =
     let a = c.args in
     let b = broken_sound a.stakes.now c.in_default.field-0 (ap as_new_committee (sym c.in_default.is) ∙ c.new_committee.ensures) in
-    record { refusal_value = c.refused.ensures ∙ refusal_broken a.stakes.now a.store.now a.index.now b; count_bound = λ z. absurd (omega (arith, c.refused.ensures, z)) }
+    record {
+      refusal_value = c.refused.ensures ∙ refusal_broken a.stakes.now a.store.now a.index.now b;
+      count_bound = λ z. absurd
+          (omega (arith, c.refused.ensures, z));
+    }
 
 pub in_order-requires : goal.in_order-requires
 in_order-requires c =

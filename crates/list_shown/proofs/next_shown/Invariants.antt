@@ -12,7 +12,8 @@ use Rattle.list_shown.proofs.next_shown.Given as goal
 abbrev pub invariant-loop-found : goal.invariant-loop-found
 invariant-loop-found l = (length l.edges ≡ length l.initial.edges) ×
     (((length l.marks ≡ length l.initial.marks) × (length l.certified ≡ length l.initial.certified)) ×
-    (Stands (lane_ranges l.wanted l.store l.order) l.store l.edges l.marks l.at × Reached l.wanted l.stakes l.store l.order (as_locator l.initial.at.here) (as_locator l.at.here)))
+    (Stands (lane_ranges l.wanted l.store l.order) l.store l.edges l.marks l.at
+    × Reached l.wanted l.stakes l.store l.order (as_locator l.initial.at.here) (as_locator l.at.here)))
 
 abbrev pub decreases-loop-found : goal.decreases-loop-found
 decreases-loop-found l = length

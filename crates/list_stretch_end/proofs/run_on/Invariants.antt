@@ -13,7 +13,8 @@ abbrev pub invariant-loop-stop : goal.invariant-loop-stop
 invariant-loop-stop l = (length l.edges ≡ length l.initial.edges) ×
     (((length l.marks ≡ length l.initial.marks) × (length l.other ≡ 1024)) ×
     (Stands (lane_ranges l.wanted l.store l.order) l.store l.edges l.marks l.at ×
-    (Alike l.wanted l.stakes l.store l.order (as_locator l.initial.at.here) l.marks × Onto l.wanted l.stakes l.store l.order (as_locator l.initial.at.here) (as_locator l.at.here))))
+    (Alike l.wanted l.stakes l.store l.order (as_locator l.initial.at.here) l.marks
+    × Onto l.wanted l.stakes l.store l.order (as_locator l.initial.at.here) (as_locator l.at.here))))
 
 abbrev pub decreases-loop-stop : goal.decreases-loop-stop
 decreases-loop-stop l = length

@@ -11,7 +11,8 @@ abbrev pub invariant-loop-f : goal.invariant-loop-f
 invariant-loop-f l = (length l.edges ≡ length l.initial.edges)
     × (((length l.marks ≡ length l.initial.marks) × (length l.certified ≡ 1024)) ×
     (((l.n ≤ length l.initial.out / 80) × (length l.out ≡ length l.initial.out)) ×
-    (Stands (lane_ranges l.wanted l.store l.order) l.store l.edges l.marks l.sweep × Doing l.wanted l.stakes l.store l.initial.out (as_locator l.initial.sweep.here) (as_locator l.sweep.here) l.out
+    (Stands (lane_ranges l.wanted l.store l.order) l.store l.edges l.marks l.sweep
+    × Doing l.wanted l.stakes l.store l.initial.out (as_locator l.initial.sweep.here) (as_locator l.sweep.here) l.out
     l.n)))
 
 abbrev pub decreases-loop-f : goal.decreases-loop-f

@@ -12,7 +12,11 @@ loop-i-init c = ((omega arith, omega (arith, c.requires.below)), (refl, ((λ was
 pub row_before-requires : goal.row_before-requires
 unfolding Inside
 row_before-requires c = let p = c.requires in
-    record { i_in_bounds = (omega (arith, p.room, p.below), omega (arith, p.room, c.loop-i-test.true)); i_in_bounds_2 = (p.inside _ p.below, p.inside _ c.loop-i-test.true) }
+    record {
+      i_in_bounds = (omega (arith, p.room, p.below), omega (arith, p.room, c.loop-i-test.true));
+      i_in_bounds_2 =
+          (p.inside _ p.below, p.inside _ c.loop-i-test.true);
+    }
 
 pub shape_of-marks-then-row_before : goal.shape_of-marks-then-row_before
 shape_of-marks-then-row_before c = c.loop-i.invariant.1.0

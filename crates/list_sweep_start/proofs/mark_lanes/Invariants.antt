@@ -8,7 +8,8 @@ use Rattle.list_sweep_start.proofs.mark_lanes.Given as goal
 
 abbrev pub invariant-loop-k : goal.invariant-loop-k
 invariant-loop-k l = (l.k ≤ 3072) ×
-    (((length l.rows ≡ 3072) × (length l.spare ≡ 3072)) × ((length l.marks ≡ length l.initial.marks) × MarkedBelow (lane_ranges l.wanted l.store l.order) l.marks (as_locator l.locator)
+    (((length l.rows ≡ 3072) × (length l.spare ≡ 3072))
+    × ((length l.marks ≡ length l.initial.marks) × MarkedBelow (lane_ranges l.wanted l.store l.order) l.marks (as_locator l.locator)
     l.k))
 
 abbrev pub decreases-loop-k : goal.decreases-loop-k

@@ -19,7 +19,8 @@ returns c =
     record {
       spread = λ d b t ts on ls k. wide_spread d (engine_of d t).store b (store_of d t).order on ls k;
       alike = λ d b t ts on. wide_alike_on d (engine_of d t).store b (store_of d t).order on;
-      longest = λ d b t ts on. let s = (engine_of d t).store in longest_on d s b (store_of d t).order (wide d (blocks_of s)) (wide_lawful_lem d (blocks_of s)) on;
+      longest = λ d b t ts on. let s = (engine_of d t).store in longest_on d s b (store_of d t).order (wide d (blocks_of s)) (wide_lawful_lem d (blocks_of s))
+          on;
       same_list = λ d b t u same ts us on un.
           let f = gives_finals d b t in
           let g = gives_finals d b u in

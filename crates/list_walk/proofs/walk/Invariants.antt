@@ -12,8 +12,10 @@ use Rattle.list_walk.proofs.walk.Given as goal
 
 abbrev pub invariant-loop-k : goal.invariant-loop-k
 invariant-loop-k l =
-    Going l.stakes l.order l.memo l.certified l.blocks l.checked l.k × (((loc : TransactionLocator) → Owned false l.store l.order loc l.own → HeardBelow own_vote l.store l.order loc l.memo l.k
-    × SaidBefore own_vote l.store l.order loc l.k l.below) × ((reading : Reading) (loc : TransactionLocator) → Owned false l.store l.order loc l.own → CountedRight
+    Going l.stakes l.order l.memo l.certified l.blocks l.checked l.k
+    × (((loc : TransactionLocator) → Owned false l.store l.order loc l.own → HeardBelow own_vote l.store l.order loc l.memo l.k
+    × SaidBefore own_vote l.store l.order loc l.k l.below)
+    × ((reading : Reading) (loc : TransactionLocator) → Owned false l.store l.order loc l.own → CountedRight
     (any_noted l.rejecters) reading l.store l.order loc l.rejecters → Walking reading l.stakes l.store loc l.order l.certified l.authors l.blocks l.k))
 
 abbrev pub decreases-loop-k : goal.decreases-loop-k

@@ -29,7 +29,12 @@ returns-in-Events c =
     feed.new.events start.rec.now
     feed.ensures.store_after feed.ensures.table_after c.in-Events.n (ap as_feed_answer (sym c.in-Events.is) ∙ feed.ensures.result_value)
     feed.ensures.events_after in
-    record { step = rw (← same) (done.any_step feed.new.store feed.new.table); counted_after = done.counted_after; fed_from = fed_one _ _ _ feed.ensures.store_after feed.ensures.table_after }
+    record {
+      step = rw (← same) (done.any_step feed.new.store feed.new.table);
+      counted_after = done.counted_after;
+      fed_from = fed_one _ _ _
+          feed.ensures.store_after feed.ensures.table_after;
+    }
 
 pub returns-in-Refused : goal.returns-in-Refused
 unfolding as_feed_answer
@@ -40,4 +45,9 @@ returns-in-Refused c =
     let same = told_refused start.stakes.now start.done start.store.now feed.new.store start.table.now feed.new.table
     feed.new.events start.rec.now
     feed.ensures.store_after feed.ensures.table_after c.in-Refused.number (ap as_feed_answer (sym c.in-Refused.is) ∙ feed.ensures.result_value) in
-    record { step = rw (← same) (done.any_step feed.new.store feed.new.table); counted_after = done.counted_after; fed_from = fed_one _ _ _ feed.ensures.store_after feed.ensures.table_after }
+    record {
+      step = rw (← same) (done.any_step feed.new.store feed.new.table);
+      counted_after = done.counted_after;
+      fed_from = fed_one _ _ _
+          feed.ensures.store_after feed.ensures.table_after;
+    }

@@ -14,7 +14,12 @@ slice_bounds-feed_record-end c = sym
 
 pub returns-in-End : goal.returns-in-End
 unfolding told feeding_of frame_read
-returns-in-End c = record { step = rw c.in-End.is (record { lines = wrote_none _ 0 (omega arith); left = refl; ended = refl }); counted_after = record { number = omega arith; accepted = omega arith; refusals = omega arith; processed = omega arith }; fed_from = fed_none _ _ _ }
+returns-in-End c = record {
+  step = rw c.in-End.is (record { lines = wrote_none _ 0 (omega arith); left = refl; ended = refl });
+  counted_after = record
+      { number = omega arith; accepted = omega arith; refusals = omega arith; processed = omega arith };
+  fed_from = fed_none _ _ _;
+}
 
 pub returns-in-Broken : goal.returns-in-Broken
 unfolding told frame_read

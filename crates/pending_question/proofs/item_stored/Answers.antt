@@ -40,7 +40,11 @@ record_end-end-requires c = stands _ _ _ c.requires.0 c.entry_from-at.ensures.on
 pub overflow_add-from : goal.overflow_add-from
 overflow_add-from c =
     let o = c in
-    omega (arith, (entry_room o.args.store.now c.entry_from-at.result ((stands _ _ _ c.requires.0 c.entry_from-at.ensures.on c.read_u32.ensures c.if-at-read_u32.false))).inside)
+    omega (
+      arith,
+      (entry_room o.args.store.now c.entry_from-at.result
+          ((stands _ _ _ c.requires.0 c.entry_from-at.ensures.on c.read_u32.ensures c.if-at-read_u32.false))).inside,
+    )
 
 pub slice_bounds-place_in-end : goal.slice_bounds-place_in-end
 slice_bounds-place_in-end c =
@@ -66,7 +70,8 @@ slice_bounds-item_suits-end c =
     let o = d in
     omega (
       arith,
-      (entry_room o.args.store.now d.entry_from-at.result ((stands _ _ _ c.requires.0 c.entry_from-at.ensures.on c.read_u32.ensures c.if-at-read_u32.false))).inside,
+      (entry_room o.args.store.now d.entry_from-at.result
+          ((stands _ _ _ c.requires.0 c.entry_from-at.ensures.on c.read_u32.ensures c.if-at-read_u32.false))).inside,
       c.record_end-end.ensures,
     )
 

@@ -6,7 +6,8 @@ use Rattle.pending_question.proofs.pending.Goals as goal
 
 pub returns-then-refusal-ne0 : goal.returns-then-refusal-ne0
 unfolding as_pending
-returns-then-refusal-ne0 c = ap refused c.lent_refusal-refusal.ensures.first ∙ sym (answers_refusal _ _ _ _ (λ z. c.if-refusal-ne0.true (c.lent_refusal-refusal.ensures.first ∙ z)))
+returns-then-refusal-ne0 c = ap refused c.lent_refusal-refusal.ensures.first
+    ∙ sym (answers_refusal _ _ _ _ (λ z. c.if-refusal-ne0.true (c.lent_refusal-refusal.ensures.first ∙ z)))
 
 pub standing-requires : goal.standing-requires
 standing-requires c =

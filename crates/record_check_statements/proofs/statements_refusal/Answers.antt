@@ -61,8 +61,10 @@ loop-cursor-preserved c =
     let here = ap (λ (x : Statement). refusal (statement_checks x)) n.next_statement-found.ensures.0 in
     let next = n.next_statement-found.result.next in
     let index = placed_index s next (i + 1) n.next_statement-found.ensures.1.0 in
-    let none = sym (c.statement_refusal-refused.ensures s ∙ here) ∙ c.if-refused-ne0.false in
-    (placed s next (i + 1) n.next_statement-found.ensures.1.0, (omega (arith, index, inside), l.loop-cursor.invariant.1.1 ∙ rw index (statement_on ss i inside none)))
+    let none = sym (c.statement_refusal-refused.ensures s ∙ here) ∙ c.if-refused-ne0.false in (
+      placed s next (i + 1) n.next_statement-found.ensures.1.0,
+      (omega (arith, index, inside), l.loop-cursor.invariant.1.1 ∙ rw index (statement_on ss i inside none)),
+    )
 
 pub returns : goal.returns
 unfolding of_statements

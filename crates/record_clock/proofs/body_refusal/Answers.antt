@@ -38,7 +38,8 @@ returns-then-reference-eq0 c =
     let r = c in
     let s = r in
     let n = as_round r.reference-reference.result b.reference r.reference-reference.ensures in
-    let clock = body_clock k b (sym i.includes_refusal-of_includes.ensures ∙ s.if-of_includes-ne0.false) (sym s.statements_refusal-of_statements.ensures ∙ r.if-of_statements-ne0.false) in
+    let clock = body_clock k b (sym i.includes_refusal-of_includes.ensures ∙ s.if-of_includes-ne0.false)
+    (sym s.statements_refusal-of_statements.ensures ∙ r.if-of_statements-ne0.false) in
     sym (clock ∙ rw (eq-eqb b.reference.round 0 (sym n ∙ c.if-reference-eq0.true)))
 
 pub threshold_clock_valid_non_genesis-requires : goal.threshold_clock_valid_non_genesis-requires
@@ -48,8 +49,17 @@ threshold_clock_valid_non_genesis-requires c =
     let o = i in
     let k = o.args.stakes.now in
     let b = block_in o.args.rec.now in
-    let s = c in
-    ((o.requires.0.0, (o.requires.0.1, zero_passes _ (includes_numbered k b b.includes) (sym i.includes_refusal-of_includes.ensures ∙ s.if-of_includes-ne0.false))), o.requires.1)
+    let s = c in (
+      (
+        o.requires.0.0,
+        (
+          o.requires.0.1,
+          zero_passes _ (includes_numbered k b b.includes)
+              (sym i.includes_refusal-of_includes.ensures ∙ s.if-of_includes-ne0.false),
+        ),
+      ),
+      o.requires.1,
+    )
 
 pub returns-then-threshold_clock_valid_non_genesis : goal.returns-then-threshold_clock_valid_non_genesis
 unfolding of_includes of_statements
@@ -62,8 +72,13 @@ returns-then-threshold_clock_valid_non_genesis c =
     let r = e in
     let s = r in
     let n = as_round r.reference-reference.result b.reference r.reference-reference.ensures in
-    let clock = body_clock k b (sym i.includes_refusal-of_includes.ensures ∙ s.if-of_includes-ne0.false) (sym s.statements_refusal-of_statements.ensures ∙ r.if-of_statements-ne0.false) in
-    sym (clock ∙ rw (ne_eqb b.reference.round 0 (λ z. e.if-reference-eq0.false (n ∙ z)), sym c.threshold_clock_valid_non_genesis.ensures ∙ c.if-threshold_clock_valid_non_genesis.true))
+    let clock = body_clock k b (sym i.includes_refusal-of_includes.ensures ∙ s.if-of_includes-ne0.false)
+    (sym s.statements_refusal-of_statements.ensures ∙ r.if-of_statements-ne0.false) in
+    sym (clock ∙ rw (
+      ne_eqb b.reference.round 0 (λ z. e.if-reference-eq0.false (n ∙ z)),
+      sym c.threshold_clock_valid_non_genesis.ensures
+          ∙ c.if-threshold_clock_valid_non_genesis.true,
+    ))
 
 pub returns : goal.returns
 unfolding of_includes of_statements
@@ -76,5 +91,10 @@ returns c =
     let r = e in
     let s = r in
     let n = as_round r.reference-reference.result b.reference r.reference-reference.ensures in
-    let clock = body_clock k b (sym i.includes_refusal-of_includes.ensures ∙ s.if-of_includes-ne0.false) (sym s.statements_refusal-of_statements.ensures ∙ r.if-of_statements-ne0.false) in
-    sym (clock ∙ rw (ne_eqb b.reference.round 0 (λ z. e.if-reference-eq0.false (n ∙ z)), sym c.threshold_clock_valid_non_genesis.ensures ∙ c.if-threshold_clock_valid_non_genesis.false))
+    let clock = body_clock k b (sym i.includes_refusal-of_includes.ensures ∙ s.if-of_includes-ne0.false)
+    (sym s.statements_refusal-of_statements.ensures ∙ r.if-of_statements-ne0.false) in
+    sym (clock ∙ rw (
+      ne_eqb b.reference.round 0 (λ z. e.if-reference-eq0.false (n ∙ z)),
+      sym c.threshold_clock_valid_non_genesis.ensures
+          ∙ c.if-threshold_clock_valid_non_genesis.false,
+    ))

@@ -107,4 +107,9 @@ returns c =
     let l = c in
     let s = l.args.rec.now in
     let ss = (block_in s).statements in
-    omega (arith, l.loop-cursor.invariant.1.1.1, counted_end ss l.loop-cursor.cursor.index (omega (arith, l.statement_count-count.ensures, c.loop-cursor-test.false)))
+    omega (
+      arith,
+      l.loop-cursor.invariant.1.1.1,
+      counted_end ss l.loop-cursor.cursor.index
+          (omega (arith, l.statement_count-count.ensures, c.loop-cursor-test.false)),
+    )

@@ -7,7 +7,8 @@ use Rattle.ring_pending.proofs.whom_to_ring.Goals as goal
 
 pub returns-then-refusal-ne0 : goal.returns-then-refusal-ne0
 unfolding as_ring
-returns-then-refusal-ne0 c = ap refused c.lent_refusal-refusal.ensures.first ∙ sym (asked_refused _ _ _ _ _ (λ z. c.if-refusal-ne0.true (c.lent_refusal-refusal.ensures.first ∙ z)))
+returns-then-refusal-ne0 c = ap refused c.lent_refusal-refusal.ensures.first
+    ∙ sym (asked_refused _ _ _ _ _ (λ z. c.if-refusal-ne0.true (c.lent_refusal-refusal.ensures.first ∙ z)))
 
 pub ring_at-requires : goal.ring_at-requires
 ring_at-requires c =

@@ -18,11 +18,13 @@ returns-in_default c = answer_broken _ _ _ (broken_sound _ _ (ap as_new_committe
 
 pub returns-then-not-names_reading : goal.returns-then-not-names_reading
 unfolding as_slip_answer
-returns-then-not-names_reading c = answer_reading _ _ _ (taken_sound _ _ (ap as_new_committee (sym c.in-Taken.is) ∙ c.new_committee.ensures)).0 (sym c.names_reading.ensures ∙ c.if-not-names_reading.true)
+returns-then-not-names_reading c = answer_reading _ _ _ (taken_sound _ _ (ap as_new_committee (sym c.in-Taken.is) ∙ c.new_committee.ensures)).0
+    (sym c.names_reading.ensures ∙ c.if-not-names_reading.true)
 
 pub returns-then-slip-lt59 : goal.returns-then-slip-lt59
 unfolding as_slip_answer
-returns-then-slip-lt59 c = answer_form _ _ _ (taken_sound _ _ (ap as_new_committee (sym c.in-Taken.is) ∙ c.new_committee.ensures)).0 (sym c.names_reading.ensures ∙ c.if-not-names_reading.false) (short_slip _ (omega (arith, c.if-slip-lt59.true)))
+returns-then-slip-lt59 c = answer_form _ _ _ (taken_sound _ _ (ap as_new_committee (sym c.in-Taken.is) ∙ c.new_committee.ensures)).0
+    (sym c.names_reading.ensures ∙ c.if-not-names_reading.false) (short_slip _ (omega (arith, c.if-slip-lt59.true)))
 
 pub sort_records-requires : goal.sort_records-requires
 sort_records-requires c = (

@@ -34,8 +34,14 @@ unfolding place_in voters_in
 loop-i-preserved c = let a = c.args in
     let g = c.loop-i in
     let t = c.loop-i-test.true in
-    let e = c.voters_size.ensures in
-    (omega (arith, t), (omega (arith, e.upper_bound, g.invariant.1.0), omega (arith, e.value, g.invariant.1.1, size_next a.near.now a.certifiers.now a.n g.i t)))
+    let e = c.voters_size.ensures in (
+      omega (arith, t),
+      (
+        omega (arith, e.upper_bound, g.invariant.1.0),
+        omega
+            (arith, e.value, g.invariant.1.1, size_next a.near.now a.certifiers.now a.n g.i t),
+      ),
+    )
 
 pub returns : goal.returns
 returns c = let a = c.args in

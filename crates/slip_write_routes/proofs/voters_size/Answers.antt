@@ -38,4 +38,8 @@ loop-a-preserved c = let a = c.args in
 pub returns : goal.returns
 returns c = let a = c.args in
     let g = c.loop-a in
-    record { value = omega (arith, g.invariant.1.1, size_end a.near.now a.k a.voters g.a c.loop-a-test.false); upper_bound = omega (arith, g.invariant.0, g.invariant.1.0) }
+    record {
+      value = omega (arith, g.invariant.1.1, size_end a.near.now a.k a.voters g.a c.loop-a-test.false);
+      upper_bound = omega
+          (arith, g.invariant.0, g.invariant.1.0);
+    }

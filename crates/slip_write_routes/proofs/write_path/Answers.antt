@@ -164,7 +164,8 @@ loop-left-preserved c = let a = c.args in
     let o = a.order.now in
     let t : 0 < g.left = omega (arith, c.loop-left-test.true) in
     let p = c.place_of-p.result in
-    let r : (block_at_place s o p).reference ≡ get_or (block_at_place s o g.p).includes (get_or a.steps.now (128 * g.p + a.a) 0) no_reference = c.place_of-p.ensures.1 ∙ c.include_at-include.ensures in
+    let r : (block_at_place s o p).reference ≡ get_or (block_at_place s o g.p).includes (get_or a.steps.now (128 * g.p + a.a) 0) no_reference =
+    c.place_of-p.ensures.1 ∙ c.include_at-include.ensures in
     let m = c.place_of-p.ensures.0 in (
       (m, step_word s o f.0 a.near.now a.steps.now q.0.0.0 f.1 g.p g.invariant.0.0 a.a q.1.0 g.left t g.invariant.0.1 p m r),
       (

@@ -17,7 +17,8 @@ pub returns-then-locator-run-2 : goal.returns-then-locator-run-2
 unfolding as_run run as_locator locator
 returns-then-locator-run-2 c =
     let a = c.args in
-    side_inside (as_run a.run) (as_locator a.locator) (sym c.compare-order.ensures ∙ c.in-Equal.is) (omega (arith, c.if-locator-run.false)) c.if-locator-run-2.true
+    side_inside (as_run a.run) (as_locator a.locator) (sym c.compare-order.ensures ∙ c.in-Equal.is) (omega (arith, c.if-locator-run.false))
+    c.if-locator-run-2.true
 
 pub returns-in-Less : goal.returns-in-Less
 unfolding as_run run as_locator locator

@@ -26,7 +26,10 @@ unfolding as_place place_within
 returns-then-not-in_order c =
     let a = c.args in
     let sound = (taken_sound a.stakes.now c.in-Taken.field-0 c.in-Taken.ensures).0 in
-    record { result_value = place_disordered a.stakes.now a.store.now (as_locator a.locator) sound (sym c.in_order.ensures ∙ c.if-not-in_order.true); result_value_2 = refl }
+    record {
+      result_value = place_disordered a.stakes.now a.store.now (as_locator a.locator) sound (sym c.in_order.ensures ∙ c.if-not-in_order.true);
+      result_value_2 = refl;
+    }
 
 pub stored_payload-requires : goal.stored_payload-requires
 stored_payload-requires c =

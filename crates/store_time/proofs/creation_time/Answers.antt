@@ -49,7 +49,8 @@ returns-then-at-eq0 c =
     let laid = order_laid a.stakes.now a.store.now order in
     time_answered a.stakes.now a.store.now (as_reference a.reference)
     (taken_sound a.stakes.now c.in-Taken.field-0
-    (ap as_new_committee (sym c.in-Taken.is) ∙ c.new_committee.ensures)).0 order none (time_unknown a.store.now laid (as_reference a.reference) c.lookup-at.result c.lookup-at.ensures
+    (ap as_new_committee (sym c.in-Taken.is) ∙ c.new_committee.ensures)).0 order none
+    (time_unknown a.store.now laid (as_reference a.reference) c.lookup-at.result c.lookup-at.ensures
     c.if-at-eq0.true)
 
 pub overflow_add-from : goal.overflow_add-from

@@ -15,7 +15,8 @@ slice_bounds-next_final_of-end c = sym (length-take-le c.stakes_of-n.result c.st
     (omega (arith, c.stakes_of-n.auto.stakes, c.stakes_of-n.ensures.0)))
 
 pub returns : goal.returns
-unfolding next_final_call is_ordinary as_reading listing is_listed least_listed list_edges is_final_in certifiers_in certifies_in voters_in is_final certifiers certifies is_final_share least_final_share
+unfolding next_final_call is_ordinary as_reading listing is_listed least_listed list_edges is_final_in certifiers_in certifies_in voters_in is_final certifiers
+    certifies is_final_share least_final_share
 returns c = record {
   value = rw (← c.stakes_of-n.ensures.1) c.next_final_of.ensures.0;
   found_after = rw

@@ -16,7 +16,8 @@ slice_bounds-stretches_of-end c = sym (length-take-le c.stakes_of-n.result c.sta
     (omega (arith, c.stakes_of-n.auto.stakes, c.stakes_of-n.ensures.0)))
 
 pub returns : goal.returns
-unfolding wide_stretches_call is_ordinary as_reading listing is_listed least_listed list_edges is_final_in certifiers_in certifies_in voters_in is_final certifiers certifies least_final least_final_in candidates_in
+unfolding wide_stretches_call is_ordinary as_reading listing is_listed least_listed list_edges is_final_in certifiers_in certifies_in voters_in is_final
+    certifiers certifies least_final least_final_in candidates_in
 returns c = record {
   value = rw (← c.stakes_of-n.ensures.1) c.stretches_of.ensures.0;
   out_after = rw

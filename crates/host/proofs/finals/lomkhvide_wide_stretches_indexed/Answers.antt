@@ -12,4 +12,8 @@ slice_bounds-stretches_of-end c = sym (length-take-le c.stakes_of-n.result c.sta
 
 pub returns : goal.returns
 unfolding wide_stretches_indexed_call is_ordinary
-returns c = record { value = rw (← c.stakes_of-n.ensures.1) (rw old_wide at c.stretches_of.ensures.0); out_after = rw (← c.stakes_of-n.ensures.1) (rw old_wide at c.stretches_of.ensures.1) }
+returns c = record {
+  value = rw (← c.stakes_of-n.ensures.1) (rw old_wide at c.stretches_of.ensures.0);
+  out_after = rw (← c.stakes_of-n.ensures.1)
+      (rw old_wide at c.stretches_of.ensures.1);
+}
