@@ -14,7 +14,7 @@ use list_after::MaybeLocator;
 use list_next::NextFinalAnswer;
 use types::TransactionLocator;
 
-#[derive(Drop)]
+#[derive(Clone, Copy)]
 pub struct Interpreter<'a> {
     pub store: &'a [u8],
 }

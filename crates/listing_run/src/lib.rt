@@ -126,11 +126,12 @@ fn print_stretch<R: Print + Eprint>(rt: &R, out: &mut [u8], stretch: Stretch) ->
     false
 }
 
-// How many locators were listed, and whether writing failed.
+// How many locators were listed, whether the list was left before its end, and whether it was writing that failed.
 #[derive(Clone, Copy)]
 struct Listed {
     finals: u64,
     failed: bool,
+    unwritten: bool,
 }
 
 // Writes the lines of n stretches.
@@ -146,6 +147,7 @@ fn print_stretches<R: Print + Eprint>(rt: &R, out: &mut [u8], stretches: &[u8], 
             return Listed {
                 finals,
                 failed: true,
+                unwritten: true,
             };
         }
         finals = std::num::wrapping_add_u64(finals, stretch.lines);
@@ -154,6 +156,7 @@ fn print_stretches<R: Print + Eprint>(rt: &R, out: &mut [u8], stretches: &[u8], 
     Listed {
         finals,
         failed: false,
+        unwritten: false,
     }
 }
 
@@ -181,6 +184,7 @@ fn print_list<R: Print + Eprint>(
             return Listed {
                 finals,
                 failed: listed.failed,
+                unwritten: listed.unwritten,
             };
         }
         after = listing_stretches::last_locator(&stretches, asked.count, after);
@@ -189,6 +193,7 @@ fn print_list<R: Print + Eprint>(
     Listed {
         finals,
         failed: true,
+        unwritten: false,
     }
 }
 
@@ -204,7 +209,7 @@ fn run<R: Print + Eprint, I: Read>(rt: &R, input: &mut I, stakes: &[u64], list: 
     }
     let listed = print_list(rt, stakes, &store, &mut out, list);
     if listed.failed {
-        return true;
+        return listed.unwritten;
     }
     let fed = records.fed;
     let n = listing_counts::put_counts(
