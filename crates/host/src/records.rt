@@ -15,8 +15,7 @@ ghost use Rattle.host_slip_writer.specs.WriteSlip.{write_slip_call};
 use final_readings_spec::Reading;
 
 // Feeds a record: the number of events, which stand at the front, three words each.
-#[unsafe(no_mangle)]
-pub extern "C" fn lomkhvide_feed(
+pub fn lomkhvide_feed(
     stakes: &[u8],
     store: &mut [u8],
     table: &mut [u8],
@@ -32,8 +31,7 @@ pub extern "C" fn lomkhvide_feed(
 }
 
 // The same with the index beside the store, to which the record's part is appended.
-#[unsafe(no_mangle)]
-pub extern "C" fn lomkhvide_feed_indexed(
+pub fn lomkhvide_feed_indexed(
     stakes: &[u8],
     store: &mut [u8],
     table: &mut [u8],
@@ -51,8 +49,7 @@ pub extern "C" fn lomkhvide_feed_indexed(
 }
 
 // Feeds records one after the other, each after its length in four bytes: their number. Each has a word that tells its outcome.
-#[unsafe(no_mangle)]
-pub extern "C" fn lomkhvide_feed_records(
+pub fn lomkhvide_feed_records(
     stakes: &[u8],
     store: &mut [u8],
     table: &mut [u8],
@@ -70,8 +67,7 @@ pub extern "C" fn lomkhvide_feed_records(
 }
 
 // The same with the index beside the store, to which the parts of the accepted records are appended.
-#[unsafe(no_mangle)]
-pub extern "C" fn lomkhvide_feed_records_indexed(
+pub fn lomkhvide_feed_records_indexed(
     stakes: &[u8],
     store: &mut [u8],
     table: &mut [u8],
@@ -93,8 +89,7 @@ pub extern "C" fn lomkhvide_feed_records_indexed(
 }
 
 // Writes a record of our own into `out`: its length.
-#[unsafe(no_mangle)]
-pub extern "C" fn lomkhvide_write_record(
+pub fn lomkhvide_write_record(
     author: u64,
     round: u64,
     digest: &[u8],
@@ -110,8 +105,7 @@ pub extern "C" fn lomkhvide_write_record(
 }
 
 // The same with the time of its creation, in nanoseconds.
-#[unsafe(no_mangle)]
-pub extern "C" fn lomkhvide_write_timed_record(
+pub fn lomkhvide_write_timed_record(
     author: u64,
     round: u64,
     digest: &[u8],
@@ -130,21 +124,14 @@ pub extern "C" fn lomkhvide_write_timed_record(
 }
 
 // Reads a finality slip of either reading with the records that come with it: the number of its certifying blocks.
-#[unsafe(no_mangle)]
-pub extern "C" fn lomkhvide_read_slip(stakes: &[u8], slip: &[u8], records: &[u8]) -> u64
+pub fn lomkhvide_read_slip(stakes: &[u8], slip: &[u8], records: &[u8]) -> u64
     ensures { result ≡ encoded (read_answer (committee_of stakes.now) slip.now records.now) }
 {
     host_slips::read_slip(stakes, slip, records)
 }
 
 // Writes the finality slip of a final locator into `out`: its length.
-#[unsafe(no_mangle)]
-pub extern "C" fn lomkhvide_write_slip(
-    stakes: &[u8],
-    store: &[u8],
-    locator: &[u8],
-    out: &mut [u8],
-) -> u64
+pub fn lomkhvide_write_slip(stakes: &[u8], store: &[u8], locator: &[u8], out: &mut [u8]) -> u64
     ensures value { result ≡ encoded (write_slip_call old stakes.now store.now locator.now out.old).answer }
     ensures out_after { out.new ≡ (write_slip_call old stakes.now store.now locator.now out.old).out }
 {
@@ -152,8 +139,7 @@ pub extern "C" fn lomkhvide_write_slip(
 }
 
 // The same in the reading in which an owner may withdraw.
-#[unsafe(no_mangle)]
-pub extern "C" fn lomkhvide_write_slip_withdrawing(
+pub fn lomkhvide_write_slip_withdrawing(
     stakes: &[u8],
     store: &[u8],
     locator: &[u8],
