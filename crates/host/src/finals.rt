@@ -9,7 +9,13 @@ use final_readings_spec::Reading;
 use list_readings_spec::FinalList;
 
 // The least final stored share after a given locator, or from the start: 1 where it was written, 0 where none is left.
-pub fn lomkhvide_next_final(stakes: &[u8], store: &[u8], after: &[u8], found: &mut [u8]) -> u64
+#[unsafe(no_mangle)]
+pub extern "C" fn lomkhvide_next_final(
+    stakes: &[u8],
+    store: &[u8],
+    after: &[u8],
+    found: &mut [u8],
+) -> u64
     ensures value { result ≡ encoded (next_final_call stakes.now store.now after.now found.old).answer }
     ensures found_after { found.new ≡ (next_final_call stakes.now store.now after.now found.old).found }
 {
@@ -27,7 +33,13 @@ pub fn lomkhvide_next_final(stakes: &[u8], store: &[u8], after: &[u8], found: &m
 
 // The ordinary list after a given locator, or from the start, in stretches of ten words: twice their number, and 1 more where a locator of
 // the list follows them.
-pub fn lomkhvide_final_stretches(stakes: &[u8], store: &[u8], after: &[u8], out: &mut [u8]) -> u64
+#[unsafe(no_mangle)]
+pub extern "C" fn lomkhvide_final_stretches(
+    stakes: &[u8],
+    store: &[u8],
+    after: &[u8],
+    out: &mut [u8],
+) -> u64
     ensures value { result ≡ encoded (stretches_call stakes.now store.now after.now out.old).answer }
     ensures out_after { out.new ≡ (stretches_call stakes.now store.now after.now out.old).stretches }
 {
@@ -44,7 +56,13 @@ pub fn lomkhvide_final_stretches(stakes: &[u8], store: &[u8], after: &[u8], out:
 }
 
 // The least final locator after a given one, stored or not, in the same form.
-pub fn lomkhvide_next_wide(stakes: &[u8], store: &[u8], after: &[u8], found: &mut [u8]) -> u64
+#[unsafe(no_mangle)]
+pub extern "C" fn lomkhvide_next_wide(
+    stakes: &[u8],
+    store: &[u8],
+    after: &[u8],
+    found: &mut [u8],
+) -> u64
     ensures value { result ≡ encoded (next_wide_call stakes.now store.now after.now found.old).answer }
     ensures found_after { found.new ≡ (next_wide_call stakes.now store.now after.now found.old).found }
 {
@@ -61,7 +79,13 @@ pub fn lomkhvide_next_wide(stakes: &[u8], store: &[u8], after: &[u8], found: &mu
 }
 
 // The wide list in stretches, in the same form.
-pub fn lomkhvide_wide_stretches(stakes: &[u8], store: &[u8], after: &[u8], out: &mut [u8]) -> u64
+#[unsafe(no_mangle)]
+pub extern "C" fn lomkhvide_wide_stretches(
+    stakes: &[u8],
+    store: &[u8],
+    after: &[u8],
+    out: &mut [u8],
+) -> u64
     ensures value { result ≡ encoded (wide_stretches_call stakes.now store.now after.now out.old).answer }
     ensures out_after { out.new ≡ (wide_stretches_call stakes.now store.now after.now out.old).stretches }
 {
@@ -71,7 +95,8 @@ pub fn lomkhvide_wide_stretches(stakes: &[u8], store: &[u8], after: &[u8], out: 
 }
 
 // The least final stored share after a given locator where owners may withdraw, in the same form.
-pub fn lomkhvide_next_final_withdrawing(
+#[unsafe(no_mangle)]
+pub extern "C" fn lomkhvide_next_final_withdrawing(
     stakes: &[u8],
     store: &[u8],
     after: &[u8],
@@ -93,7 +118,8 @@ pub fn lomkhvide_next_final_withdrawing(
 }
 
 // The ordinary list where owners may withdraw in stretches, in the same form.
-pub fn lomkhvide_final_stretches_withdrawing(
+#[unsafe(no_mangle)]
+pub extern "C" fn lomkhvide_final_stretches_withdrawing(
     stakes: &[u8],
     store: &[u8],
     after: &[u8],
@@ -115,7 +141,8 @@ pub fn lomkhvide_final_stretches_withdrawing(
 }
 
 // The least final locator after a given one, stored or not, where owners may withdraw, in the same form.
-pub fn lomkhvide_next_wide_withdrawing(
+#[unsafe(no_mangle)]
+pub extern "C" fn lomkhvide_next_wide_withdrawing(
     stakes: &[u8],
     store: &[u8],
     after: &[u8],
@@ -137,7 +164,8 @@ pub fn lomkhvide_next_wide_withdrawing(
 }
 
 // The wide list where owners may withdraw in stretches, in the same form.
-pub fn lomkhvide_wide_stretches_withdrawing(
+#[unsafe(no_mangle)]
+pub extern "C" fn lomkhvide_wide_stretches_withdrawing(
     stakes: &[u8],
     store: &[u8],
     after: &[u8],
@@ -159,7 +187,8 @@ pub fn lomkhvide_wide_stretches_withdrawing(
 }
 
 // The ordinary list with the index, in the same form.
-pub fn lomkhvide_final_stretches_indexed(
+#[unsafe(no_mangle)]
+pub extern "C" fn lomkhvide_final_stretches_indexed(
     stakes: &[u8],
     store: &[u8],
     index: &[u64],
@@ -175,7 +204,8 @@ pub fn lomkhvide_final_stretches_indexed(
 }
 
 // The wide list with the index, in the same form.
-pub fn lomkhvide_wide_stretches_indexed(
+#[unsafe(no_mangle)]
+pub extern "C" fn lomkhvide_wide_stretches_indexed(
     stakes: &[u8],
     store: &[u8],
     index: &[u64],

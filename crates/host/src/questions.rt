@@ -13,21 +13,29 @@ ghost use Rattle.sorted_spec.specs.Sorted.{answer_sorted};
 use final_readings_spec::Reading;
 
 // The length of a share's payload.
-pub fn lomkhvide_payload_length(stakes: &[u8], store: &[u8], locator: &[u8]) -> u64
+#[unsafe(no_mangle)]
+pub extern "C" fn lomkhvide_payload_length(stakes: &[u8], store: &[u8], locator: &[u8]) -> u64
     ensures { result ≡ encoded (payload_length_call stakes.now store.now locator.now) }
 {
     host_payload::payload_length(stakes, store, locator)
 }
 
 // Where in the store it begins.
-pub fn lomkhvide_payload_start(stakes: &[u8], store: &[u8], locator: &[u8]) -> u64
+#[unsafe(no_mangle)]
+pub extern "C" fn lomkhvide_payload_start(stakes: &[u8], store: &[u8], locator: &[u8]) -> u64
     ensures { result ≡ encoded (payload_start_call stakes.now store.now locator.now) }
 {
     host_payload::payload_start(stakes, store, locator)
 }
 
 // Whether a locator is final: 2 · number of certifying blocks, and 1 more where it is; their positions are written to the front.
-pub fn lomkhvide_finality(stakes: &[u8], store: &[u8], positions: &mut [u8], locator: &[u8]) -> u64
+#[unsafe(no_mangle)]
+pub extern "C" fn lomkhvide_finality(
+    stakes: &[u8],
+    store: &[u8],
+    positions: &mut [u8],
+    locator: &[u8],
+) -> u64
     ensures value { result ≡ encoded (finality_call old stakes.now store.now positions.old locator.now).answer }
     ensures positions_after { positions.new ≡ (finality_call old stakes.now store.now positions.old locator.now).positions }
 {
@@ -35,7 +43,8 @@ pub fn lomkhvide_finality(stakes: &[u8], store: &[u8], positions: &mut [u8], loc
 }
 
 // The same in the reading in which an owner may withdraw.
-pub fn lomkhvide_finality_withdrawing(
+#[unsafe(no_mangle)]
+pub extern "C" fn lomkhvide_finality_withdrawing(
     stakes: &[u8],
     store: &[u8],
     positions: &mut [u8],
@@ -48,21 +57,34 @@ pub fn lomkhvide_finality_withdrawing(
 }
 
 // The stake of a pending locator.
-pub fn lomkhvide_pending_stake(stakes: &[u8], store: &[u8], table: &[u8], locator: &[u8]) -> u64
+#[unsafe(no_mangle)]
+pub extern "C" fn lomkhvide_pending_stake(
+    stakes: &[u8],
+    store: &[u8],
+    table: &[u8],
+    locator: &[u8],
+) -> u64
     ensures { result ≡ encoded (pending_stake_call stakes.now store.now table.now locator.now) }
 {
     host_pending::pending_stake(stakes, store, table, locator)
 }
 
 // The number of its voters.
-pub fn lomkhvide_pending_voters(stakes: &[u8], store: &[u8], table: &[u8], locator: &[u8]) -> u64
+#[unsafe(no_mangle)]
+pub extern "C" fn lomkhvide_pending_voters(
+    stakes: &[u8],
+    store: &[u8],
+    table: &[u8],
+    locator: &[u8],
+) -> u64
     ensures { result ≡ encoded (pending_voters_call stakes.now store.now table.now locator.now) }
 {
     host_pending::pending_voters(stakes, store, table, locator)
 }
 
 // The number of owners to ring so that a pending locator gets its quorum; `found` takes their set and their stake.
-pub fn lomkhvide_whom_to_ring(
+#[unsafe(no_mangle)]
+pub extern "C" fn lomkhvide_whom_to_ring(
     stakes: &[u8],
     store: &[u8],
     table: &[u8],
@@ -78,7 +100,8 @@ pub fn lomkhvide_whom_to_ring(
 }
 
 // The same for any set of voters, without a store or a table.
-pub fn lomkhvide_fewest_owners(
+#[unsafe(no_mangle)]
+pub extern "C" fn lomkhvide_fewest_owners(
     stakes: &[u8],
     voters_low: u64,
     voters_high: u64,
@@ -100,7 +123,8 @@ pub fn lomkhvide_fewest_owners(
 }
 
 // The time of a stored block: 1 where it was written to `found`, 0 where there is none.
-pub fn lomkhvide_creation_time(
+#[unsafe(no_mangle)]
+pub extern "C" fn lomkhvide_creation_time(
     stakes: &[u8],
     store: &[u8],
     reference: &[u8],
@@ -113,21 +137,28 @@ pub fn lomkhvide_creation_time(
 }
 
 // Whether a locator names a loadable stored share: 1 or 0.
-pub fn lomkhvide_is_loadable(stakes: &[u8], store: &[u8], locator: &[u8]) -> u64
+#[unsafe(no_mangle)]
+pub extern "C" fn lomkhvide_is_loadable(stakes: &[u8], store: &[u8], locator: &[u8]) -> u64
     ensures { result ≡ encoded (is_loadable_call old stakes.now store.now locator.now) }
 {
     host_loadable::is_loadable(stakes, store, locator)
 }
 
 // The same where owners may withdraw.
-pub fn lomkhvide_is_loadable_withdrawing(stakes: &[u8], store: &[u8], locator: &[u8]) -> u64
+#[unsafe(no_mangle)]
+pub extern "C" fn lomkhvide_is_loadable_withdrawing(
+    stakes: &[u8],
+    store: &[u8],
+    locator: &[u8],
+) -> u64
     ensures { result ≡ encoded (is_loadable_call withdrawing stakes.now store.now locator.now) }
 {
     host_loadable::is_loadable_withdrawing(stakes, store, locator)
 }
 
 // All loadable stored shares in ascending order: their number; they stand at the front of the places, two words each.
-pub fn lomkhvide_loadable(stakes: &[u8], store: &[u8], places: &mut [u64]) -> u64
+#[unsafe(no_mangle)]
+pub extern "C" fn lomkhvide_loadable(stakes: &[u8], store: &[u8], places: &mut [u64]) -> u64
     ensures value { result ≡ encoded (loadable_call old stakes.now store.now places.old).answer }
     ensures places_after { places.new ≡ (loadable_call old stakes.now store.now places.old).places }
 {
@@ -135,7 +166,12 @@ pub fn lomkhvide_loadable(stakes: &[u8], store: &[u8], places: &mut [u64]) -> u6
 }
 
 // The same where owners may withdraw.
-pub fn lomkhvide_loadable_withdrawing(stakes: &[u8], store: &[u8], places: &mut [u64]) -> u64
+#[unsafe(no_mangle)]
+pub extern "C" fn lomkhvide_loadable_withdrawing(
+    stakes: &[u8],
+    store: &[u8],
+    places: &mut [u64],
+) -> u64
     ensures value { result ≡ encoded (loadable_call withdrawing stakes.now store.now places.old).answer }
     ensures places_after { places.new ≡ (loadable_call withdrawing stakes.now store.now places.old).places }
 {
@@ -143,7 +179,8 @@ pub fn lomkhvide_loadable_withdrawing(stakes: &[u8], store: &[u8], places: &mut 
 }
 
 // Answers an ascending list of locators with the index: the number of locators, and three words each in front of `replies`.
-pub fn lomkhvide_answer_sorted(
+#[unsafe(no_mangle)]
+pub extern "C" fn lomkhvide_answer_sorted(
     stakes: &[u8],
     store: &[u8],
     index: &[u64],

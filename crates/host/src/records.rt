@@ -15,7 +15,8 @@ ghost use Rattle.host_slip_writer.specs.WriteSlip.{write_slip_call};
 use final_readings_spec::Reading;
 
 // Feeds a record: the number of events, which stand at the front, three words each.
-pub fn lomkhvide_feed(
+#[unsafe(no_mangle)]
+pub extern "C" fn lomkhvide_feed(
     stakes: &[u8],
     store: &mut [u8],
     table: &mut [u8],
@@ -31,7 +32,8 @@ pub fn lomkhvide_feed(
 }
 
 // The same with the index beside the store, to which the record's part is appended.
-pub fn lomkhvide_feed_indexed(
+#[unsafe(no_mangle)]
+pub extern "C" fn lomkhvide_feed_indexed(
     stakes: &[u8],
     store: &mut [u8],
     table: &mut [u8],
@@ -49,7 +51,8 @@ pub fn lomkhvide_feed_indexed(
 }
 
 // Feeds records one after the other, each after its length in four bytes: their number. Each has a word that tells its outcome.
-pub fn lomkhvide_feed_records(
+#[unsafe(no_mangle)]
+pub extern "C" fn lomkhvide_feed_records(
     stakes: &[u8],
     store: &mut [u8],
     table: &mut [u8],
@@ -67,7 +70,8 @@ pub fn lomkhvide_feed_records(
 }
 
 // The same with the index beside the store, to which the parts of the accepted records are appended.
-pub fn lomkhvide_feed_records_indexed(
+#[unsafe(no_mangle)]
+pub extern "C" fn lomkhvide_feed_records_indexed(
     stakes: &[u8],
     store: &mut [u8],
     table: &mut [u8],
@@ -89,7 +93,8 @@ pub fn lomkhvide_feed_records_indexed(
 }
 
 // Writes a record of our own into `out`: its length.
-pub fn lomkhvide_write_record(
+#[unsafe(no_mangle)]
+pub extern "C" fn lomkhvide_write_record(
     author: u64,
     round: u64,
     digest: &[u8],
@@ -105,7 +110,8 @@ pub fn lomkhvide_write_record(
 }
 
 // The same with the time of its creation, in nanoseconds.
-pub fn lomkhvide_write_timed_record(
+#[unsafe(no_mangle)]
+pub extern "C" fn lomkhvide_write_timed_record(
     author: u64,
     round: u64,
     digest: &[u8],
@@ -124,14 +130,21 @@ pub fn lomkhvide_write_timed_record(
 }
 
 // Reads a finality slip of either reading with the records that come with it: the number of its certifying blocks.
-pub fn lomkhvide_read_slip(stakes: &[u8], slip: &[u8], records: &[u8]) -> u64
+#[unsafe(no_mangle)]
+pub extern "C" fn lomkhvide_read_slip(stakes: &[u8], slip: &[u8], records: &[u8]) -> u64
     ensures { result ≡ encoded (read_answer (committee_of stakes.now) slip.now records.now) }
 {
     host_slips::read_slip(stakes, slip, records)
 }
 
 // Writes the finality slip of a final locator into `out`: its length.
-pub fn lomkhvide_write_slip(stakes: &[u8], store: &[u8], locator: &[u8], out: &mut [u8]) -> u64
+#[unsafe(no_mangle)]
+pub extern "C" fn lomkhvide_write_slip(
+    stakes: &[u8],
+    store: &[u8],
+    locator: &[u8],
+    out: &mut [u8],
+) -> u64
     ensures value { result ≡ encoded (write_slip_call old stakes.now store.now locator.now out.old).answer }
     ensures out_after { out.new ≡ (write_slip_call old stakes.now store.now locator.now out.old).out }
 {
@@ -139,7 +152,8 @@ pub fn lomkhvide_write_slip(stakes: &[u8], store: &[u8], locator: &[u8], out: &m
 }
 
 // The same in the reading in which an owner may withdraw.
-pub fn lomkhvide_write_slip_withdrawing(
+#[unsafe(no_mangle)]
+pub extern "C" fn lomkhvide_write_slip_withdrawing(
     stakes: &[u8],
     store: &[u8],
     locator: &[u8],
